@@ -1,0 +1,70 @@
+-- Tests as Booleans, and what a test that passes or fails says. Assumes nothing.
+use Prim.Native.Nat.{ℕ}
+use mathlib.Core.Path.{_≡_, refl, sym, ap, _∙_}
+use mathlib.Core.Logic.{_⊎_, inl, inr, ⊎-map}
+use mathlib.Core.Bool.{Bool, true, false, not, cond, _&&_, _||_, true≢false}
+use borrow.Author.Tests.{eq-eqb, ne-eqb, eqb-true, eqb-false}
+use lib.Dec.{eqb}
+
+pub dec : (b : Bool) → (b ≡ true) ⊎ (b ≡ false)
+dec true = inl refl
+dec false = inr refl
+
+pub clash : {A : Type 0} {b : Bool} → b ≡ true → b ≡ false → A
+clash p q = absurd (true≢false (sym p ∙ q))
+
+-- a test that cannot pass fails
+pub refute : (b : Bool) → (b ≡ true → ⊥) → b ≡ false
+refute true h = absurd (h refl)
+refute false h = refl
+
+pub same-number : (a b : ℕ) → (a ≡ b) ⊎ (a ≡ b → ⊥)
+same-number a b = ⊎-map (eqb-true a b) (eqb-false a b) (dec (eqb a b))
+
+pub or-cases : (a b : Bool) → a || b ≡ true → (a ≡ true) ⊎ (b ≡ true)
+or-cases true b e = inl refl
+or-cases false b e = inr e
+
+pub both : {a b : Bool} → a ≡ true → b ≡ true → a && b ≡ true
+both {a} {b} p q = ap (λ (x : Bool). x && b) p ∙ q
+
+-- ---- along a conjunction of tests, as early returns walk it
+
+-- the first test passed: the rest decides
+pub and-go : (a b : Bool) {r : Bool} → a ≡ true → r ≡ b → r ≡ a && b
+and-go true b h e = e
+and-go false b h e = clash refl (sym h)
+
+-- the first test failed
+pub and-stop : (a b : Bool) → a ≡ false → false ≡ a && b
+and-stop true b h = clash refl h
+and-stop false b h = refl
+
+pub and-left : (a b : Bool) → a ≡ false → a && b ≡ false
+and-left a b h = sym (and-stop a b h)
+
+pub and-right : (a b : Bool) → b ≡ false → a && b ≡ false
+and-right true b h = h
+and-right false b h = refl
+
+pub or-left : (a b : Bool) → a ≡ true → true ≡ a || b
+or-left true b h = refl
+or-left false b h = clash refl (sym h)
+
+pub or-go : (a b : Bool) {r : Bool} → a ≡ false → r ≡ b → r ≡ a || b
+or-go true b h e = clash refl h
+or-go false b h e = e
+
+pub ne-not : (a b : ℕ) → (a ≡ b → ⊥) → not (eqb a b) ≡ true
+ne-not a b h = ap not (ne-eqb a b h)
+
+pub eq-not : (a b : ℕ) → a ≡ b → not (eqb a b) ≡ false
+eq-not a b h = ap not (eq-eqb a b h)
+
+-- ---- choosing
+
+pub cond-true : {A : Type 0} (b : Bool) (x y : A) → b ≡ true → cond b x y ≡ x
+cond-true b x y h = ap (λ (c : Bool). cond c x y) h
+
+pub cond-false : {A : Type 0} (b : Bool) (x y : A) → b ≡ false → cond b x y ≡ y
+cond-false b x y h = ap (λ (c : Bool). cond c x y) h

@@ -1,0 +1,6 @@
+-- Bools: tests and their facts. Search, Counting, Tables, Collecting: the laws of any and all, count, tab, collect.
+pub mod Bools
+pub mod Search
+pub mod Counting
+pub mod Tables
+pub mod Collecting

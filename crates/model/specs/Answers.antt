@@ -1,0 +1,93 @@
+-- What the operations answer, and the causes of refusal that an operation itself can have: 5, 9, then 10, 8 or 11 (01, "What the operations do"
+-- and "Causes of refusal"). Assumes nothing.
+use Prim.Native.Nat.{ℕ}
+use mathlib.Core.Bool.{Bool, true, false, not, cond, _&&_}
+use mathlib.Core.List.{List, [], _∷_}
+use lib.Dec.{eqb, leb, ltb}
+use lib.ListN.{length}
+use Rattle.finite.specs.Finite.{count}
+use Rattle.model.specs.Cell.{isBlank}
+use Rattle.model.specs.Scheme.{candidate, Scheme, isColumn}
+use Rattle.model.specs.Database.{Database}
+use Rattle.model.specs.Probe
+use Rattle.model.specs.Rounds.{addedRows, laterRounds, reached}
+use Rattle.model.specs.Runs.{Operation, refer, drop, probe, listed, remove, places, heldIn, marked, Cache, referLevels, reloadLevels, cacheAfter}
+use Rattle.model.specs.Query.{Query, joinsOf, operandsFit, fitting, wordsOf}
+
+-- `loaded` rows rounds, `held`, `no candidate`, `dropped` rows, `ground` g, `sent`, `answer` lists, `refused` number
+pub data Answer : Type 0 where
+  loaded : ℕ → ℕ → Answer
+  held noCandidate : Answer
+  dropped : ℕ → Answer
+  ground : ℕ → Answer
+  sent : Answer
+  lists : ℕ → Answer
+  refused : ℕ → Answer
+
+-- the refusal where its cause applies, else what comes after it in the order of causes
+abbrev pub unless : Bool → ℕ → Answer → Answer
+unless true n a = refused n
+unless false n a = a
+
+abbrev pub orAnswer : Bool → Answer → Answer → Answer
+orAnswer true a b = a
+orAnswer false a b = b
+
+-- "a yes; if none does, sent"
+abbrev pub groundOf : ℕ → Answer
+groundOf n = orAnswer (ltb 0 n) (ground n) sent
+
+unfoldable pub answer : Scheme → Database → Cache → Operation → Answer
+answer S D c (refer p) =
+    unless (not (ltb (p .filling) (S .fillings))) 5
+    (unless (isBlank (p .value)) 9
+    (orAnswer (not (candidate (S .filling (p .filling)) (p .value))) noCandidate
+    (orAnswer (listed p (c .pairs)) held
+    (unless (not (ltb (length (c .pairs)) places)) 8
+    (let L = referLevels S D (marked (c .marks)) p in loaded (addedRows D L) (laterRounds D L))))))
+answer S D c (drop p) =
+    unless (not (ltb (p .filling) (S .fillings))) 5
+    (unless (isBlank (p .value)) 9
+    (unless (not (listed p (c .pairs))) 10
+    (let L = reloadLevels S D (remove p (c .pairs)) in dropped (count (D .size) (λ r. marked (c .marks) r && not (reached L r))))))
+answer S D c (probe k v) =
+    unless (not (isColumn S k)) 5
+    (unless (isBlank v) 9
+    (groundOf (Probe.probe S D (heldIn S (c .pairs)) (marked (c .marks)) k v)))
+
+unfoldable pub answers : Scheme → Database → Cache → List Operation → List Answer
+answers S D c [] = []
+answers S D c (o ∷ os) = answer S D c o ∷ answers S D (cacheAfter S D c o) os
+
+-- ---- queries
+
+-- the probe of position 0
+unfoldable pub queryGround : Scheme → Database → Cache → Query → ℕ
+queryGround S D c q = Probe.probe S D (heldIn S (c .pairs)) (marked (c .marks)) (q .column) (q .value)
+
+-- demand 2: the list from the full tables, as words
+unfoldable pub fullLists : Scheme → Database → Query → List (List ℕ)
+fullLists S D q = fitting S D (D .live) (q .column) (q .value) (joinsOf q)
+
+-- the answer where `room` words are lent
+unfoldable pub queryAnswer : Scheme → Database → Cache → ℕ → Query → Answer
+queryAnswer S D c room q =
+    unless (not (operandsFit S q)) 5
+    (unless (isBlank (q .value)) 9
+    (orAnswer (eqb (queryGround S D c q) 0) sent
+    (unless (not (leb (length (wordsOf (fullLists S D q))) room)) 11
+    (lists (length (fullLists S D q))))))
+
+-- the words that are written with an answer: ws with lists, and none with any other
+unfoldable pub writtenWith : Answer → List ℕ → List ℕ
+writtenWith (lists n) ws = ws
+writtenWith (loaded a b) ws = []
+writtenWith held ws = []
+writtenWith noCandidate ws = []
+writtenWith (dropped n) ws = []
+writtenWith (ground n) ws = []
+writtenWith sent ws = []
+writtenWith (refused n) ws = []
+
+unfoldable pub queryWords : Scheme → Database → Cache → ℕ → Query → List ℕ
+queryWords S D c room q = writtenWith (queryAnswer S D c room q) (wordsOf (fullLists S D q))

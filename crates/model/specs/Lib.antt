@@ -1,0 +1,11 @@
+-- What documents 01 and 003 define, in the order in which it builds up. 01 is the project's scope, 003 the paper of Härder and Bühmann.
+pub mod Cell
+pub mod Scheme
+pub mod Database
+pub mod Cache
+pub mod Probe
+pub mod Rounds
+pub mod Runs
+pub mod Query
+pub mod Answers
+pub mod Demand
