@@ -2,15 +2,14 @@
 -- uncached rows that the constraints demand of the rows added in the round before"). The levels of a load are a list, one number for each
 -- row number: 0 a row not reached, 1 a row cached before the load, 2 + n a row that round n adds. Assumes nothing.
 use Prim.Native.Nat.{ℕ, zero, suc}
-use mathlib.Core.Bool.{Bool, cond, not, _&&_}
+use mathlib.Core.Bool.{Bool, cond, _&&_}
 use mathlib.Core.List.{List}
 use lib.Dec.{eqb, ltb}
 use lib.ListN.{getD}
 use Rattle.finite.specs.Finite.{any, count, tab}
-use Rattle.model.specs.Cell.{isBlank}
 use Rattle.model.specs.Scheme.{Constraint, Scheme}
 use Rattle.model.specs.Database.{Database, has}
-use Rattle.model.specs.Cache.{RowSet, Held}
+use Rattle.model.specs.Cache.{RowSet}
 
 -- constraint j demands row r of row s
 unfoldable pub leads : Database → Constraint → ℕ → ℕ → Bool
@@ -19,14 +18,6 @@ leads D j s r = D .live s && (eqb (D .table s) (j .source .table) && has D (j .t
 -- some constraint demands row r of row s
 unfoldable pub demands : Scheme → Database → ℕ → ℕ → Bool
 demands S D s r = any (S .constraints) (λ i. leads D (S .constraint i) s r)
-
--- row r's cell in column c has a held value
-unfoldable pub holdsAt : Database → Held → ℕ → ℕ → Bool
-holdsAt D H r c = not (isBlank (D .cell r c)) && H (record { table = D .table r; place = c }) (D .cell r c)
-
--- row r has a held value
-unfoldable pub seeded : Scheme → Database → Held → RowSet
-seeded S D H r = D .live r && any (S .columns (D .table r)) (holdsAt D H r)
 
 abbrev pub level : List ℕ → ℕ → ℕ
 level L r = getD L r 0

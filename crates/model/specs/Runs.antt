@@ -10,7 +10,7 @@ use Rattle.model.specs.Cell.{Cell, equal}
 use Rattle.model.specs.Scheme.{Column, sameColumn, candidate, Scheme}
 use Rattle.model.specs.Database.{Database, has}
 use Rattle.model.specs.Cache.{RowSet, Held}
-use Rattle.model.specs.Rounds.{seeded, reached, load}
+use Rattle.model.specs.Rounds.{reached, load}
 
 -- a held value: "a pair of filling and value"
 pub record Pair : Type 0 where
@@ -62,6 +62,11 @@ unfoldable pub heldIn : Scheme → List Pair → Held
 heldIn S [] k v = false
 heldIn S (p ∷ ps) k v = one (S .filling (p .filling) .column) (p .value) k v || heldIn S ps k v
 
+-- row r has one of these values in its filling's column
+unfoldable pub wanted : Scheme → Database → List Pair → RowSet
+wanted S D [] r = false
+wanted S D (p ∷ ps) r = has D (S .filling (p .filling) .column) (p .value) r || wanted S D ps r
+
 -- marks: 1 for a cached row, 0 for another number
 unfoldable pub marks : Database → RowSet → List ℕ
 marks D X = tab (D .size) (λ r. cond (X r) 1 0)
@@ -82,7 +87,7 @@ unfoldable pub referLevels : Scheme → Database → RowSet → Pair → List �
 referLevels S D X p = load S D X (has D (S .filling (p .filling) .column) (p .value))
 
 unfoldable pub reloadLevels : Scheme → Database → List Pair → List ℕ
-reloadLevels S D ps = load S D (λ _. false) (seeded S D (heldIn S ps))
+reloadLevels S D ps = load S D (λ _. false) (wanted S D ps)
 
 unfoldable pub cacheAfter : Scheme → Database → Cache → Operation → Cache
 cacheAfter S D c (refer p) =

@@ -1,0 +1,10 @@
+pub mod CellLaws
+pub mod ProbeLaws
+pub mod Closed
+pub mod RoundsLaws
+pub mod Loads
+pub mod Exact
+pub mod Marks
+pub mod RunLaws
+pub mod Demand3
+pub mod QueryLaws

@@ -1,0 +1,13 @@
+-- `state::held::Held::none` meets its contract, by computation. Assumes nothing.
+use mathlib.Core.Path.{refl}
+use Rattle.finite.specs.Finite.{tab}
+use Rattle.state.specs.Held.{noneHeld}
+use Rattle.state.proofs.held.Held.none.Statement.{statement}
+use Rattle.state.proofs.held.Held.none.Tie as tie
+
+returns : tie.Need-returns
+unfolding noneHeld tab
+returns c = refl
+
+pub none-spec : {M : Type 1} → statement M
+none-spec = tie.close (tie.spec returns)

@@ -1,0 +1,125 @@
+-- When a lent state is lawful (01, cause 12: "a design or rows that no script gives, unused places not 0, a held pair twice or no candidate, over
+-- 64 held, or marks that aren't 1 on exactly the smallest set and 0 elsewhere"). Each item is tested against those before it, as a script's
+-- reader tests it. Assumes nothing.
+use Prim.Native.Nat.{ℕ, _^_}
+use mathlib.Core.Bool.{Bool, not, cond, _&&_, _||_}
+use mathlib.Core.List.{List}
+use lib.Dec.{eqb, leb, ltb}
+use lib.ListN.{getD}
+use Rattle.finite.specs.Finite.{any, all}
+use Rattle.model.specs.Cell.{isBlank}
+use Rattle.model.specs.Scheme as Model
+use Rattle.model.specs.Scheme.{sameColumn, isColumn, candidate, Scheme}
+use Rattle.model.specs.Database.{Database, has}
+use Rattle.model.specs.Rounds.{reached}
+use Rattle.model.specs.Runs.{samePair, reloadLevels}
+use Rattle.state.specs.declared.design.Table.{Table}
+use Rattle.state.specs.declared.design.Column.{Column}
+use Rattle.state.specs.declared.design.Constraint.{Constraint}
+use Rattle.state.specs.declared.design.Filling.{Filling}
+use Rattle.state.specs.declared.design.Design.{Design}
+use Rattle.state.specs.declared.held.HeldValue.{HeldValue}
+use Rattle.state.specs.declared.held.Held.{Held}
+use Rattle.state.specs.Design.{tableAt, constraintAt, fillingAt}
+use Rattle.state.specs.Held.{heldAt}
+use Rattle.state.specs.Meaning.{columnOf, fillingOf, pairOf, pairsOf, schemeOf, databaseOf}
+
+-- place i is used and passes the test, or is unused and 0
+abbrev pub usedOr : ℕ → ℕ → Bool → Bool → Bool
+usedOr i n used zero = cond (ltb i n) used zero
+
+-- ---- the design
+
+-- "1 to 8 columns", and no "bit .. that names nothing"
+unfoldable pub tableFits : Table → Bool
+tableFits t = leb 1 (t .columns) && (leb (t .columns) 8 && ltb (t .unique) (2 ^ t .columns))
+
+unfoldable pub zeroTable : Table → Bool
+zeroTable t = eqb (t .columns) 0 && eqb (t .unique) 0
+
+unfoldable pub zeroColumn : Column → Bool
+zeroColumn k = eqb (k .table) 0 && eqb (k .place) 0
+
+unfoldable pub sameConstraint : Constraint → Constraint → Bool
+sameConstraint a b = sameColumn (columnOf (a .source)) (columnOf (b .source)) && sameColumn (columnOf (a .target)) (columnOf (b .target))
+
+-- c can stand as constraint n: both columns exist, and none before it is the same
+unfoldable pub constraintFits : Design → ℕ → Constraint → Bool
+constraintFits d n c =
+    isColumn (schemeOf d) (columnOf (c .source)) &&
+    (isColumn (schemeOf d) (columnOf (c .target)) &&
+    not (any n (λ i. sameConstraint (constraintAt d i) c)))
+
+unfoldable pub zeroConstraint : Constraint → Bool
+zeroConstraint c = zeroColumn (c .source) && zeroColumn (c .target)
+
+-- f can stand as filling n: the column exists, "low 0 or above high" is not so, and no filling before it has the column
+unfoldable pub fillingFits : Design → ℕ → Filling → Bool
+fillingFits d n f =
+    isColumn (schemeOf d) (columnOf (f .column)) &&
+    (leb 1 (f .low) &&
+    (leb (f .low) (f .high) &&
+    not (any n (λ i. sameColumn (columnOf (fillingAt d i .column)) (columnOf (f .column))))))
+
+unfoldable pub zeroFilling : Filling → Bool
+zeroFilling f = zeroColumn (f .column) && (eqb (f .low) 0 && eqb (f .high) 0)
+
+unfoldable pub countsFit : Design → Bool
+countsFit d = leb (d .tables) 8 && (leb (d .constraints) 16 && (leb (d .fillings) 8 && leb (d .rows) 512))
+
+unfoldable pub lawfulDesign : Design → Bool
+lawfulDesign d =
+    countsFit d &&
+    (all 8 (λ i. usedOr i (d .tables) (tableFits (tableAt d i)) (zeroTable (tableAt d i))) &&
+    (all 16 (λ i. usedOr i (d .constraints) (constraintFits d i (constraintAt d i)) (zeroConstraint (constraintAt d i))) &&
+    all 8 (λ i. usedOr i (d .fillings) (fillingFits d i (fillingAt d i)) (zeroFilling (fillingAt d i)))))
+
+-- ---- the rows
+
+-- "ROW: table .. those past the table's columns 0": row r belongs to a table, and is blank past its columns
+unfoldable pub rowFits : Scheme → Database → ℕ → Bool
+rowFits S D r = ltb (D .table r) (S .tables) && all 8 (λ c. ltb c (S .columns (D .table r)) || isBlank (D .cell r c))
+
+-- an earlier row has row r's value in column c, which is unique
+unfoldable pub repeatsAt : Scheme → Database → ℕ → ℕ → Bool
+repeatsAt S D r c =
+    let k : Model.Column = record { table = D .table r; place = c } in
+    S .unique k && any r (has D k (D .cell r c))
+
+-- "A unique column gets a value other than blank twice"
+unfoldable pub repeats : Scheme → Database → ℕ → Bool
+repeats S D r = any 8 (repeatsAt S D r)
+
+-- all of row number r is 0
+unfoldable pub zeroRow : Database → ℕ → Bool
+zeroRow D r = eqb (D .table r) 0 && all 8 (λ c. isBlank (D .cell r c))
+
+unfoldable pub lawfulRows : Design → List ℕ → List ℕ → Bool
+lawfulRows d cells tables =
+    let S = schemeOf d in
+    let D = databaseOf (d .rows) cells tables in
+    all 512 (λ r. usedOr r (d .rows) (rowFits S D r && not (repeats S D r)) (zeroRow D r))
+
+-- ---- the held values
+
+-- v can stand as held value n: its filling exists, it is a candidate, and is not held before
+unfoldable pub heldFits : Design → Held → ℕ → HeldValue → Bool
+heldFits d h n v =
+    ltb (v .filling) (d .fillings) &&
+    (candidate (fillingOf (fillingAt d (v .filling))) (pairOf v .value) &&
+    not (any n (λ i. samePair (pairOf (heldAt h i)) (pairOf v))))
+
+unfoldable pub zeroHeld : HeldValue → Bool
+zeroHeld v = eqb (v .filling) 0 && eqb (v .value) 0
+
+unfoldable pub lawfulHeld : Design → Held → Bool
+lawfulHeld d h = leb (h .count) 64 && all 64 (λ i. usedOr i (h .count) (heldFits d h i (heldAt h i)) (zeroHeld (heldAt h i)))
+
+-- ---- the marks
+
+-- 1 on exactly the smallest row set for the held values, which a load of all of them from nothing gives, and 0 elsewhere
+unfoldable pub lawfulMarks : Design → List ℕ → List ℕ → Held → List ℕ → Bool
+lawfulMarks d cells tables h marks =
+    let D = databaseOf (d .rows) cells tables in
+    let L = reloadLevels (schemeOf d) D (pairsOf h) in
+    all 512 (λ r. eqb (getD marks r 0) (cond (reached L r) 1 0))

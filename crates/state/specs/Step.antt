@@ -1,0 +1,83 @@
+-- A lent state, and what an operation answers and leaves, for whatever is lent (01, "Causes of refusal": order 7, 12, then the operation's own).
+-- Assumes nothing.
+use Prim.Native.Nat.{ℕ}
+use mathlib.Core.Bool.{Bool, not, cond, _&&_}
+use mathlib.Core.List.{List, _++_}
+use lib.Dec.{leb}
+use lib.ListN.{length, drop}
+use Rattle.model.specs.Scheme.{Scheme}
+use Rattle.model.specs.Database.{Database}
+use Rattle.model.specs.Runs.{Operation, Cache, cacheAfter}
+use Rattle.model.specs.Query.{Query}
+use Rattle.model.specs.Answers.{Answer, unless, answer, queryAnswer, writtenWith, fullLists}
+use Rattle.model.specs.Query.{wordsOf}
+use Rattle.state.specs.declared.design.Design.{Design}
+use Rattle.state.specs.declared.held.Held.{Held}
+use Rattle.state.specs.Meaning.{schemeOf, databaseOf, cacheOf, heldOf}
+use Rattle.state.specs.Lawful.{lawfulDesign, lawfulRows, lawfulHeld, lawfulMarks}
+
+-- everything that a caller lends an operation
+pub record State : Type 0 where
+  pub design : Design
+  pub cells : List ℕ
+  pub tables : List ℕ
+  pub marks : List ℕ
+  pub held : Held
+
+abbrev pub lent : Design → List ℕ → List ℕ → List ℕ → Held → State
+lent d cells tables marks h = record { design = d; cells = cells; tables = tables; marks = marks; held = h }
+
+abbrev pub scheme : State → Scheme
+scheme s = schemeOf (s .design)
+
+abbrev pub database : State → Database
+database s = databaseOf (s .design .rows) (s .cells) (s .tables)
+
+abbrev pub cache : State → Cache
+cache s = cacheOf (s .held) (s .marks)
+
+-- cause 7 does not apply: "4,096 cells u32, 512 row tables u8, 512 marks u8"; what lies past these sizes is neither read nor written
+unfoldable pub longEnough : State → Bool
+longEnough s = leb 4096 (length (s .cells)) && (leb 512 (length (s .tables)) && leb 512 (length (s .marks)))
+
+-- cause 12 does not apply
+unfoldable pub lawful : State → Bool
+lawful s =
+    lawfulDesign (s .design) &&
+    (lawfulRows (s .design) (s .cells) (s .tables) &&
+    (lawfulHeld (s .design) (s .held) &&
+    lawfulMarks (s .design) (s .cells) (s .tables) (s .held) (s .marks)))
+
+-- the state can be worked on: neither 7 nor 12
+abbrev pub sound : State → Bool
+sound s = longEnough s && lawful s
+
+-- the answer that a sound state gets, behind causes 7 and 12
+abbrev pub guarded : State → Answer → Answer
+guarded s a = unless (not (longEnough s)) 7 (unless (not (lawful s)) 12 a)
+
+-- ---- REFER, DROP and PROBE
+
+unfoldable pub answerAt : State → Operation → Answer
+answerAt s o = guarded s (answer (scheme s) (database s) (cache s) o)
+
+-- the held values afterwards
+unfoldable pub heldAfterAt : State → Operation → Held
+heldAfterAt s o = cond (sound s) (heldOf (cacheAfter (scheme s) (database s) (cache s) o .pairs)) (s .held)
+
+-- the marks afterwards, with whatever lies past them
+unfoldable pub marksAfterAt : State → Operation → List ℕ
+marksAfterAt s o = cond (sound s) (cacheAfter (scheme s) (database s) (cache s) o .marks ++ drop 512 (s .marks)) (s .marks)
+
+-- the state afterwards: "An operation changes the held values and marks and no other part of the state"
+abbrev pub stateAfter : State → Operation → State
+stateAfter s o = lent (s .design) (s .cells) (s .tables) (marksAfterAt s o) (heldAfterAt s o)
+
+-- ---- QUERY, with `room` words lent
+
+unfoldable pub queryAnswerAt : State → ℕ → Query → Answer
+queryAnswerAt s room q = guarded s (queryAnswer (scheme s) (database s) (cache s) room q)
+
+-- the words that it writes, from the first on
+unfoldable pub queryWordsAt : State → ℕ → Query → List ℕ
+queryWordsAt s room q = writtenWith (queryAnswerAt s room q) (wordsOf (fullLists (scheme s) (database s) q))
