@@ -1,10 +1,13 @@
 -- The laws of `collect`. Assumes nothing.
 use Prim.Native.Nat.{ℕ, zero, suc, _<_}
+use native.Mathlib.Nat.{not-suc-le-zero}
 use native.Mathlib.Omega.{arith}
 use mathlib.Core.Path.{_≡_, refl, ap, ap₂, _∙_}
+use mathlib.Core.Logic.{_⊎_, inl, inr, ⊎-elim}
 use mathlib.Core.Bool.{Bool, true, false, cond}
-use mathlib.Core.List.{List, [], _∷_, _++_}
+use mathlib.Core.List.{List, [], _++_, List·Memᴰ, List·Memᴰ·not-nil, List·Memᴰ·append-cases, Memᴰ·append-left, Memᴰ·append-right}
 use Rattle.finite.specs.Finite.{collect}
+use Rattle.finite.proofs.Search.{below-suc}
 
 -- two tests that pass alike, and equal results where they pass
 pub collect-same : {A : Type 0} (n : ℕ) (p q : ℕ → Bool) (f g : ℕ → List A) → ((r : ℕ) → r < n → p r ≡ q r) → ((r : ℕ) → r < n → p r ≡ true → f r ≡ g r) → collect n p f ≡ collect n q g
@@ -17,3 +20,27 @@ collect-same (suc n) p q f g h k =
     go : (b : Bool) → (b ≡ true → f n ≡ g n) → cond b (f n) [] ≡ cond b (g n) []
     go true e = e refl
     go false e = refl
+
+-- ---- what is collected
+
+chosen : {A : Type 0} {x : A} (b : Bool) (xs : List A) → List·Memᴰ x (cond b xs []) → (b ≡ true) × List·Memᴰ x xs
+chosen true xs m = (refl, m)
+chosen false xs m = absurd (List·Memᴰ·not-nil m)
+
+-- whatever is collected comes from a number that passes
+pub collect-from : {A : Type 0} {x : A} (n : ℕ) (p : ℕ → Bool) (f : ℕ → List A) → List·Memᴰ x (collect n p f) → (i : ℕ) × (i < n) × (p i ≡ true) × List·Memᴰ x (f i)
+unfolding collect
+collect-from zero p f m = absurd (List·Memᴰ·not-nil m)
+collect-from (suc n) p f m =
+    ⊎-elim (λ a. let q = collect-from n p f a in (q .0, omega (arith, q .1), q .2, q .3)) (λ b. let q = chosen (p n) (f n) b in (n, omega arith, q .0, q .1))
+    (List·Memᴰ·append-cases (collect n p f) m)
+
+-- whatever comes from a number that passes is collected
+pub collect-has : {A : Type 0} {x : A} (n : ℕ) (p : ℕ → Bool) (f : ℕ → List A) (i : ℕ) → i < n → p i ≡ true → List·Memᴰ x (f i) → List·Memᴰ x (collect n p f)
+unfolding collect
+collect-has zero p f i l e m = absurd (not-suc-le-zero l)
+collect-has {A} {x} (suc n) p f i l e m = go (below-suc l) (λ k. collect-has n p f i k e m)
+  where
+    go : (i ≡ n) ⊎ (i < n) → (i < n → List·Memᴰ x (collect n p f)) → List·Memᴰ x (collect n p f ++ cond (p n) (f n) [])
+    go (inl q) ih = let e′ : p n ≡ true = rw q at e in Memᴰ·append-right (collect n p f) (rw e′ (rw q at m))
+    go (inr k) ih = Memᴰ·append-left (cond (p n) (f n) []) (ih k)

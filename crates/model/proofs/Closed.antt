@@ -1,4 +1,4 @@
--- The test `demands` and the constraints: a row set meets every constraint exactly if it has what its rows demand. Assumes nothing.
+-- Closed row sets: a row set of a database meets every constraint exactly if it has what its rows demand. Assumes nothing.
 use Prim.Native.Nat.{ℕ, _<_}
 use mathlib.Core.Path.{_≡_, sym, subst}
 use mathlib.Core.Bool.{true, _&&_, and-eq-true-iff}
@@ -12,9 +12,9 @@ use Rattle.model.specs.Database.{Database, Has, has}
 use Rattle.model.specs.Cache.{RowSet, Inside, Complete, Holds}
 use Rattle.model.specs.Rounds.{leads, demands}
 use Rattle.model.proofs.CellLaws.{equal-same, equal-self}
-use Rattle.model.proofs.ProbeLaws.{has-Has, Has-has, has-full}
+use Rattle.model.proofs.DatabaseLaws.{has-Has, Has-has, has-full}
 
--- a row's demand, by a value that both rows have
+-- row s demands row r: a constraint, and a value that s has in its source column and r in its target column
 pub record Demand (S : Scheme) (D : Database) (s r : ℕ) : Type 0 where
   pub number : ℕ
   pub exists : number < S .constraints
@@ -22,6 +22,7 @@ pub record Demand (S : Scheme) (D : Database) (s r : ℕ) : Type 0 where
   pub source : Has D (S .constraint number .source) value s
   pub target : Has D (S .constraint number .target) value r
 
+-- the test `demands` finds such a constraint
 pub demands-Demand : (S : Scheme) (D : Database) (s r : ℕ) → demands S D s r ≡ true → Demand S D s r
 unfolding demands leads
 demands-Demand S D s r e =
@@ -51,6 +52,7 @@ demands-Demand S D s r e =
     t : Has D (j .target) v r
     t = has-Has D (j .target) v r (b .1)
 
+-- ... if there is one
 pub Demand-demands : {S : Scheme} {D : Database} {s r : ℕ} → Demand S D s r → demands S D s r ≡ true
 unfolding demands leads
 Demand-demands {S} {D} {s} {r} d =
@@ -63,15 +65,18 @@ Demand-demands {S} {D} {s} {r} d =
     t : Has D (j .target) (D .cell s (j .source .place)) r
     t = subst (λ (w : Cell). Has D (j .target) w r) (sym (equal-same _ _ (d .source .value))) (d .target)
 
--- X has what its rows demand
+-- X is a row set of D that has what its rows demand
 pub record Closed (S : Scheme) (D : Database) (X : RowSet) : Type 0 where
   pub rows : Inside X (D .live)
   pub demanded : (s r : ℕ) → X s ≡ true → Demand S D s r → X r ≡ true
 
+-- a closed row set meets every constraint
 pub closed-constraints : {S : Scheme} {D : Database} {X : RowSet} → Closed S D X → (i : ℕ) → i < S .constraints → Holds D X (S .constraint i)
 unfolding Holds Complete
 closed-constraints C i l s v x g r h = C .demanded s r x (record { number = i; exists = l; value = v; source = g; target = h })
 
-pub constraints-closed : {S : Scheme} {D : Database} {X : RowSet} → Inside X (D .live) → ((i : ℕ) → i < S .constraints → Holds D X (S .constraint i)) → Closed S D X
+-- a row set that meets every constraint is closed
+pub constraints-closed : {S : Scheme} {D : Database} {X : RowSet} → Inside X (D .live) →
+    ((i : ℕ) → i < S .constraints → Holds D X (S .constraint i)) → Closed S D X
 unfolding Holds Complete
 constraints-closed ins c = record { rows = ins; demanded = λ s r x d. c (d .number) (d .exists) s (d .value) x (d .source) r (d .target) }

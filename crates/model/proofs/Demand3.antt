@@ -10,14 +10,16 @@ use Rattle.model.proofs.Exact.{exact}
 use Rattle.model.proofs.RunLaws.{Sound, empty-sound, run-sound, run-pairs}
 
 -- after any run from any sound cache the cached rows are the smallest set for what the run holds, and every probe is exact
-pub demand3-from : {S : Scheme} {D : Database} → Lawful S D → (c : Cache) → Sound S D c → (os : List Operation) → Demand3 S D (heldFrom S (c .pairs) os) (marked (cacheFrom S D c os .marks))
+pub demand3-from : {S : Scheme} {D : Database} → Lawful S D → (c : Cache) → Sound S D c → (os : List Operation) →
+    Demand3 S D (heldFrom S (c .pairs) os) (marked (cacheFrom S D c os .marks))
 demand3-from {S} {D} lawful c s os = record { smallest = m; probes = λ k col v f n. exact lawful m col v f n }
   where
     m : Smallest S D (heldIn S (heldFrom S (c .pairs) os)) (marked (cacheFrom S D c os .marks))
     m = rw (run-pairs S D c os) at (run-sound c os s)
 
 -- demand 3: the same after any run from the empty cache
-pub demand3 : {S : Scheme} {D : Database} → Lawful S D → (os : List Operation) → Demand3 S D (heldFrom S [] os) (marked (cacheFrom S D (emptyCache D) os .marks))
+pub demand3 : {S : Scheme} {D : Database} → Lawful S D → (os : List Operation) →
+    Demand3 S D (heldFrom S [] os) (marked (cacheFrom S D (emptyCache D) os .marks))
 unfolding emptyCache
 demand3 {S} {D} lawful os = demand3-from lawful (emptyCache D) (empty-sound S D) os
 

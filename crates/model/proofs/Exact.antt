@@ -1,6 +1,6 @@
--- The probe is exact: it says yes exactly when the value is complete in every database from which the same rows would have been cached.
--- A yes is sound by the grounds. For "sent", a database that has the cached rows and one more row, blank but for the probed cell, refutes completeness.
--- Assumes nothing.
+-- The probe is exact: it says yes exactly if the value is complete in every database from which the same rows would have been cached.
+-- A yes is right by its ground. Where the probe says "sent" there is a database with the cached rows and one more row, blank but for the probed
+-- cell, from which the same rows would have been cached and in which the value is not complete. Assumes nothing.
 use Prim.Native.Nat.{ℕ, suc, _≤_, _<_}
 use native.Mathlib.Omega.{arith}
 use mathlib.Core.Path.{_≡_, refl, sym, ap, _∙_, subst}
@@ -21,8 +21,10 @@ use Rattle.model.proofs.ProbeLaws.{Seen, seen-Seen, Seen-seen, Demanded
 abbrev pub Gapless : Database → Type 0
 Gapless D = (r : ℕ) → r < D .size → D .live r ≡ true
 
--- a cached row has the same values in either database
-pub kept : {D : Database} {X : RowSet} {E : Database} (K : Keeps D X E) {k : Column} {v : Cell} {r : ℕ} → X r ≡ true → Has D k v r → Has E k v r
+-- ---- rows that two databases share
+
+-- a row of X that has a value in D has it in E
+kept : {D : Database} {X : RowSet} {E : Database} (K : Keeps D X E) {k : Column} {v : Cell} {r : ℕ} → X r ≡ true → Has D k v r → Has E k v r
 kept K {k} {v} {r} x h =
     record {
       live = K .live r x;
@@ -30,42 +32,50 @@ kept K {k} {v} {r} x h =
       value = ap (λ (a : Cell). equal a v) (K .cell r (k .place) x) ∙ h .value;
     }
 
-pub kept-back : {D : Database} {X : RowSet} {E : Database} (K : Keeps D X E) {k : Column} {v : Cell} {r : ℕ} → Inside X (D .live) → X r ≡ true → Has E k v r → Has D k v r
-kept-back K {k} {v} {r} i x h =
-    record {
-      live = i r x;
-      table = sym (K .table r x) ∙ h .table;
-      value = ap (λ (a : Cell). equal a v) (sym (K .cell r (k .place) x)) ∙ h .value;
-    }
+-- if E has D's rows of X, then D has E's
+keeps-back : {D : Database} {X : RowSet} {E : Database} → Keeps D X E → Inside X (D .live) → Keeps E X D
+keeps-back K i = record { live = i; table = λ r x. sym (K .table r x); cell = λ r c x. sym (K .cell r c x) }
 
--- each ground is sound in every such database
+-- the database itself is one of those that demand 3 quantifies over
+pub alike-self : {S : Scheme} {D : Database} {H : Held} {X : RowSet} → Lawful S D → Smallest S D H X → Alike S D H X D
+alike-self l m = record { lawful = l; keeps = record { live = m .meets .rows; table = λ r x. refl; cell = λ r c x. refl }; smallest = m }
+
+-- ---- a yes is right
+
 module _ {S : Scheme} {D : Database} {H : Held} {X : RowSet} {E : Database} (A : Alike S D H X E) {k : Column} {v : Cell} where
+  -- ground 1: a held value is complete in every such database
   pub held-complete : H k v ≡ true → Complete E X k v
   held-complete h = A .smallest .meets .values k v h
 
+  -- ground 2: so is a value that a cached row has in the source column of a constraint that ends there
   pub demanded-complete : Demanded S D X k v → Complete E X k v
   unfolding Holds
   demanded-complete d =
       subst (λ (j : Column). Complete E X j v) (d .ends)
       (A .smallest .meets .constraints (d .number) (d .exists) (d .source .row) v (d .source .cached) (kept (A .keeps) (d .source .cached) (d .source .has)))
 
-  pub pinned-complete : S .unique k ≡ true → Seen D X k v → Complete E X k v
+  -- ground 3: so is a value of a unique column that a cached row has there
+  pub unique-complete : S .unique k ≡ true → Seen D X k v → Complete E X k v
   unfolding Complete
-  pinned-complete u s r h =
+  unique-complete u s r h =
       subst (λ (n : ℕ). X n ≡ true) (A .lawful .unique k v (s .row) r u (kept (A .keeps) (s .cached) (s .has)) h) (s .cached)
 
-pub sound : (S : Scheme) (D : Database) (H : Held) (X : RowSet) (k : Column) (v : Cell) →
+-- a value that the probe says yes to is complete in every such database
+pub probe-sound : (S : Scheme) (D : Database) (H : Held) (X : RowSet) (k : Column) (v : Cell) →
     (probe S D H X k v ≡ 0 → ⊥) → (E : Database) → Alike S D H X E → Complete E X k v
 unfolding uniquelySeen
-sound S D H X k v y E A =
+probe-sound S D H X k v y E A =
     ⊎-elim (held-complete A)
     (⊎-elim (λ d. demanded-complete A (demanded-Demanded S D X k v d))
-    (λ p. let q = and-eq-true-iff (S .unique k) _ .0 p in pinned-complete A (q .0) (seen-Seen D X k v (q .1))))
+    (λ p. let q = and-eq-true-iff (S .unique k) _ .0 p in unique-complete A (q .0) (seen-Seen D X k v (q .1))))
     (probe-yes S D H X k v y)
 
--- the rows X of D, and under the number `size` one more row, blank but for v in column k; the numbers between have blank rows, so that there is no gap
+-- ---- a database in which a value without a ground is not complete
+
+-- The rows X of D, and under the number `size` one more row of k's table, blank but for v in column k. The numbers below that have no row of X
+-- have blank rows of that table, so that there is no gap.
 module _ (D : Database) (X : RowSet) (inside : Inside X (D .live)) (k : Column) (v : Cell) where
-  pub fresh : Database
+  fresh : Database
   fresh =
       record {
         size = suc (D .size);
@@ -75,7 +85,7 @@ module _ (D : Database) (X : RowSet) (inside : Inside X (D .live)) (k : Column) 
         finite = λ r e. ltb-true r (suc (D .size)) e;
       }
 
-  pub fresh-gapless : Gapless fresh
+  fresh-gapless : Gapless fresh
   unfolding fresh
   fresh-gapless r h = lt-ltb r (suc (D .size)) h
 
@@ -103,7 +113,8 @@ module _ (D : Database) (X : RowSet) (inside : Inside X (D .live)) (k : Column) 
   fresh-cases : (r c : ℕ) → X r ≡ false → ((r ≡ D .size) × (c ≡ k .place) × (fresh .cell r c ≡ v)) ⊎ (fresh .cell r c ≡ blank)
   fresh-cases r c x = go (dec (eqb r (D .size) && eqb c (k .place)))
     where
-      go : (eqb r (D .size) && eqb c (k .place) ≡ true) ⊎ (eqb r (D .size) && eqb c (k .place) ≡ false) → ((r ≡ D .size) × (c ≡ k .place) × (fresh .cell r c ≡ v)) ⊎ (fresh .cell r c ≡ blank)
+      go : (eqb r (D .size) && eqb c (k .place) ≡ true) ⊎ (eqb r (D .size) && eqb c (k .place) ≡ false) →
+          ((r ≡ D .size) × (c ≡ k .place) × (fresh .cell r c ≡ v)) ⊎ (fresh .cell r c ≡ blank)
       go (inl e) = let q = and-eq-true-iff (eqb r (D .size)) (eqb c (k .place)) .0 e in inl (eqb-true _ _ (q .0), eqb-true _ _ (q .1), fresh-cell r c x ∙ rw e)
       go (inr e) = inr (fresh-cell r c x ∙ rw e)
 
@@ -125,9 +136,10 @@ module _ (D : Database) (X : RowSet) (inside : Inside X (D .live)) (k : Column) 
       t : j .table ≡ k .table
       t = sym (h .table) ∙ fresh-table r x
 
--- where the probe finds no ground, this database is one of those, and the value is not complete in it
-module _ {S : Scheme} {D : Database} {H : Held} {X : RowSet} (lawful : Lawful S D) (smallest : Smallest S D H X) {k : Column} (column : ColumnOf S k) {v : Cell} (fits : Fits v)
-    (not-held : H k v ≡ false) (not-demanded : demanded S D X k v ≡ false) (not-pinned : uniquelySeen S D X k v ≡ false) where
+-- where the probe finds no ground, the same rows would have been cached from this database, and the value is not complete in it
+module _ {S : Scheme} {D : Database} {H : Held} {X : RowSet} (lawful : Lawful S D) (smallest : Smallest S D H X)
+    {k : Column} (column : ColumnOf S k) {v : Cell} (fits : Fits v)
+    (not-held : H k v ≡ false) (not-demanded : demanded S D X k v ≡ false) (not-uniquely : uniquelySeen S D X k v ≡ false) where
   inside : Inside X (D .live)
   inside = smallest .meets .rows
 
@@ -138,6 +150,9 @@ module _ {S : Scheme} {D : Database} {H : Held} {X : RowSet} (lawful : Lawful S 
   unfolding E
   keeps = fresh-keeps D X inside k v
 
+  back : Keeps E X D
+  back = keeps-back keeps inside
+
   only : {j : Column} {w : Cell} {r : ℕ} → X r ≡ false → Has E j w r → (r ≡ D .size) × (j ≡ k) × (w ≡ v)
   unfolding E
   only = fresh-only D X inside k v
@@ -147,8 +162,8 @@ module _ {S : Scheme} {D : Database} {H : Held} {X : RowSet} (lawful : Lawful S 
   unfolding uniquelySeen
   shared {j} {w} {r} u x h y g =
       let o = only y g in
-      let h′ : Has D k v r = rw (o .1, o .2) at (kept-back keeps inside x h) in
-      clash (both (rw (o .1) at u) (Seen-seen (record { row = r; cached = x; has = h′ }))) not-pinned
+      let h′ : Has D k v r = rw (o .1, o .2) at (kept back x h) in
+      clash (both (rw (o .1) at u) (Seen-seen (record { row = r; cached = x; has = h′ }))) not-uniquely
 
   E-lawful : Lawful S E
   unfolding E
@@ -170,7 +185,7 @@ module _ {S : Scheme} {D : Database} {H : Held} {X : RowSet} (lawful : Lawful S 
             (fresh-cases D X inside k v r c x))
             (dec (X r));
         unique = λ j w r s u g h. ⊎-elim
-            (λ x. ⊎-elim (λ y. lawful .unique j w r s u (kept-back keeps inside x g) (kept-back keeps inside y h)) (λ y. absurd (shared u x g y h)) (dec (X s)))
+            (λ x. ⊎-elim (λ y. lawful .unique j w r s u (kept back x g) (kept back y h)) (λ y. absurd (shared u x g y h)) (dec (X s)))
             (λ x. ⊎-elim (λ y. absurd (shared u y h x g)) (λ y. only x g .0 ∙ sym (only y h .0)) (dec (X s)))
             (dec (X r));
       }
@@ -184,7 +199,7 @@ module _ {S : Scheme} {D : Database} {H : Held} {X : RowSet} (lawful : Lawful S 
         constraints = λ i l s w x g r h. ⊎-elim (λ y. y)
             (λ y. let o = only y h in
             clash
-            (Demanded-demanded (record { number = i; exists = l; ends = o .1; source = record { row = s; cached = x; has = rw (o .2) at (kept-back keeps inside x g) } }))
+            (Demanded-demanded (record { number = i; exists = l; ends = o .1; source = record { row = s; cached = x; has = rw (o .2) at (kept back x g) } }))
             not-demanded)
             (dec (X r));
         values = λ j w e r h. ⊎-elim (λ y. y) (λ y. let o = only y h in clash (rw (o .1, o .2) at e) not-held) (dec (X r));
@@ -213,23 +228,22 @@ module _ {S : Scheme} {D : Database} {H : Held} {X : RowSet} (lawful : Lawful S 
   E-alike : Alike S D H X E
   E-alike = record { lawful = E-lawful; keeps = keeps; smallest = record { meets = E-meets; least = E-least } }
 
-  pub refuted : isBlank v ≡ false → ((F : Database) → Gapless F → Alike S D H X F → Complete F X k v) → ⊥
+  refuted : isBlank v ≡ false → ((F : Database) → Gapless F → Alike S D H X F → Complete F X k v) → ⊥
   unfolding Complete E
   refuted full c =
       clash
       (c E (fresh-gapless D X inside k v) E-alike (D .size) (fresh-has D X inside k v full))
       (size-out D X inside k v)
 
--- demand 3, of the probe
-module _ {S : Scheme} {D : Database} {H : Held} {X : RowSet} (lawful : Lawful S D) (smallest : Smallest S D H X) {k : Column} (column : ColumnOf S k) (v : Cell) (fits : Fits v) (full : isBlank v ≡ false) where
-  -- databases whose rows are numbered without a gap are enough
+-- ---- the probe is exact
+
+module _ {S : Scheme} {D : Database} {H : Held} {X : RowSet} (lawful : Lawful S D) (smallest : Smallest S D H X)
+    {k : Column} (column : ColumnOf S k) (v : Cell) (fits : Fits v) (full : isBlank v ≡ false) where
+  -- the probe says yes exactly if the value is complete in every such database whose rows are numbered without a gap
   pub exact-gapless : probe S D H X k v ≢ 0 ↔ ((E : Database) → Gapless E → Alike S D H X E → Complete E X k v)
   exact-gapless =
-      (λ y E g. sound S D H X k v y E, λ c z. let n = probe-sent S D H X k v z in refuted lawful smallest column fits (n .0) (n .1) (n .2) full c)
+      (λ y E g. probe-sound S D H X k v y E, λ c z. let n = probe-sent S D H X k v z in refuted lawful smallest column fits (n .0) (n .1) (n .2) full c)
 
+  -- the probe says yes exactly if the value is complete in every such database
   pub exact : probe S D H X k v ≢ 0 ↔ ((E : Database) → Alike S D H X E → Complete E X k v)
-  exact = (sound S D H X k v, λ c. exact-gapless .1 (λ E g. c E))
-
--- the database itself is one of those that demand 3 quantifies over
-pub alike-self : {S : Scheme} {D : Database} {H : Held} {X : RowSet} → Lawful S D → Smallest S D H X → Alike S D H X D
-alike-self l m = record { lawful = l; keeps = record { live = m .meets .rows; table = λ r x. refl; cell = λ r c x. refl }; smallest = m }
+  exact = (probe-sound S D H X k v, λ c. exact-gapless .1 (λ E g. c E))

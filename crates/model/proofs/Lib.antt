@@ -1,4 +1,7 @@
+-- CellLaws, DatabaseLaws, ProbeLaws: the tests say what they are named for. Closed, RoundsLaws, Loads: rounds reach the smallest row set.
+-- Exact: the probe. Marks, RunLaws, Demand3: runs. QueryLaws, ListLaws: queries. Examples: the worked cases.
 pub mod CellLaws
+pub mod DatabaseLaws
 pub mod ProbeLaws
 pub mod Closed
 pub mod RoundsLaws
@@ -8,3 +11,5 @@ pub mod Marks
 pub mod RunLaws
 pub mod Demand3
 pub mod QueryLaws
+pub mod ListLaws
+pub mod Examples

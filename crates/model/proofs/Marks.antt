@@ -15,6 +15,7 @@ use Rattle.model.specs.Database.{Database}
 use Rattle.model.specs.Cache.{RowSet, Inside, Held, Smallest}
 use Rattle.model.specs.Runs.{marks, marked}
 
+-- there is one mark for each row number
 pub length-marks : (D : Database) (X : RowSet) → length (marks D X) ≡ D .size
 unfolding marks
 length-marks D X = length-tab (D .size) _

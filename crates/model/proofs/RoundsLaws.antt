@@ -1,4 +1,5 @@
--- A load ends with the smallest closed row set that has the rows cached before and the rows of round 0. Assumes nothing.
+-- A load ends with the smallest closed row set that has the rows cached before and the rows of round 0; its levels are distances; and it may
+-- stop at the first round that adds nothing. Assumes nothing.
 use Prim.Native.Nat.{ℕ, zero, suc, _+_, _-_, _≤_, _<_}
 use native.Mathlib.Decide.{decLt}
 use native.Mathlib.Nat.{eq-zero-or-pos, add-zero, add-suc}
@@ -22,6 +23,7 @@ use Rattle.model.specs.Cache.{RowSet, Inside}
 use Rattle.model.specs.Rounds.{level, orElse, start, demands, reachedFrom, next, levels, reached, load, laterRounds}
 use Rattle.model.proofs.Closed.{Demand, demands-Demand, Demand-demands, Closed}
 
+-- a row is reached exactly if it has a level
 pub reached-level : (L : List ℕ) (r : ℕ) → reached L r ≡ true → 0 < level L r
 unfolding reached
 reached-level L r e = ltb-true 0 (level L r) e
@@ -34,7 +36,8 @@ pub zero-unreached : (L : List ℕ) (r : ℕ) → level L r ≡ 0 → reached L 
 unfolding reached
 zero-unreached L r z = le-ltb 0 (level L r) (omega arith)
 
--- the levels of a load are distances: 1 for a row cached before, 2 for the other rows of round 0, and one more than the least level that demands it for any other
+-- The levels of a load are distances: 1 for a row cached before, 2 for the other rows of round 0, and for any other row that is reached one more
+-- than the lowest level of a row that demands it.
 pub record Distances (S : Scheme) (D : Database) (old seed : RowSet) (L : List ℕ) : Type 0 where
   pub olds : (r : ℕ) → old r ≡ true → level L r ≡ 1
   pub is-old : (r : ℕ) → level L r ≡ 1 → old r ≡ true
@@ -42,6 +45,10 @@ pub record Distances (S : Scheme) (D : Database) (old seed : RowSet) (L : List �
   pub is-seed : (r : ℕ) → level L r ≡ 2 → seed r ≡ true
   pub link : (r m : ℕ) → level L r ≡ suc (suc (suc m)) → (s : ℕ) × (level L s ≡ suc (suc m)) × Demand S D s r
   pub closed : (s r : ℕ) → 0 < level L s → Demand S D s r → (0 < level L r) × (level L r ≤ suc (level L s))
+
+-- round n added no row
+unfoldable pub Quiet : ℕ → List ℕ → Type 0
+Quiet n L = (r : ℕ) → level L r ≡ suc (suc n) → ⊥
 
 -- ---- round 0
 
@@ -65,7 +72,8 @@ module _ (D : Database) (old seed : RowSet) where
       go false = omega arith
 
   -- a row with a level: cached before, or of round 0
-  start-cases : (r : ℕ) → 0 < level (start D old seed) r → ((old r ≡ true) × (level (start D old seed) r ≡ 1)) ⊎ ((seed r ≡ true) × (level (start D old seed) r ≡ 2))
+  start-cases : (r : ℕ) → 0 < level (start D old seed) r →
+      ((old r ≡ true) × (level (start D old seed) r ≡ 1)) ⊎ ((seed r ≡ true) × (level (start D old seed) r ≡ 2))
   start-cases r p = at-row (decLt r (D .size))
     where
       go : (a b : Bool) (l : ℕ) → l ≡ cond a 1 (cond b 2 0) → 0 < l → ((a ≡ true) × (l ≡ 1)) ⊎ ((b ≡ true) × (l ≡ 2))
@@ -77,8 +85,9 @@ module _ (D : Database) (old seed : RowSet) where
       at-row (yes h) = go (old r) (seed r) (level (start D old seed) r) (start-at r h) p
       at-row (no h) = absurd (omega (arith, start-past r (omega arith)))
 
--- a load depends on what is cached and what round 0 asks for only row by row
-pub load-same : (S : Scheme) (D : Database) (old old′ seed seed′ : RowSet) → ((r : ℕ) → r < D .size → old r ≡ old′ r) → ((r : ℕ) → r < D .size → seed r ≡ seed′ r) → load S D old seed ≡ load S D old′ seed′
+-- loads whose rows cached before and rows of round 0 agree row by row are the same
+pub load-same : (S : Scheme) (D : Database) (old old′ seed seed′ : RowSet) → ((r : ℕ) → r < D .size → old r ≡ old′ r) →
+    ((r : ℕ) → r < D .size → seed r ≡ seed′ r) → load S D old seed ≡ load S D old′ seed′
 unfolding load start
 load-same S D old old′ seed seed′ h k =
     ap (λ (L : List ℕ). levels S D L (D .size)) (tab-same (D .size) _ _ (λ r l. ap₂ (λ (a b : Bool). cond a 1 (cond b 2 0)) (h r l) (k r l)))
@@ -133,7 +142,8 @@ module _ (S : Scheme) (D : Database) (n : ℕ) (L : List ℕ) where
           let q = and-eq-true-iff (eqb (level L (f .0)) (suc (suc n))) (demands S D (f .0) r) .0 (f .2) in
           record { was = z; now = e; by = f .0; by-level = eqb-true _ _ (q .0); demand = demands-Demand S D (f .0) r (q .1) }
 
-      go : (l : ℕ) (b : Bool) → level L r ≡ l → reachedFrom S D n L r ≡ b → level (next S D n L) r ≡ orElse l (cond b (suc (suc (suc n))) 0) → (level (next S D n L) r ≡ level L r) ⊎ Added S D n L r
+      go : (l : ℕ) (b : Bool) → level L r ≡ l → reachedFrom S D n L r ≡ b → level (next S D n L) r ≡ orElse l (cond b (suc (suc (suc n))) 0) →
+          (level (next S D n L) r ≡ level L r) ⊎ Added S D n L r
       go zero true z t e = inr (added z t e)
       go zero false z t e = inl (e ∙ sym z)
       go (suc l) b z t e = inl (e ∙ sym z)
@@ -142,23 +152,29 @@ module _ (S : Scheme) (D : Database) (n : ℕ) (L : List ℕ) where
       at-row (yes h) = go (level L r) (reachedFrom S D n L r) refl refl (next-at r h)
       at-row (no h) = absurd (omega (arith, next-past r (omega arith)))
 
+-- the levels are one number for each row number
+pub levels-length : (S : Scheme) (D : Database) (old seed : RowSet) (n : ℕ) → length (levels S D (start D old seed) n) ≡ D .size
+unfolding levels start next
+levels-length S D old seed zero = length-tab (D .size) _
+levels-length S D old seed (suc n) = length-tab (D .size) _
+
 -- ---- the invariant of the rounds
 
 module _ (S : Scheme) (D : Database) (old seed : RowSet) where
   -- what holds of the levels when round n is done
-  pub record Inv (n : ℕ) (L : List ℕ) : Type 0 where
-    pub rows : (r : ℕ) → 0 < level L r → D .live r ≡ true
-    pub bound : (r : ℕ) → level L r ≤ suc (suc n)
+  record Inv (n : ℕ) (L : List ℕ) : Type 0 where
+    rows : (r : ℕ) → 0 < level L r → D .live r ≡ true
+    bound : (r : ℕ) → level L r ≤ suc (suc n)
     -- levels 1 and 2: the rows cached before, and those of round 0
-    pub olds : (r : ℕ) → old r ≡ true → level L r ≡ 1
-    pub seeds : (r : ℕ) → seed r ≡ true → (0 < level L r) × (level L r ≤ 2)
-    pub is-old : (r : ℕ) → level L r ≡ 1 → old r ≡ true
-    pub is-seed : (r : ℕ) → level L r ≡ 2 → seed r ≡ true
+    olds : (r : ℕ) → old r ≡ true → level L r ≡ 1
+    seeds : (r : ℕ) → seed r ≡ true → (0 < level L r) × (level L r ≤ 2)
+    is-old : (r : ℕ) → level L r ≡ 1 → old r ≡ true
+    is-seed : (r : ℕ) → level L r ≡ 2 → seed r ≡ true
     -- a later level: one of the level before demands the row
-    pub link : (r m : ℕ) → level L r ≡ suc (suc (suc m)) → (s : ℕ) × (level L s ≡ suc (suc m)) × Demand S D s r
+    link : (r m : ℕ) → level L r ≡ suc (suc (suc m)) → (s : ℕ) × (level L s ≡ suc (suc m)) × Demand S D s r
     -- what a row of an earlier round demands is there, at most one level later
-    pub closed : (s r : ℕ) → 0 < level L s → level L s < suc (suc n) → Demand S D s r → (0 < level L r) × (level L r ≤ suc (level L s))
-    pub least : (Y : RowSet) → Closed S D Y → Inside old Y → Inside seed Y → (r : ℕ) → 0 < level L r → Y r ≡ true
+    closed : (s r : ℕ) → 0 < level L s → level L s < suc (suc n) → Demand S D s r → (0 < level L r) × (level L r ≤ suc (level L s))
+    least : (Y : RowSet) → Closed S D Y → Inside old Y → Inside seed Y → (r : ℕ) → 0 < level L r → Y r ≡ true
 
   inv-start : Closed S D old → Inside seed (D .live) → Inv 0 (start D old seed)
   inv-start C I =
@@ -212,7 +228,9 @@ module _ (S : Scheme) (D : Database) (old seed : RowSet) where
             ⊎-elim (λ z. omega arith) (λ p. ⊎-elim (λ e. omega (arith, N .bound r)) (λ a. omega (arith, a .now)) (next-cases S D n L r p))
             (eq-zero-or-pos (level (next S D n L) r))
 
-        kept : (s r : ℕ) → 0 < level (next S D n L) s → level (next S D n L) s < suc (suc (suc n)) → Demand S D s r → level (next S D n L) s ≡ level L s → level L s ≤ suc (suc n) → (0 < level (next S D n L) r) × (level (next S D n L) r ≤ suc (level (next S D n L) s))
+        kept : (s r : ℕ) → 0 < level (next S D n L) s → level (next S D n L) s < suc (suc (suc n)) → Demand S D s r →
+            level (next S D n L) s ≡ level L s → level L s ≤ suc (suc n) →
+            (0 < level (next S D n L) r) × (level (next S D n L) r ≤ suc (level (next S D n L) s))
         kept s r p l d e b = go (decLt (level L s) (suc (suc n)))
           where
             go : Dec (level L s < suc (suc n)) → (0 < level (next S D n L) r) × (level (next S D n L) r ≤ suc (level (next S D n L) s))
@@ -220,10 +238,6 @@ module _ (S : Scheme) (D : Database) (old seed : RowSet) where
             go (no h) = let q = next-adds S D n L s r (D .finite s (d .source .live)) (D .finite r (d .target .live)) (omega arith) d in omega (arith, top r)
 
   -- ---- the last round
-
-  -- round n added nothing
-  unfoldable pub Quiet : ℕ → List ℕ → Type 0
-  Quiet n L = (r : ℕ) → level L r ≡ suc (suc n) → ⊥
 
   quiet-next : (n : ℕ) (L : List ℕ) → Inv n L → Quiet n L → Quiet (suc n) (next S D n L)
   unfolding Quiet
@@ -261,9 +275,12 @@ module _ (S : Scheme) (D : Database) (old seed : RowSet) where
             let p = level-reached (start D old seed) r (omega arith) in
             let m = count-more (D .size) (λ _. false) (reached (start D old seed)) (λ i x. clash x refl) r (D .finite r (inv 0 .rows r (omega arith))) refl p in
             omega arith
-    grown (suc n) = ⊎-elim (λ q. inl (quiet-next n (at-round n) (inv n) q)) (λ c. ⊎-elim inl (λ f. inr (more c (f .0) (f .1))) (quiet? (suc n) (at-round (suc n)) (inv (suc n)))) (grown n)
+    grown (suc n) =
+        ⊎-elim (λ q. inl (quiet-next n (at-round n) (inv n) q))
+        (λ c. ⊎-elim inl (λ f. inr (more c (f .0) (f .1))) (quiet? (suc n) (at-round (suc n)) (inv (suc n)))) (grown n)
       where
-        more : n < count (D .size) (reached (at-round n)) → (r : ℕ) → level (at-round (suc n)) r ≡ suc (suc (suc n)) → suc n < count (D .size) (reached (at-round (suc n)))
+        more : n < count (D .size) (reached (at-round n)) → (r : ℕ) → level (at-round (suc n)) r ≡ suc (suc (suc n)) →
+            suc n < count (D .size) (reached (at-round (suc n)))
         more c r e =
             let was : level (at-round n) r ≡ 0 = ⊎-elim (λ h. absurd (omega (arith, inv n .bound r))) (λ a. a .was) (next-cases S D n (at-round n) r (omega arith)) in
             let m =
@@ -280,12 +297,14 @@ module _ (S : Scheme) (D : Database) (old seed : RowSet) where
     unfolding load at-round Quiet
     below s = let b = inv (D .size) .bound s in let q : level (load S D old seed) s ≡ suc (suc (D .size)) → ⊥ = ended s in omega arith
 
+    -- the levels of a load are distances
     pub load-distances : Distances S D old seed (load S D old seed)
     unfolding load
     load-distances =
         let i = inv (D .size) in
         record { olds = i .olds; is-old = i .is-old; seeds = i .seeds; is-seed = i .is-seed; link = i .link; closed = λ s r p. i .closed s r p (below s) }
 
+    -- the rows that a load reaches have all that they demand
     pub load-closed : Closed S D (reached (load S D old seed))
     unfolding load
     load-closed =
@@ -294,24 +313,21 @@ module _ (S : Scheme) (D : Database) (old seed : RowSet) where
           demanded = λ s r e d. level-reached _ r (load-distances .closed s r (reached-level _ s e) d .0);
         }
 
+    -- a load reaches the rows cached before and those of round 0
     pub load-starts : (r : ℕ) → (old r ≡ true) ⊎ (seed r ≡ true) → reached (load S D old seed) r ≡ true
     load-starts r o = level-reached _ r (⊎-elim (λ a. let e = load-distances .olds r a in omega arith) (λ b. load-distances .seeds r b .0) o)
 
+    -- and no row that is not in every closed row set with them
     pub load-least : (Y : RowSet) → Closed S D Y → Inside old Y → Inside seed Y → Inside (reached (load S D old seed)) Y
     unfolding load
     load-least Y K i j r e = inv (D .size) .least Y K i j r (reached-level _ r e)
 
     -- ---- what a loop over the rounds finds
 
-    round-length : (n : ℕ) → length (at-round n) ≡ D .size
-    unfolding at-round levels start next
-    round-length zero = length-tab (D .size) _
-    round-length (suc n) = length-tab (D .size) _
-
     -- a round that comes after one that added nothing changes nothing
     quiet-same : (n : ℕ) → Quiet n (at-round n) → at-round (suc n) ≡ at-round n
     unfolding Quiet at-round levels
-    quiet-same n q = ext-getD 0 _ _ (round-length (suc n) ∙ sym (round-length n)) (λ i h. ⊎-elim
+    quiet-same n q = ext-getD 0 _ _ (levels-length S D old seed (suc n) ∙ sym (levels-length S D old seed n)) (λ i h. ⊎-elim
         (λ z. ⊎-elim (λ y. z ∙ sym y) (λ y. stays n (at-round n) (inv n) i y) (eq-zero-or-pos (level (at-round n) i)))
         (λ y. ⊎-elim (λ e. e) (λ a. absurd (q (a .by) (a .by-level))) (next-cases S D n (at-round n) i y))
         (eq-zero-or-pos (level (next S D n (at-round n)) i)))
@@ -323,19 +339,23 @@ module _ (S : Scheme) (D : Database) (old seed : RowSet) where
         let h = quiet-later n m q in
         rw (add-suc n m) (quiet-next (n + m) (at-round (n + m)) (inv (n + m)) (h .0), quiet-same (n + m) (h .0) ∙ h .1)
 
-    -- a loop may stop at the first round that adds nothing
+    -- the levels after a round that added no row are those of the whole load
     pub load-early : (n : ℕ) → n ≤ D .size → Quiet n (levels S D (start D old seed) n) → load S D old seed ≡ levels S D (start D old seed) n
     unfolding load at-round
     load-early n h q = let e : n + (D .size - n) ≡ D .size = omega arith in rw e at (quiet-later n (D .size - n) q .1)
 
-    -- the later rounds that added a row: R, where each round up to R did and the next did not
-    pub rounds-counted : (R : ℕ) → ((n : ℕ) → n < R → (r : ℕ) × (level (load S D old seed) r ≡ suc (suc (suc n)))) → ((r : ℕ) → level (load S D old seed) r ≡ suc (suc (suc R)) → ⊥) →
+    -- the answer's number of later rounds is R, where each of the first R later rounds added a row and the next did not
+    pub rounds-counted : (R : ℕ) → ((n : ℕ) → n < R → (r : ℕ) × (level (load S D old seed) r ≡ suc (suc (suc n)))) →
+        ((r : ℕ) → level (load S D old seed) r ≡ suc (suc (suc R)) → ⊥) →
         laterRounds D (load S D old seed) ≡ R
     unfolding laterRounds
     rounds-counted R some none = count-prefix (D .size) R p low full empty
       where
+        at : ℕ → ℕ → Bool
+        at n r = eqb (level (load S D old seed) r) (suc (suc (suc n)))
+
         p : ℕ → Bool
-        p n = any (D .size) (λ r. eqb (level (load S D old seed) r) (suc (suc (suc n))))
+        p n = any (D .size) (at n)
 
         row : (r : ℕ) → 0 < level (load S D old seed) r → r < D .size
         row r h = D .finite r (load-closed .rows r (level-reached _ r h))
@@ -344,7 +364,7 @@ module _ (S : Scheme) (D : Database) (old seed : RowSet) where
         low = ⊎-elim (λ z. omega arith) (λ h. let f = some (R - 1) (omega arith) in omega (arith, below (f .0), f .1)) (eq-zero-or-pos R)
 
         full : (n : ℕ) → n < R → p n ≡ true
-        full n h = let f = some n h in any-true (D .size) (λ r. eqb (level (load S D old seed) r) (suc (suc (suc n)))) (f .0) (row (f .0) (omega (arith, f .1))) (eq-eqb _ _ (f .1))
+        full n h = let f = some n h in any-true (D .size) (at n) (f .0) (row (f .0) (omega (arith, f .1))) (eq-eqb _ _ (f .1))
 
         above : (m r : ℕ) → level (load S D old seed) r ≡ suc (suc (suc (R + m))) → ⊥
         above zero r e = none r (omega arith)
@@ -353,6 +373,6 @@ module _ (S : Scheme) (D : Database) (old seed : RowSet) where
         empty : (n : ℕ) → R ≤ n → p n ≡ false
         empty n h =
             refute (p n) (λ t.
-            let f = any-found (D .size) (λ r. eqb (level (load S D old seed) r) (suc (suc (suc n)))) t in
+            let f = any-found (D .size) (at n) t in
             let e : level (load S D old seed) (f .0) ≡ suc (suc (suc n)) = eqb-true _ _ (f .2) in
             above (n - R) (f .0) (omega arith))
