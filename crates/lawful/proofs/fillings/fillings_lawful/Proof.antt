@@ -1,0 +1,42 @@
+-- `lawful::fillings::fillings_lawful` meets its contract: the invariant: the places passed are lawful. Assumes nothing.
+use Prim.Native.Nat.{_-_, _≤_}
+use native.Mathlib.Omega.{arith}
+use mathlib.Core.Bool.{true}
+use mathlib.Core.Path.{_∙_, _≡_, sym}
+use borrow.Author.Needs.{needs}
+use borrow.Author.Tests.{not-false, not-true}
+use Rattle.finite.proofs.Search.{all-end, all-more, all-start, all-stop}
+use Rattle.finite.specs.Finite.{all}
+use Rattle.lawful.specs.Parts.{fillingLawful}
+use Rattle.lawful.proofs.fillings.fillings_lawful.Statement.{statement}
+use Rattle.lawful.proofs.fillings.fillings_lawful.Tie as tie
+
+abbrev Inv-loop : tie.InvT-loop
+Inv-loop d i₀ i = (i ≤ 8) × (all i (fillingLawful d) ≡ true)
+
+abbrev μ-loop : tie.MeasureT-loop
+μ-loop d i₀ i = 8 - i
+
+loop-holds : tie.Need-loop-holds Inv-loop μ-loop
+loop-holds c = (omega arith, all-start _)
+
+filling-lawful-requires : tie.Need-filling-lawful-requires Inv-loop μ-loop
+filling-lawful-requires c κs = search needs
+
+returns : tie.Need-returns Inv-loop μ-loop
+returns c = all-stop _ _ _ (c .before .before .loop-test .taken) (sym (c .before .filling-lawful .ensures) ∙ not-true _ (c .if1 .taken))
+
+add-i : tie.Need-add-i Inv-loop μ-loop
+add-i c = omega arith
+
+loop-less : tie.Need-loop-less Inv-loop μ-loop
+loop-less c = omega arith
+
+loop-again : tie.Need-loop-again Inv-loop μ-loop
+loop-again c = (omega arith, all-more _ _ (c .before .before .before .loop .inv .1) (sym (c .before .filling-lawful .ensures) ∙ not-false _ (c .if1 .left)))
+
+returns-2 : tie.Need-returns-2 Inv-loop μ-loop
+returns-2 c = all-end _ _ _ (c .before .loop .inv .0) (c .loop-test .left) (c .before .loop .inv .1)
+
+pub fillings-lawful-spec : {M : Type 1} → statement M
+fillings-lawful-spec = tie.close (tie.spec Inv-loop μ-loop loop-holds filling-lawful-requires returns add-i loop-less loop-again returns-2)

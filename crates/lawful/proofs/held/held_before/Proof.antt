@@ -1,0 +1,51 @@
+-- `lawful::held::held_before` meets its contract: the invariant: none of the held values passed is the same. Assumes nothing.
+use Prim.Native.Nat.{_-_, _≤_}
+use native.Mathlib.Omega.{arith}
+use mathlib.Core.Bool.{false}
+use mathlib.Core.Path.{_∙_, _≡_, sym}
+use borrow.Author.Needs.{needs}
+use Rattle.finite.proofs.Search.{any-end, any-hit, any-more, any-start}
+use Rattle.finite.specs.Finite.{any}
+use Rattle.model.specs.Runs.{samePair}
+use Rattle.state.specs.Held.{heldAt}
+use Rattle.state.specs.Meaning.{pairOf}
+use Rattle.lawful.proofs.held.held_before.Statement.{statement}
+use Rattle.lawful.proofs.held.held_before.Tie as tie
+
+abbrev Inv-loop : tie.InvT-loop
+Inv-loop n v h i₀ i = (i ≤ n) × (any i (λ j. samePair (pairOf (heldAt h j)) (pairOf v)) ≡ false)
+
+abbrev μ-loop : tie.MeasureT-loop
+μ-loop n v h i₀ i = n - i
+
+loop-holds : tie.Need-loop-holds Inv-loop μ-loop
+loop-holds c = (omega arith, any-start _)
+
+mul-same-pair : tie.Need-mul-same-pair Inv-loop μ-loop
+mul-same-pair c = search needs
+
+element-copy-out-same-pair : tie.Need-element-copy-out-same-pair Inv-loop μ-loop
+element-copy-out-same-pair c = search needs
+
+same-pair-requires : tie.Need-same-pair-requires Inv-loop μ-loop
+same-pair-requires c κs = search needs
+
+returns : tie.Need-returns Inv-loop μ-loop
+returns c = any-hit _ _ _ (c .before .before .before .loop-test .taken) (sym (c .before .same-pair .ensures) ∙ c .if1 .taken)
+
+add-i : tie.Need-add-i Inv-loop μ-loop
+add-i c = omega arith
+
+loop-less : tie.Need-loop-less Inv-loop μ-loop
+loop-less c = omega arith
+
+loop-again : tie.Need-loop-again Inv-loop μ-loop
+loop-again c = (omega arith, any-more _ _ (c .before .before .before .before .loop .inv .1) (sym (c .before .same-pair .ensures) ∙ c .if1 .left))
+
+returns-2 : tie.Need-returns-2 Inv-loop μ-loop
+returns-2 c = any-end _ _ _ (c .before .loop .inv .0) (c .loop-test .left) (c .before .loop .inv .1)
+
+pub held-before-spec : {M : Type 1} → statement M
+held-before-spec =
+    tie.close (tie.spec
+    Inv-loop μ-loop loop-holds mul-same-pair element-copy-out-same-pair same-pair-requires returns add-i loop-less loop-again returns-2)

@@ -1,0 +1,42 @@
+-- `lawful::rows::blank_from` meets its contract: the invariant: the cells passed are among the first n, or blank. Assumes nothing.
+use Prim.Native.Nat.{_-_, _≤_}
+use native.Mathlib.Omega.{arith}
+use mathlib.Core.Bool.{true}
+use mathlib.Core.Path.{_∙_, _≡_, sym}
+use borrow.Author.Needs.{needs}
+use borrow.Author.Tests.{not-false, not-true}
+use Rattle.finite.proofs.Search.{all-end, all-more, all-start, all-stop}
+use Rattle.finite.specs.Finite.{all}
+use Rattle.lawful.specs.Parts.{blankAt}
+use Rattle.lawful.proofs.rows.blank_from.Statement.{statement}
+use Rattle.lawful.proofs.rows.blank_from.Tie as tie
+
+abbrev Inv-loop : tie.InvT-loop
+Inv-loop cells r n c₀ c = (c ≤ 8) × (all c (blankAt cells r n) ≡ true)
+
+abbrev μ-loop : tie.MeasureT-loop
+μ-loop cells r n c₀ c = 8 - c
+
+loop-holds : tie.Need-loop-holds Inv-loop μ-loop
+loop-holds c = (omega arith, all-start _)
+
+blank-at-requires : tie.Need-blank-at-requires Inv-loop μ-loop
+blank-at-requires c κs = search needs
+
+returns : tie.Need-returns Inv-loop μ-loop
+returns c = all-stop _ _ _ (c .before .before .loop-test .taken) (sym (c .before .blank-at .ensures) ∙ not-true _ (c .if1 .taken))
+
+add-c : tie.Need-add-c Inv-loop μ-loop
+add-c c = omega arith
+
+loop-less : tie.Need-loop-less Inv-loop μ-loop
+loop-less c = omega arith
+
+loop-again : tie.Need-loop-again Inv-loop μ-loop
+loop-again c = (omega arith, all-more _ _ (c .before .before .before .loop .inv .1) (sym (c .before .blank-at .ensures) ∙ not-false _ (c .if1 .left)))
+
+returns-2 : tie.Need-returns-2 Inv-loop μ-loop
+returns-2 c = all-end _ _ _ (c .before .loop .inv .0) (c .loop-test .left) (c .before .loop .inv .1)
+
+pub blank-from-spec : {M : Type 1} → statement M
+blank-from-spec = tie.close (tie.spec Inv-loop μ-loop loop-holds blank-at-requires returns add-c loop-less loop-again returns-2)

@@ -1,0 +1,28 @@
+-- `lawful::rows::row_fits` meets its contract. Assumes nothing.
+use native.Mathlib.Omega.{arith}
+use mathlib.Core.Path.{_∙_}
+use borrow.Author.Needs.{needs}
+use Rattle.lawful.proofs.RowTests.{fits-blank, fits-elsewhere}
+use Rattle.lawful.proofs.rows.row_fits.Statement.{statement}
+use Rattle.lawful.proofs.rows.row_fits.Tie as tie
+
+shared-slice-read-t : tie.Need-shared-slice-read-t
+shared-slice-read-t c = search needs
+
+cast-t : tie.Need-cast-t
+cast-t c = omega (arith, c .shared-slice-known3 .given (c .before .before .before .args .r))
+
+returns : tie.Need-returns
+returns c = fits-elsewhere _ _ _ _ (c .if1 .taken)
+
+table-at-requires : tie.Need-table-at-requires
+table-at-requires c κs = search needs
+
+blank-from-requires : tie.Need-blank-from-requires
+blank-from-requires c κs = search needs
+
+returns-2 : tie.Need-returns-2
+returns-2 c = (rw (c .before .table-at .ensures) at (c .blank-from .ensures)) ∙ fits-blank _ _ _ _ (c .before .before .if1 .left)
+
+pub row-fits-spec : {M : Type 1} → statement M
+row-fits-spec = tie.close (tie.spec shared-slice-read-t cast-t returns table-at-requires blank-from-requires returns-2)

@@ -1,0 +1,22 @@
+-- `lawful::tables::table_at` meets its contract: past the array's eight places `getD` gives the empty table. Assumes nothing.
+use mathlib.Core.Path.{sym}
+use borrow.Author.Needs.{needs}
+use lib.ListN.{length-map}
+use Rattle.lawful.proofs.Places.{past-end}
+use Rattle.lawful.proofs.tables.table_at.Statement.{statement}
+use Rattle.lawful.proofs.tables.table_at.Tie as tie
+
+returns : tie.Need-returns
+returns c = sym (past-end (c .before .args .t1 .table) _ _ _ (simp length-map at (c .before .good .0 .1 .1 .1 .0 .1 .0 .1)) (c .if1 .taken))
+
+mul-result : tie.Need-mul-result
+mul-result c = search needs
+
+element-copy-out-result : tie.Need-element-copy-out-result
+element-copy-out-result c = search needs
+
+returns-2 : tie.Need-returns-2
+returns-2 c = search needs
+
+pub table-at-spec : {M : Type 1} → statement M
+table-at-spec = tie.close (tie.spec returns mul-result element-copy-out-result returns-2)

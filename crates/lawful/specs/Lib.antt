@@ -1,0 +1,2 @@
+-- Parts: the parts of a lawful design, place by place.
+pub mod Parts

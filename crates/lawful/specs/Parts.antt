@@ -1,0 +1,53 @@
+-- The parts of a lawful state, place by place, as the loops over the places decide them. Assumes nothing.
+use Prim.Native.Nat.{ℕ, _+_, _*_}
+use mathlib.Core.Bool.{Bool, not, _&&_, _||_}
+use mathlib.Core.List.{List}
+use lib.Dec.{eqb, ltb}
+use lib.ListN.{getD}
+use Rattle.finite.specs.Finite.{all}
+use Rattle.state.specs.declared.design.Design.{Design}
+use Rattle.state.specs.declared.held.Held.{Held}
+use Rattle.state.specs.Design.{tableAt, constraintAt, fillingAt}
+use Rattle.state.specs.Held.{heldAt}
+use Rattle.state.specs.Meaning.{schemeOf, databaseOf}
+use Rattle.state.specs.Lawful.{usedOr, tableFits, zeroTable, constraintFits, zeroConstraint, fillingFits, zeroFilling, rowFits, repeats, zeroRow, heldFits, zeroHeld}
+
+-- ---- a design's places: each holds what can stand there, or is unused and 0
+
+abbrev pub tableLawful : Design → ℕ → Bool
+tableLawful d i = usedOr i (d .tables) (tableFits (tableAt d i)) (zeroTable (tableAt d i))
+
+abbrev pub tablesLawful : Design → Bool
+tablesLawful d = all 8 (tableLawful d)
+
+abbrev pub constraintLawful : Design → ℕ → Bool
+constraintLawful d i = usedOr i (d .constraints) (constraintFits d i (constraintAt d i)) (zeroConstraint (constraintAt d i))
+
+abbrev pub constraintsLawful : Design → Bool
+constraintsLawful d = all 16 (constraintLawful d)
+
+abbrev pub fillingLawful : Design → ℕ → Bool
+fillingLawful d i = usedOr i (d .fillings) (fillingFits d i (fillingAt d i)) (zeroFilling (fillingAt d i))
+
+abbrev pub fillingsLawful : Design → Bool
+fillingsLawful d = all 8 (fillingLawful d)
+
+-- ---- a row's places
+
+-- cell c of row r is one of the first n, or blank
+abbrev pub blankAt : List ℕ → ℕ → ℕ → ℕ → Bool
+blankAt cells r n c = ltb c n || eqb (getD cells (8 * r + c) 0) 0
+
+abbrev pub blankFrom : List ℕ → ℕ → ℕ → Bool
+blankFrom cells r n = all 8 (blankAt cells r n)
+
+abbrev pub rowLawful : Design → List ℕ → List ℕ → ℕ → Bool
+rowLawful d cells tables r =
+    let S = schemeOf d in
+    let D = databaseOf (d .rows) cells tables in
+    usedOr r (d .rows) (rowFits S D r && not (repeats S D r)) (zeroRow D r)
+
+-- ---- a held record's places
+
+abbrev pub heldLawful : Design → Held → ℕ → Bool
+heldLawful d h i = usedOr i (h .count) (heldFits d h i (heldAt h i)) (zeroHeld (heldAt h i))
