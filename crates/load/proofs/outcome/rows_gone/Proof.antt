@@ -1,0 +1,70 @@
+-- `load::outcome::rows_gone` meets its contract: a loop that counts. Assumes nothing.
+use Prim.Native.Nat.{_-_, _≤_}
+use native.Mathlib.Omega.{arith}
+use mathlib.Core.Bool.{_&&_, not}
+use mathlib.Core.Logic.{⊎-elim}
+use mathlib.Core.Path.{_∙_, _≡_, sym}
+use borrow.Author.Needs.{needs}
+use Rattle.finite.proofs.Counting.{count-end, count-hit, count-miss, count-start}
+use Rattle.finite.specs.Finite.{count}
+use Rattle.model.specs.Rounds.{levels, reached}
+use Rattle.model.specs.Runs.{marked, marks, taken}
+use Rattle.load.proofs.outcome.rows_gone.Statement.{statement}
+use Rattle.load.proofs.outcome.rows_gone.Tie as tie
+
+abbrev Inv-loop : tie.InvT-loop
+Inv-loop marks levels n₀ r₀ n r = (r ≤ 512) × (n ≤ r) × (n ≡ count r (λ j. marked marks j && not (reached levels j)))
+
+abbrev μ-loop : tie.MeasureT-loop
+μ-loop marks levels n₀ r₀ n r = 512 - r
+
+loop-holds : tie.Need-loop-holds Inv-loop μ-loop
+loop-holds c = (omega arith, omega arith, count-start _)
+
+shared-slice-read-is-gone : tie.Need-shared-slice-read-is-gone Inv-loop μ-loop
+shared-slice-read-is-gone c = omega arith
+
+mul-is-gone : tie.Need-mul-is-gone Inv-loop μ-loop
+mul-is-gone c = search needs
+
+element-copy-out-is-gone : tie.Need-element-copy-out-is-gone Inv-loop μ-loop
+element-copy-out-is-gone c = search needs
+
+is-gone-requires : tie.Need-is-gone-requires Inv-loop μ-loop
+is-gone-requires c κs = search needs
+
+add-n : tie.Need-add-n Inv-loop μ-loop
+add-n c = omega arith
+
+add-r : tie.Need-add-r Inv-loop μ-loop
+add-r c = omega arith
+
+loop-less : tie.Need-loop-less Inv-loop μ-loop
+loop-less c = omega arith
+
+loop-again : tie.Need-loop-again Inv-loop μ-loop
+unfolding marked reached
+loop-again c =
+    ⊎-elim (λ w. (omega arith, omega (arith, w .1), w .1 ∙ count-hit _ _ _ (c .before .before .before .before .before .loop .inv .2) (sym (c .before .is-gone .ensures) ∙ w .0 .taken)))
+    (λ w. (omega arith, omega (arith, w .1), w .1 ∙ count-miss _ _ _ (c .before .before .before .before .before .loop .inv .2) (sym (c .before .is-gone .ensures) ∙ w .0 .left)))
+    (c .if1 .came)
+
+returns : tie.Need-returns Inv-loop μ-loop
+returns c = count-end _ _ _ _ (c .before .loop .inv .0) (c .loop-test .left) (c .before .loop .inv .2)
+
+pub rows-gone-spec : {M : Type 1} → statement M
+rows-gone-spec =
+    tie.close
+    (tie.spec
+    Inv-loop
+    μ-loop
+    loop-holds
+    shared-slice-read-is-gone
+    mul-is-gone
+    element-copy-out-is-gone
+    is-gone-requires
+    add-n
+    add-r
+    loop-less
+    loop-again
+    returns)

@@ -1,0 +1,14 @@
+// Loading in rounds, level by level: round 0 from one value or from all held values, the later rounds, and what a load answers and leaves.
+// The levels are the model's (crates/model/specs/Rounds.antt): 0 a row not reached, 1 a row cached before, 2 + n a row that round n adds.
+mod outcome;
+mod raising;
+mod rounds;
+mod start;
+
+pub use outcome::marks_agree;
+pub use outcome::rows_added;
+pub use outcome::rows_gone;
+pub use outcome::settle;
+pub use rounds::close;
+pub use start::start_held;
+pub use start::start_value;
