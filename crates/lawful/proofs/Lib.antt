@@ -1,4 +1,7 @@
--- Bits: bits and powers of two. Places: used and unused places. RowTests: the tests of a row.
+pub mod Arrays
 pub mod Bits
 pub mod Places
 pub mod RowTests
+pub mod DesignLaws
+pub mod RowsLaws
+pub mod HeldLaws

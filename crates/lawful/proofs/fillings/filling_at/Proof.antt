@@ -1,13 +1,13 @@
 -- `lawful::fillings::filling_at` meets its contract: past the array's eight places `getD` gives the filling that is all 0. Assumes nothing.
 use mathlib.Core.Path.{sym}
 use borrow.Author.Needs.{needs}
-use lib.ListN.{length-map}
+use Rattle.lawful.proofs.Arrays.{sized}
 use Rattle.lawful.proofs.Places.{past-end}
 use Rattle.lawful.proofs.fillings.filling_at.Statement.{statement}
 use Rattle.lawful.proofs.fillings.filling_at.Tie as tie
 
 returns : tie.Need-returns
-returns c = sym (past-end (c .before .args .t1 .filling) _ _ _ (simp length-map at (c .before .good .0 .1 .1 .1 .1 .1 .1 .1 .0 .1 .0 .1)) (c .if1 .taken))
+returns c = let d = c .before .args .t1 in sym (past-end (d .filling) _ _ _ (sized d _ (c .before .good .0) .filling) (c .if1 .taken))
 
 mul-result : tie.Need-mul-result
 mul-result c = search needs

@@ -1,13 +1,13 @@
 -- `lawful::tables::table_at` meets its contract: past the array's eight places `getD` gives the empty table. Assumes nothing.
 use mathlib.Core.Path.{sym}
 use borrow.Author.Needs.{needs}
-use lib.ListN.{length-map}
+use Rattle.lawful.proofs.Arrays.{sized}
 use Rattle.lawful.proofs.Places.{past-end}
 use Rattle.lawful.proofs.tables.table_at.Statement.{statement}
 use Rattle.lawful.proofs.tables.table_at.Tie as tie
 
 returns : tie.Need-returns
-returns c = sym (past-end (c .before .args .t1 .table) _ _ _ (simp length-map at (c .before .good .0 .1 .1 .1 .0 .1 .0 .1)) (c .if1 .taken))
+returns c = let d = c .before .args .t1 in sym (past-end (d .table) _ _ _ (sized d _ (c .before .good .0) .table) (c .if1 .taken))
 
 mul-result : tie.Need-mul-result
 mul-result c = search needs

@@ -1,0 +1,188 @@
+-- What the tests of the rows say, both ways: the lent rows are a lawful database, and the rest is 0. Assumes nothing.
+use Prim.Native.Nat.{ℕ, _+_, _*_, _^_, _≤_, _<_}
+use native.Mathlib.Omega.{arith}
+use mathlib.Core.Path.{_≡_, refl, sym, ap, subst, _∙_}
+use mathlib.Core.Logic.{_⊎_, inl, inr, ⊎-elim}
+use mathlib.Core.Bool.{Bool, true, false, not, cond, _&&_, _||_, and-eq-true-iff}
+use mathlib.Core.List.{List}
+use borrow.Author.Tests.{lt-ltb, le-ltb, ltb-true, ltb-false, eqb-true, eq-eqb, not-true}
+use lib.Dec.{ltb}
+use lib.ListN.{getD}
+use Rattle.finite.specs.Finite.{any, all}
+use Rattle.finite.proofs.Bools.{dec, both, clash, refute, or-cases, or-left, cond-false}
+use Rattle.finite.proofs.Search.{any-true, any-found, all-at, all-true}
+use Rattle.model.specs.Cell.{Cell, Fits, cellOf, blank, isBlank}
+use Rattle.model.specs.Scheme.{Column, Scheme}
+use Rattle.model.specs.Database.{Database, Has, has, Lawful}
+use Rattle.model.proofs.CellLaws.{blank-fits, blank-is, is-blank, equal-same, equal-full, equal-self}
+use Rattle.model.proofs.ProbeLaws.{has-Has, Has-has, has-full}
+use Rattle.state.specs.declared.design.Design.{Design}
+use Rattle.state.specs.Meaning.{schemeOf, databaseOf}
+use Rattle.state.specs.Lawful.{rowFits, repeatsAt, repeats, zeroRow, lawfulRows, lawfulDesign}
+use Rattle.state.proofs.RowLaws.{cell-at}
+use Rattle.lawful.specs.LawfulState.{LawfulRows}
+use Rattle.lawful.proofs.Places.{used-at, unused-at, all-places}
+
+-- ---- one row of any database
+
+module _ (S : Scheme) (D : Database) (r : ℕ) where
+  fits-says : rowFits S D r ≡ true → (D .table r < S .tables) × ((c : ℕ) → c < 8 → S .columns (D .table r) ≤ c → isBlank (D .cell r c) ≡ true)
+  unfolding rowFits
+  fits-says e =
+      let h = and-eq-true-iff (ltb (D .table r) (S .tables)) _ .0 e in
+      (ltb-true _ _ (h .0),
+      λ c l b. ⊎-elim (λ (q : ltb c (S .columns (D .table r)) ≡ true). clash q (le-ltb _ _ b)) (λ q. q) (or-cases _ _ (all-at 8 _ (h .1) c l)))
+
+  fits-if : D .table r < S .tables → ((c : ℕ) → c < 8 → S .columns (D .table r) ≤ c → isBlank (D .cell r c) ≡ true) → rowFits S D r ≡ true
+  unfolding rowFits
+  fits-if t h =
+      both (lt-ltb _ _ t)
+      (all-true 8 _ (λ c l. ⊎-elim (λ (q : ltb c (S .columns (D .table r)) ≡ true). sym (or-left _ _ q)) (λ (q : ltb c (S .columns (D .table r)) ≡ false). rw q (h c l (ltb-false _ _ q))) (dec (ltb c (S .columns (D .table r))))))
+
+-- an earlier row with the same value in a unique column would be a repeat
+no-repeat : (S : Scheme) (D : Database) (k : Column) (v : Cell) (r s : ℕ) → repeats S D s ≡ false → k .place < 8 → S .unique k ≡ true → r < s →
+    Has D k v r → Has D k v s → ⊥
+unfolding repeats repeatsAt
+no-repeat S D k v r s e p u l a b =
+    clash
+    (any-true 8 (repeatsAt S D s) (k .place) p
+    (both (subst (λ (m : Column). S .unique m ≡ true) here u)
+    (any-true s _ r l
+    (subst (λ (m : Column). has D m (D .cell s (k .place)) r ≡ true) here
+    (subst (λ (w : Cell). has D k w r ≡ true) (sym (equal-same (D .cell s (k .place)) v (b .value))) (Has-has a))))))
+    e
+  where
+    here : k ≡ record { table = D .table s; place = k .place }
+    here = λ i. record { table = sym (b .table) i; place = k .place }
+
+-- a row of a database whose unique columns hold no value twice repeats none
+repeats-none : (S : Scheme) (D : Database) (r : ℕ) → D .live r ≡ true →
+    ((k : Column) (v : Cell) (s t : ℕ) → S .unique k ≡ true → Has D k v s → Has D k v t → s ≡ t) → repeats S D r ≡ false
+unfolding repeats repeatsAt
+repeats-none S D r l h = refute _ (λ e. let f = any-found 8 (repeatsAt S D r) e in found (f .0) (and-eq-true-iff _ _ .0 (f .2)))
+  where
+    found : (c : ℕ) → (S .unique (record { table = D .table r; place = c }) ≡ true) ×
+        (any r (has D (record { table = D .table r; place = c }) (D .cell r c)) ≡ true) → ⊥
+    found c q =
+        let k : Column = record { table = D .table r; place = c } in
+        let g = any-found r (has D k (D .cell r c)) (q .1) in
+        let a = has-Has D k (D .cell r c) (g .0) (g .2) in
+        let b : Has D k (D .cell r c) r = record { live = l; table = refl; value = equal-self (D .cell r c) (has-full a) } in
+        let z = h k (D .cell r c) (g .0) r (q .0) a b in
+        let m = g .1 in
+        omega arith
+
+-- ---- the lent rows
+
+-- past the eighth cell a row is blank
+cell-past : (rows : ℕ) (cells tables : List ℕ) (r c : ℕ) → 8 ≤ c → databaseOf rows cells tables .cell r c ≡ blank
+unfolding databaseOf
+cell-past rows cells tables r c h = cond-false (ltb c 8) _ _ (le-ltb c 8 h)
+
+live-says : (rows : ℕ) (cells tables : List ℕ) (r : ℕ) → databaseOf rows cells tables .live r ≡ true → (r < 512) × (r < rows)
+unfolding databaseOf
+live-says rows cells tables r e = let h = and-eq-true-iff (ltb r 512) (ltb r rows) .0 e in (ltb-true _ _ (h .0), ltb-true _ _ (h .1))
+
+live-if : (rows : ℕ) (cells tables : List ℕ) (r : ℕ) → r < 512 → r < rows → databaseOf rows cells tables .live r ≡ true
+unfolding databaseOf
+live-if rows cells tables r a b = both (lt-ltb _ _ a) (lt-ltb _ _ b)
+
+module _ (d : Design) (cells tables : List ℕ) where
+  -- the lent rows as a database
+  abbrev rows : Database
+  rows = databaseOf (d .rows) cells tables
+
+  -- a cell is blank, in the database and in the buffer
+  blank-says : (r c : ℕ) → c < 8 → isBlank (rows .cell r c) ≡ true → getD cells (8 * r + c) 0 ≡ 0
+  unfolding isBlank
+  blank-says r c l e = eqb-true _ 0 (sym (ap isBlank (cell-at (d .rows) cells tables r c l)) ∙ e)
+
+  blank-if : (r c : ℕ) → c < 8 → getD cells (8 * r + c) 0 ≡ 0 → isBlank (rows .cell r c) ≡ true
+  unfolding isBlank
+  blank-if r c l e = ap isBlank (cell-at (d .rows) cells tables r c l) ∙ eq-eqb _ 0 e
+
+  zero-says : (r : ℕ) → zeroRow rows r ≡ true → (getD tables r 0 ≡ 0) × ((c : ℕ) → c < 8 → getD cells (8 * r + c) 0 ≡ 0)
+  unfolding zeroRow databaseOf
+  zero-says r e = let h = and-eq-true-iff _ _ .0 e in (eqb-true _ 0 (h .0), λ c l. blank-says r c l (all-at 8 (λ b. isBlank (rows .cell r b)) (h .1) c l))
+
+  zero-if : (r : ℕ) → getD tables r 0 ≡ 0 → ((c : ℕ) → c < 8 → getD cells (8 * r + c) 0 ≡ 0) → zeroRow rows r ≡ true
+  unfolding zeroRow databaseOf
+  zero-if r t h = both (eq-eqb _ 0 t) (all-true 8 _ (λ c l. blank-if r c l (h c l)))
+
+  module _ (e : lawfulRows d cells tables ≡ true) where
+    -- a row that there is
+    row-says : (r : ℕ) → rows .live r ≡ true → (rowFits (schemeOf d) rows r ≡ true) × (repeats (schemeOf d) rows r ≡ false)
+    unfolding lawfulRows
+    row-says r l =
+        let h = live-says (d .rows) cells tables r l in
+        let g = and-eq-true-iff _ _ .0 (used-at 512 (d .rows) (λ s. rowFits (schemeOf d) rows s && not (repeats (schemeOf d) rows s)) (zeroRow rows) e r (h .0) (h .1)) in
+        (g .0, not-true _ (g .1))
+
+    -- a number that has none
+    rest-says : (r : ℕ) → r < 512 → d .rows ≤ r → zeroRow rows r ≡ true
+    unfolding lawfulRows
+    rest-says r l h = unused-at 512 (d .rows) (λ s. rowFits (schemeOf d) rows s && not (repeats (schemeOf d) rows s)) (zeroRow rows) e r l h
+
+    -- of two rows with one value in a unique column none comes before the other
+    never-before : (k : Column) (v : Cell) (r s : ℕ) → schemeOf d .unique k ≡ true → Has rows k v r → Has rows k v s → r < s → ⊥
+    never-before k v r s u a b l =
+        ⊎-elim (λ (q : ltb (k .place) 8 ≡ true). no-repeat (schemeOf d) rows k v r s (row-says s (b .live) .1) (ltb-true _ _ q) u l a b)
+        (λ (q : ltb (k .place) 8 ≡ false). clash (ap isBlank (cell-past (d .rows) cells tables s (k .place) (ltb-false _ _ q)) ∙ blank-is) (equal-full _ v (b .value)))
+        (dec (ltb (k .place) 8))
+
+    unique-says : (k : Column) (v : Cell) (r s : ℕ) → schemeOf d .unique k ≡ true → Has rows k v r → Has rows k v s → r ≡ s
+    unique-says k v r s u a b =
+        ⊎-elim (λ (q : ltb r s ≡ true). absurd (never-before k v r s u a b (ltb-true r s q)))
+        (λ (q : ltb r s ≡ false). ⊎-elim (λ (p : ltb s r ≡ true). absurd (never-before k v s r u b a (ltb-true s r p)))
+        (λ (p : ltb s r ≡ false). omega (arith, ltb-false r s q, ltb-false s r p)) (dec (ltb s r)))
+        (dec (ltb r s))
+
+    blanks-say : (r c : ℕ) → rows .live r ≡ true → schemeOf d .columns (rows .table r) ≤ c → rows .cell r c ≡ blank
+    blanks-say r c l h =
+        ⊎-elim (λ (q : ltb c 8 ≡ true). is-blank (rows .cell r c) (fits-says (schemeOf d) rows r (row-says r l .0) .1 c (ltb-true c 8 q) h))
+        (λ (q : ltb c 8 ≡ false). cell-past (d .rows) cells tables r c (ltb-false c 8 q))
+        (dec (ltb c 8))
+
+-- the lent cells are u32, as their type says
+abbrev pub Stored : List ℕ → Type 0
+Stored cells = (i : ℕ) → getD cells i 0 < 2 ^ 32
+
+cells-fit : (rows : ℕ) (cells tables : List ℕ) → Stored cells → (r c : ℕ) → Fits (databaseOf rows cells tables .cell r c)
+unfolding Fits
+cells-fit rows cells tables u r c =
+    ⊎-elim (λ (q : ltb c 8 ≡ true). subst Fits (sym (cell-at rows cells tables r c (ltb-true c 8 q))) (u (8 * r + c)))
+    (λ (q : ltb c 8 ≡ false). subst Fits (sym (cell-past rows cells tables r c (ltb-false c 8 q))) blank-fits)
+    (dec (ltb c 8))
+
+-- lawful rows are a lawful database
+pub lawful-database : (d : Design) (cells tables : List ℕ) → lawfulDesign d ≡ true → lawfulRows d cells tables ≡ true → Stored cells →
+    Lawful (schemeOf d) (databaseOf (d .rows) cells tables)
+lawful-database d cells tables _ e u =
+    record {
+      cells = λ r c l. cells-fit (d .rows) cells tables u r c;
+      tables = λ r l. fits-says _ _ r (row-says d cells tables e r l .0) .0;
+      blanks = blanks-say d cells tables e;
+      unique = unique-says d cells tables e;
+    }
+
+pub rows-say : (d : Design) (cells tables : List ℕ) → lawfulDesign d ≡ true → Stored cells → lawfulRows d cells tables ≡ true → LawfulRows d cells tables
+rows-say d cells tables f u e =
+    record {
+      database = lawful-database d cells tables f e u;
+      memberRest = λ r l h. zero-says d cells tables r (rest-says d cells tables e r l h) .0;
+      cellRest = λ r c l b h. zero-says d cells tables r (rest-says d cells tables e r l h) .1 c b;
+    }
+
+pub rows-if : {d : Design} {cells tables : List ℕ} → LawfulRows d cells tables → lawfulRows d cells tables ≡ true
+unfolding lawfulRows
+rows-if {d} {cells} {tables} w =
+    all-places 512 (d .rows) _ (zeroRow (rows d cells tables)) (λ r a b. there r (live-if (d .rows) cells tables r a b))
+    (λ r a b. zero-if d cells tables r (w .memberRest r a b) (λ c l. w .cellRest r c a l b))
+  where
+    there : (r : ℕ) → rows d cells tables .live r ≡ true →
+        rowFits (schemeOf d) (rows d cells tables) r && not (repeats (schemeOf d) (rows d cells tables) r) ≡ true
+    there r l =
+        both
+        (fits-if (schemeOf d) (rows d cells tables) r (w .database .tables r l)
+        (λ c _ h. ap isBlank (w .database .blanks r c l h) ∙ blank-is))
+        (ap not (repeats-none (schemeOf d) (rows d cells tables) r l (w .database .unique)))

@@ -1,0 +1,87 @@
+-- What a lawful state is, in plain terms: the counts, what stands in each used place, that nothing stands twice, that the rest is 0, and that
+-- the marks are the smallest row set. That the tests of cause 12 say this, both ways, is proved in proofs/LawfulState.antt. Assumes nothing.
+use Prim.Native.Nat.{ℕ, _+_, _*_, _^_, _≤_, _<_}
+use mathlib.Core.Path.{_≡_}
+use mathlib.Core.Logic.{_≢_}
+use mathlib.Core.List.{List}
+use lib.ListN.{getD, take}
+use Rattle.model.specs.Scheme.{ColumnOf}
+use Rattle.model.specs.Database.{Lawful}
+use Rattle.model.specs.Cache.{Smallest}
+use Rattle.model.specs.Runs.{heldIn, marked}
+use Rattle.state.specs.declared.design.Table.{Table}
+use Rattle.state.specs.declared.design.Constraint.{Constraint}
+use Rattle.state.specs.declared.design.Filling.{Filling}
+use Rattle.state.specs.declared.design.Design.{Design}
+use Rattle.state.specs.declared.held.HeldValue.{HeldValue}
+use Rattle.state.specs.declared.held.Held.{Held}
+use Rattle.state.specs.Design.{noTable, noConstraint, noFilling, tableAt, constraintAt, fillingAt}
+use Rattle.state.specs.Held.{noValue, heldAt}
+use Rattle.state.specs.Meaning.{columnOf, schemeOf, databaseOf, pairsOf}
+use Rattle.state.specs.Step.{State, scheme, database}
+
+-- ---- the design
+
+-- "1 to 8 columns", and unique bits for these alone
+pub record LawfulTable (t : Table) : Type 0 where
+  pub some : 1 ≤ t .columns
+  pub most : t .columns ≤ 8
+  pub bits : t .unique < 2 ^ t .columns
+
+pub record LawfulConstraint (d : Design) (c : Constraint) : Type 0 where
+  pub source : ColumnOf (schemeOf d) (columnOf (c .source))
+  pub target : ColumnOf (schemeOf d) (columnOf (c .target))
+
+pub record LawfulFilling (d : Design) (f : Filling) : Type 0 where
+  pub column : ColumnOf (schemeOf d) (columnOf (f .column))
+  pub low : 1 ≤ f .low
+  pub high : f .low ≤ f .high
+
+pub record LawfulDesign (d : Design) : Type 0 where
+  pub tables : d .tables ≤ 8
+  pub constraints : d .constraints ≤ 16
+  pub fillings : d .fillings ≤ 8
+  pub rows : d .rows ≤ 512
+  pub table : (t : ℕ) → t < d .tables → LawfulTable (tableAt d t)
+  pub constraint : (i : ℕ) → i < d .constraints → LawfulConstraint d (constraintAt d i)
+  pub filling : (f : ℕ) → f < d .fillings → LawfulFilling d (fillingAt d f)
+  -- no constraint and no filling column twice
+  pub constraintOnce : (i j : ℕ) → i < j → j < d .constraints → constraintAt d i ≢ constraintAt d j
+  pub fillingOnce : (f g : ℕ) → f < g → g < d .fillings → fillingAt d f .column ≢ fillingAt d g .column
+  -- unused places are 0
+  pub tableRest : (t : ℕ) → t < 8 → d .tables ≤ t → tableAt d t ≡ noTable
+  pub constraintRest : (i : ℕ) → i < 16 → d .constraints ≤ i → constraintAt d i ≡ noConstraint
+  pub fillingRest : (f : ℕ) → f < 8 → d .fillings ≤ f → fillingAt d f ≡ noFilling
+
+-- ---- the rows
+
+pub record LawfulRows (d : Design) (cells tables : List ℕ) : Type 0 where
+  pub database : Lawful (schemeOf d) (databaseOf (d .rows) cells tables)
+  -- numbers without a row are 0
+  pub memberRest : (r : ℕ) → r < 512 → d .rows ≤ r → getD tables r 0 ≡ 0
+  pub cellRest : (r c : ℕ) → r < 512 → c < 8 → d .rows ≤ r → getD cells (8 * r + c) 0 ≡ 0
+
+-- ---- the held values
+
+-- a pair of an existing filling and one of its candidates
+pub record LawfulPair (d : Design) (v : HeldValue) : Type 0 where
+  pub filling : v .filling < d .fillings
+  pub low : fillingAt d (v .filling) .low ≤ v .value
+  pub high : v .value ≤ fillingAt d (v .filling) .high
+
+pub record LawfulHeld (d : Design) (h : Held) : Type 0 where
+  pub count : h .count ≤ 64
+  pub pair : (i : ℕ) → i < h .count → LawfulPair d (heldAt h i)
+  -- no pair twice
+  pub once : (i j : ℕ) → i < j → j < h .count → heldAt h i ≢ heldAt h j
+  pub rest : (i : ℕ) → i < 64 → h .count ≤ i → heldAt h i ≡ noValue
+
+-- ---- the whole
+
+pub record LawfulState (s : State) : Type 0 where
+  pub design : LawfulDesign (s .design)
+  pub rows : LawfulRows (s .design) (s .cells) (s .tables)
+  pub held : LawfulHeld (s .design) (s .held)
+  -- a mark is 0 or 1, and those that are 1 are the smallest row set for the held values
+  pub marks : (r : ℕ) → r < 512 → getD (s .marks) r 0 ≤ 1
+  pub smallest : Smallest (scheme s) (database s) (heldIn (scheme s) (pairsOf (s .held))) (marked (take 512 (s .marks)))
