@@ -1,0 +1,96 @@
+-- The grounds as searches below a count, and over row sets that have the same rows. Assumes nothing.
+use Prim.Native.Nat.{ℕ, zero, suc, _<_}
+use mathlib.Core.Path.{_≡_, refl, sym, ap, ap₂, _∙_}
+use mathlib.Core.Bool.{Bool, true, false, not, _&&_, _||_}
+use mathlib.Core.List.{List, [], _∷_}
+use lib.Dec.{eqb}
+use lib.ListN.{getD, take}
+use lib.Seq.{getD-take}
+use Rattle.finite.specs.Finite.{any, tab}
+use Rattle.finite.proofs.Bools.{and-go, and-stop, ne-not, eq-not}
+use Rattle.finite.proofs.Search.{any-same}
+use Rattle.model.specs.Cell.{Cell, cellOf, isBlank, equal}
+use Rattle.model.specs.Scheme.{Column, Scheme, sameColumn}
+use Rattle.model.specs.Database.{Database, has}
+use Rattle.model.specs.Cache.{RowSet, Held}
+use Rattle.model.specs.Probe.{seen, demanded, uniquelySeen, lowest, probe}
+use Rattle.model.specs.Runs.{Pair, one, heldIn, marked}
+use Rattle.state.specs.Meaning.{databaseOf}
+use Rattle.probe.proofs.FiniteExtra.{any-front}
+
+-- ---- ground 1
+
+-- pair p holds v in column k
+abbrev pub holds : Scheme → Column → Cell → Pair → Bool
+holds S k v p = one (S .filling (p .filling) .column) (p .value) k v
+
+pub held-any : (S : Scheme) (k : Column) (v : Cell) (n : ℕ) (f : ℕ → Pair) → heldIn S (tab n f) k v ≡ any n (λ i. holds S k v (f i))
+unfolding heldIn tab any
+held-any S k v zero f = refl
+held-any S k v (suc n) f =
+    ap (λ (b : Bool). holds S k v (f 0) || b) (held-any S k v n (λ i. f (suc i))) ∙ sym (any-front n (λ i. holds S k v (f i)))
+
+-- one held value, test by test
+module _ (j k : Column) (w v : ℕ) where
+  pub one-elsewhere : sameColumn j k ≡ false → false ≡ one j (cellOf w) k (cellOf v)
+  unfolding one
+  one-elsewhere h = and-stop (sameColumn j k) (equal (cellOf w) (cellOf v)) h
+
+  module _ (h : sameColumn j k ≡ true) where
+    pub one-blank : w ≡ 0 → false ≡ one j (cellOf w) k (cellOf v)
+    unfolding one equal isBlank
+    one-blank z = and-go (sameColumn j k) _ h (and-stop (not (eqb w 0)) (eqb w v) (eq-not w 0 z))
+
+    pub one-value : (w ≡ 0 → ⊥) → eqb w v ≡ one j (cellOf w) k (cellOf v)
+    unfolding one equal isBlank
+    one-value z = and-go (sameColumn j k) _ h (and-go (not (eqb w 0)) (eqb w v) (ne-not w 0 z) refl)
+
+-- ---- grounds 2 and 3 look at the row set below the database's size alone
+
+module _ (S : Scheme) (D : Database) (X Y : RowSet) (h : (r : ℕ) → r < D .size → X r ≡ Y r) (v : Cell) where
+  pub seen-same : (k : Column) → seen D X k v ≡ seen D Y k v
+  unfolding seen
+  seen-same k = any-same (D .size) _ _ (λ r l. ap (λ (b : Bool). b && has D k v r) (h r l))
+
+  demanded-same : (k : Column) → demanded S D X k v ≡ demanded S D Y k v
+  unfolding demanded
+  demanded-same k = any-same (S .constraints) _ _ (λ i l. ap (λ (b : Bool). sameColumn (S .constraint i .target) k && b) (seen-same (S .constraint i .source)))
+
+  pub probe-same : (H : Held) (k : Column) → probe S D H X k v ≡ probe S D H Y k v
+  unfolding probe uniquelySeen
+  probe-same H k = ap₂ (λ (a b : Bool). lowest (H k v) a (S .unique k && b)) (demanded-same k) (seen-same k)
+
+-- the marks of the numbers below n, whatever stands past them
+pub marked-front : (m : List ℕ) (n r : ℕ) → r < n → marked m r ≡ marked (take n m) r
+unfolding marked
+marked-front m n r l = ap (λ (x : ℕ). eqb x 1) (sym (getD-take n m r 0 l))
+
+-- so a probe over lent buffers looks at the first 512 marks alone
+pub probe-front : (S : Scheme) (rows : ℕ) (cells tables m : List ℕ) (H : Held) (k : Column) (v : Cell) →
+    probe S (databaseOf rows cells tables) H (marked m) k v ≡ probe S (databaseOf rows cells tables) H (marked (take 512 m)) k v
+unfolding databaseOf
+probe-front S rows cells tables m H k v =
+    probe-same S (databaseOf rows cells tables) (marked m) (marked (take 512 m)) (λ r l. marked-front m 512 r l) v H k
+
+-- ---- the lowest ground
+
+module _ (S : Scheme) (D : Database) (H : Held) (X : RowSet) (k : Column) (v : Cell) where
+  pub ground-first : H k v ≡ true → 1 ≡ probe S D H X k v
+  unfolding probe
+  ground-first h = sym (ap (λ (a : Bool). lowest a (demanded S D X k v) (uniquelySeen S D X k v)) h)
+
+  module _ (h : H k v ≡ false) where
+    pub ground-second : demanded S D X k v ≡ true → 2 ≡ probe S D H X k v
+    unfolding probe
+    ground-second g = sym (ap₂ (λ (a b : Bool). lowest a b (uniquelySeen S D X k v)) h g)
+
+    module _ (g : demanded S D X k v ≡ false) where
+      ground-last : probe S D H X k v ≡ lowest false false (uniquelySeen S D X k v)
+      unfolding probe
+      ground-last = ap₂ (λ (a b : Bool). lowest a b (uniquelySeen S D X k v)) h g
+
+      pub ground-third : uniquelySeen S D X k v ≡ true → 3 ≡ probe S D H X k v
+      ground-third f = sym (ground-last ∙ ap (lowest false false) f)
+
+      pub ground-none : uniquelySeen S D X k v ≡ false → 0 ≡ probe S D H X k v
+      ground-none f = sym (ground-last ∙ ap (lowest false false) f)

@@ -1,0 +1,76 @@
+-- `probe::grounds::is_demanded` meets its contract: a search among the constraints. Assumes nothing.
+use Prim.Native.Nat.{ℕ, _≤_, _-_}
+use native.Mathlib.Omega.{arith}
+use mathlib.Core.Path.{_≡_, sym, _∙_}
+use mathlib.Core.Bool.{Bool, false, _&&_}
+use mathlib.Core.List.{List}
+use borrow.Author.Needs.{needs}
+use Rattle.finite.specs.Finite.{any}
+use Rattle.finite.proofs.Search.{any-start, any-more, any-hit, any-end}
+use Rattle.model.specs.Cell.{cellOf}
+use Rattle.model.specs.Probe.{seen, demanded}
+use Rattle.model.specs.Runs.{marked}
+use Rattle.model.specs.Scheme.{sameColumn}
+use Rattle.state.specs.declared.design.Design.{Design}
+use Rattle.state.specs.declared.design.Column.{Column}
+use Rattle.state.specs.Design.{constraintAt}
+use Rattle.state.specs.Meaning.{columnOf, constraintOf, schemeOf, databaseOf}
+use Rattle.probe.proofs.grounds.is_demanded.Statement.{statement}
+use Rattle.probe.proofs.grounds.is_demanded.Tie as tie
+
+-- constraint i demands v in column k
+abbrev by : Design → List ℕ → List ℕ → List ℕ → Column → ℕ → ℕ → Bool
+by d cells tables marks k v i =
+    sameColumn (constraintOf (constraintAt d i) .target) (columnOf k) &&
+    seen (databaseOf (d .rows) cells tables) (marked marks) (constraintOf (constraintAt d i) .source) (cellOf v)
+
+abbrev Inv-loop : tie.InvT-loop
+Inv-loop cells tables marks k v d n i₀ i = (i ≤ n) × (any i (by d cells tables marks k v) ≡ false)
+
+abbrev μ-loop : tie.MeasureT-loop
+μ-loop cells tables marks k v d n i₀ i = n - i
+
+loop-holds : tie.Need-loop-holds Inv-loop μ-loop
+loop-holds c = (omega arith, any-start _)
+
+mul-c : tie.Need-mul-c Inv-loop μ-loop
+mul-c c = search needs
+
+element-copy-out-c : tie.Need-element-copy-out-c Inv-loop μ-loop
+element-copy-out-c c = search needs
+
+is-demanded-by-requires : tie.Need-is-demanded-by-requires Inv-loop μ-loop
+is-demanded-by-requires c κs = (c .before .before .before .before .before .before .pre .0 .source (c .before .before .loop .i), c .before .before .before .before .before .before .pre .1, c .before .before .before .before .before .before .pre .2)
+
+returns : tie.Need-returns Inv-loop μ-loop
+unfolding demanded schemeOf
+returns c = any-hit _ _ _ (c .before .before .before .loop-test .taken) (sym (c .before .is-demanded-by .ensures) ∙ c .if1 .taken)
+
+add-i : tie.Need-add-i Inv-loop μ-loop
+add-i c = omega arith
+
+loop-less : tie.Need-loop-less Inv-loop μ-loop
+loop-less c = omega arith
+
+loop-again : tie.Need-loop-again Inv-loop μ-loop
+loop-again c = (omega arith, any-more _ _ (c .before .before .before .before .loop .inv .1) (sym (c .before .is-demanded-by .ensures) ∙ c .if1 .left))
+
+returns-2 : tie.Need-returns-2 Inv-loop μ-loop
+unfolding demanded schemeOf
+returns-2 c = any-end _ _ _ (c .before .loop .inv .0) (c .loop-test .left) (c .before .loop .inv .1)
+
+pub is-demanded-spec : {M : Type 1} → statement M
+is-demanded-spec =
+    tie.close
+    (tie.spec
+    Inv-loop
+    μ-loop
+    loop-holds
+    mul-c
+    element-copy-out-c
+    is-demanded-by-requires
+    returns
+    add-i
+    loop-less
+    loop-again
+    returns-2)

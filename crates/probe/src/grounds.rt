@@ -1,0 +1,104 @@
+// Grounds 2 and 3, and the lowest of the three.
+ghost use Prim.Native.Nat.{ℕ, _<_, _≤_};
+ghost use mathlib.Core.Bool.{_&&_};
+ghost use mathlib.Core.Path.{_≡_};
+ghost use lib.ListN.{length, take};
+ghost use Rattle.model.specs.Cell.{cellOf};
+ghost use Rattle.model.specs.Probe as Probe;
+ghost use Rattle.model.specs.Runs.{heldIn, marked};
+ghost use Rattle.model.specs.Scheme.{sameColumn};
+ghost use Rattle.state.specs.Design.{InRange, Backed};
+ghost use Rattle.state.specs.Held.{heldAt};
+ghost use Rattle.state.specs.Meaning.{columnOf, constraintOf, pairsOf, schemeOf, databaseOf};
+use crate::cached::seen;
+use crate::held::is_held;
+use crate::held::same_column;
+use lawful::is_unique;
+use state::Column;
+use state::Constraint;
+use state::Design;
+use state::Held;
+
+// Whether the constraint ends at the column and a cached row has the value in its source column. Rows, if it ends there.
+fn is_demanded_by(
+    rows: usize,
+    cells: &[u32],
+    tables: &[u8],
+    marks: &[u8],
+    c: Constraint,
+    k: Column,
+    v: u32,
+) -> bool
+    requires { ⌜ (c .source .place < 8) × Backed (now cells) (now tables) × (512 ≤ length (now marks)) ⌝ }
+    ensures { λ b. ⌜ b ≡ sameColumn (constraintOf c .target) (columnOf k)
+        && Probe.seen (databaseOf rows (now (cells .entry)) (now (tables .entry))) (marked (now (marks .entry))) (constraintOf c .source) (cellOf v) ⌝ }
+{
+    let target = c.target;
+    if !same_column(target, k) {
+        return false;
+    }
+    let source = c.source;
+    seen(rows, cells, tables, marks, source, v)
+}
+
+// Ground 2: whether a constraint ends at the column and a cached row has the value in its source column. Rows for each constraint that
+// ends there.
+fn is_demanded(d: Design, cells: &[u32], tables: &[u8], marks: &[u8], k: Column, v: u32) -> bool
+    requires { ⌜ InRange d × Backed (now cells) (now tables) × (512 ≤ length (now marks)) ⌝ }
+    ensures { λ b. ⌜ b ≡ Probe.demanded (schemeOf d) (databaseOf (d .rows) (now (cells .entry)) (now (tables .entry))) (marked (now (marks .entry))) (columnOf k) (cellOf v) ⌝ }
+{
+    let n = d.constraints;
+    for i in 0..n {
+        let c = d.constraint[i];
+        if is_demanded_by(d.rows, cells, tables, marks, c, k, v) {
+            return true;
+        }
+    }
+    false
+}
+
+// Ground 3: whether the column is unique and a cached row has the value there. Rows, if it is unique.
+fn is_uniquely_seen(
+    d: Design,
+    cells: &[u32],
+    tables: &[u8],
+    marks: &[u8],
+    k: Column,
+    v: u32,
+) -> bool
+    requires { ⌜ (k .place < 8) × Backed (now cells) (now tables) × (512 ≤ length (now marks)) ⌝ }
+    ensures { λ b. ⌜ b ≡ Probe.uniquelySeen (schemeOf d) (databaseOf (d .rows) (now (cells .entry)) (now (tables .entry))) (marked (now (marks .entry))) (columnOf k) (cellOf v) ⌝ }
+{
+    if !is_unique(d, k) {
+        return false;
+    }
+    seen(d.rows, cells, tables, marks, k, v)
+}
+
+// The lowest ground that says the value is complete in the column, 0 if none does. Held values, and rows for each constraint that ends at
+// the column and once more if it is unique.
+pub fn ground(
+    d: Design,
+    cells: &[u32],
+    tables: &[u8],
+    marks: &[u8],
+    held: Held,
+    k: Column,
+    v: u32,
+) -> u8
+    requires { ⌜ InRange d × Backed (now cells) (now tables) × (512 ≤ length (now marks)) × (held .count ≤ 64) × (k .place < 8)
+        × ((i : ℕ) → heldAt held i .filling < 8) ⌝ }
+    ensures { λ g. ⌜ g ≡ Probe.probe (schemeOf d) (databaseOf (d .rows) (now (cells .entry)) (now (tables .entry)))
+        (heldIn (schemeOf d) (pairsOf held)) (marked (take 512 (now (marks .entry)))) (columnOf k) (cellOf v) ⌝ }
+{
+    if is_held(d, held, k, v) {
+        return 1;
+    }
+    if is_demanded(d, cells, tables, marks, k, v) {
+        return 2;
+    }
+    if is_uniquely_seen(d, cells, tables, marks, k, v) {
+        return 3;
+    }
+    0
+}

@@ -1,0 +1,54 @@
+// Ground 1: looking for a value among the held values.
+ghost use Prim.Native.Nat.{ℕ, _<_, _≤_};
+ghost use mathlib.Core.Path.{_≡_};
+ghost use Rattle.model.specs.Cell.{cellOf};
+ghost use Rattle.model.specs.Runs.{one, heldIn};
+ghost use Rattle.model.specs.Scheme.{sameColumn};
+ghost use Rattle.state.specs.Held.{heldAt};
+ghost use Rattle.state.specs.Meaning.{columnOf, schemeOf, pairsOf};
+use state::Column;
+use state::Design;
+use state::Held;
+use state::HeldValue;
+
+// Whether the two are one column. Constant time.
+pub fn same_column(j: Column, k: Column) -> bool
+    ensures { λ b. ⌜ b ≡ sameColumn (columnOf j) (columnOf k) ⌝ }
+{
+    if j.table != k.table {
+        return false;
+    }
+    j.place == k.place
+}
+
+// Whether the held value h is v and its filling's column is k. Constant time.
+fn is_held_by(d: Design, h: HeldValue, k: Column, v: u32) -> bool
+    requires { ⌜ h .filling < 8 ⌝ }
+    ensures { λ b. ⌜ b ≡ one (schemeOf d .filling (h .filling) .column) (cellOf (h .value)) (columnOf k) (cellOf v) ⌝ }
+{
+    let f = h.filling as usize;
+    let filling = d.filling[f];
+    let j = filling.column;
+    if !same_column(j, k) {
+        return false;
+    }
+    if h.value == 0 {
+        return false;
+    }
+    h.value == v
+}
+
+// Whether a filling of the column holds the value. One look at each held value.
+pub fn is_held(d: Design, held: Held, k: Column, v: u32) -> bool
+    requires { ⌜ (held .count ≤ 64) × ((i : ℕ) → heldAt held i .filling < 8) ⌝ }
+    ensures { λ b. ⌜ b ≡ heldIn (schemeOf d) (pairsOf held) (columnOf k) (cellOf v) ⌝ }
+{
+    let n = held.count;
+    for i in 0..n {
+        let h = held.values[i];
+        if is_held_by(d, h, k, v) {
+            return true;
+        }
+    }
+    false
+}
