@@ -29,7 +29,7 @@ module _ (D : Database) (k : Model.Column) where
   pub headFrom : ℕ → ℕ → ℕ
   headFrom r h = firstFrom (inBucket D k h) r
 
-  -- the link of row s
+  -- the link of row s, 512 until it is in
   pub linkFrom : ℕ → ℕ → ℕ
   linkFrom r s = cond (ltb s r) 512 (linkAt D k s)
 

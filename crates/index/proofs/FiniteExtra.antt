@@ -1,13 +1,14 @@
 -- Laws of choices, and of loops over the numbers below n that pass over numbers at which nothing happens. Assumes nothing.
 use Prim.Native.Nat.{ℕ, zero, suc, _+_, _-_, _≤_, _<_}
 use native.Mathlib.Decide.{decLt}
+use native.Mathlib.Numerals.{add-one}
 use native.Mathlib.Omega.{arith}
-use mathlib.Core.Path.{_≡_, refl, subst, _∙_}
+use mathlib.Core.Path.{_≡_, refl, sym, ap, subst, _∙_}
 use mathlib.Core.Bool.{Bool, true, false, cond}
-use mathlib.Core.List.{List}
+use mathlib.Core.List.{List, [], _++_, append-nil}
 use borrow.Author.Tests.{lt-ltb, le-ltb}
 use lib.Dec.{ltb}
-use Rattle.finite.specs.Finite.{any, count}
+use Rattle.finite.specs.Finite.{any, count, collect}
 use Rattle.finite.proofs.Search.{any-more}
 use Rattle.finite.proofs.Counting.{count-miss}
 use Rattle.finite.proofs.Tables.{Upto}
@@ -26,6 +27,24 @@ onward P i j l h p = subst P (omega arith) (go (j - i) (λ r a b. h r a (omega a
     go zero k = subst P (omega arith) p
     go (suc n) k = subst P (omega arith) (k (i + n) (omega arith) (omega arith) (go n (λ r a b. k r a (omega arith))))
 
+-- ---- a loop that collects: its start, a number that passes, one that does not
+
+module _ {A : Type 0} (f : ℕ → Bool) (g : ℕ → List A) where
+  pub collect-start : [] ≡ collect 0 f g
+  unfolding collect
+  collect-start = refl
+
+  collect-suc : (r : ℕ) → collect (r + 1) f g ≡ collect r f g ++ cond (f r) (g r) []
+  unfolding collect
+  collect-suc r = rw add-one
+
+  module _ (r : ℕ) (xs : List A) (h : xs ≡ collect r f g) where
+    pub collect-hit : f r ≡ true → xs ++ g r ≡ collect (r + 1) f g
+    collect-hit e = ap (λ ys. ys ++ g r) h ∙ sym (collect-suc r ∙ ap (λ (b : Bool). collect r f g ++ cond b (g r) []) e)
+
+    pub collect-miss : f r ≡ false → xs ≡ collect (r + 1) f g
+    collect-miss e = h ∙ sym (collect-suc r ∙ ap (λ (b : Bool). collect r f g ++ cond b (g r) []) e ∙ append-nil (collect r f g))
+
 -- ---- numbers that fail change nothing
 
 module _ (f : ℕ → Bool) (i j : ℕ) (l : i ≤ j) (none : (r : ℕ) → i ≤ r → r < j → f r ≡ false) where
@@ -34,6 +53,9 @@ module _ (f : ℕ → Bool) (i j : ℕ) (l : i ≤ j) (none : (r : ℕ) → i �
 
   pub count-skip : (n : ℕ) → n ≡ count i f → n ≡ count j f
   count-skip n = onward (λ m. n ≡ count m f) i j l (λ r a b e. count-miss n r f e (none r a b))
+
+  pub collect-skip : {A : Type 0} (g : ℕ → List A) (xs : List A) → xs ≡ collect i f g → xs ≡ collect j f g
+  collect-skip g xs = onward (λ m. xs ≡ collect m f g) i j l (λ r a b e. collect-miss f g r xs e (none r a b))
 
 -- ... or keep their elements
 pub upto-skip : {A : Type 0} (e : A) (n i j : ℕ) (new old : ℕ → A) (xs : List A) → Upto e n i new old xs → i ≤ j

@@ -61,8 +61,8 @@ module _ (D : Database) (k : Model.Column) where
     pub link-hit : Hit (inBucket D k (hash v)) link
     link-hit = first-hit _ (r + 1) link link-is
 
-    pub link-falls : r < link
-    link-falls = first-after (inBucket D k (hash v)) r link l link-is
+    pub link-rises : r < link
+    link-rises = first-after (inBucket D k (hash v)) r link l link-is
 
     pub link-seek : (s : ℕ) → s ≡ firstFrom (has D k v) link → s ≡ firstFrom (has D k v) (r + 1)
     link-seek s e = e ∙ ap (firstFrom (has D k v)) link-is ∙ has-within v (r + 1) (omega arith)

@@ -57,7 +57,7 @@ pub fn first(
     ensures { λ s. ⌜ s ≡ firstFrom (has (databaseOf rows (now (cells .entry)) (now (tables .entry))) (columnOf k) (cellOf v)) 0 ⌝ }
 {
     if v == 0 {
-        return 512;
+        return Design::ROWS;
     }
     let h = v as usize % Design::ROWS;
     seek(

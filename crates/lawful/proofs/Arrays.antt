@@ -1,6 +1,5 @@
 -- How many places the arrays of a design and of held values have. A list in a definition has any length; owning the value, which a need of a
 -- function that takes one is handed (`c .good`), tells it. Assumes nothing.
-use Prim.Native.Nat.{ℕ}
 use mathlib.Core.Path.{_≡_}
 use mathlib.Core.List.{List}
 use denote.Laws.{Is}

@@ -1,5 +1,5 @@
 -- What the tests of a design say, both ways, and what the layers above use of a lawful design. Assumes nothing.
-use Prim.Native.Nat.{ℕ, _^_, _≤_, _<_}
+use Prim.Native.Nat.{ℕ, _≤_, _<_}
 use native.Mathlib.Nat.{lt-of-lt-of-le}
 use native.Mathlib.Omega.{arith}
 use mathlib.Core.Path.{_≡_, sym, ap, _∙_}
@@ -10,15 +10,16 @@ use Rattle.finite.proofs.Bools.{both, clash, refute}
 use Rattle.model.specs.Cell.{cellOf, isBlank}
 use Rattle.model.specs.Scheme as Model
 use Rattle.model.specs.Scheme.{ColumnOf, Scheme, isColumn, sameColumn, candidate}
-use Rattle.model.proofs.ProbeLaws.{same-column, same-column-self}
+use Rattle.model.proofs.DatabaseLaws.{same-column, same-column-self}
 use Rattle.state.specs.declared.design.Table.{Table}
 use Rattle.state.specs.declared.design.Column.{Column}
 use Rattle.state.specs.declared.design.Constraint.{Constraint}
 use Rattle.state.specs.declared.design.Filling.{Filling}
 use Rattle.state.specs.declared.design.Design.{Design}
-use Rattle.state.specs.Design.{noTable, noColumn, noConstraint, noFilling, tableAt, constraintAt, fillingAt, InRange}
+use Rattle.state.specs.Design.{noTable, noColumn, noConstraint, noFilling, constraintAt, fillingAt, InRange}
 use Rattle.state.specs.Meaning.{columnOf, fillingOf, schemeOf}
-use Rattle.state.specs.Lawful.{tableFits, zeroTable, zeroColumn, sameConstraint, constraintFits, zeroConstraint, fillingFits, zeroFilling, countsFit, lawfulDesign}
+use Rattle.state.specs.Lawful.{tableFits, zeroTable, zeroColumn, sameConstraint, constraintFits, zeroConstraint}
+use Rattle.state.specs.Lawful.{fillingFits, zeroFilling, countsFit, lawfulDesign}
 use Rattle.lawful.specs.Parts.{tablesLawful, constraintsLawful, fillingsLawful}
 use Rattle.lawful.specs.LawfulState.{LawfulTable, LawfulConstraint, LawfulFilling, LawfulDesign}
 use Rattle.lawful.proofs.Arrays.{Sized}
@@ -93,9 +94,11 @@ module _ (d : Design) (n : ℕ) (c : Constraint) where
   unfolding constraintFits
   constraint-says e =
       let h = and-eq-true-iff _ _ .0 e in
-      let g = and-eq-true-iff _ _ .0 (h .1) in
-      (record { source = column-says _ _ (h .0); target = column-says _ _ (g .0) },
-      λ i l p. clash (ap (λ (a : Constraint). sameConstraint a c) p ∙ same-constraint-self c) (none-before n (λ j. sameConstraint (constraintAt d j) c) (g .1) i l))
+      let g = and-eq-true-iff _ _ .0 (h .1) in (
+        record { source = column-says _ _ (h .0); target = column-says _ _ (g .0) },
+        λ i l p. clash (ap (λ (a : Constraint). sameConstraint a c) p ∙ same-constraint-self c)
+            (none-before n (λ j. sameConstraint (constraintAt d j) c) (g .1) i l),
+      )
 
   pub constraint-if : LawfulConstraint d c → ((i : ℕ) → i < n → constraintAt d i ≡ c → ⊥) → constraintFits d n c ≡ true
   unfolding constraintFits
@@ -119,9 +122,10 @@ module _ (d : Design) (n : ℕ) (f : Filling) where
   filling-says e =
       let h = and-eq-true-iff _ _ .0 e in
       let g = and-eq-true-iff _ _ .0 (h .1) in
-      let k = and-eq-true-iff _ _ .0 (g .1) in
-      (record { column = column-says _ _ (h .0); low = leb-true _ _ (g .0); high = leb-true _ _ (k .0) },
-      λ i l. different-columns _ _ (none-before n (λ j. sameColumn (columnOf (fillingAt d j .column)) (columnOf (f .column))) (k .1) i l))
+      let k = and-eq-true-iff _ _ .0 (g .1) in (
+        record { column = column-says _ _ (h .0); low = leb-true _ _ (g .0); high = leb-true _ _ (k .0) },
+        λ i l. different-columns _ _ (none-before n (λ j. sameColumn (columnOf (fillingAt d j .column)) (columnOf (f .column))) (k .1) i l),
+      )
 
   pub filling-if : LawfulFilling d f → ((i : ℕ) → i < n → fillingAt d i .column ≡ f .column → ⊥) → fillingFits d n f ≡ true
   unfolding fillingFits
@@ -177,7 +181,8 @@ unfolding lawfulDesign countsFit
 design-if {d} l =
     both (both (le-leb _ _ (l .tables)) (both (le-leb _ _ (l .constraints)) (both (le-leb _ _ (l .fillings)) (le-leb _ _ (l .rows)))))
     (both (all-places 8 _ _ _ (λ t _ h. table-if (l .table t h)) (λ t b h. table-zero _ (l .tableRest t b h)))
-    (both (all-places 16 _ _ _ (λ j _ h. constraint-if d j _ (l .constraint j h) (λ i b. l .constraintOnce i j b h)) (λ j b h. constraint-zero _ (l .constraintRest j b h)))
+    (both (all-places 16 _ _ _ (λ j _ h. constraint-if d j _ (l .constraint j h) (λ i b. l .constraintOnce i j b h))
+    (λ j b h. constraint-zero _ (l .constraintRest j b h)))
     (all-places 8 _ _ _ (λ g _ h. filling-if d g _ (l .filling g h) (λ f b. l .fillingOnce f g b h)) (λ g b h. filling-zero _ (l .fillingRest g b h)))))
 
 -- ---- what the layers above use

@@ -1,14 +1,13 @@
 -- What the tests of the held values say, both ways, and what the layers above use of lawful held values. Assumes nothing.
 use Prim.Native.Nat.{ℕ, _≤_, _<_}
-use native.Mathlib.Nat.{lt-of-lt-of-le}
-use native.Mathlib.Omega.{arith}
+use native.Mathlib.Nat.{lt-trans, lt-of-lt-of-le}
 use mathlib.Core.Path.{_≡_, refl, sym, ap, _∙_}
 use mathlib.Core.Logic.{⊎-elim}
 use mathlib.Core.Bool.{true, false, and-eq-true-iff}
 use mathlib.Core.List.{List}
 use borrow.Author.Tests.{ltb-true, ltb-false, lt-ltb, leb-true, le-leb, eqb-true, eq-eqb}
 use lib.Dec.{leb, ltb, lit<}
-use lib.ListN.{length, getD}
+use lib.ListN.{length, getD, List·getD-eq-default}
 use Rattle.finite.specs.Finite.{all, tab}
 use Rattle.finite.proofs.Bools.{dec, both, clash, refute}
 use Rattle.finite.proofs.Tables.{length-tab, tab-at, tab-past, tab-of}
@@ -21,7 +20,7 @@ use Rattle.state.specs.declared.held.HeldValue.{HeldValue}
 use Rattle.state.specs.declared.held.Held.{Held}
 use Rattle.state.specs.Design.{fillingAt}
 use Rattle.state.specs.Held.{noValue, heldAt}
-use Rattle.state.specs.Meaning.{fillingOf, pairOf, pairsOf, heldOf}
+use Rattle.state.specs.Meaning.{schemeOf, fillingOf, pairOf, pairsOf, heldOf}
 use Rattle.state.specs.Lawful.{heldFits, zeroHeld, lawfulHeld, lawfulDesign}
 use Rattle.lawful.specs.Parts.{heldLawful}
 use Rattle.lawful.specs.LawfulState.{LawfulPair, LawfulHeld}
@@ -159,3 +158,41 @@ held-back d h e z = λ i. record { count = length-pairs h i; values = sym values
 
     values : h .values ≡ tab 64 (λ i. back (pairAt (pairsOf h) i))
     values = tab-of noValue 64 _ (h .values) z place
+
+-- the pairs of a lawful record fit
+pub pairs-fit : (d : Design) (h : Held) → lawfulHeld d h ≡ true → PairsFit (schemeOf d) (pairsOf h)
+unfolding schemeOf
+pairs-fit d h e =
+    record {
+      few = rw (length-pairs h) (held-count d h e);
+      filling = λ i l. rw (pairs-at h i (at l)) (tests i (at l) .0);
+      value = λ i l. rw (pairs-at h i (at l)) (tests i (at l) .1);
+      once = λ i j l m. rw (pairs-at h i (lt-trans l (at m)), pairs-at h j (at m)) (tests j (at m) .2 i l);
+    }
+  where
+    at : {i : ℕ} → i < length (pairsOf h) → i < h .count
+    at l = rw (length-pairs h) at l
+
+    tests : (i : ℕ) → i < h .count →
+        (heldAt h i .filling < d .fillings) × (candidate (fillingOf (fillingAt d (heldAt h i .filling))) (cellOf (heldAt h i .value)) ≡ true) ×
+        ((j : ℕ) → j < i → samePair (pairOf (heldAt h j)) (pairOf (heldAt h i)) ≡ false)
+    tests i l = fits-tests d h i (heldAt h i) (held-used d h e i l)
+
+-- what stands in the record that holds these pairs
+held-at : (ps : List Pair) (i : ℕ) → i < 64 → heldAt (heldOf ps) i ≡ back (pairAt ps i)
+unfolding heldOf
+held-at ps i l = tab-at noValue 64 _ i l
+
+-- that record's pairs are these
+pub pairs-back : (ps : List Pair) → length ps ≤ 64 → pairsOf (heldOf ps) ≡ ps
+unfolding pairsOf heldOf
+pairs-back ps l = sym (tab-of noPair (length ps) _ ps refl (λ i m. sym (ap pairOf (held-at ps i (lt-of-lt-of-le m l)))))
+
+-- pairs that fit are held by a lawful record
+pub fit-held : (d : Design) (ps : List Pair) → PairsFit (schemeOf d) ps → lawfulHeld d (heldOf ps) ≡ true
+unfolding lawfulHeld heldOf heldFits schemeOf
+fit-held d ps w =
+    both (le-leb _ _ (w .few))
+    (all-places 64 (length ps) _ _ (λ j l m. rw (held-at ps j l)
+    (both (lt-ltb _ _ (w .filling j m)) (both (w .value j m) (not-before j _ (λ i b. rw (held-at ps i (lt-trans b l)) (w .once i j b m))))))
+    (λ i l m. held-zero _ (held-at ps i l ∙ ap back (List·getD-eq-default ps noPair m))))

@@ -1,8 +1,8 @@
 -- What the tests of a row say of the lent buffers, test by test. Assumes nothing.
 use Prim.Native.Nat.{ℕ, _+_, _*_, _≤_, _<_}
 use native.Mathlib.Omega.{arith}
-use mathlib.Core.Path.{_≡_, refl, sym, ap, _∙_}
-use mathlib.Core.Bool.{Bool, true, false, _&&_, _||_}
+use mathlib.Core.Path.{_≡_, sym, ap, _∙_}
+use mathlib.Core.Bool.{Bool, true, false, _||_}
 use mathlib.Core.List.{List}
 use borrow.Author.Tests.{lt-ltb, le-ltb, eq-eqb, ne-eqb}
 use lib.Dec.{ltb}
@@ -38,7 +38,8 @@ module _ (d : Design) (cells tables : List ℕ) (r : ℕ) where
   unfolding rowFits schemeOf databaseOf
   fits-elsewhere h = and-stop _ _ (le-ltb _ _ h)
 
-  pub fits-blank : getD tables r 0 < d .tables → blankFrom cells r (tableAt d (getD tables r 0) .columns) ≡ rowFits (schemeOf d) (databaseOf (d .rows) cells tables) r
+  pub fits-blank : getD tables r 0 < d .tables →
+      blankFrom cells r (tableAt d (getD tables r 0) .columns) ≡ rowFits (schemeOf d) (databaseOf (d .rows) cells tables) r
   unfolding rowFits schemeOf databaseOf
   fits-blank h = and-go _ _ (lt-ltb _ _ h) (blank-past (d .rows) cells tables r _)
 

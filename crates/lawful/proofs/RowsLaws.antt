@@ -2,20 +2,20 @@
 use Prim.Native.Nat.{ℕ, _+_, _*_, _^_, _≤_, _<_}
 use native.Mathlib.Omega.{arith}
 use mathlib.Core.Path.{_≡_, refl, sym, ap, subst, _∙_}
-use mathlib.Core.Logic.{_⊎_, inl, inr, ⊎-elim}
-use mathlib.Core.Bool.{Bool, true, false, not, cond, _&&_, _||_, and-eq-true-iff}
+use mathlib.Core.Logic.{⊎-elim}
+use mathlib.Core.Bool.{true, false, not, _&&_, and-eq-true-iff}
 use mathlib.Core.List.{List}
 use borrow.Author.Tests.{lt-ltb, le-ltb, ltb-true, ltb-false, eqb-true, eq-eqb, not-true}
 use lib.Dec.{ltb}
 use lib.ListN.{getD}
-use Rattle.finite.specs.Finite.{any, all}
+use Rattle.finite.specs.Finite.{any}
 use Rattle.finite.proofs.Bools.{dec, both, clash, refute, or-cases, or-left, cond-false}
 use Rattle.finite.proofs.Search.{any-true, any-found, all-at, all-true}
-use Rattle.model.specs.Cell.{Cell, Fits, cellOf, blank, isBlank}
+use Rattle.model.specs.Cell.{Cell, Fits, blank, isBlank}
 use Rattle.model.specs.Scheme.{Column, Scheme}
 use Rattle.model.specs.Database.{Database, Has, has, Lawful}
 use Rattle.model.proofs.CellLaws.{blank-fits, blank-is, is-blank, equal-same, equal-full, equal-self}
-use Rattle.model.proofs.ProbeLaws.{has-Has, Has-has, has-full}
+use Rattle.model.proofs.DatabaseLaws.{has-Has, Has-has, has-full}
 use Rattle.state.specs.declared.design.Design.{Design}
 use Rattle.state.specs.Meaning.{schemeOf, databaseOf}
 use Rattle.state.specs.Lawful.{rowFits, repeatsAt, repeats, zeroRow, lawfulRows, lawfulDesign}
@@ -29,15 +29,17 @@ module _ (S : Scheme) (D : Database) (r : ℕ) where
   fits-says : rowFits S D r ≡ true → (D .table r < S .tables) × ((c : ℕ) → c < 8 → S .columns (D .table r) ≤ c → isBlank (D .cell r c) ≡ true)
   unfolding rowFits
   fits-says e =
-      let h = and-eq-true-iff (ltb (D .table r) (S .tables)) _ .0 e in
-      (ltb-true _ _ (h .0),
-      λ c l b. ⊎-elim (λ (q : ltb c (S .columns (D .table r)) ≡ true). clash q (le-ltb _ _ b)) (λ q. q) (or-cases _ _ (all-at 8 _ (h .1) c l)))
+      let h = and-eq-true-iff (ltb (D .table r) (S .tables)) _ .0 e in (
+        ltb-true _ _ (h .0),
+        λ c l b. ⊎-elim (λ (q : ltb c (S .columns (D .table r)) ≡ true). clash q (le-ltb _ _ b)) (λ q. q) (or-cases _ _ (all-at 8 _ (h .1) c l)),
+      )
 
   fits-if : D .table r < S .tables → ((c : ℕ) → c < 8 → S .columns (D .table r) ≤ c → isBlank (D .cell r c) ≡ true) → rowFits S D r ≡ true
   unfolding rowFits
   fits-if t h =
       both (lt-ltb _ _ t)
-      (all-true 8 _ (λ c l. ⊎-elim (λ (q : ltb c (S .columns (D .table r)) ≡ true). sym (or-left _ _ q)) (λ (q : ltb c (S .columns (D .table r)) ≡ false). rw q (h c l (ltb-false _ _ q))) (dec (ltb c (S .columns (D .table r))))))
+      (all-true 8 _ (λ c l. ⊎-elim (λ (q : ltb c (S .columns (D .table r)) ≡ true). sym (or-left _ _ q))
+      (λ (q : ltb c (S .columns (D .table r)) ≡ false). rw q (h c l (ltb-false _ _ q))) (dec (ltb c (S .columns (D .table r))))))
 
 -- an earlier row with the same value in a unique column would be a repeat
 no-repeat : (S : Scheme) (D : Database) (k : Column) (v : Cell) (r s : ℕ) → repeats S D s ≡ false → k .place < 8 → S .unique k ≡ true → r < s →
@@ -115,7 +117,8 @@ module _ (d : Design) (cells tables : List ℕ) where
     unfolding lawfulRows
     row-says r l =
         let h = live-says (d .rows) cells tables r l in
-        let g = and-eq-true-iff _ _ .0 (used-at 512 (d .rows) (λ s. rowFits (schemeOf d) rows s && not (repeats (schemeOf d) rows s)) (zeroRow rows) e r (h .0) (h .1)) in
+        let g = and-eq-true-iff _ _ .0
+        (used-at 512 (d .rows) (λ s. rowFits (schemeOf d) rows s && not (repeats (schemeOf d) rows s)) (zeroRow rows) e r (h .0) (h .1)) in
         (g .0, not-true _ (g .1))
 
     -- a number that has none
@@ -127,7 +130,8 @@ module _ (d : Design) (cells tables : List ℕ) where
     never-before : (k : Column) (v : Cell) (r s : ℕ) → schemeOf d .unique k ≡ true → Has rows k v r → Has rows k v s → r < s → ⊥
     never-before k v r s u a b l =
         ⊎-elim (λ (q : ltb (k .place) 8 ≡ true). no-repeat (schemeOf d) rows k v r s (row-says s (b .live) .1) (ltb-true _ _ q) u l a b)
-        (λ (q : ltb (k .place) 8 ≡ false). clash (ap isBlank (cell-past (d .rows) cells tables s (k .place) (ltb-false _ _ q)) ∙ blank-is) (equal-full _ v (b .value)))
+        (λ (q : ltb (k .place) 8 ≡ false).
+        clash (ap isBlank (cell-past (d .rows) cells tables s (k .place) (ltb-false _ _ q)) ∙ blank-is) (equal-full _ v (b .value)))
         (dec (ltb (k .place) 8))
 
     unique-says : (k : Column) (v : Cell) (r s : ℕ) → schemeOf d .unique k ≡ true → Has rows k v r → Has rows k v s → r ≡ s

@@ -10,7 +10,8 @@ use Rattle.state.specs.declared.held.Held.{Held}
 use Rattle.state.specs.Design.{tableAt, constraintAt, fillingAt}
 use Rattle.state.specs.Held.{heldAt}
 use Rattle.state.specs.Meaning.{schemeOf, databaseOf}
-use Rattle.state.specs.Lawful.{usedOr, tableFits, zeroTable, constraintFits, zeroConstraint, fillingFits, zeroFilling, rowFits, repeats, zeroRow, heldFits, zeroHeld}
+use Rattle.state.specs.Lawful.{usedOr, tableFits, zeroTable, constraintFits, zeroConstraint, fillingFits, zeroFilling}
+use Rattle.state.specs.Lawful.{rowFits, repeats, zeroRow, heldFits, zeroHeld}
 
 -- ---- a design's places: each holds what can stand there, or is unused and 0
 

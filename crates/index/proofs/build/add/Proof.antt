@@ -31,7 +31,7 @@ loop-holds c =
       refl,
       refl,
       chained-none _ _ _ _ _ _ _ _ (λ s a b. keyed-absent _ _ _ _ s b (omega (arith, p)) a)
-    (c .before .before .before .before .before .before .clear .ensures) (c .before .before .clear2 .ensures),
+          (c .before .before .before .before .before .before .clear .ensures) (c .before .before .clear2 .ensures),
     )
 
 sub-r : tie.Need-sub-r Inv-loop μ-loop
@@ -52,7 +52,7 @@ loop-again c =
       omega arith,
       omega arith,
       chained-put _ _ _ _ _ _ _ _ _ _ _ (omega arith) (omega arith) (omega arith)
-    (c .before .before .before .before .before .before .before .before .loop .inv .3) (e .0) (e .1),
+          (c .before .before .before .before .before .before .before .before .loop .inv .3) (e .0) (e .1),
     )
 
 same-length : tie.Need-same-length Inv-loop μ-loop
@@ -65,8 +65,8 @@ returns : tie.Need-returns Inv-loop μ-loop
 returns c =
     let t = c .before .loop .inv .3 in
     let a = c .before .before .before .before .before .before .before .before .clear .ensures in
-    added _ _ _ _ _ _ _ _ _ (omega arith) (omega arith) (chained-heads _ _ _ _ _ _ _ _ (c .loop-test .left) t _ a)
-    (chained-links _ _ _ _ _ _ _ _ (c .loop-test .left) t _ (c .before .before .before .before .clear2 .ensures))
+    added _ _ _ _ _ _ _ _ _ (omega arith) (omega arith) (chained-heads _ _ _ _ _ _ _ _ (omega arith) t _ a)
+    (chained-links _ _ _ _ _ _ _ _ (omega arith) t _ (c .before .before .before .before .clear2 .ensures))
 
 pub add-spec : {M : Type 1} → statement M
 add-spec =

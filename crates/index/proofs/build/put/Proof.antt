@@ -80,7 +80,7 @@ returns-3 : tie.Need-returns-3
 returns-3 c =
     let a = c .before .before .before .before .before .before .before .args in
     put-in _ _ _ _ _ _ (keyed-here _ _ _ _ _ (omega arith) (omega arith) (omega arith) (c .before .before .before .before .if1 .left) (c .before .if2 .left)) _
-    (hash-at _ _ _ (columnOf (a .k)) _ (omega arith) (omega arith))
+    (omega (arith, hash-at (a .rows) (a .cells .now) (a .tables .now) (columnOf (a .k)) (a .r) (omega arith) (omega arith)))
 
 pub put-spec : {M : Type 1} → statement M
 put-spec =

@@ -8,7 +8,7 @@ use Rattle.model.specs.Database.{has}
 use Rattle.state.specs.Meaning.{databaseOf, columnOf}
 use Rattle.index.specs.First.{firstFrom, Hit}
 use Rattle.index.specs.Index.{hash, inBucket}
-use Rattle.index.proofs.Seeks.{link-falls, link-hit, seek-found, seek-past, seek-end}
+use Rattle.index.proofs.Seeks.{link-rises, link-hit, seek-found, seek-past, seek-end}
 use Rattle.index.proofs.walk.seek.Statement.{statement}
 use Rattle.index.proofs.walk.seek.Tie as tie
 
@@ -41,7 +41,7 @@ shared-slice-read-if1 c = omega arith
 returns : tie.Need-returns Inv-loop μ-loop
 returns c =
     let l = c .before .before .before in
-    seek-found _ _ _ _ _ _ _ (l .before .before .pre .1 .1 .1) (l .loop-test .taken) (l .before .loop .inv .0) (l .before .loop .inv .1) (c .if1 .taken)
+    seek-found _ _ _ _ _ _ _ (l .before .before .pre .1 .1 .1) (omega arith) (l .before .loop .inv .0) (l .before .loop .inv .1) (c .if1 .taken)
 
 mul-r : tie.Need-mul-r Inv-loop μ-loop
 mul-r c = search needs
@@ -63,19 +63,19 @@ cast-r c =
 loop-less : tie.Need-loop-less Inv-loop μ-loop
 loop-less c =
     let l = c .before .before .before .before in
-    omega (arith, link-falls _ _ _ _ _ _ (l .before .before .pre .1 .0) (l .loop-test .taken) (l .before .loop .inv .0 .here (l .loop-test .taken)))
+    omega (arith, link-rises _ _ _ _ _ _ (l .before .before .pre .1 .0) (omega arith) (l .before .loop .inv .0 .here (omega arith)))
 
 loop-again : tie.Need-loop-again Inv-loop μ-loop
 loop-again c =
     let l = c .before .before .before .before in
     let h = l .before .loop .inv in
     let p = l .before .before .pre in (
-      link-hit _ _ _ _ _ _ (p .1 .0) (l .loop-test .taken) (h .0 .here (l .loop-test .taken)),
-      seek-past _ _ _ _ _ _ _ (p .1 .1 .1) (l .loop-test .taken) (h .0) (h .1) (c .before .if1 .left) _ _ (p .1 .0),
+      link-hit _ _ _ _ _ _ (p .1 .0) (omega arith) (h .0 .here (omega arith)),
+      seek-past _ _ _ _ _ _ _ (p .1 .1 .1) (omega arith) (h .0) (h .1) (c .before .if1 .left) _ _ (p .1 .0),
     )
 
 returns-2 : tie.Need-returns-2 Inv-loop μ-loop
-returns-2 c = seek-end _ _ _ _ _ (c .before .loop .inv .0 .bound) (c .loop-test .left) (c .before .loop .inv .1)
+returns-2 c = seek-end _ _ _ _ _ (omega arith) (omega arith) (c .before .loop .inv .1)
 
 pub seek-spec : {M : Type 1} → statement M
 seek-spec =

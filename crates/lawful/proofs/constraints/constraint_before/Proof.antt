@@ -47,4 +47,5 @@ returns-2 c = any-end _ _ _ (c .before .loop .inv .0) (c .loop-test .left) (c .b
 pub constraint-before-spec : {M : Type 1} → statement M
 constraint-before-spec =
     tie.close (tie.spec
-    Inv-loop μ-loop loop-holds mul-same-constraint element-copy-out-same-constraint same-constraint-requires returns add-i loop-less loop-again returns-2)
+    Inv-loop μ-loop loop-holds mul-same-constraint element-copy-out-same-constraint same-constraint-requires returns add-i loop-less loop-again
+    returns-2)

@@ -31,4 +31,5 @@ returns-2 c = used _ _ _ _ (c .before .before .if1 .left) (c .constraint-fits .e
 pub constraint-lawful-spec : {M : Type 1} → statement M
 constraint-lawful-spec =
     tie.close (tie.spec
-    mul-zero-constraint element-copy-out-zero-constraint zero-constraint-requires returns mul-constraint-fits element-copy-out-constraint-fits constraint-fits-requires returns-2)
+    mul-zero-constraint element-copy-out-zero-constraint zero-constraint-requires returns mul-constraint-fits element-copy-out-constraint-fits
+    constraint-fits-requires returns-2)

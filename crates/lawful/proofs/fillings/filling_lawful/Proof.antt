@@ -31,4 +31,5 @@ returns-2 c = used _ _ _ _ (c .before .before .if1 .left) (c .filling-fits .ensu
 pub filling-lawful-spec : {M : Type 1} → statement M
 filling-lawful-spec =
     tie.close (tie.spec
-    mul-zero-filling element-copy-out-zero-filling zero-filling-requires returns mul-filling-fits element-copy-out-filling-fits filling-fits-requires returns-2)
+    mul-zero-filling element-copy-out-zero-filling zero-filling-requires returns mul-filling-fits element-copy-out-filling-fits
+    filling-fits-requires returns-2)

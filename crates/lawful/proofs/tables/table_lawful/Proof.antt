@@ -31,4 +31,5 @@ returns-2 c = used _ _ _ _ (c .before .before .if1 .left) (c .table-fits .ensure
 pub table-lawful-spec : {M : Type 1} → statement M
 table-lawful-spec =
     tie.close (tie.spec
-    mul-zero-table element-copy-out-zero-table zero-table-requires returns mul-table-fits element-copy-out-table-fits table-fits-requires returns-2)
+    mul-zero-table element-copy-out-zero-table zero-table-requires returns mul-table-fits element-copy-out-table-fits table-fits-requires
+    returns-2)
