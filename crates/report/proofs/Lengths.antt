@@ -1,0 +1,112 @@
+-- How long a report's texts and lines are, and how far a writer gets with them. Assumes nothing.
+use Prim.Native.Nat.{ℕ, zero, suc, _+_, _-_, _*_, _^_, _≤_, _<_}
+use native.Mathlib.Nat.{suc-mul, mul-add, mul-comm, mul-one, mul-le-mul-left}
+use native.Mathlib.Omega.{arith}
+use mathlib.Core.Path.{_≡_, ap, _∙_}
+use mathlib.Core.Bool.{true}
+use mathlib.Core.List.{List, [], _∷_}
+use lib.ListN.{length, length-append, length-take, take, getD}
+use Rattle.finite.specs.Finite.{collect}
+use Rattle.finite.specs.Writing.{Wrote}
+use Rattle.state.specs.declared.design.Design.{Design}
+use Rattle.state.specs.declared.answer.Answer.{Answer}
+use Rattle.state.specs.declared.answer.Answer.the-variants.{Loaded, Held, NoCandidate, Dropped, Ground, Sent, Lists, Refused}
+use Rattle.report.specs.Report.{newline, decimal, spaced, answerText, commandLine, designLine, refusalLine, listLine, listLines}
+use Rattle.report.proofs.FiniteExtra.{reach}
+use Rattle.report.proofs.Decimals.{decimal-short, decimal-short-32}
+use Rattle.report.proofs.Answers.{refusal-line}
+
+-- ---- how long
+
+answer-short : (a : Answer) (place : ℕ) → length (answerText a place) ≤ 49
+unfolding answerText
+answer-short (Loaded rows rounds) place = simp length-append (omega (arith, decimal-short rows, decimal-short rounds))
+answer-short Held place = omega arith
+answer-short NoCandidate place = omega arith
+answer-short (Dropped rows) place = omega (arith, decimal-short rows)
+answer-short (Ground g) place = omega (arith, decimal-short g)
+answer-short Sent place = omega arith
+answer-short (Lists n) place = omega (arith, decimal-short n)
+answer-short (Refused n) place = simp length-append (omega (arith, decimal-short n, decimal-short place))
+
+pub command-line-short : (number : ℕ) (a : Answer) (place : ℕ) → length (commandLine number a place) ≤ 71
+unfolding commandLine
+command-line-short number a place = simp length-append (omega (arith, decimal-short number, answer-short a place))
+
+pub design-line-short : (d : Design) → length (designLine d) ≤ 91
+unfolding designLine
+design-line-short d =
+    simp length-append (omega (arith, decimal-short (d .tables), decimal-short (d .constraints), decimal-short (d .fillings), decimal-short (d .rows)))
+
+pub refusal-line-short : (n place : ℕ) → length (refusalLine n place) ≤ 50
+refusal-line-short n place =
+    omega (arith, answer-short (Refused n) place, length-append (answerText (Refused n) place) (newline ∷ []), ap length (refusal-line n place))
+
+-- lists of words, each below 2 ^ 32
+module _ (words : List ℕ) (small : (i : ℕ) → getD words i 0 < 2 ^ 32) where
+  words-short : (w n : ℕ) → length (collect n (λ _. true) (λ j. spaced (getD words (w + j) 0))) ≤ 11 * n
+  unfolding collect
+  words-short w zero = omega arith
+  words-short w (suc n) = rw length-append (omega (arith, words-short w n, decimal-short-32 (getD words (w + n) 0) (small (w + n))))
+
+  pub list-line-short : (w p : ℕ) → 1 ≤ p → length (listLine words w p) ≤ 11 * p
+  unfolding listLine
+  list-line-short w p h = simp length-append (omega (arith, decimal-short-32 (getD words w 0) (small w), words-short (w + 1) (p - 1)))
+
+  lines-short : (n p : ℕ) → 1 ≤ p → length (collect n (λ _. true) (λ i. listLine words (p * i) p)) ≤ 11 * (n * p)
+  unfolding collect
+  lines-short zero p h = omega arith
+  lines-short (suc n) p h = rw length-append (omega (arith, lines-short n p h, list-line-short (p * n) p h, suc-mul n p))
+
+  pub list-lines-short : (n p : ℕ) → 1 ≤ p → length (listLines words n p) ≤ 11 * (n * p)
+  unfolding listLines
+  list-lines-short n p h = lines-short n p h
+
+-- ---- how far
+
+-- a writer that wrote from n on stands at z
+module _ (o o′ : List ℕ) (n z : ℕ) where
+  pub bytes-reach : (k : ℕ) (t : List ℕ) → Wrote o o′ n z (take k t) → z ≤ n + k
+  bytes-reach k t = reach o o′ n z (take k t) k (omega (arith, length-take k t))
+
+  pub decimal-reach : (v : ℕ) → Wrote o o′ n z (decimal v) → z ≤ n + 20
+  decimal-reach v = reach o o′ n z (decimal v) 20 (decimal-short v)
+
+  pub decimal-reach-32 : (v : ℕ) → v < 2 ^ 32 → Wrote o o′ n z (decimal v) → z ≤ n + 10
+  decimal-reach-32 v b = reach o o′ n z (decimal v) 10 (decimal-short-32 v b)
+
+  pub spaced-reach : (v : ℕ) → Wrote o o′ n z (spaced v) → z ≤ n + 21
+  spaced-reach v = reach o o′ n z (spaced v) 21 (omega (arith, decimal-short v))
+
+  pub spaced-reach-32 : (v : ℕ) → v < 2 ^ 32 → Wrote o o′ n z (spaced v) → z ≤ n + 11
+  spaced-reach-32 v b = reach o o′ n z (spaced v) 11 (omega (arith, decimal-short-32 v b))
+
+  pub answer-reach : (a : Answer) (place : ℕ) → Wrote o o′ n z (answerText a place) → z ≤ n + 49
+  answer-reach a place = reach o o′ n z (answerText a place) 49 (answer-short a place)
+
+  pub command-line-reach : (number : ℕ) (a : Answer) (place : ℕ) → Wrote o o′ n z (commandLine number a place) → z ≤ n + 71
+  command-line-reach number a place = reach o o′ n z (commandLine number a place) 71 (command-line-short number a place)
+
+  pub design-line-reach : (d : Design) → Wrote o o′ n z (designLine d) → z ≤ n + 91
+  design-line-reach d = reach o o′ n z (designLine d) 91 (design-line-short d)
+
+  pub refusal-line-reach : (cause place : ℕ) → Wrote o o′ n z (refusalLine cause place) → z ≤ n + 50
+  refusal-line-reach cause place = reach o o′ n z (refusalLine cause place) 50 (refusal-line-short cause place)
+
+  module _ (words : List ℕ) (small : (i : ℕ) → getD words i 0 < 2 ^ 32) where
+    pub words-reach : (w k : ℕ) → Wrote o o′ n z (collect k (λ _. true) (λ j. spaced (getD words (w + j) 0))) → z ≤ n + 11 * k
+    words-reach w k = reach o o′ n z _ (11 * k) (words-short words small w k)
+
+    pub list-line-reach : (w p : ℕ) → 1 ≤ p → Wrote o o′ n z (listLine words w p) → z ≤ n + 11 * p
+    list-line-reach w p h = reach o o′ n z (listLine words w p) (11 * p) (list-line-short words small w p h)
+
+    pub list-lines-reach : (k p : ℕ) → 1 ≤ p → Wrote o o′ n z (listLines words k p) → z ≤ n + 11 * (k * p)
+    list-lines-reach k p h = reach o o′ n z (listLines words k p) (11 * (k * p)) (list-lines-short words small k p h)
+
+-- ---- where list i of n lists of p words stands
+
+pub list-next : (p i : ℕ) → p * (i + 1) ≡ p * i + p
+list-next p i = mul-add p i 1 ∙ ap (λ (k : ℕ). p * i + k) (mul-one p)
+
+pub list-within : (n p i : ℕ) → i < n → p * i + p ≤ n * p
+list-within n p i h = omega (arith, list-next p i, mul-le-mul-left {m = i + 1} {n = n} p (omega arith), mul-comm n p)

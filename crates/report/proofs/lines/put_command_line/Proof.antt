@@ -1,0 +1,46 @@
+-- `report::lines::put_command_line` meets its contract: the parts one behind the other. Assumes nothing.
+use native.Mathlib.Omega.{arith}
+use borrow.Author.Needs.{needs}
+use Rattle.report.specs.Report.{commandLine}
+use Rattle.report.proofs.FiniteExtra.{behind}
+use Rattle.report.proofs.Lengths.{decimal-reach, answer-reach}
+use Rattle.report.proofs.lines.put_command_line.Statement.{statement}
+use Rattle.report.proofs.lines.put_command_line.Tie as tie
+
+put-decimal-requires : tie.Need-put-decimal-requires
+put-decimal-requires c κs = search needs
+
+put-byte-requires : tie.Need-put-byte-requires
+put-byte-requires c κs = omega (arith, decimal-reach _ _ _ _ _ (c .before .before .before .put-decimal .ensures))
+
+put-answer-requires : tie.Need-put-answer-requires
+put-answer-requires c κs = omega (arith, decimal-reach _ _ _ _ _ (c .before .before .before .before .before .before .before .put-decimal .ensures))
+
+put-byte-requires-2 : tie.Need-put-byte-requires-2
+put-byte-requires-2 c κs =
+    let a = c .before .before .before in
+    let n = a .before .before .before .before .before .before .before .before in
+    omega (arith, decimal-reach _ _ _ _ _ (n .put-decimal .ensures), answer-reach _ _ _ _ _ _ (a .put-answer .ensures))
+
+same-length : tie.Need-same-length
+same-length c = search needs
+
+returns : tie.Need-returns
+unfolding commandLine
+returns c =
+    let l = c .before .before in
+    let a = l .before .before .before .before in
+    let s = a .before .before .before .before in
+    let n = s .before .before .before .before in
+    behind (n .put-decimal .ensures) (behind (behind (s .put-byte .ensures) (a .put-answer .ensures)) (l .put-byte2 .ensures))
+
+pub put-command-line-spec : {M : Type 1} → statement M
+put-command-line-spec =
+    tie.close
+    (tie.spec
+    put-decimal-requires
+    put-byte-requires
+    put-answer-requires
+    put-byte-requires-2
+    same-length
+    returns)

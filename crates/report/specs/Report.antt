@@ -1,0 +1,89 @@
+-- The desk's report as ASCII text (01, "The desk program's report"). Assumes nothing.
+use Prim.Native.Nat.{ℕ, zero, suc, _+_, _-_, _*_, _/_, _%_}
+use mathlib.Core.Bool.{true, cond}
+use mathlib.Core.List.{List, [], _∷_, _++_}
+use lib.Dec.{ltb}
+use lib.ListN.{getD}
+use Rattle.finite.specs.Finite.{collect}
+use Rattle.io.specs.Digits.{glyph}
+use Rattle.state.specs.declared.design.Design.{Design}
+use Rattle.state.specs.declared.answer.Answer.{Answer}
+use Rattle.state.specs.declared.answer.Answer.the-variants.{Loaded, Held, NoCandidate, Dropped, Ground, Sent, Lists, Refused}
+
+abbrev pub space : ℕ
+space = 32
+
+abbrev pub newline : ℕ
+newline = 10
+
+-- a number in decimal, without leading zeros; f is a number of digits that suffices
+unfoldable pub decimalBy : ℕ → ℕ → List ℕ
+decimalBy zero n = []
+decimalBy (suc f) n = cond (ltb n 10) (glyph n ∷ []) (decimalBy f (n / 10) ++ (glyph (n % 10) ∷ []))
+
+-- a number below 2 ^ 64 has at most 20 digits
+abbrev pub decimal : ℕ → List ℕ
+decimal n = decimalBy 20 n
+
+-- a space, then the number
+abbrev pub spaced : ℕ → List ℕ
+spaced n = space ∷ decimal n
+
+-- "loaded", "held", "no candidate", "dropped", "ground", "sent", "answer", "refused", "design"
+abbrev pub loaded-word : List ℕ
+loaded-word = 108 ∷ 111 ∷ 97 ∷ 100 ∷ 101 ∷ 100 ∷ []
+
+abbrev pub held-word : List ℕ
+held-word = 104 ∷ 101 ∷ 108 ∷ 100 ∷ []
+
+abbrev pub no-candidate-words : List ℕ
+no-candidate-words = 110 ∷ 111 ∷ 32 ∷ 99 ∷ 97 ∷ 110 ∷ 100 ∷ 105 ∷ 100 ∷ 97 ∷ 116 ∷ 101 ∷ []
+
+abbrev pub dropped-word : List ℕ
+dropped-word = 100 ∷ 114 ∷ 111 ∷ 112 ∷ 112 ∷ 101 ∷ 100 ∷ []
+
+abbrev pub ground-word : List ℕ
+ground-word = 103 ∷ 114 ∷ 111 ∷ 117 ∷ 110 ∷ 100 ∷ []
+
+abbrev pub sent-word : List ℕ
+sent-word = 115 ∷ 101 ∷ 110 ∷ 116 ∷ []
+
+abbrev pub answer-word : List ℕ
+answer-word = 97 ∷ 110 ∷ 115 ∷ 119 ∷ 101 ∷ 114 ∷ []
+
+abbrev pub refused-word : List ℕ
+refused-word = 114 ∷ 101 ∷ 102 ∷ 117 ∷ 115 ∷ 101 ∷ 100 ∷ []
+
+abbrev pub design-word : List ℕ
+design-word = 100 ∷ 101 ∷ 115 ∷ 105 ∷ 103 ∷ 110 ∷ []
+
+-- an answer in words; the place goes with a refusal
+unfoldable pub answerText : Answer → ℕ → List ℕ
+answerText (Loaded rows rounds) place = loaded-word ++ (spaced rows ++ spaced rounds)
+answerText Held place = held-word
+answerText NoCandidate place = no-candidate-words
+answerText (Dropped rows) place = dropped-word ++ spaced rows
+answerText (Ground g) place = ground-word ++ spaced g
+answerText Sent place = sent-word
+answerText (Lists n) place = answer-word ++ spaced n
+answerText (Refused n) place = refused-word ++ (spaced n ++ spaced place)
+
+-- "for each command after END .. its number from 0 and" its answer
+unfoldable pub commandLine : ℕ → Answer → ℕ → List ℕ
+commandLine number a place = decimal number ++ ((space ∷ answerText a place) ++ (newline ∷ []))
+
+-- "design with tables, constraints, fillings and rows"
+unfoldable pub designLine : Design → List ℕ
+designLine d = design-word ++ (spaced (d .tables) ++ (spaced (d .constraints) ++ (spaced (d .fillings) ++ (spaced (d .rows) ++ (newline ∷ [])))))
+
+-- "A refused design prints only refused number place"
+unfoldable pub refusalLine : ℕ → ℕ → List ℕ
+refusalLine n place = refused-word ++ (spaced n ++ (spaced place ++ (newline ∷ [])))
+
+-- one list of row numbers on a line: p numbers (at least one) from word w on
+unfoldable pub listLine : List ℕ → ℕ → ℕ → List ℕ
+listLine words w p = decimal (getD words w 0) ++ (collect (p - 1) (λ _. true) (λ j. spaced (getD words (w + 1 + j) 0)) ++ (newline ∷ []))
+
+-- "each list on a line after it": n lists of p numbers
+unfoldable pub listLines : List ℕ → ℕ → ℕ → List ℕ
+listLines words n p = collect n (λ _. true) (λ i. listLine words (p * i) p)

@@ -1,0 +1,47 @@
+// Bytes and numbers, written into a lent buffer.
+ghost use mathlib.Core.List.{_∷_, []};
+ghost use Prim.Native.Nat.{_+_, _≤_};
+ghost use lib.ListN.{length, take};
+ghost use Rattle.finite.specs.Writing.{Wrote};
+ghost use Rattle.report.specs.Report.{decimal, spaced};
+
+// Writes the first n bytes of a text.
+pub fn put_bytes(out: &mut [u8], at: usize, text: &[u8], n: usize) -> usize
+    requires { ⌜ (n ≤ length (now text)) × (at + n ≤ length (now out)) ⌝ }
+    ensures { λ z. ⌜ Wrote (now (out .entry)) (now (out .exit)) at z (take n (now (text .entry))) ⌝ }
+{
+    let mut i: usize = 0;
+    while i < n {
+        out[at + i] = text[i];
+        i += 1;
+    }
+    at + n
+}
+
+// Writes one byte.
+pub fn put_byte(out: &mut [u8], at: usize, b: u8) -> usize
+    requires { ⌜ at + 1 ≤ length (now out) ⌝ }
+    ensures { λ z. ⌜ Wrote (now (out .entry)) (now (out .exit)) at z (b ∷ []) ⌝ }
+{
+    out[at] = b;
+    at + 1
+}
+
+// Writes a number in decimal: at most 20 bytes.
+pub fn put_decimal(out: &mut [u8], at: usize, n: u64) -> usize
+    requires { ⌜ at + 20 ≤ length (now out) ⌝ }
+    ensures { λ z. ⌜ Wrote (now (out .entry)) (now (out .exit)) at z (decimal n) ⌝ }
+{
+    let mut digits = [0u8; 20];
+    let k = io::decimal(n, &mut digits);
+    put_bytes(out, at, &digits[..k], k)
+}
+
+// Writes a space and a number: at most 21 bytes.
+pub fn put_spaced(out: &mut [u8], at: usize, n: u64) -> usize
+    requires { ⌜ at + 21 ≤ length (now out) ⌝ }
+    ensures { λ z. ⌜ Wrote (now (out .entry)) (now (out .exit)) at z (spaced n) ⌝ }
+{
+    let z = put_byte(out, at, 32);
+    put_decimal(out, z, n)
+}
