@@ -1,5 +1,5 @@
--- How many places the arrays of a design and of held values have. A list in a definition has any length; owning the value, which a need of a
--- function that takes one is handed (`c .good`), tells it. Assumes nothing.
+-- How many places the arrays of a design and of held values have. A list in a definition has any length; that a function owns the value tells
+-- it: of a first parameter d, `sized (c .args .d) _ (c .good .0)`, of a second one `c .good .1 .0`, and so on. Assumes nothing.
 use mathlib.Core.Path.{_≡_}
 use mathlib.Core.List.{List}
 use denote.Laws.{Is}

@@ -1,13 +1,13 @@
 // Lent rows: whether a row can stand at its number, and whether all of them are lawful.
 ghost use mathlib.Core.Path.{_≡_};
 ghost use Prim.Native.Nat.{_≤_, _<_};
+ghost use lib.ListN.{length};
 ghost use Rattle.finite.specs.Finite.{any};
 ghost use Rattle.model.specs.Cell.{cellOf};
 ghost use Rattle.model.specs.Database.{has};
 ghost use Rattle.state.specs.Design.{Backed};
 ghost use Rattle.state.specs.Meaning.{columnOf, databaseOf, schemeOf};
 ghost use Rattle.state.specs.Lawful.{lawfulRows, repeats, repeatsAt, rowFits, zeroRow};
-ghost use lib.ListN.{length};
 ghost use Rattle.lawful.specs.Parts.{blankAt, blankFrom, rowLawful};
 use crate::tables::is_unique;
 use crate::tables::table_at;

@@ -1,4 +1,4 @@
--- `lawful::constraints::constraints_lawful` meets its contract: the invariant: the places passed are lawful. Assumes nothing.
+-- `lawful::constraints::constraints_lawful` meets its contract. The invariant: the places passed are lawful. Assumes nothing.
 use Prim.Native.Nat.{_-_, _≤_}
 use native.Mathlib.Omega.{arith}
 use mathlib.Core.Bool.{true}

@@ -1,4 +1,4 @@
--- `lawful::fillings::column_filled` meets its contract: the invariant: none of the fillings passed has the column. Assumes nothing.
+-- `lawful::fillings::column_filled` meets its contract. The invariant: none of the fillings passed has the column. Assumes nothing.
 use Prim.Native.Nat.{_-_, _≤_}
 use native.Mathlib.Omega.{arith}
 use mathlib.Core.Bool.{false}

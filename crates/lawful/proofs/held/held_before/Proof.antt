@@ -1,4 +1,4 @@
--- `lawful::held::held_before` meets its contract: the invariant: none of the held values passed is the same. Assumes nothing.
+-- `lawful::held::held_before` meets its contract. The invariant: none of the held values passed is the same. Assumes nothing.
 use Prim.Native.Nat.{_-_, _≤_}
 use native.Mathlib.Omega.{arith}
 use mathlib.Core.Bool.{false}

@@ -1,4 +1,4 @@
--- `lawful::held::lawful_held` meets its contract: the invariant: the places passed are lawful. Assumes nothing.
+-- `lawful::held::lawful_held` meets its contract. The invariant: the places passed are lawful. Assumes nothing.
 use Prim.Native.Nat.{_-_, _≤_}
 use native.Mathlib.Omega.{arith}
 use mathlib.Core.Bool.{true}
@@ -33,7 +33,7 @@ returns-2 : tie.Need-returns-2 Inv-loop μ-loop
 unfolding lawfulHeld
 returns-2 c =
     and-go _ _ (le-leb _ _ (c .before .before .before .before .if1 .left))
-    (all-stop _ _ _ (c .before .before .loop-test .taken) (sym (c .before .held-lawful .ensures) ∙ not-true _ (c .if2 .taken)))
+    (all-stop 64 (c .before .before .before .loop .i) _ (omega arith) (sym (c .before .held-lawful .ensures) ∙ not-true _ (c .if2 .taken)))
 
 add-i : tie.Need-add-i Inv-loop μ-loop
 add-i c = omega arith

@@ -1,4 +1,4 @@
--- `lawful::rows::blank_from` meets its contract: the invariant: the cells passed are among the first n, or blank. Assumes nothing.
+-- `lawful::rows::blank_from` meets its contract. The invariant: the cells passed are among the first n, or blank. Assumes nothing.
 use Prim.Native.Nat.{_-_, _≤_}
 use native.Mathlib.Omega.{arith}
 use mathlib.Core.Bool.{true}

@@ -1,4 +1,4 @@
--- `lawful::rows::lawful_rows` meets its contract: the invariant: the row numbers passed are lawful. Assumes nothing.
+-- `lawful::rows::lawful_rows` meets its contract. The invariant: the row numbers passed are lawful. Assumes nothing.
 use Prim.Native.Nat.{_-_, _≤_}
 use native.Mathlib.Omega.{arith}
 use mathlib.Core.Bool.{true}

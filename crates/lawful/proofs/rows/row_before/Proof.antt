@@ -1,4 +1,4 @@
--- `lawful::rows::row_before` meets its contract: the invariant: none of the rows passed has the value. Assumes nothing.
+-- `lawful::rows::row_before` meets its contract. The invariant: none of the rows passed has the value. Assumes nothing.
 use Prim.Native.Nat.{_-_, _≤_}
 use native.Mathlib.Omega.{arith}
 use mathlib.Core.Bool.{false}

@@ -1,4 +1,4 @@
--- `lawful::rows::row_repeats` meets its contract: the invariant: none of the columns passed repeats a value. Assumes nothing.
+-- `lawful::rows::row_repeats` meets its contract. The invariant: none of the columns passed repeats a value. Assumes nothing.
 use Prim.Native.Nat.{_-_, _≤_}
 use native.Mathlib.Omega.{arith}
 use mathlib.Core.Bool.{false}
