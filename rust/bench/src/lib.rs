@@ -1,0 +1,31 @@
+//! Times the desk's work side by side in different implementations.
+//!
+//! - [`work`] says what is done: a design, operations before the clock starts
+//!   and operations on the clock.
+//! - [`contestant`] is what an implementation has to offer to take part, and
+//!   [`contestants`] lists those that do.
+//! - [`measure`] takes the times, by the [`clock`] for processor time, and
+//!   [`table`] sets them out.
+
+#![deny(unsafe_code)]
+
+pub mod clock;
+pub mod contestant;
+pub mod measure;
+pub mod process;
+pub mod second;
+#[cfg(feature = "sqlite")]
+pub mod sqlite;
+pub mod table;
+pub mod work;
+
+use contestant::Contestant;
+
+/// The implementations that take part. Ratios are to the first of them.
+pub fn contestants() -> Vec<Box<dyn Contestant>> {
+    vec![
+        Box::new(second::SecondImplementation),
+        #[cfg(feature = "sqlite")]
+        Box::new(sqlite::Sqlite),
+    ]
+}

@@ -1,0 +1,151 @@
+//! SQLite in memory as a contestant: loads and drops are recursive common table
+//! expressions, probes and queries are single statements, and every column has
+//! an index. All statements are prepared off the clock.
+//!
+//! It does what the works need and no more: operands aren't checked, held values
+//! aren't counted and neither are rounds. Where that makes a difference, it is
+//! in SQLite's favour.
+
+mod database;
+mod ffi;
+mod sql;
+
+use std::collections::HashMap;
+
+use notation::{Column, Command, Design, Join, Pair, Probe, Query};
+use reference::ANSWER_WORDS;
+
+use crate::contestant::{Answer, Contestant, OpenDesk, Operation};
+use database::{Database, OutOfTime, Statement};
+
+/// SQLite with a database in memory.
+pub struct Sqlite;
+
+impl Contestant for Sqlite {
+    fn name(&self) -> &'static str {
+        "SQLite"
+    }
+
+    fn open(&self, design: &Design) -> Box<dyn OpenDesk> {
+        let database = Database::open();
+        for statement in sql::schema(design) {
+            database.execute(&statement);
+        }
+        Box::new(Desk::new(design, database))
+    }
+}
+
+/// A design in a database.
+struct Desk {
+    design: Design,
+    hold: Statement,
+    release: Statement,
+    /// For each filling.
+    loads: Vec<Statement>,
+    unload: Statement,
+    probes: HashMap<Column, Statement>,
+    /// By everything about a query but its value.
+    queries: HashMap<(Column, [Join; 4], u8), Statement>,
+    database: Database,
+}
+
+impl OpenDesk for Desk {
+    fn prepare(&mut self, operation: &Operation) {
+        if let Command::Query(query) = operation.command {
+            let sql = sql::query(&self.design, &query);
+            self.queries
+                .insert(shape(&query), self.database.prepare(&sql));
+        }
+    }
+
+    fn perform(&mut self, operation: &Operation) -> Answer {
+        let answer = match operation.command {
+            Command::Refer(pair) => self.refer(pair),
+            Command::Drop(pair) => self.drop(pair),
+            Command::Probe(probe) => self.probe(probe),
+            Command::Query(query) => self.query(&query),
+            command => unreachable!("{command} is no operation"),
+        };
+        answer.unwrap_or(Answer::OutOfTime)
+    }
+}
+
+impl Desk {
+    fn new(design: &Design, database: Database) -> Desk {
+        let loads = design.fillings.iter();
+        let probes = design.columns().into_iter();
+        Desk {
+            hold: database.prepare(sql::HOLD),
+            release: database.prepare(sql::RELEASE),
+            loads: loads
+                .map(|filling| database.prepare(&sql::load(design, filling)))
+                .collect(),
+            unload: database.prepare(&sql::unload(design)),
+            probes: probes
+                .map(|column| (column, database.prepare(&sql::probe(design, column))))
+                .collect(),
+            queries: HashMap::new(),
+            design: design.clone(),
+            database,
+        }
+    }
+
+    fn refer(&mut self, pair: Pair) -> Result<Answer, OutOfTime> {
+        let number = usize::from(pair.filling);
+        let filling = self.design.fillings[number];
+        if !(filling.low..=filling.high).contains(&pair.value) {
+            return Ok(Answer::NoCandidate);
+        }
+        let value = i64::from(pair.value);
+        self.hold.run(&[pair.filling.into(), value], |_| true)?;
+        if self.database.changes() == 0 {
+            return Ok(Answer::Held);
+        }
+        self.loads[number].run(&[value], |_| true)?;
+        Ok(Answer::Loaded(self.database.changes()))
+    }
+
+    fn drop(&mut self, pair: Pair) -> Result<Answer, OutOfTime> {
+        let parameters = [pair.filling.into(), pair.value.into()];
+        self.release.run(&parameters, |_| true)?;
+        self.unload.run(&[], |_| true)?;
+        Ok(Answer::Dropped(self.database.changes()))
+    }
+
+    fn probe(&mut self, probe: Probe) -> Result<Answer, OutOfTime> {
+        let mut ground = 0;
+        let statement = self.probes.get_mut(&probe.column);
+        let statement = statement.expect("a statement for every column");
+        statement.run(&[probe.value.into()], |row| {
+            ground = row[0] as u8;
+            false
+        })?;
+        Ok(match ground {
+            0 => Answer::Sent,
+            ground => Answer::Ground(ground),
+        })
+    }
+
+    fn query(&mut self, query: &Query) -> Result<Answer, OutOfTime> {
+        let Query { column, value, .. } = *query;
+        if self.probe(Probe { column, value })? == Answer::Sent {
+            return Ok(Answer::Sent);
+        }
+        let statement = self.queries.get_mut(&shape(query));
+        let statement = statement.expect("a statement that has been prepared");
+        let mut words = Vec::new();
+        statement.run(&[value.into()], |row| {
+            words.extend(row.iter().map(|&number| number as usize));
+            words.len() <= ANSWER_WORDS
+        })?;
+        Ok(if words.len() > ANSWER_WORDS {
+            Answer::Refused(11)
+        } else {
+            Answer::Lists(words)
+        })
+    }
+}
+
+fn shape(query: &Query) -> (Column, [Join; 4], u8) {
+    (query.column, query.pairs, query.joins)
+}

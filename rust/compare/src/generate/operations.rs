@@ -1,0 +1,150 @@
+//! Random operations on a design. Most name something that is there; some are
+//! spoilt on purpose.
+
+use notation::{Column, Command, Design, Join, Pair, Probe, Query, Row, PAIRS};
+
+use super::design::{Draft, Values};
+use super::spoil::spoil;
+use crate::random::Random;
+
+/// In how many of a hundred cases an operation is spoilt.
+const SPOILT: usize = 8;
+
+/// In how many of a hundred cases a design command stands where an operation
+/// should.
+const MISPLACED: usize = 2;
+
+/// Makes operations, and remembers what they referred to.
+pub struct Operator<'a> {
+    design: &'a Design,
+    values: Values,
+    referred: Vec<Pair>,
+}
+
+impl<'a> Operator<'a> {
+    pub fn new(draft: &'a Draft) -> Operator<'a> {
+        Operator {
+            design: &draft.design,
+            values: draft.values,
+            referred: Vec::new(),
+        }
+    }
+
+    pub fn operation(&mut self, random: &mut Random) -> Command {
+        if random.percent(MISPLACED) {
+            return *random.pick(&self.design.commands());
+        }
+        let operation = match random.below(20) {
+            0..=6 => Command::Refer(self.refer(random)),
+            7..=10 => Command::Drop(self.drop(random)),
+            11..=14 => Command::Probe(self.probe(random)),
+            _ => Command::Query(self.query(random)),
+        };
+        if random.percent(SPOILT) {
+            spoil(random, self.design, operation)
+        } else {
+            operation
+        }
+    }
+
+    /// A pair to refer to, remembered from now on.
+    fn refer(&mut self, random: &mut Random) -> Pair {
+        let pair = self.pair(random);
+        self.referred.push(pair);
+        pair
+    }
+
+    fn drop(&mut self, random: &mut Random) -> Pair {
+        if self.referred.is_empty() || random.percent(10) {
+            return self.pair(random);
+        }
+        let place = random.below(self.referred.len());
+        self.referred.remove(place)
+    }
+
+    /// A pair whose value is near an end of the candidates or one of the
+    /// design's.
+    fn pair(&self, random: &mut Random) -> Pair {
+        let filling = random.below(self.design.fillings.len().max(1));
+        let candidates = self.design.fillings.get(filling);
+        let near_end = candidates.and_then(|range| match random.below(20) {
+            0 => Some(range.low.wrapping_sub(1)),
+            1 => Some(range.low),
+            2 => Some(range.high),
+            3 => Some(range.high.wrapping_add(1)),
+            _ => None,
+        });
+        Pair {
+            filling: filling as u8,
+            value: near_end.unwrap_or_else(|| self.values.any(random)),
+        }
+    }
+
+    /// A column and a value: referred to before, found in a row, or any.
+    fn probe(&self, random: &mut Random) -> Probe {
+        let found = match random.below(10) {
+            0..=3 => self.referred_probe(random),
+            4..=6 => self.row_probe(random),
+            _ => None,
+        };
+        found.unwrap_or_else(|| Probe {
+            column: *random.pick(&self.design.columns()),
+            value: self.values.any(random),
+        })
+    }
+
+    fn referred_probe(&self, random: &mut Random) -> Option<Probe> {
+        let pair = random.pick_any(&self.referred)?;
+        let filling = self.design.fillings.get(usize::from(pair.filling))?;
+        Some(Probe {
+            column: filling.column,
+            value: pair.value,
+        })
+    }
+
+    fn row_probe(&self, random: &mut Random) -> Option<Probe> {
+        let Row { table, cells } = *random.pick_any(&self.design.rows)?;
+        let columns = self.design.tables[usize::from(table)].columns;
+        let column = random.below(usize::from(columns));
+        (cells[column] != 0).then_some(Probe {
+            column: Column {
+                table,
+                column: column as u8,
+            },
+            value: cells[column],
+        })
+    }
+
+    fn query(&self, random: &mut Random) -> Query {
+        let Probe { column, value } = self.probe(random);
+        let mut tables = vec![column.table];
+        let mut joins = Vec::new();
+        for _ in 0..random.within(0..=PAIRS) {
+            let fitting = self.fitting_joins(&tables);
+            if fitting.is_empty() {
+                break;
+            }
+            let join = *random.pick(&fitting);
+            let constraint = self.design.constraints[usize::from(join.constraint)];
+            joins.push(join);
+            tables.push(constraint.target.table);
+        }
+        Query::new(column, value, &joins)
+    }
+
+    /// The joins that may follow positions of these tables.
+    fn fitting_joins(&self, tables: &[u8]) -> Vec<Join> {
+        let mut joins = Vec::new();
+        for (position, table) in (0..).zip(tables) {
+            for (constraint, link) in (0..).zip(&self.design.constraints) {
+                if link.source.table == *table {
+                    joins.push(Join {
+                        position,
+                        constraint,
+                    });
+                }
+            }
+        }
+        joins
+    }
+}

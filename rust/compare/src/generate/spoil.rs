@@ -1,0 +1,107 @@
+//! Commands with one operand made wrong on purpose. By chance the new operand
+//! may be right as well.
+
+use notation::{
+    Column, Command, Constraint, Design, Filling, Pair, Probe, Query, Row, Table, CELLS, PAIRS,
+};
+
+use crate::random::Random;
+
+/// The command of a script on the design, with one operand changed.
+pub fn spoil(random: &mut Random, design: &Design, command: Command) -> Command {
+    match command {
+        Command::Table(table) => Command::Table(spoil_table(random, table)),
+        Command::Constraint(constraint) => {
+            Command::Constraint(spoil_constraint(random, design, constraint))
+        }
+        Command::Filling(filling) => Command::Filling(spoil_filling(random, design, filling)),
+        Command::Row(row) => Command::Row(spoil_row(random, design, row)),
+        Command::End => Command::End,
+        Command::Refer(pair) => Command::Refer(spoil_pair(random, design, pair)),
+        Command::Drop(pair) => Command::Drop(spoil_pair(random, design, pair)),
+        Command::Probe(probe) => Command::Probe(spoil_probe(random, design, probe)),
+        Command::Query(query) => Command::Query(spoil_query(random, design, query)),
+    }
+}
+
+fn spoil_table(random: &mut Random, mut table: Table) -> Table {
+    match random.below(4) {
+        0 => table.columns = 0,
+        1 => table.columns = CELLS as u8 + 1,
+        2 => table.columns = random.byte(),
+        _ => table.unique |= 1 << random.below(8),
+    }
+    table
+}
+
+fn spoil_constraint(
+    random: &mut Random,
+    design: &Design,
+    mut constraint: Constraint,
+) -> Constraint {
+    match random.below(3) {
+        0 => constraint.source = spoil_column(random, design, constraint.source),
+        1 => constraint.target = spoil_column(random, design, constraint.target),
+        _ => constraint = *random.pick(&design.constraints),
+    }
+    constraint
+}
+
+fn spoil_filling(random: &mut Random, design: &Design, mut filling: Filling) -> Filling {
+    match random.below(4) {
+        0 => filling.low = 0,
+        1 => filling.low = filling.high.wrapping_add(1),
+        2 => filling.column = spoil_column(random, design, filling.column),
+        _ => filling.column = random.pick(&design.fillings).column,
+    }
+    filling
+}
+
+fn spoil_row(random: &mut Random, design: &Design, mut row: Row) -> Row {
+    match random.below(3) {
+        0 => row.table = design.tables.len() as u8,
+        1 => row.cells[random.below(CELLS)] = 1,
+        _ => row = *random.pick(&design.rows),
+    }
+    row
+}
+
+fn spoil_pair(random: &mut Random, design: &Design, mut pair: Pair) -> Pair {
+    match random.below(3) {
+        0 => pair.filling = design.fillings.len() as u8,
+        1 => pair.filling = random.byte(),
+        _ => pair.value = 0,
+    }
+    pair
+}
+
+fn spoil_probe(random: &mut Random, design: &Design, mut probe: Probe) -> Probe {
+    match random.below(2) {
+        0 => probe.column = spoil_column(random, design, probe.column),
+        _ => probe.value = 0,
+    }
+    probe
+}
+
+fn spoil_query(random: &mut Random, design: &Design, mut query: Query) -> Query {
+    let pair = random.below(PAIRS);
+    match random.below(7) {
+        0 => query.column = spoil_column(random, design, query.column),
+        1 => query.value = 0,
+        2 => query.joins = PAIRS as u8 + 1,
+        3 => query.joins = random.below(PAIRS + 1) as u8,
+        4 => query.pairs[pair].position = random.below(PAIRS + 1) as u8,
+        5 => query.pairs[pair].constraint = design.constraints.len() as u8,
+        _ => query.pairs[pair].constraint = random.below(PAIRS) as u8,
+    }
+    query
+}
+
+fn spoil_column(random: &mut Random, design: &Design, mut column: Column) -> Column {
+    match random.below(3) {
+        0 => column.table = design.tables.len() as u8,
+        1 => column.column = design.tables[usize::from(column.table)].columns,
+        _ => column.column = random.byte(),
+    }
+    column
+}

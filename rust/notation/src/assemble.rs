@@ -1,0 +1,276 @@
+//! Text to bytes: the parser of the notation.
+
+use std::fmt;
+
+use crate::command::{
+    Column, Command, Constraint, Filling, Join, Pair, Probe, Query, Row, Table, CELLS, PAIRS,
+};
+use crate::token::{tokens, Token};
+
+/// What is wrong in a text, and where; line and column are counted from 1.
+#[derive(Clone, Debug, PartialEq, Eq)]
+pub struct Error {
+    /// The line.
+    pub line: usize,
+    /// The column, in characters.
+    pub column: usize,
+    /// What is wrong.
+    pub message: String,
+}
+
+impl fmt::Display for Error {
+    fn fmt(&self, out: &mut fmt::Formatter<'_>) -> fmt::Result {
+        let Error {
+            line,
+            column,
+            message,
+        } = self;
+        write!(out, "line {line}, column {column}: {message}")
+    }
+}
+
+impl std::error::Error for Error {}
+
+/// The script that a text stands for.
+pub fn assemble(text: &str) -> Result<Vec<u8>, Error> {
+    let mut script = Vec::new();
+    for (index, line) in text.lines().enumerate() {
+        let bytes = line_bytes(line).map_err(|fault| Error {
+            line: index + 1,
+            column: fault.column,
+            message: fault.message,
+        })?;
+        script.extend(bytes);
+    }
+    Ok(script)
+}
+
+/// An error whose line isn't known yet.
+struct Fault {
+    column: usize,
+    message: String,
+}
+
+fn line_bytes(line: &str) -> Result<Vec<u8>, Fault> {
+    let tokens = tokens(line).map_err(|stray| Fault {
+        column: stray.column,
+        message: format!("`{}` has no meaning here", stray.character),
+    })?;
+    let Some((&name, operands)) = tokens.split_first() else {
+        return Ok(Vec::new());
+    };
+    let mut operands = Operands {
+        rest: operands,
+        last: name,
+    };
+    let bytes = operands.bytes_of(name)?;
+    operands.finish()?;
+    Ok(bytes)
+}
+
+/// The tokens after a command's name, taken one after another.
+struct Operands<'a> {
+    rest: &'a [Token<'a>],
+    last: Token<'a>,
+}
+
+impl<'a> Operands<'a> {
+    fn bytes_of(&mut self, name: Token<'a>) -> Result<Vec<u8>, Fault> {
+        let command = match name.text {
+            "table" => Command::Table(self.table()?),
+            "constraint" => Command::Constraint(self.constraint()?),
+            "filling" => Command::Filling(self.filling()?),
+            "row" => Command::Row(self.row()?),
+            "end" => Command::End,
+            "refer" => Command::Refer(self.pair()?),
+            "drop" => Command::Drop(self.pair()?),
+            "probe" => Command::Probe(self.probe()?),
+            "query" => Command::Query(self.query()?),
+            "bytes" => return self.raw_bytes(),
+            other => return fault(name.column, format!("`{other}` is no command")),
+        };
+        Ok(command.bytes())
+    }
+
+    fn table(&mut self) -> Result<Table, Fault> {
+        let columns = self.u8("a column count")?;
+        let mut unique = 0;
+        if self.take("unique") {
+            unique = self.unique_column(unique)?;
+            while !self.rest.is_empty() {
+                unique = self.unique_column(unique)?;
+            }
+        }
+        Ok(Table { columns, unique })
+    }
+
+    /// Adds the next column to the unique ones.
+    fn unique_column(&mut self, unique: u8) -> Result<u8, Fault> {
+        let bit = 1 << self.number("a unique column's number", 7)?;
+        if unique & bit != 0 {
+            let message = format!("column {} is named twice", self.last.text);
+            return fault(self.last.column, message);
+        }
+        Ok(unique | bit)
+    }
+
+    fn constraint(&mut self) -> Result<Constraint, Fault> {
+        let source = self.column()?;
+        self.expect("->")?;
+        let target = self.column()?;
+        Ok(Constraint { source, target })
+    }
+
+    fn filling(&mut self) -> Result<Filling, Fault> {
+        let column = self.column()?;
+        let low = self.u32("the lowest candidate")?;
+        self.expect("..")?;
+        let high = self.u32("the highest candidate")?;
+        Ok(Filling { column, low, high })
+    }
+
+    fn row(&mut self) -> Result<Row, Fault> {
+        let table = self.u8("a table's number")?;
+        let mut cells = [0; CELLS];
+        for cell in &mut cells {
+            if self.rest.is_empty() {
+                break;
+            }
+            *cell = self.cell()?;
+        }
+        Ok(Row { table, cells })
+    }
+
+    fn cell(&mut self) -> Result<u32, Fault> {
+        if self.take("-") {
+            return Ok(0);
+        }
+        match self.u32("a cell")? {
+            0 => fault(self.last.column, "a blank cell is written `-`".into()),
+            value => Ok(value),
+        }
+    }
+
+    fn query(&mut self) -> Result<Query, Fault> {
+        let Probe { column, value } = self.probe()?;
+        let mut joins = Vec::new();
+        while joins.len() < PAIRS && self.take("join") {
+            let position = self.u8("a position")?;
+            self.expect("by")?;
+            let constraint = self.u8("a constraint's number")?;
+            joins.push(Join {
+                position,
+                constraint,
+            });
+        }
+        Ok(Query::new(column, value, &joins))
+    }
+
+    fn pair(&mut self) -> Result<Pair, Fault> {
+        Ok(Pair {
+            filling: self.u8("a filling's number")?,
+            value: self.u32("a value")?,
+        })
+    }
+
+    fn probe(&mut self) -> Result<Probe, Fault> {
+        let column = self.column()?;
+        self.expect("=")?;
+        let value = self.u32("a value")?;
+        Ok(Probe { column, value })
+    }
+
+    fn raw_bytes(&mut self) -> Result<Vec<u8>, Fault> {
+        let mut bytes = vec![self.u8("a byte")?];
+        while !self.rest.is_empty() {
+            bytes.push(self.u8("a byte")?);
+        }
+        Ok(bytes)
+    }
+
+    fn column(&mut self) -> Result<Column, Fault> {
+        let table = self.u8("a table's number")?;
+        self.expect(".")?;
+        let column = self.u8("a column's number")?;
+        Ok(Column { table, column })
+    }
+
+    fn u8(&mut self, what: &str) -> Result<u8, Fault> {
+        let number = self.number(what, u8::MAX.into())?;
+        Ok(number as u8)
+    }
+
+    fn u32(&mut self, what: &str) -> Result<u32, Fault> {
+        self.number(what, u32::MAX)
+    }
+
+    fn number(&mut self, what: &str, largest: u32) -> Result<u32, Fault> {
+        let (digits, radix) = match self.rest.first() {
+            Some(token) => match token.text.strip_prefix("0x") {
+                Some(digits) => (digits, 16),
+                None => (token.text, 10),
+            },
+            None => ("", 10),
+        };
+        if digits.is_empty() || !digits.chars().all(|digit| digit.is_digit(radix)) {
+            return self.expected(what);
+        }
+        self.advance();
+        match u32::from_str_radix(digits, radix) {
+            Ok(number) if number <= largest => Ok(number),
+            _ => fault(
+                self.last.column,
+                format!("{what} is at most {largest}, not {}", self.last.text),
+            ),
+        }
+    }
+
+    fn expect(&mut self, text: &str) -> Result<(), Fault> {
+        if self.take(text) {
+            Ok(())
+        } else {
+            self.expected(&format!("`{text}`"))
+        }
+    }
+
+    fn finish(&self) -> Result<(), Fault> {
+        match self.rest {
+            [] => Ok(()),
+            _ => self.expected("the end of the line"),
+        }
+    }
+
+    /// Takes the next token if it is this one.
+    fn take(&mut self, text: &str) -> bool {
+        let found = self.rest.first().is_some_and(|token| token.text == text);
+        if found {
+            self.advance();
+        }
+        found
+    }
+
+    fn advance(&mut self) {
+        if let Some((&token, rest)) = self.rest.split_first() {
+            self.last = token;
+            self.rest = rest;
+        }
+    }
+
+    /// The fault that something else stands at the next token.
+    fn expected<T>(&self, what: &str) -> Result<T, Fault> {
+        match self.rest.first() {
+            Some(token) => fault(
+                token.column,
+                format!("expected {what}, found `{}`", token.text),
+            ),
+            None => fault(
+                self.last.column + self.last.text.len(),
+                format!("expected {what}, found the end of the line"),
+            ),
+        }
+    }
+}
+
+fn fault<T>(column: usize, message: String) -> Result<T, Fault> {
+    Err(Fault { column, message })
+}

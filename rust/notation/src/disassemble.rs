@@ -1,0 +1,98 @@
+//! Bytes to text: a line for each command.
+
+use std::fmt;
+
+use crate::command::{
+    split, Column, Command, Constraint, Filling, Join, Pair, Piece, Probe, Query, Row, Table,
+};
+
+const BYTES_ON_A_LINE: usize = 16;
+
+/// The text of a script. [`crate::assemble`] gives the same bytes for it.
+pub fn disassemble(script: &[u8]) -> String {
+    split(script)
+        .iter()
+        .map(|piece| format!("{piece}\n"))
+        .collect()
+}
+
+impl fmt::Display for Piece {
+    fn fmt(&self, out: &mut fmt::Formatter<'_>) -> fmt::Result {
+        match self {
+            Piece::Command(command) => command.fmt(out),
+            Piece::Rest(bytes) => write_bytes(out, bytes),
+        }
+    }
+}
+
+impl fmt::Display for Command {
+    fn fmt(&self, out: &mut fmt::Formatter<'_>) -> fmt::Result {
+        match self {
+            Command::Table(table) => write_table(out, table),
+            Command::Constraint(Constraint { source, target }) => {
+                write!(out, "constraint {source} -> {target}")
+            }
+            Command::Filling(Filling { column, low, high }) => {
+                write!(out, "filling {column} {low}..{high}")
+            }
+            Command::Row(row) => write_row(out, row),
+            Command::End => write!(out, "end"),
+            Command::Refer(Pair { filling, value }) => write!(out, "refer {filling} {value}"),
+            Command::Drop(Pair { filling, value }) => write!(out, "drop {filling} {value}"),
+            Command::Probe(Probe { column, value }) => write!(out, "probe {column} = {value}"),
+            Command::Query(query) => match query.plain_joins() {
+                Some(joins) => write_query(out, query, joins),
+                None => write_bytes(out, &self.bytes()),
+            },
+        }
+    }
+}
+
+impl fmt::Display for Column {
+    fn fmt(&self, out: &mut fmt::Formatter<'_>) -> fmt::Result {
+        write!(out, "{}.{}", self.table, self.column)
+    }
+}
+
+fn write_table(out: &mut fmt::Formatter<'_>, table: &Table) -> fmt::Result {
+    let Table { columns, unique } = table;
+    write!(out, "table {columns}")?;
+    if *unique != 0 {
+        write!(out, " unique")?;
+    }
+    for column in (0..8).filter(|column| unique >> column & 1 == 1) {
+        write!(out, " {column}")?;
+    }
+    Ok(())
+}
+
+fn write_row(out: &mut fmt::Formatter<'_>, row: &Row) -> fmt::Result {
+    let Row { table, cells } = row;
+    write!(out, "row {table}")?;
+    let given = cells.iter().rposition(|&cell| cell != 0);
+    for cell in &cells[..given.map_or(0, |last| last + 1)] {
+        match cell {
+            0 => write!(out, " -")?,
+            value => write!(out, " {value}")?,
+        }
+    }
+    Ok(())
+}
+
+fn write_query(out: &mut fmt::Formatter<'_>, query: &Query, joins: &[Join]) -> fmt::Result {
+    write!(out, "query {} = {}", query.column, query.value)?;
+    for join in joins {
+        write!(out, " join {} by {}", join.position, join.constraint)?;
+    }
+    Ok(())
+}
+
+fn write_bytes(out: &mut fmt::Formatter<'_>, bytes: &[u8]) -> fmt::Result {
+    let lines: Vec<String> = bytes.chunks(BYTES_ON_A_LINE).map(bytes_line).collect();
+    write!(out, "{}", lines.join("\n"))
+}
+
+fn bytes_line(bytes: &[u8]) -> String {
+    let numbers: Vec<String> = bytes.iter().map(|byte| format!("{byte:#04x}")).collect();
+    format!("bytes {}", numbers.join(" "))
+}

@@ -1,0 +1,44 @@
+//! A text notation for scripts: text to bytes and back.
+//!
+//! One command stands on a line; `#` begins a comment. Numbers are decimal, or
+//! hexadecimal if they begin with `0x`. A column is written as its table, a dot
+//! and its own number.
+//!
+//! ```text
+//! table COLUMNS [unique COLUMN ..]              table 2 unique 0
+//! constraint SOURCE -> TARGET                   constraint 0.0 -> 1.1
+//! filling COLUMN LOW..HIGH                      filling 0.1 1..99
+//! row TABLE [CELL ..]                           row 0 7 - 3
+//! end                                           end
+//! refer FILLING VALUE                           refer 0 3
+//! drop FILLING VALUE                            drop 0 3
+//! probe COLUMN = VALUE                          probe 1.1 = 8
+//! query COLUMN = VALUE [join POSITION by CONSTRAINT ..]
+//!                                               query 0.1 = 3 join 0 by 0 join 1 by 1
+//! bytes BYTE ..                                 bytes 0xff 0x01
+//! ```
+//!
+//! A blank cell is written `-`, and only so: a cell `0` is an error. Cells past
+//! those given are blank. The notation checks that operands fit their widths
+//! and nothing else, so that scripts which the desk refuses can be written too.
+//!
+//! [`disassemble`] is defined for every byte string, and [`assemble`] turns its
+//! text into the same bytes again. What has no words (a QUERY with unused pairs
+//! that aren't 0, a command cut short, an unknown byte) becomes `bytes`.
+
+#![forbid(unsafe_code)]
+
+mod assemble;
+mod command;
+mod design;
+mod disassemble;
+pub mod filter;
+mod token;
+
+pub use assemble::{assemble, Error};
+pub use command::{
+    encode, split, Column, Command, Constraint, Filling, Join, Pair, Piece, Probe, Query, Row,
+    Table, CELLS, COMMAND_BYTES, PAIRS,
+};
+pub use design::Design;
+pub use disassemble::disassemble;

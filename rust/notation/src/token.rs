@@ -1,0 +1,57 @@
+//! Cuts a line of text into words and signs, each with its column.
+
+const SIGNS: [&str; 5] = ["->", "..", ".", "=", "-"];
+
+/// A word (letters, digits, `_`) or a sign.
+#[derive(Clone, Copy, Debug, PartialEq, Eq)]
+pub struct Token<'a> {
+    /// The text.
+    pub text: &'a str,
+    /// Where it begins, in characters from 1.
+    pub column: usize,
+}
+
+/// A character that begins no token.
+#[derive(Debug, PartialEq, Eq)]
+pub struct Stray {
+    /// The character.
+    pub character: char,
+    /// Where it stands, in characters from 1.
+    pub column: usize,
+}
+
+/// The tokens of a line; a comment has none.
+pub fn tokens(line: &str) -> Result<Vec<Token<'_>>, Stray> {
+    let mut tokens = Vec::new();
+    let mut rest = line;
+    let mut column = 1;
+    while let Some(character) = rest.chars().next() {
+        if character == '#' {
+            break;
+        }
+        let length = match token_length(rest) {
+            Some(length) => {
+                let text = &rest[..length];
+                tokens.push(Token { text, column });
+                length
+            }
+            None if character.is_whitespace() => character.len_utf8(),
+            None => return Err(Stray { character, column }),
+        };
+        column += rest[..length].chars().count();
+        rest = &rest[length..];
+    }
+    Ok(tokens)
+}
+
+/// The length in bytes of the token at the head of the text.
+fn token_length(text: &str) -> Option<usize> {
+    let word = text
+        .find(|c: char| !c.is_ascii_alphanumeric() && c != '_')
+        .unwrap_or(text.len());
+    if word > 0 {
+        return Some(word);
+    }
+    let sign = SIGNS.iter().find(|sign| text.starts_with(**sign));
+    sign.map(|sign| sign.len())
+}

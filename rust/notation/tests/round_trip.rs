@@ -1,0 +1,79 @@
+//! Bytes to text and back, for short byte strings and damaged commands.
+
+use notation::{
+    assemble, disassemble, encode, Column, Command, Constraint, Filling, Join, Pair, Probe, Query,
+    Row, Table,
+};
+
+fn assert_round_trip(script: &[u8]) {
+    let text = disassemble(script);
+    assert_eq!(assemble(&text).as_deref(), Ok(script), "{text}");
+}
+
+fn one_of_each() -> Vec<Command> {
+    let column = Column {
+        table: 1,
+        column: 2,
+    };
+    let join = Join {
+        position: 0,
+        constraint: 3,
+    };
+    let pair = Pair {
+        filling: 1,
+        value: 2,
+    };
+    let cells = [1, 0, 70_000, 0, u32::MAX, 0, 0, 0];
+    vec![
+        Command::Table(Table {
+            columns: 3,
+            unique: 5,
+        }),
+        Command::Constraint(Constraint {
+            source: column,
+            target: column,
+        }),
+        Command::Filling(Filling {
+            column,
+            low: 1,
+            high: 99,
+        }),
+        Command::Row(Row { table: 1, cells }),
+        Command::End,
+        Command::Refer(pair),
+        Command::Drop(pair),
+        Command::Probe(Probe { column, value: 2 }),
+        Command::Query(Query::new(column, 2, &[join, join])),
+    ]
+}
+
+#[test]
+fn all_strings_of_up_to_two_bytes() {
+    assert_round_trip(&[]);
+    for first in 0..=255 {
+        assert_round_trip(&[first]);
+        for second in 0..=255 {
+            assert_round_trip(&[first, second]);
+        }
+    }
+}
+
+#[test]
+fn every_beginning_of_a_script() {
+    let script = encode(&one_of_each());
+    for length in 0..=script.len() {
+        assert_round_trip(&script[..length]);
+    }
+}
+
+#[test]
+fn every_changed_byte_of_a_script() {
+    let script = encode(&one_of_each());
+    for place in 0..script.len() {
+        for byte in 0..=255 {
+            let mut changed = script.clone();
+            changed[place] = byte;
+            assert_round_trip(&changed);
+        }
+    }
+}

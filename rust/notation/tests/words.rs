@@ -1,0 +1,98 @@
+//! Each command's words and bytes, both ways, and what else a text may hold.
+
+use notation::{assemble, disassemble};
+
+/// A command in its canonical words, and its bytes.
+const COMMANDS: [(&str, &[u8]); 15] = [
+    ("table 2", &[1, 2, 0]),
+    ("table 200 unique 0 3 7", &[1, 200, 0b1000_1001]),
+    ("constraint 0.1 -> 2.3", &[2, 0, 1, 2, 3]),
+    (
+        "filling 4.5 1..4294967295",
+        &[3, 4, 5, 1, 0, 0, 0, 255, 255, 255, 255],
+    ),
+    ("filling 0.0 9..0", &[3, 0, 0, 9, 0, 0, 0, 0, 0, 0, 0]),
+    (
+        "row 7",
+        &[
+            4, 7, 0, 0, 0, 0, 0, 0, 0, 0, 0, 0, 0, 0, 0, 0, 0, 0, //
+            0, 0, 0, 0, 0, 0, 0, 0, 0, 0, 0, 0, 0, 0, 0, 0,
+        ],
+    ),
+    (
+        "row 0 258 - 3",
+        &[
+            4, 0, 2, 1, 0, 0, 0, 0, 0, 0, 3, 0, 0, 0, 0, 0, 0, 0, //
+            0, 0, 0, 0, 0, 0, 0, 0, 0, 0, 0, 0, 0, 0, 0, 0,
+        ],
+    ),
+    (
+        "row 0 1 2 3 4 5 6 7 8",
+        &[
+            4, 0, 1, 0, 0, 0, 2, 0, 0, 0, 3, 0, 0, 0, 4, 0, 0, 0, //
+            5, 0, 0, 0, 6, 0, 0, 0, 7, 0, 0, 0, 8, 0, 0, 0,
+        ],
+    ),
+    ("end", &[5]),
+    ("refer 0 3", &[0x10, 0, 3, 0, 0, 0]),
+    ("drop 255 0", &[0x11, 255, 0, 0, 0, 0]),
+    ("probe 1.2 = 65536", &[0x12, 1, 2, 0, 0, 1, 0]),
+    (
+        "query 0.1 = 3",
+        &[0x13, 0, 1, 3, 0, 0, 0, 0, 0, 0, 0, 0, 0, 0, 0, 0],
+    ),
+    (
+        "query 0.1 = 3 join 0 by 0 join 1 by 2 join 0 by 0 join 9 by 8",
+        &[0x13, 0, 1, 3, 0, 0, 0, 4, 0, 0, 1, 2, 0, 0, 9, 8],
+    ),
+    ("bytes 0xff 0x01", &[0xff, 0x01]),
+];
+
+#[test]
+fn words_and_bytes_of_each_command() {
+    for (text, bytes) in COMMANDS {
+        assert_eq!(assemble(text).as_deref(), Ok(bytes), "{text}");
+        assert_eq!(disassemble(bytes), format!("{text}\n"));
+    }
+}
+
+#[test]
+fn a_script_is_its_commands_one_after_another() {
+    let texts = COMMANDS.map(|(text, _)| text);
+    let bytes = COMMANDS.map(|(_, bytes)| bytes);
+    assert_eq!(disassemble(&bytes.concat()), texts.join("\n") + "\n");
+    assert_eq!(assemble(&texts.join("\r\n")), Ok(bytes.concat()));
+}
+
+#[test]
+fn space_and_comments_do_not_matter() {
+    let text = "\n # nothing\n\ttable 1   unique 0# a table\n\n  probe 0 . 0=0x1F # 31";
+    let bytes = [1, 1, 1, 0x12, 0, 0, 31, 0, 0, 0];
+    assert_eq!(assemble(text).as_deref(), Ok(&bytes[..]));
+}
+
+#[test]
+fn queries_without_words_become_bytes() {
+    let five_joins = [0x13, 0, 1, 3, 0, 0, 0, 5, 0, 0, 0, 0, 0, 0, 0, 0];
+    let used_pair = [0x13, 0, 1, 3, 0, 0, 0, 1, 0, 0, 0, 0, 0, 0, 0, 1];
+    for query in [five_joins, used_pair] {
+        let text = disassemble(&[&query[..], &[5]].concat());
+        assert!(text.starts_with("bytes 0x13 0x00 0x01 "), "{text}");
+        assert!(text.ends_with("\nend\n"), "{text}");
+    }
+}
+
+#[test]
+fn everything_after_an_unreadable_byte_is_bytes() {
+    assert_eq!(disassemble(&[5, 6, 5]), "end\nbytes 0x06 0x05\n");
+    assert_eq!(disassemble(&[5, 1, 5]), "end\nbytes 0x01 0x05\n");
+}
+
+#[test]
+fn long_runs_of_bytes_are_broken_into_lines() {
+    let lines = disassemble(&[0; 40])
+        .lines()
+        .map(str::len)
+        .collect::<Vec<_>>();
+    assert_eq!(lines, [5 + 16 * 5, 5 + 16 * 5, 5 + 8 * 5]);
+}

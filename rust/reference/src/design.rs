@@ -1,0 +1,184 @@
+//! The design with its backend rows, and how it is read from a script.
+
+use crate::refusal::{Cause, Refusal};
+use crate::script::{read_command, Column, Command, Constraint, Filling, Row, CELLS};
+
+/// The longest script, in bytes.
+pub const LONGEST_SCRIPT: usize = 65_536;
+
+const MOST_TABLES: usize = 8;
+const MOST_CONSTRAINTS: usize = 16;
+const MOST_FILLINGS: usize = 8;
+const MOST_ROWS: usize = 512;
+
+/// A table's column count and its unique columns, bit i for column i.
+#[derive(Clone, Copy, Debug)]
+pub struct Table {
+    columns: usize,
+    unique: usize,
+}
+
+/// An accepted design: everything that operations leave as it is.
+#[derive(Clone, Debug, Default)]
+pub struct Design {
+    /// The tables.
+    pub tables: Vec<Table>,
+    /// The constraints.
+    pub constraints: Vec<Constraint>,
+    /// The fillings.
+    pub fillings: Vec<Filling>,
+    /// The backend rows of all tables.
+    pub rows: Vec<Row>,
+}
+
+impl Design {
+    /// Reads the design at the head of a script, and gives it with the place
+    /// after its END.
+    pub fn read(script: &[u8]) -> Result<(Design, usize), Refusal> {
+        if script.len() > LONGEST_SCRIPT {
+            return Err(Refusal {
+                cause: Cause::TooMany,
+                place: 0,
+            });
+        }
+        let mut design = Design::default();
+        let mut stage = Stage::Tables;
+        let mut place = 0;
+        while stage != Stage::Ended {
+            (stage, place) = design
+                .read_next(script, place, stage)
+                .map_err(|cause| Refusal { cause, place })?;
+        }
+        Ok((design, place))
+    }
+
+    /// Reads one design command, and gives the stage and the place after it.
+    fn read_next(
+        &mut self,
+        script: &[u8],
+        place: usize,
+        stage: Stage,
+    ) -> Result<(Stage, usize), Cause> {
+        let (command, next) = read_command(script, place)?;
+        let reached = Stage::of(&command).ok_or(Cause::OutOfOrder)?;
+        Cause::OutOfOrder.unless(stage <= reached)?;
+        self.add(command)?;
+        Ok((reached, next))
+    }
+
+    fn add(&mut self, command: Command) -> Result<(), Cause> {
+        match command {
+            Command::Table { columns, unique } => self.add_table(Table { columns, unique }),
+            Command::Constraint(constraint) => self.add_constraint(constraint),
+            Command::Filling(filling) => self.add_filling(filling),
+            Command::Row(row) => self.add_row(row),
+            // END adds nothing, and operations have been refused by now.
+            _ => Ok(()),
+        }
+    }
+
+    fn add_table(&mut self, table: Table) -> Result<(), Cause> {
+        Cause::TooMany.unless(self.tables.len() < MOST_TABLES)?;
+        Cause::WrongOperand.unless((1..=CELLS).contains(&table.columns))?;
+        Cause::WrongOperand.unless(table.unique >> table.columns == 0)?;
+        self.tables.push(table);
+        Ok(())
+    }
+
+    fn add_constraint(&mut self, constraint: Constraint) -> Result<(), Cause> {
+        Cause::TooMany.unless(self.constraints.len() < MOST_CONSTRAINTS)?;
+        Cause::WrongOperand.unless(self.has(constraint.source))?;
+        Cause::WrongOperand.unless(self.has(constraint.target))?;
+        Cause::WrongOperand.unless(!self.constraints.contains(&constraint))?;
+        self.constraints.push(constraint);
+        Ok(())
+    }
+
+    fn add_filling(&mut self, filling: Filling) -> Result<(), Cause> {
+        let taken = self.fillings.iter().any(|f| f.column == filling.column);
+        Cause::TooMany.unless(self.fillings.len() < MOST_FILLINGS)?;
+        Cause::WrongOperand.unless(self.has(filling.column))?;
+        Cause::WrongOperand.unless(0 < filling.low && filling.low <= filling.high)?;
+        Cause::WrongOperand.unless(!taken)?;
+        self.fillings.push(filling);
+        Ok(())
+    }
+
+    fn add_row(&mut self, row: Row) -> Result<(), Cause> {
+        Cause::TooMany.unless(self.rows.len() < MOST_ROWS)?;
+        let table = *self.tables.get(row.table).ok_or(Cause::WrongOperand)?;
+        let unused = &row.cells[table.columns..];
+        Cause::WrongOperand.unless(unused.iter().all(|&cell| cell == 0))?;
+        let twice = (0..table.columns).any(|column| {
+            let cell = row.cells[column];
+            let column = Column {
+                table: row.table,
+                column,
+            };
+            self.is_unique(column) && self.has_value(column, cell)
+        });
+        Cause::ValueTwice.unless(!twice)?;
+        self.rows.push(row);
+        Ok(())
+    }
+
+    fn has_value(&self, column: Column, value: u32) -> bool {
+        (0..self.rows.len()).any(|row| self.equals(row, column, value))
+    }
+
+    /// Whether the column's numbers name one.
+    pub fn has(&self, column: Column) -> bool {
+        self.tables
+            .get(column.table)
+            .is_some_and(|table| column.column < table.columns)
+    }
+
+    /// Whether the column is unique.
+    pub fn is_unique(&self, column: Column) -> bool {
+        self.tables[column.table].unique >> column.column & 1 == 1
+    }
+
+    /// Whether the row is of the column's table and equals the value there. A
+    /// blank equals nothing.
+    pub fn equals(&self, row: usize, column: Column, value: u32) -> bool {
+        let row = &self.rows[row];
+        value != 0 && row.table == column.table && row.cells[column.column] == value
+    }
+
+    /// Whether the constraint demands the row `target` of the row `source`.
+    pub fn demands(&self, constraint: Constraint, source: usize, target: usize) -> bool {
+        let row = &self.rows[source];
+        row.table == constraint.source.table
+            && self.equals(
+                target,
+                constraint.target,
+                row.cells[constraint.source.column],
+            )
+    }
+}
+
+/// How far a design has been read: the kind of its last command.
+#[derive(Clone, Copy, PartialEq, Eq, PartialOrd, Ord)]
+enum Stage {
+    Tables,
+    Constraints,
+    Fillings,
+    Rows,
+    Ended,
+}
+
+impl Stage {
+    /// The stage that a design command belongs to; an operation has none.
+    fn of(command: &Command) -> Option<Stage> {
+        match command {
+            Command::Table { .. } => Some(Stage::Tables),
+            Command::Constraint(_) => Some(Stage::Constraints),
+            Command::Filling(_) => Some(Stage::Fillings),
+            Command::Row(_) => Some(Stage::Rows),
+            Command::End => Some(Stage::Ended),
+            Command::Refer(_) | Command::Drop(_) | Command::Probe { .. } | Command::Query(_) => {
+                None
+            }
+        }
+    }
+}

@@ -1,0 +1,177 @@
+//! The operations: loads, drops and probes (queries are in [`crate::query`]).
+
+use crate::design::Design;
+use crate::refusal::Cause;
+use crate::script::{Column, Command, Pair};
+
+const MOST_HELD: usize = 64;
+
+/// A design at work: what it holds and which rows are cached for that.
+#[derive(Clone, Debug)]
+pub struct Desk {
+    pub(crate) design: Design,
+    pub(crate) cached: Vec<bool>,
+    held: Vec<Pair>,
+    answer_words: usize,
+}
+
+/// What an operation answers.
+#[derive(Clone, Debug, PartialEq, Eq)]
+pub enum Answer {
+    /// A load, with the rows added and the later rounds that added a row.
+    Loaded {
+        /// Rows added.
+        rows: usize,
+        /// Later rounds that added a row.
+        rounds: usize,
+    },
+    /// The value is held already.
+    Held,
+    /// The value is none of the filling's candidates.
+    NoCandidate,
+    /// A drop, with the rows that went.
+    Dropped {
+        /// Rows that went.
+        rows: usize,
+    },
+    /// A probe's yes, with its ground.
+    Ground(u8),
+    /// The backend has to be asked.
+    Sent,
+    /// A query's lists of row numbers.
+    Lists(Vec<Vec<usize>>),
+}
+
+impl Desk {
+    /// A desk that holds nothing and lends queries `answer_words` words.
+    pub fn new(design: Design, answer_words: usize) -> Desk {
+        Desk {
+            cached: vec![false; design.rows.len()],
+            design,
+            held: Vec::new(),
+            answer_words,
+        }
+    }
+
+    /// Carries out one command found after END.
+    pub fn perform(&mut self, command: &Command) -> Result<Answer, Cause> {
+        match command {
+            Command::Refer(pair) => self.refer(*pair),
+            Command::Drop(pair) => self.drop(*pair),
+            Command::Probe { column, value } => self.probe(*column, *value),
+            Command::Query(query) => self.query(query, self.answer_words),
+            _ => Err(Cause::OutOfOrder),
+        }
+    }
+
+    fn refer(&mut self, pair: Pair) -> Result<Answer, Cause> {
+        self.check_pair(pair)?;
+        let filling = self.design.fillings[pair.filling];
+        if !(filling.low..=filling.high).contains(&pair.value) {
+            return Ok(Answer::NoCandidate);
+        }
+        if self.held.contains(&pair) {
+            return Ok(Answer::Held);
+        }
+        Cause::NoPlaceFree.unless(self.held.len() < MOST_HELD)?;
+        self.held.push(pair);
+        let before = self.cached_rows();
+        let rounds = self.load(pair);
+        let rows = self.cached_rows() - before;
+        Ok(Answer::Loaded { rows, rounds })
+    }
+
+    fn drop(&mut self, pair: Pair) -> Result<Answer, Cause> {
+        self.check_pair(pair)?;
+        let place = self.held.iter().position(|&held| held == pair);
+        self.held.remove(place.ok_or(Cause::NotHeld)?);
+        let before = self.cached_rows();
+        self.cached.fill(false);
+        for pair in self.held.clone() {
+            self.load(pair);
+        }
+        let rows = before - self.cached_rows();
+        Ok(Answer::Dropped { rows })
+    }
+
+    fn probe(&self, column: Column, value: u32) -> Result<Answer, Cause> {
+        Cause::WrongOperand.unless(self.design.has(column))?;
+        Cause::ValueZero.unless(value != 0)?;
+        Ok(self
+            .ground(column, value)
+            .map_or(Answer::Sent, Answer::Ground))
+    }
+
+    fn check_pair(&self, pair: Pair) -> Result<(), Cause> {
+        Cause::WrongOperand.unless(pair.filling < self.design.fillings.len())?;
+        Cause::ValueZero.unless(pair.value != 0)
+    }
+
+    fn cached_rows(&self) -> usize {
+        self.cached.iter().filter(|&&cached| cached).count()
+    }
+
+    /// Caches what a held value demands, round by round, and gives the number
+    /// of later rounds that added a row.
+    fn load(&mut self, pair: Pair) -> usize {
+        let column = self.design.fillings[pair.filling].column;
+        let mut added = self.uncached(|design, row| design.equals(row, column, pair.value));
+        let mut rounds = 0;
+        loop {
+            for &row in &added {
+                self.cached[row] = true;
+            }
+            added = self.uncached(|design, row| is_demanded(design, &added, row));
+            if added.is_empty() {
+                return rounds;
+            }
+            rounds += 1;
+        }
+    }
+
+    /// The uncached rows that pass a test, in rising order.
+    fn uncached(&self, test: impl Fn(&Design, usize) -> bool) -> Vec<usize> {
+        (0..self.cached.len())
+            .filter(|&row| !self.cached[row] && test(&self.design, row))
+            .collect()
+    }
+
+    /// The lowest ground on which the value is known to be complete in the
+    /// column.
+    pub(crate) fn ground(&self, column: Column, value: u32) -> Option<u8> {
+        if self.is_held(column, value) {
+            Some(1)
+        } else if self.is_demanded_value(column, value) {
+            Some(2)
+        } else if self.design.is_unique(column) && self.is_cached(column, value) {
+            Some(3)
+        } else {
+            None
+        }
+    }
+
+    fn is_held(&self, column: Column, value: u32) -> bool {
+        self.held
+            .iter()
+            .any(|held| held.value == value && self.design.fillings[held.filling].column == column)
+    }
+
+    fn is_demanded_value(&self, column: Column, value: u32) -> bool {
+        self.design.constraints.iter().any(|constraint| {
+            constraint.target == column && self.is_cached(constraint.source, value)
+        })
+    }
+
+    fn is_cached(&self, column: Column, value: u32) -> bool {
+        (0..self.cached.len()).any(|row| self.cached[row] && self.design.equals(row, column, value))
+    }
+}
+
+/// Whether a constraint demands the row of one of the rows just added.
+fn is_demanded(design: &Design, added: &[usize], row: usize) -> bool {
+    design.constraints.iter().any(|&constraint| {
+        added
+            .iter()
+            .any(|&source| design.demands(constraint, source, row))
+    })
+}

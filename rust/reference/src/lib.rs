@@ -1,0 +1,18 @@
+//! A second implementation of the desk, written from document 01 alone.
+//!
+//! It exists to be compared with the proved desk: bytes in, report text out.
+//! It is kept as plain as the rules allow, shares no code with the proved part
+//! or with the script notation, and looks up rows by walking over all of them.
+//! Its one refinement is in [`query`]: lists are counted before they are
+//! written, so that no query takes exponential time.
+
+#![forbid(unsafe_code)]
+
+pub mod design;
+pub mod desk;
+pub mod query;
+pub mod refusal;
+pub mod report;
+pub mod script;
+
+pub use report::{report, report_lending, ANSWER_WORDS};

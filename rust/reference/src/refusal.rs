@@ -1,0 +1,57 @@
+//! Causes of refusal, by their numbers in document 01.
+//!
+//! Causes 7 and 12 are about lent memory. This implementation owns its memory,
+//! so it has neither.
+
+use std::fmt;
+
+/// Why a command is refused. The discriminant is the number that is reported.
+#[derive(Clone, Copy, Debug, PartialEq, Eq)]
+pub enum Cause {
+    /// Too few bytes for a command, or no END.
+    TooFewBytes = 1,
+    /// Unknown command byte.
+    UnknownCommand = 2,
+    /// Command out of its order.
+    OutOfOrder = 3,
+    /// Over-long script, or a largest count passed.
+    TooMany = 4,
+    /// Operand wrong.
+    WrongOperand = 5,
+    /// A unique column gets a value other than blank twice.
+    ValueTwice = 6,
+    /// REFER of a candidate not yet held while 64 are held.
+    NoPlaceFree = 8,
+    /// Value 0 in an operation.
+    ValueZero = 9,
+    /// DROP of a pair not held.
+    NotHeld = 10,
+    /// QUERY with a ground whose list needs more words than are lent.
+    AnswerTooLong = 11,
+}
+
+impl Cause {
+    /// `Ok` if `condition` is true, otherwise this cause.
+    pub fn unless(self, condition: bool) -> Result<(), Cause> {
+        if condition {
+            Ok(())
+        } else {
+            Err(self)
+        }
+    }
+}
+
+/// A cause together with the place of the faulty command.
+#[derive(Clone, Copy, Debug, PartialEq, Eq)]
+pub struct Refusal {
+    /// Why the command is refused.
+    pub cause: Cause,
+    /// The byte at which the command begins; 0 for an over-long script.
+    pub place: usize,
+}
+
+impl fmt::Display for Refusal {
+    fn fmt(&self, out: &mut fmt::Formatter<'_>) -> fmt::Result {
+        write!(out, "refused {} {}", self.cause as u8, self.place)
+    }
+}

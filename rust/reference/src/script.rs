@@ -1,0 +1,217 @@
+//! The script's commands and how one is read (document 01, "The script").
+//!
+//! Reading settles causes 2 and 1, in that order. Whether a command is in its
+//! order and its operands name anything is looked at where it is carried out.
+
+use crate::refusal::Cause;
+
+/// Cells in every ROW command, whatever its table.
+pub const CELLS: usize = 8;
+
+/// Pairs in every QUERY command, however many it uses.
+pub const PAIRS: usize = 4;
+
+/// A column of a table, both by number.
+#[derive(Clone, Copy, Debug, PartialEq, Eq)]
+pub struct Column {
+    /// The table's number.
+    pub table: usize,
+    /// The column's number within the table.
+    pub column: usize,
+}
+
+/// A link from a source column to a target column.
+#[derive(Clone, Copy, Debug, PartialEq, Eq)]
+pub struct Constraint {
+    /// Where the demand comes from.
+    pub source: Column,
+    /// Where the demanded rows are.
+    pub target: Column,
+}
+
+/// A filling column with its candidates, both ends counted.
+#[derive(Clone, Copy, Debug)]
+pub struct Filling {
+    /// The filling column.
+    pub column: Column,
+    /// The lowest candidate.
+    pub low: u32,
+    /// The highest candidate.
+    pub high: u32,
+}
+
+/// A backend row; the cells past its table's columns are 0.
+#[derive(Clone, Copy, Debug)]
+pub struct Row {
+    /// The number of the row's table.
+    pub table: usize,
+    /// The cells, 0 being blank.
+    pub cells: [u32; CELLS],
+}
+
+/// A filling and a value: what REFER and DROP name, and what is held.
+#[derive(Clone, Copy, Debug, PartialEq, Eq)]
+pub struct Pair {
+    /// The filling's number.
+    pub filling: usize,
+    /// The value.
+    pub value: u32,
+}
+
+/// The join that adds one more position to a query.
+#[derive(Clone, Copy, Debug, PartialEq, Eq)]
+pub struct Join {
+    /// The earlier position whose row is the constraint's source.
+    pub position: usize,
+    /// The constraint's number.
+    pub constraint: usize,
+}
+
+/// The operands of a QUERY command.
+#[derive(Clone, Copy, Debug)]
+pub struct Query {
+    /// The column that position 0 is looked up by.
+    pub column: Column,
+    /// The value looked up there.
+    pub value: u32,
+    /// How many of the pairs are joins.
+    pub joins: usize,
+    /// The joins, then the unused pairs.
+    pub pairs: [Join; PAIRS],
+}
+
+/// A command with its operands as the bytes give them.
+#[derive(Clone, Copy, Debug)]
+pub enum Command {
+    /// A table's column count and its unique columns, bit i for column i.
+    Table {
+        /// The column count.
+        columns: usize,
+        /// The unique columns.
+        unique: usize,
+    },
+    /// A constraint.
+    Constraint(Constraint),
+    /// A filling.
+    Filling(Filling),
+    /// A backend row.
+    Row(Row),
+    /// The end of the design.
+    End,
+    /// Hold a value.
+    Refer(Pair),
+    /// Stop holding a value.
+    Drop(Pair),
+    /// Ask whether a value is complete in a column.
+    Probe {
+        /// The probed column.
+        column: Column,
+        /// The probed value.
+        value: u32,
+    },
+    /// An equality-join query.
+    Query(Query),
+}
+
+/// Reads the command that begins at `place`, and gives it with the place after
+/// it.
+pub fn read_command(script: &[u8], place: usize) -> Result<(Command, usize), Cause> {
+    let mut reader = Reader { script, place };
+    let command = match reader.u8()? {
+        0x01 => Command::Table {
+            columns: reader.number()?,
+            unique: reader.number()?,
+        },
+        0x02 => Command::Constraint(Constraint {
+            source: reader.column()?,
+            target: reader.column()?,
+        }),
+        0x03 => Command::Filling(Filling {
+            column: reader.column()?,
+            low: reader.u32()?,
+            high: reader.u32()?,
+        }),
+        0x04 => Command::Row(reader.row()?),
+        0x05 => Command::End,
+        0x10 => Command::Refer(reader.pair()?),
+        0x11 => Command::Drop(reader.pair()?),
+        0x12 => Command::Probe {
+            column: reader.column()?,
+            value: reader.u32()?,
+        },
+        0x13 => Command::Query(reader.query()?),
+        _ => return Err(Cause::UnknownCommand),
+    };
+    Ok((command, reader.place))
+}
+
+/// Takes operands from the script one after another.
+struct Reader<'a> {
+    script: &'a [u8],
+    place: usize,
+}
+
+impl Reader<'_> {
+    fn u8(&mut self) -> Result<u8, Cause> {
+        let byte = *self.script.get(self.place).ok_or(Cause::TooFewBytes)?;
+        self.place += 1;
+        Ok(byte)
+    }
+
+    fn u32(&mut self) -> Result<u32, Cause> {
+        let bytes = [self.u8()?, self.u8()?, self.u8()?, self.u8()?];
+        Ok(u32::from_le_bytes(bytes))
+    }
+
+    fn number(&mut self) -> Result<usize, Cause> {
+        Ok(usize::from(self.u8()?))
+    }
+
+    fn column(&mut self) -> Result<Column, Cause> {
+        Ok(Column {
+            table: self.number()?,
+            column: self.number()?,
+        })
+    }
+
+    fn row(&mut self) -> Result<Row, Cause> {
+        let table = self.number()?;
+        let mut cells = [0; CELLS];
+        for cell in &mut cells {
+            *cell = self.u32()?;
+        }
+        Ok(Row { table, cells })
+    }
+
+    fn pair(&mut self) -> Result<Pair, Cause> {
+        Ok(Pair {
+            filling: self.number()?,
+            value: self.u32()?,
+        })
+    }
+
+    fn query(&mut self) -> Result<Query, Cause> {
+        let column = self.column()?;
+        let value = self.u32()?;
+        let joins = self.number()?;
+        let mut pairs = [UNUSED; PAIRS];
+        for pair in &mut pairs {
+            *pair = Join {
+                position: self.number()?,
+                constraint: self.number()?,
+            };
+        }
+        Ok(Query {
+            column,
+            value,
+            joins,
+            pairs,
+        })
+    }
+}
+
+/// What a pair that is no join must be.
+pub const UNUSED: Join = Join {
+    position: 0,
+    constraint: 0,
+};

@@ -1,0 +1,107 @@
+//! Commands as bytes, written out once more from document 01's table so that
+//! the tests don't lean on the code they test.
+
+/// A table and a column by number.
+pub type Column = (u8, u8);
+
+pub fn table(columns: u8, unique: u8) -> Vec<u8> {
+    vec![0x01, columns, unique]
+}
+
+pub fn constraint(source: Column, target: Column) -> Vec<u8> {
+    vec![0x02, source.0, source.1, target.0, target.1]
+}
+
+pub fn filling(column: Column, low: u32, high: u32) -> Vec<u8> {
+    [
+        &[0x03, column.0, column.1],
+        &low.to_le_bytes()[..],
+        &high.to_le_bytes(),
+    ]
+    .concat()
+}
+
+pub fn row(table: u8, cells: &[u32]) -> Vec<u8> {
+    let mut all = [0; 8];
+    all[..cells.len()].copy_from_slice(cells);
+    let mut bytes = vec![0x04, table];
+    bytes.extend(all.iter().flat_map(|cell| cell.to_le_bytes()));
+    bytes
+}
+
+pub fn end() -> Vec<u8> {
+    vec![0x05]
+}
+
+pub fn refer(filling: u8, value: u32) -> Vec<u8> {
+    [&[0x10, filling], &value.to_le_bytes()[..]].concat()
+}
+
+pub fn drop(filling: u8, value: u32) -> Vec<u8> {
+    [&[0x11, filling], &value.to_le_bytes()[..]].concat()
+}
+
+pub fn probe(column: Column, value: u32) -> Vec<u8> {
+    [&[0x12, column.0, column.1], &value.to_le_bytes()[..]].concat()
+}
+
+pub fn query(column: Column, value: u32, joins: &[(u8, u8)]) -> Vec<u8> {
+    let mut pairs = [(0, 0); 4];
+    pairs[..joins.len()].copy_from_slice(joins);
+    raw_query(column, value, joins.len() as u8, pairs)
+}
+
+/// A query whose join count and pairs need not agree.
+pub fn raw_query(column: Column, value: u32, joins: u8, pairs: [(u8, u8); 4]) -> Vec<u8> {
+    let mut bytes = vec![0x13, column.0, column.1];
+    bytes.extend(value.to_le_bytes());
+    bytes.push(joins);
+    bytes.extend(pairs.iter().flat_map(|pair| [pair.0, pair.1]));
+    bytes
+}
+
+/// One of each command, with its name, in the order of document 01's table.
+pub fn one_of_each() -> [(&'static str, Vec<u8>); 9] {
+    [
+        ("table", table(1, 0)),
+        ("constraint", constraint((0, 0), (0, 0))),
+        ("filling", filling((0, 0), 1, 2)),
+        ("row", row(0, &[1])),
+        ("end", end()),
+        ("refer", refer(0, 1)),
+        ("drop", drop(0, 1)),
+        ("probe", probe((0, 0), 1)),
+        ("query", query((0, 0), 1, &[])),
+    ]
+}
+
+/// Document 01's case A without its operations.
+pub fn design_a() -> Vec<u8> {
+    [
+        table(2, 0b01),
+        table(2, 0b01),
+        table(2, 0),
+        constraint((0, 0), (1, 1)),
+        constraint((1, 0), (2, 0)),
+        filling((0, 1), 1, 99),
+        row(0, &[7, 3]),
+        row(0, &[8, 3]),
+        row(0, &[9, 4]),
+        row(1, &[20, 7]),
+        row(1, &[21, 9]),
+        row(2, &[20, 5]),
+        row(2, &[20, 6]),
+        row(2, &[21, 5]),
+        end(),
+    ]
+    .concat()
+}
+
+/// The length of [`design_a`]: 3 tables of 3 bytes, 2 constraints of 5, a
+/// filling of 11, 8 rows of 34 and END.
+pub const DESIGN_A_LENGTH: usize = 9 + 10 + 11 + 272 + 1;
+
+/// Case A's design followed by operations.
+pub fn script_a(operations: &[Vec<u8>]) -> Vec<u8> {
+    [design_a(), operations.concat()].concat()
+}
