@@ -1,0 +1,105 @@
+-- The held record and the list of pairs that it holds: each is found from the other, and what one more pair or one fewer does to both.
+-- Assumes nothing.
+use Prim.Native.Nat.{ℕ, _+_, _-_, _≤_, _<_}
+use native.Mathlib.Decide.{decLt}
+use native.Mathlib.Nat.{eq-or-lt-of-le}
+use native.Mathlib.Omega.{arith}
+use mathlib.Core.Path.{_≡_, refl, sym, ap, ap₂, _∙_}
+use mathlib.Core.Logic.{_⊎_, inl, inr, ⊎-elim}
+use mathlib.Core.List.{List, [], _∷_, _++_}
+use lib.Dec.{ltb}
+use lib.ListN.{length, getD, set, length-set, List·getD-eq-default}
+use lib.Seq.{ext-getD, getD-set-same, getD-set-other}
+use Rattle.finite.specs.Finite.{tab}
+use Rattle.finite.proofs.Bools.{same-number}
+use Rattle.finite.proofs.Tables.{length-tab, tab-at, tab-of, tab-same}
+use Rattle.model.specs.Runs.{Pair, listed, remove}
+use Rattle.state.specs.declared.held.HeldValue.{HeldValue}
+use Rattle.state.specs.declared.held.Held.{Held}
+use Rattle.state.specs.Held.{noValue, heldAt}
+use Rattle.state.specs.Meaning.{pairOf, pairsOf, heldOf}
+use Rattle.lawful.proofs.HeldLaws.{pairAt}
+use Rattle.cache.specs.Places.{pair, Tidy, placeOf, keptAt, without}
+use Rattle.cache.proofs.Pairs.{noPair, listed-place, end-length, end-before, end-last, end-past, skip, skip-before, skip-behind, skip-le, remove-none, remove-length, remove-at}
+
+-- the value that stands for a pair
+abbrev pub valueOf : Pair → HeldValue
+valueOf p = record { filling = p .filling; value = p .value .number }
+
+-- ---- the pairs of a record
+
+pub pairs-length : (h : Held) → length (pairsOf h) ≡ h .count
+unfolding pairsOf
+pairs-length h = length-tab (h .count) _
+
+pub pairs-at : (h : Held) (i : ℕ) → i < h .count → pairAt (pairsOf h) i ≡ pairOf (heldAt h i)
+unfolding pairsOf
+pairs-at h i l = tab-at noPair (h .count) (λ j. pairOf (heldAt h j)) i l
+
+-- a pair is held if its place is one of the record's
+pub listed-is : (h : Held) (p : Pair) (at : ℕ) → at ≡ placeOf p (pairsOf h) → ltb at (h .count) ≡ listed p (pairsOf h)
+listed-is h p at e = ap₂ ltb e (sym (pairs-length h)) ∙ listed-place p (pairsOf h)
+
+-- with unused places 0, that holds of every place
+pub pairs-all : (h : Held) → Tidy h → length (h .values) ≡ 64 → (i : ℕ) → pairAt (pairsOf h) i ≡ pairOf (heldAt h i)
+pairs-all h t l i = go (decLt i (h .count)) (decLt i 64)
+  where
+    go : Dec (i < h .count) → Dec (i < 64) → pairAt (pairsOf h) i ≡ pairOf (heldAt h i)
+    go (yes k) m = pairs-at h i k
+    go (no k) (yes m) = List·getD-eq-default (pairsOf h) noPair (omega (arith, pairs-length h)) ∙ ap pairOf (sym (t .unused i (omega arith) m))
+    go (no k) (no m) = List·getD-eq-default (pairsOf h) noPair (omega (arith, pairs-length h)) ∙ ap pairOf (sym (List·getD-eq-default (h .values) noValue (omega arith)))
+
+-- ---- the record of a list of pairs
+
+pub held-at : (ps : List Pair) (i : ℕ) → i < 64 → heldAt (heldOf ps) i ≡ valueOf (pairAt ps i)
+unfolding heldOf
+held-at ps i l = tab-at noValue 64 (λ j. valueOf (pairAt ps j)) i l
+
+-- a record with this count and these values
+pub held-is : (h : Held) (ps : List Pair) → h .count ≡ length ps → length (h .values) ≡ 64 → ((i : ℕ) → i < 64 → heldAt h i ≡ valueOf (pairAt ps i)) → h ≡ heldOf ps
+unfolding heldOf
+held-is h ps n l at = λ i. record { count = n i; values = tab-of noValue 64 (λ j. valueOf (pairAt ps j)) (h .values) l at i }
+
+-- a record whose unused places are 0 is read back
+pub record-back : (h : Held) → Tidy h → length (h .values) ≡ 64 → heldOf (pairsOf h) ≡ h
+record-back h t l = sym (held-is h (pairsOf h) (sym (pairs-length h)) l (λ i k. ap valueOf (sym (pairs-all h t l i))))
+
+-- ---- one more
+
+module _ (h : Held) (t : Tidy h) (room : h .count < 64) (l : length (h .values) ≡ 64) (v : HeldValue) where
+  ends : (i : ℕ) → i < 64 → getD (set (h .values) (h .count) v) i noValue ≡ valueOf (pairAt (pairsOf h ++ (pairOf v ∷ [])) i)
+  ends i k = ⊎-elim
+      (λ (e : i ≡ h .count). rw e (getD-set-same (h .values) (h .count) v noValue (omega arith)) ∙ ap valueOf (sym (end-last (pairsOf h) (pairOf v) i (e ∙ sym (pairs-length h)))))
+      (λ (ne : i ≡ h .count → ⊥). getD-set-other (h .values) (h .count) i v noValue ne ∙ other ne (decLt i (h .count)))
+      (same-number i (h .count))
+    where
+      above : (i ≡ h .count → ⊥) → h .count ≤ i → h .count < i
+      above ne m = ⊎-elim (λ (e : h .count ≡ i). absurd (ne (sym e))) (λ (b : h .count < i). b) (eq-or-lt-of-le m)
+
+      other : (i ≡ h .count → ⊥) → Dec (i < h .count) → heldAt h i ≡ valueOf (pairAt (pairsOf h ++ (pairOf v ∷ [])) i)
+      other ne (yes b) = ap valueOf (sym (end-before (pairsOf h) (pairOf v) i (omega (arith, pairs-length h)) ∙ pairs-at h i b))
+      other ne (no b) = t .unused i (omega arith) k ∙ ap valueOf (sym (end-past (pairsOf h) (pairOf v) i (omega (arith, pairs-length h, above ne (omega arith)))))
+
+  pub append-is : _≡_ {A = Held} (record { count = h .count + 1; values = set (h .values) (h .count) v }) (heldOf (pairsOf h ++ (pairOf v ∷ [])))
+  append-is = held-is _ (pairsOf h ++ (pairOf v ∷ [])) (omega (arith, pairs-length h, end-length (pairsOf h) (pairOf v))) (length-set (h .values) (h .count) v ∙ l) ends
+
+-- ---- one fewer
+
+pub closed-is : (h : Held) (gap : ℕ) (values : List HeldValue) → values ≡ tab 64 (keptAt h gap) → _≡_ {A = Held} (record { count = h .count - 1; values = values }) (without h gap)
+unfolding without
+closed-is h gap values e = λ i. record { count = h .count - 1; values = e i }
+
+module _ (h : Held) (t : Tidy h) (l : length (h .values) ≡ 64) (p : Pair) (at : ℕ) (e : at ≡ placeOf p (pairsOf h)) where
+  -- the pair is at a place of the record: the value goes and the gap closes
+  pub without-is : at < h .count → without h at ≡ heldOf (remove p (pairsOf h))
+  unfolding without
+  without-is inside =
+      held-is _ (remove p (pairsOf h)) (omega (arith, remove-length p (pairsOf h) inside′, pairs-length h)) (length-tab 64 _)
+      (λ i k. tab-at noValue 64 (keptAt h at) i k ∙ ap valueOf (sym (remove-at p (pairsOf h) inside′ i ∙ rw (← e) (pairs-all h t l (skip at i)))))
+    where
+      inside′ : placeOf p (pairsOf h) < length (pairsOf h)
+      inside′ = omega (arith, pairs-length h)
+
+  -- it is at none: the record stays
+  pub stays-is : h .count ≤ at → h ≡ heldOf (remove p (pairsOf h))
+  stays-is past = sym (ap heldOf (remove-none p (pairsOf h) (omega (arith, pairs-length h))) ∙ record-back h t l)

@@ -1,0 +1,133 @@
+-- Sound states: what `sound` says in parts, and that an operation leaves a sound state. Assumes nothing.
+use Prim.Native.Nat.{ℕ, _+_, _≤_, _<_}
+use native.Mathlib.Omega.{arith}
+use mathlib.Core.Path.{_≡_, ap, ap₂, _∙_}
+use mathlib.Core.Bool.{Bool, true, false, not, cond, _&&_, and-eq-true-iff}
+use mathlib.Core.List.{List, [], _∷_, _++_}
+use borrow.Author.Tests.{le-leb, leb-true, eq-eqb, eqb-true, ltb-true, not-true}
+use lib.Dec.{eqb, leb, ltb}
+use lib.ListN.{length, getD, take, drop as past, length-append, List·getD-append}
+use lib.Seq.{getD-take, length-take-le}
+use Rattle.finite.proofs.Bools.{both, cond-true}
+use Rattle.finite.proofs.Search.{all-at, all-true}
+use Rattle.finite.proofs.Tables.{length-tab, tab-at, tab-of}
+use Rattle.model.specs.Scheme.{Scheme, candidate}
+use Rattle.model.specs.Database.{Database}
+use Rattle.model.specs.Answers.{unless, answer}
+use Rattle.model.specs.Rounds.{reached}
+use Rattle.model.specs.Runs.{Pair, Operation, refer, drop, probe, listed, remove, taken, places, heldAfter, marks, Cache, reloadLevels, cacheAfter}
+use Rattle.model.proofs.Marks.{length-marks}
+use Rattle.model.proofs.RunLaws.{step-pairs}
+use Rattle.state.specs.declared.design.Design.{Design}
+use Rattle.state.specs.declared.held.Held.{Held}
+use Rattle.state.specs.Design.{Backed}
+use Rattle.state.specs.Meaning.{schemeOf, databaseOf, pairsOf, heldOf, cacheOf}
+use Rattle.state.specs.Lawful.{lawfulDesign, lawfulRows, lawfulHeld, lawfulMarks}
+use Rattle.state.specs.Step.{State, lent, scheme, database, cache, longEnough, lawful, sound, stateAfter, answerAt, heldAfterAt, marksAfterAt}
+use Rattle.lawful.proofs.HeldLaws.{PairsFit, pairs-fit, pairs-back, fit-held}
+use Rattle.cache.proofs.Fresh.{Fresh, step-fresh}
+use Rattle.cache.proofs.PairsFit.{step-fit}
+
+-- ---- the parts
+
+pub record Lengths (s : State) : Type 0 where
+  pub cells : 4096 ≤ length (s .cells)
+  pub tables : 512 ≤ length (s .tables)
+  pub marks : 512 ≤ length (s .marks)
+
+pub record Parts (s : State) : Type 0 where
+  pub long : Lengths s
+  pub design : lawfulDesign (s .design) ≡ true
+  pub rows : lawfulRows (s .design) (s .cells) (s .tables) ≡ true
+  pub held : lawfulHeld (s .design) (s .held) ≡ true
+  pub marks : lawfulMarks (s .design) (s .cells) (s .tables) (s .held) (s .marks) ≡ true
+
+pub long-parts : (s : State) → longEnough s ≡ true → Lengths s
+unfolding longEnough
+long-parts s e =
+    let a = and-eq-true-iff (leb 4096 (length (s .cells))) _ .0 e in
+    let b = and-eq-true-iff (leb 512 (length (s .tables))) _ .0 (a .1) in
+    record { cells = leb-true _ _ (a .0); tables = leb-true _ _ (b .0); marks = leb-true _ _ (b .1) }
+
+pub parts : (s : State) → sound s ≡ true → Parts s
+unfolding lawful
+parts s e =
+    let a = and-eq-true-iff (longEnough s) (lawful s) .0 e in
+    let b = and-eq-true-iff (lawfulDesign (s .design)) _ .0 (a .1) in
+    let c = and-eq-true-iff (lawfulRows (s .design) (s .cells) (s .tables)) _ .0 (b .1) in
+    let d = and-eq-true-iff (lawfulHeld (s .design) (s .held)) _ .0 (c .1) in
+    record { long = long-parts s (a .0); design = b .0; rows = c .0; held = d .0; marks = d .1 }
+
+pub from-parts : (s : State) → Parts s → sound s ≡ true
+unfolding longEnough lawful
+from-parts s p =
+    both (both (le-leb _ _ (p .long .cells)) (both (le-leb _ _ (p .long .tables)) (le-leb _ _ (p .long .marks))))
+    (both (p .design) (both (p .rows) (both (p .held) (p .marks))))
+
+-- ---- the marks
+
+pub lawful-fresh : (d : Design) (cells tables : List ℕ) (h : Held) (m : List ℕ) → 512 ≤ length m → lawfulMarks d cells tables h m ≡ true →
+    Fresh (schemeOf d) (databaseOf (d .rows) cells tables) (cacheOf h m)
+unfolding lawfulMarks marks databaseOf
+lawful-fresh d cells tables h m l e =
+    record { reloaded = tab-of 0 512 _ (take 512 m) (length-take-le 512 m l) (λ r k. getD-take 512 m r 0 k ∙ eqb-true _ _ (all-at 512 _ e r k)) }
+
+pub fresh-long : (d : Design) (cells tables : List ℕ) (c : Cache) → Fresh (schemeOf d) (databaseOf (d .rows) cells tables) c → length (c .marks) ≡ 512
+unfolding databaseOf
+fresh-long d cells tables c f = ap length (f .reloaded) ∙ length-marks (databaseOf (d .rows) cells tables) _
+
+pub fresh-lawful : (d : Design) (cells tables : List ℕ) (h : Held) (m rest : List ℕ) →
+    Fresh (schemeOf d) (databaseOf (d .rows) cells tables) (record { pairs = pairsOf h; marks = m }) → lawfulMarks d cells tables h (m ++ rest) ≡ true
+unfolding lawfulMarks marks databaseOf
+fresh-lawful d cells tables h m rest f =
+    all-true 512 _ (λ r k. eq-eqb _ _ (List·getD-append m rest 0 r (omega (arith, fresh-long d cells tables _ f)) ∙ ap (λ (xs : List ℕ). getD xs r 0) (f .reloaded) ∙ tab-at 0 512 _ r k))
+
+-- ---- an operation
+
+-- the cache that it leaves
+abbrev pub after : State → Operation → Cache
+after s o = cacheAfter (scheme s) (database s) (cache s) o
+
+module _ (s : State) (e : sound s ≡ true) (o : Operation) where
+  after-fresh : Fresh (scheme s) (database s) (after s o)
+  after-fresh =
+      step-fresh (scheme s) (database s) (cache s) o
+      (lawful-fresh (s .design) (s .cells) (s .tables) (s .held) (s .marks) (parts s e .long .marks) (parts s e .marks))
+
+  after-fit : PairsFit (scheme s) (after s o .pairs)
+  after-fit =
+      rw (step-pairs (scheme s) (database s) (cache s) o)
+      (step-fit (scheme s) (pairsOf (s .held)) o (pairs-fit (s .design) (s .held) (parts s e .held)))
+
+  pub answer-at : answerAt s o ≡ answer (scheme s) (database s) (cache s) o
+  unfolding answerAt
+  answer-at =
+      let p = and-eq-true-iff (longEnough s) (lawful s) .0 e in
+      ap₂ (λ (l g : Bool). unless (not l) 7 (unless (not g) 12 (answer (scheme s) (database s) (cache s) o))) (p .0) (p .1)
+
+  pub held-after : heldAfterAt s o ≡ heldOf (after s o .pairs)
+  unfolding heldAfterAt
+  held-after = cond-true (sound s) _ _ e
+
+  pub marks-after : marksAfterAt s o ≡ after s o .marks ++ past 512 (s .marks)
+  unfolding marksAfterAt
+  marks-after = cond-true (sound s) _ _ e
+
+  -- the state afterwards is sound
+  pub sound-after : sound (stateAfter s o) ≡ true
+  sound-after =
+      rw (held-after, marks-after)
+      (from-parts (lent (s .design) (s .cells) (s .tables) (after s o .marks ++ past 512 (s .marks)) (heldOf (after s o .pairs)))
+      (record {
+        long = record { cells = parts s e .long .cells; tables = parts s e .long .tables; marks = omega (arith, long, length-append (after s o .marks) (past 512 (s .marks))) };
+        design = parts s e .design;
+        rows = parts s e .rows;
+        held = fit-held (s .design) (after s o .pairs) after-fit;
+        marks = fresh-lawful (s .design) (s .cells) (s .tables) (heldOf (after s o .pairs)) (after s o .marks) (past 512 (s .marks)) fresh;
+      }))
+    where
+      long : length (after s o .marks) ≡ 512
+      long = fresh-long (s .design) (s .cells) (s .tables) (after s o) after-fresh
+
+      fresh : Fresh (scheme s) (database s) (record { pairs = pairsOf (heldOf (after s o .pairs)); marks = after s o .marks })
+      fresh = rw (pairs-back (after s o .pairs) (after-fit .few)) after-fresh

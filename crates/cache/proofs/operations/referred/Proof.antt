@@ -1,0 +1,53 @@
+-- `cache::operations::referred` meets its contract: cause 7, cause 12, then the operation over a sound state. Assumes nothing.
+use mathlib.Core.Path.{sym, _∙_}
+use borrow.Author.Needs.{needs}
+use borrow.Author.Tests.{not-true, not-false}
+use Rattle.finite.proofs.Bools.{both}
+use Rattle.cache.proofs.Asked.{long-asked}
+use Rattle.cache.proofs.Steps.{stepped-short, stepped-unlawful}
+use Rattle.cache.proofs.operations.referred.Statement.{statement}
+use Rattle.cache.proofs.operations.referred.Tie as tie
+
+is-long-enough-requires : tie.Need-is-long-enough-requires
+is-long-enough-requires c κs = search needs
+
+same-length : tie.Need-same-length
+same-length c = search needs
+
+returns : tie.Need-returns
+returns c = stepped-short _ _ (sym (c .before .is-long-enough .ensures _ _) ∙ not-true _ (c .if1 .taken))
+
+is-lawful-requires : tie.Need-is-lawful-requires
+is-lawful-requires c κs =
+    long-asked _ (sym (c .before .before .is-long-enough .ensures (c .before .before .before .before .before .before .before .args .design) (c .before .before .before .before .before .before .before .args .held)) ∙ not-false _ (c .before .if1 .left))
+
+same-length-2 : tie.Need-same-length-2
+same-length-2 c = search needs
+
+returns-2 : tie.Need-returns-2
+returns-2 c =
+    stepped-unlawful _ _ (sym (c .before .before .before .before .is-long-enough .ensures _ _) ∙ not-false _ (c .before .before .before .if1 .left)) (sym (c .before .is-lawful .ensures) ∙ not-true _ (c .if2 .taken))
+
+refer-lawful-requires : tie.Need-refer-lawful-requires
+refer-lawful-requires c κs =
+    both (sym (c .before .before .before .before .before .is-long-enough .ensures _ _) ∙ not-false _ (c .before .before .before .before .if1 .left)) (sym (c .before .before .is-lawful .ensures) ∙ not-false _ (c .before .if2 .left))
+
+same-length-3 : tie.Need-same-length-3
+same-length-3 c = search needs
+
+returns-3 : tie.Need-returns-3
+returns-3 c = c .before .before .refer-lawful .ensures .stepped
+
+pub referred-spec : {M : Type 1} → statement M
+referred-spec =
+    tie.close
+    (tie.spec
+    is-long-enough-requires
+    same-length
+    returns
+    is-lawful-requires
+    same-length-2
+    returns-2
+    refer-lawful-requires
+    same-length-3
+    returns-3)

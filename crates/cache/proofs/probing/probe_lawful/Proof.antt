@@ -1,0 +1,40 @@
+-- `cache::probing::probe_lawful` meets its contract: the causes in their order, then the ground. Assumes nothing.
+use mathlib.Core.Path.{sym, _∙_}
+use borrow.Author.Needs.{needs}
+use borrow.Author.Tests.{not-true, not-false}
+use Rattle.lawful.proofs.Arrays.{sized, held-sized}
+use Rattle.cache.proofs.Asked.{sound-range, sound-backed, sound-marks, sound-tidy, sound-filling, sound-column}
+use Rattle.cache.proofs.ProbeSteps.{probe-5, probe-9, probe-sent, probe-ground}
+use Rattle.cache.proofs.probing.probe_lawful.Statement.{statement}
+use Rattle.cache.proofs.probing.probe_lawful.Tie as tie
+
+is-column-requires : tie.Need-is-column-requires
+is-column-requires c κs = search needs
+
+returns : tie.Need-returns
+returns c = probe-5 _ (c .before .before .before .before .before .pre) _ _ (sym (c .before .is-column .ensures) ∙ not-true _ (c .if1 .taken))
+
+returns-2 : tie.Need-returns-2
+returns-2 c = probe-9 _ (c .before .before .before .before .before .before .pre) _ _ (sym (c .before .before .is-column .ensures) ∙ not-false _ (c .before .if1 .left)) (c .if2 .taken)
+
+ground-requires : tie.Need-ground-requires
+ground-requires c κs = (
+  sound-range _ (c .before .before .before .before .before .before .pre) (sized (c .before .before .before .before .before .before .args .design) _ (c .before .before .before .before .before .before .good .0)),
+  sound-backed _ (c .before .before .before .before .before .before .pre),
+  sound-marks _ (c .before .before .before .before .before .before .pre),
+  sound-tidy _ (c .before .before .before .before .before .before .pre) .few,
+  sound-column _ (c .before .before .before .before .before .before .pre) _ (sym (c .before .before .is-column .ensures) ∙ not-false _ (c .before .if1 .left)),
+  sound-filling _ (c .before .before .before .before .before .before .pre) (held-sized (c .before .before .before .before .before .before .args .held) _ (c .before .before .before .before .before .before .good .1 .1 .1 .1 .0)),
+)
+
+returns-3 : tie.Need-returns-3
+returns-3 c =
+    probe-sent _ (c .before .before .before .before .before .before .before .before .pre) _ _ (sym (c .before .before .before .before .is-column .ensures) ∙ not-false _ (c .before .before .before .if1 .left)) (c .before .before .if2 .left) _ (c .before .ground .ensures) (c .if3 .taken)
+
+returns-4 : tie.Need-returns-4
+returns-4 c =
+    probe-ground _ (c .before .before .before .before .before .before .before .before .pre) _ _ (sym (c .before .before .before .before .is-column .ensures) ∙ not-false _ (c .before .before .before .if1 .left)) (c .before .before .if2 .left) _ (c .before .ground .ensures) (c .if3 .left)
+
+pub probe-lawful-spec : {M : Type 1} → statement M
+probe-lawful-spec =
+    tie.close (tie.spec is-column-requires returns returns-2 ground-requires returns-3 returns-4)

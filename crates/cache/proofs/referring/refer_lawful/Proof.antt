@@ -1,0 +1,78 @@
+-- `cache::referring::refer_lawful` meets its contract: the causes in their order, then the load. Assumes nothing.
+use native.Mathlib.Omega.{arith}
+use mathlib.Core.Path.{sym, _∙_}
+use borrow.Author.Needs.{needs}
+use borrow.Author.Tests.{not-true, not-false}
+use Rattle.lawful.proofs.Arrays.{sized, held-sized}
+use Rattle.cache.proofs.Asked.{sound-range, sound-backed, sound-marks, sound-fillings, sound-tidy}
+use Rattle.cache.proofs.Steps.{refer-5, refer-9, refer-no-candidate, refer-already, refer-8, refer-load}
+use Rattle.cache.proofs.referring.refer_lawful.Statement.{statement}
+use Rattle.cache.proofs.referring.refer_lawful.Tie as tie
+
+returns : tie.Need-returns
+returns c = refer-5 _ (c .before .before .before .before .pre) (held-sized (c .before .before .before .before .args .held) _ (c .before .before .before .before .good .1 .1 .1 .1 .0)) _ _ (c .if1 .taken)
+
+returns-2 : tie.Need-returns-2
+returns-2 c = refer-9 _ (c .before .before .before .before .before .pre) (held-sized (c .before .before .before .before .before .args .held) _ (c .before .before .before .before .before .good .1 .1 .1 .1 .0)) _ _ (c .before .if1 .left) (c .if2 .taken)
+
+mul-candidates : tie.Need-mul-candidates
+mul-candidates c = search needs
+
+element-copy-out-candidates : tie.Need-element-copy-out-candidates
+element-copy-out-candidates c = omega (arith, sound-fillings _ (c .before .before .before .before .before .pre))
+
+is-candidate-requires : tie.Need-is-candidate-requires
+is-candidate-requires c κs = search needs
+
+returns-3 : tie.Need-returns-3
+returns-3 c =
+    refer-no-candidate _ (c .before .before .before .before .before .before .before .before .pre) (held-sized (c .before .before .before .before .before .before .before .before .args .held) _ (c .before .before .before .before .before .before .before .before .good .1 .1 .1 .1 .0)) _ _ (c .before .before .before .before .if1 .left) (c .before .before .before .if2 .left)
+    (sym (c .before .is-candidate .ensures) ∙ not-true _ (c .if3 .taken))
+
+listed-requires : tie.Need-listed-requires
+listed-requires c κs = sound-tidy _ (c .before .before .before .before .before .before .before .before .pre) .few
+
+returns-4 : tie.Need-returns-4
+returns-4 c =
+    refer-already _ (c .before .before .before .before .before .before .before .before .before .before .pre) (held-sized (c .before .before .before .before .before .before .before .before .before .before .args .held) _ (c .before .before .before .before .before .before .before .before .before .before .good .1 .1 .1 .1 .0)) _ _ (c .before .before .before .before .before .before .if1 .left) (c .before .before .before .before .before .if2 .left)
+    (sym (c .before .before .before .is-candidate .ensures) ∙ not-false _ (c .before .before .if3 .left)) (sym (c .before .listed .ensures) ∙ c .if4 .taken)
+
+returns-5 : tie.Need-returns-5
+returns-5 c =
+    refer-8 _ (c .before .before .before .before .before .before .before .before .before .before .before .before .pre) (held-sized (c .before .before .before .before .before .before .before .before .before .before .before .before .args .held) _ (c .before .before .before .before .before .before .before .before .before .before .before .before .good .1 .1 .1 .1 .0)) _ _ (c .before .before .before .before .before .before .before .before .if1 .left) (c .before .before .before .before .before .before .before .if2 .left)
+    (sym (c .before .before .before .before .before .is-candidate .ensures) ∙ not-false _ (c .before .before .before .before .if3 .left)) (sym (c .before .before .before .listed .ensures) ∙ c .before .before .if4 .left) (c .if5 .taken)
+
+load-value-requires : tie.Need-load-value-requires
+load-value-requires c κs =
+    let range = sound-range _ (c .before .before .before .before .before .before .before .before .before .before .before .before .before .before .pre) (sized (c .before .before .before .before .before .before .before .before .before .before .before .before .before .before .args .t1) _ (c .before .before .before .before .before .before .before .before .before .before .before .before .before .before .good .0)) in
+    (range, sound-backed _ (c .before .before .before .before .before .before .before .before .before .before .before .before .before .before .pre), sound-marks _ (c .before .before .before .before .before .before .before .before .before .before .before .before .before .before .pre), range .column _)
+
+appended-requires : tie.Need-appended-requires
+appended-requires c κs = (sound-tidy _ (c .before .before .before .before .before .before .before .before .before .before .before .before .before .before .before .before .before .pre), c .before .before .before .before .before .if5 .left)
+
+same-length : tie.Need-same-length
+same-length c = search needs
+
+returns-6 : tie.Need-returns-6
+returns-6 c =
+    refer-load _ (c .before .before .before .before .before .before .before .before .before .before .before .before .before .before .before .before .before .before .pre) (held-sized (c .before .before .before .before .before .before .before .before .before .before .before .before .before .before .before .before .before .before .args .held) _ (c .before .before .before .before .before .before .before .before .before .before .before .before .before .before .before .before .before .before .good .1 .1 .1 .1 .0)) _ _ (c .before .before .before .before .before .before .before .before .before .before .before .before .before .before .if1 .left) (c .before .before .before .before .before .before .before .before .before .before .before .before .before .if2 .left)
+    (sym (c .before .before .before .before .before .before .before .before .before .before .before .is-candidate .ensures) ∙ not-false _ (c .before .before .before .before .before .before .before .before .before .before .if3 .left)) (sym (c .before .before .before .before .before .before .before .before .before .listed .ensures) ∙ c .before .before .before .before .before .before .before .before .if4 .left) (c .before .before .before .before .before .before .if5 .left) _ _ _
+    (c .before .before .before .load-value .ensures) (c .appended .ensures)
+
+pub refer-lawful-spec : {M : Type 1} → statement M
+refer-lawful-spec =
+    tie.close
+    (tie.spec
+    returns
+    returns-2
+    mul-candidates
+    element-copy-out-candidates
+    is-candidate-requires
+    returns-3
+    listed-requires
+    returns-4
+    returns-5
+    load-value-requires
+    appended-requires
+    same-length
+    returns-6)

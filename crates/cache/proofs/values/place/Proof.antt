@@ -1,0 +1,66 @@
+-- `cache::values::place` meets its contract: a search for the first place that holds the pair. Assumes nothing.
+use Prim.Native.Nat.{_≤_, _-_}
+use native.Mathlib.Omega.{arith}
+use mathlib.Core.Path.{_≡_, sym, _∙_}
+use mathlib.Core.Bool.{false}
+use borrow.Author.Needs.{needs}
+use Rattle.finite.specs.Finite.{any}
+use Rattle.finite.proofs.Search.{any-start, any-more, any-none}
+use Rattle.model.specs.Runs.{samePair}
+use Rattle.state.specs.Held.{heldAt}
+use Rattle.state.specs.Meaning.{pairOf, pairsOf}
+use Rattle.cache.specs.Places.{pair}
+use Rattle.cache.proofs.Pairs.{place-found, place-none}
+use Rattle.cache.proofs.values.place.Statement.{statement}
+use Rattle.cache.proofs.values.place.Tie as tie
+
+abbrev Inv-loop : tie.InvT-loop
+Inv-loop filling value held n i₀ i = (i ≤ n) × (any i (λ j. samePair (pairOf (heldAt held j)) (pair filling value)) ≡ false)
+
+abbrev μ-loop : tie.MeasureT-loop
+μ-loop filling value held n i₀ i = n - i
+
+loop-holds : tie.Need-loop-holds Inv-loop μ-loop
+loop-holds c = (omega arith, any-start _)
+
+mul-is-pair : tie.Need-mul-is-pair Inv-loop μ-loop
+mul-is-pair c = search needs
+
+element-copy-out-is-pair : tie.Need-element-copy-out-is-pair Inv-loop μ-loop
+element-copy-out-is-pair c = search needs
+
+is-pair-requires : tie.Need-is-pair-requires Inv-loop μ-loop
+is-pair-requires c κs = search needs
+
+returns : tie.Need-returns Inv-loop μ-loop
+unfolding pairsOf
+returns c = place-found _ _ _ _ (c .before .before .before .loop-test .taken) (any-none _ _ (c .before .before .before .before .loop .inv .1)) (sym (c .before .is-pair .ensures) ∙ c .if1 .taken)
+
+add-i : tie.Need-add-i Inv-loop μ-loop
+add-i c = omega arith
+
+loop-less : tie.Need-loop-less Inv-loop μ-loop
+loop-less c = omega arith
+
+loop-again : tie.Need-loop-again Inv-loop μ-loop
+loop-again c = (omega arith, any-more _ _ (c .before .before .before .before .loop .inv .1) (sym (c .before .is-pair .ensures) ∙ c .if1 .left))
+
+returns-2 : tie.Need-returns-2 Inv-loop μ-loop
+unfolding pairsOf
+returns-2 c = place-none _ _ _ (λ j l. any-none _ _ (c .before .loop .inv .1) j (omega arith))
+
+pub place-spec : {M : Type 1} → statement M
+place-spec =
+    tie.close
+    (tie.spec
+    Inv-loop
+    μ-loop
+    loop-holds
+    mul-is-pair
+    element-copy-out-is-pair
+    is-pair-requires
+    returns
+    add-i
+    loop-less
+    loop-again
+    returns-2)

@@ -1,0 +1,5 @@
+-- Places: where a pair stands among the held values, and the record without a place. Loads: the levels of a load over lent rows, and what it
+-- leaves. Stepped: what an operation answers and leaves.
+pub mod Places
+pub mod Loads
+pub mod Stepped

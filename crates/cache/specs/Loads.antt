@@ -1,0 +1,33 @@
+-- The levels of a load over lent rows, and what is read off them. Assumes nothing.
+use Prim.Native.Nat.{ℕ}
+use mathlib.Core.Bool.{not, _&&_}
+use mathlib.Core.List.{List, _++_}
+use lib.ListN.{drop}
+use Rattle.finite.specs.Finite.{count}
+use Rattle.model.specs.Cell.{cellOf}
+use Rattle.model.specs.Database.{Database, has}
+use Rattle.model.specs.Rounds.{reached, load}
+use Rattle.model.specs.Runs.{marks, marked, reloadLevels}
+use Rattle.state.specs.declared.design.Column.{Column}
+use Rattle.state.specs.declared.design.Design.{Design}
+use Rattle.state.specs.declared.held.Held.{Held}
+use Rattle.state.specs.Meaning.{columnOf, schemeOf, databaseOf, pairsOf}
+
+abbrev pub rowsOf : Design → List ℕ → List ℕ → Database
+rowsOf d cells tables = databaseOf (d .rows) cells tables
+
+-- a load of the value v in column k, beside the rows that m marks
+unfoldable pub valueLevels : Design → List ℕ → List ℕ → List ℕ → Column → ℕ → List ℕ
+valueLevels d cells tables m k v = let D = rowsOf d cells tables in load (schemeOf d) D (marked m) (has D (columnOf k) (cellOf v))
+
+-- a load of all held values from nothing
+unfoldable pub heldLevels : Design → List ℕ → List ℕ → Held → List ℕ
+heldLevels d cells tables h = reloadLevels (schemeOf d) (rowsOf d cells tables) (pairsOf h)
+
+-- the marks of the rows that the load reached, before whatever lies past the old marks
+unfoldable pub settled : Database → List ℕ → List ℕ → List ℕ
+settled D L old = marks D (reached L) ++ drop 512 old
+
+-- how many rows that m marks the load did not reach
+unfoldable pub goneRows : Database → List ℕ → List ℕ → ℕ
+goneRows D L m = count (D .size) (λ r. marked m r && not (reached L r))

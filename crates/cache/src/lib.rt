@@ -1,0 +1,22 @@
+// The operations REFER, DROP and PROBE for whatever is lent, and the test for cause 12.
+mod dropping;
+mod loads;
+mod operations;
+mod outcome;
+mod probing;
+mod referring;
+mod tests;
+mod values;
+
+pub use dropping::drop_lawful;
+pub use operations::dropped;
+pub use operations::probed;
+pub use operations::referred;
+pub use outcome::Outcome;
+pub use probing::probe_lawful;
+pub use referring::refer_lawful;
+pub use tests::is_lawful;
+pub use tests::is_long_enough;
+pub use values::appended;
+pub use values::listed;
+pub use values::removed;

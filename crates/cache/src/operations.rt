@@ -1,0 +1,94 @@
+// REFER, DROP and PROBE for whatever is lent: cause 7, then 12, then the operation over a sound state.
+ghost use mathlib.Core.Path.{_≡_};
+ghost use Rattle.model.specs.Cell.{cellOf};
+ghost use Rattle.model.specs.Runs as Runs;
+ghost use Rattle.state.specs.Meaning.{answerOf};
+ghost use Rattle.state.specs.Step.{lent, answerAt};
+ghost use Rattle.cache.specs.Places.{pair};
+ghost use Rattle.cache.specs.Stepped.{Stepped};
+use crate::dropping::drop_lawful;
+use crate::outcome::Outcome;
+use crate::probing::probe_lawful;
+use crate::referring::refer_lawful;
+use crate::tests::is_lawful;
+use crate::tests::is_long_enough;
+use state::Answer;
+use state::Design;
+use state::Held;
+
+// REFER. The test for cause 12 (rows × rows × (unique columns and constraints) at most), then one load.
+pub fn referred(
+    design: Design,
+    cells: &[u32],
+    tables: &[u8],
+    marks: &mut [u8],
+    held: Held,
+    filling: u8,
+    value: u32,
+) -> Outcome
+    ensures { λ o. ⌜ Stepped (lent design (now (cells .entry)) (now (tables .entry)) (now (marks .entry)) held) (Runs.refer (pair filling value)) o (now (marks .exit)) ⌝ }
+{
+    if !is_long_enough(cells, tables, marks) {
+        return Outcome {
+            held: held,
+            answer: Answer::Refused(7),
+        };
+    }
+    if !is_lawful(design, cells, tables, marks, held) {
+        return Outcome {
+            held: held,
+            answer: Answer::Refused(12),
+        };
+    }
+    refer_lawful(design, cells, tables, marks, held, filling, value)
+}
+
+// DROP. The test for cause 12 (rows × rows × (unique columns and constraints) at most), then one reload.
+pub fn dropped(
+    design: Design,
+    cells: &[u32],
+    tables: &[u8],
+    marks: &mut [u8],
+    held: Held,
+    filling: u8,
+    value: u32,
+) -> Outcome
+    ensures { λ o. ⌜ Stepped (lent design (now (cells .entry)) (now (tables .entry)) (now (marks .entry)) held) (Runs.drop (pair filling value)) o (now (marks .exit)) ⌝ }
+{
+    if !is_long_enough(cells, tables, marks) {
+        return Outcome {
+            held: held,
+            answer: Answer::Refused(7),
+        };
+    }
+    if !is_lawful(design, cells, tables, marks, held) {
+        return Outcome {
+            held: held,
+            answer: Answer::Refused(12),
+        };
+    }
+    drop_lawful(design, cells, tables, marks, held, filling, value)
+}
+
+// PROBE. The test for cause 12 (rows × rows × (unique columns and constraints) at most), then rows for each constraint that ends at the column.
+pub fn probed(
+    design: Design,
+    cells: &[u32],
+    tables: &[u8],
+    marks: &[u8],
+    held: Held,
+    table: u8,
+    column: u8,
+    value: u32,
+) -> Answer
+    ensures { λ a. ⌜ answerOf a ≡ answerAt (lent design (now (cells .entry)) (now (tables .entry)) (now (marks .entry)) held)
+        (Runs.probe (record { table = table; place = column }) (cellOf value)) ⌝ }
+{
+    if !is_long_enough(cells, tables, marks) {
+        return Answer::Refused(7);
+    }
+    if !is_lawful(design, cells, tables, marks, held) {
+        return Answer::Refused(12);
+    }
+    probe_lawful(design, cells, tables, marks, held, table, column, value)
+}

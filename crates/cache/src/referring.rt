@@ -1,0 +1,70 @@
+// REFER over a sound state.
+ghost use mathlib.Core.Bool.{true};
+ghost use mathlib.Core.Path.{_≡_};
+ghost use Rattle.model.specs.Runs as Runs;
+ghost use Rattle.state.specs.Step.{lent, sound};
+ghost use Rattle.cache.specs.Places.{pair};
+ghost use Rattle.cache.specs.Stepped.{SoundStep};
+use crate::loads::load_value;
+use crate::outcome::Outcome;
+use crate::values::appended;
+use crate::values::listed;
+use lawful::is_candidate;
+use state::Answer;
+use state::Design;
+use state::Held;
+
+// Holds the value from now on and loads it, unless it is refused, no candidate, or held already. One look at each held value, then one load: the
+// rows that have the value, and rows × (constraints of its table) × rows at most, each row that is added being expanded once.
+pub fn refer_lawful(
+    design: Design,
+    cells: &[u32],
+    tables: &[u8],
+    marks: &mut [u8],
+    held: Held,
+    filling: u8,
+    value: u32,
+) -> Outcome
+    requires { ⌜ sound (lent design (now cells) (now tables) (now marks) held) ≡ true ⌝ }
+    ensures { λ o. ⌜ SoundStep (lent design (now (cells .entry)) (now (tables .entry)) (now (marks .entry)) held) (Runs.refer (pair filling value)) o (now (marks .exit)) ⌝ }
+{
+    let f = filling as usize;
+    if design.fillings <= f {
+        return Outcome {
+            held: held,
+            answer: Answer::Refused(5),
+        };
+    }
+    if value == 0 {
+        return Outcome {
+            held: held,
+            answer: Answer::Refused(9),
+        };
+    }
+    let candidates = design.filling[f];
+    if !is_candidate(candidates, value) {
+        return Outcome {
+            held: held,
+            answer: Answer::NoCandidate,
+        };
+    }
+    if listed(held, filling, value) {
+        return Outcome {
+            held: held,
+            answer: Answer::Held,
+        };
+    }
+    if Held::PLACES <= held.count {
+        return Outcome {
+            held: held,
+            answer: Answer::Refused(8),
+        };
+    }
+    let column = candidates.column;
+    let answer = load_value(design, cells, tables, marks, column, value);
+    let more = appended(held, filling, value);
+    Outcome {
+        held: more,
+        answer: answer,
+    }
+}

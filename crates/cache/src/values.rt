@@ -1,0 +1,107 @@
+// The held values as a record by value: looking for a pair, putting one at the end, and taking one out so that the gap closes.
+ghost use Prim.Native.Nat.{_<_, _≤_};
+ghost use mathlib.Core.List.{[], _∷_, _++_};
+ghost use mathlib.Core.Path.{_≡_};
+ghost use Rattle.model.specs.Runs as Runs;
+ghost use Rattle.model.specs.Runs.{samePair, remove};
+ghost use Rattle.state.specs.Meaning.{pairOf, pairsOf, heldOf};
+ghost use Rattle.cache.specs.Places.{pair, Tidy, placeOf, keptAt, without};
+use state::Held;
+use state::HeldValue;
+
+// Whether the held value is this pair. Constant time.
+fn is_pair(h: HeldValue, filling: u8, value: u32) -> bool
+    ensures { λ b. ⌜ b ≡ samePair (pairOf h) (pair filling value) ⌝ }
+{
+    if h.filling != filling {
+        return false;
+    }
+    if h.value == 0 {
+        return false;
+    }
+    h.value == value
+}
+
+// The place of the pair; the count where it isn't held. One look at each held value.
+fn place(held: Held, filling: u8, value: u32) -> usize
+    requires { ⌜ held .count ≤ 64 ⌝ }
+    ensures { λ i. ⌜ i ≡ placeOf (pair filling value) (pairsOf held) ⌝ }
+{
+    let n = held.count;
+    for i in 0..n {
+        if is_pair(held.values[i], filling, value) {
+            return i;
+        }
+    }
+    n
+}
+
+// Whether the pair is held. One look at each held value.
+pub fn listed(held: Held, filling: u8, value: u32) -> bool
+    requires { ⌜ held .count ≤ 64 ⌝ }
+    ensures { λ b. ⌜ b ≡ Runs.listed (pair filling value) (pairsOf held) ⌝ }
+{
+    place(held, filling, value) < held.count
+}
+
+// The record with the pair at the end. Constant time, and a copy of the record.
+pub fn appended(held: Held, filling: u8, value: u32) -> Held
+    requires { ⌜ Tidy held × (held .count < 64) ⌝ }
+    ensures { λ h. ⌜ h ≡ heldOf (pairsOf held ++ (pair filling value ∷ [])) ⌝ }
+{
+    let n = held.count;
+    let mut values = held.values;
+    values[n] = HeldValue {
+        filling: filling,
+        value: value,
+    };
+    Held {
+        count: n + 1,
+        values: values,
+    }
+}
+
+// What stands at place i once the value at place `gap` is gone. Constant time.
+fn kept(held: Held, gap: usize, i: usize) -> HeldValue
+    requires { ⌜ i < 64 ⌝ }
+    ensures { λ h. ⌜ h ≡ keptAt held gap i ⌝ }
+{
+    if i < gap {
+        return held.values[i];
+    }
+    if i + 1 < Held::PLACES {
+        return held.values[i + 1];
+    }
+    HeldValue {
+        filling: 0,
+        value: 0,
+    }
+}
+
+// The record without the value at place `gap`. One pass over the 64 places.
+fn closed(held: Held, gap: usize) -> Held
+    requires { ⌜ 0 < held .count ⌝ }
+    ensures { λ h. ⌜ h ≡ without held gap ⌝ }
+{
+    let mut values = held.values;
+    for i in 0..Held::PLACES {
+        let v = kept(held, gap, i);
+        values[i] = v;
+    }
+    Held {
+        count: held.count - 1,
+        values: values,
+    }
+}
+
+// The record without the pair: the gap closes. One look at each held value and one pass over the 64 places.
+pub fn removed(held: Held, filling: u8, value: u32) -> Held
+    requires { ⌜ Tidy held ⌝ }
+    ensures { λ h. ⌜ h ≡ heldOf (remove (pair filling value) (pairsOf held)) ⌝ }
+{
+    let gap = place(held, filling, value);
+    if held.count <= gap {
+        return held;
+    }
+    closed(held, gap)
+}
