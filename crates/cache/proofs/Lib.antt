@@ -10,3 +10,6 @@ pub mod Asked
 pub mod Answering
 pub mod Steps
 pub mod ProbeSteps
+pub mod Local
+pub mod Thin
+pub mod Owned

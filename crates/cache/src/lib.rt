@@ -1,5 +1,6 @@
 // The operations REFER, DROP and PROBE for whatever is lent, and the test for cause 12.
 mod dropping;
+mod lending;
 mod loads;
 mod operations;
 mod outcome;
@@ -9,6 +10,10 @@ mod tests;
 mod values;
 
 pub use dropping::drop_lawful;
+pub use lending::drop;
+pub use lending::drop_held;
+pub use lending::refer;
+pub use lending::refer_held;
 pub use operations::dropped;
 pub use operations::probed;
 pub use operations::referred;
