@@ -1,11 +1,11 @@
 -- The answers of REFER and DROP along the order of causes, and what each leaves of the cache. Assumes nothing.
 use Prim.Native.Nat.{ℕ}
 use mathlib.Core.Path.{_≡_, refl, sym, ap, _∙_}
-use mathlib.Core.Bool.{Bool, true, false, not, cond, _&&_}
-use mathlib.Core.List.{List, [], _∷_, _++_}
+use mathlib.Core.Bool.{Bool, true, false, not, _&&_}
+use mathlib.Core.List.{[], _∷_, _++_}
 use lib.Dec.{ltb}
 use lib.ListN.{length}
-use Rattle.finite.proofs.Bools.{clash, and-left, and-right, both, cond-true, cond-false}
+use Rattle.finite.proofs.Bools.{and-left, and-right, both, cond-true, cond-false}
 use Rattle.finite.specs.Finite.{count}
 use Rattle.model.specs.Cell.{Cell, isBlank}
 use Rattle.model.specs.Scheme.{Column, Scheme, isColumn, candidate}

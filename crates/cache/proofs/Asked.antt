@@ -15,7 +15,7 @@ use Rattle.state.specs.Lawful.{lawfulDesign, lawfulHeld}
 use Rattle.state.specs.Step.{State, longEnough, sound}
 use Rattle.lawful.proofs.Arrays.{Sized}
 use Rattle.lawful.proofs.DesignLaws.{column-says, design-says, in-range}
-use Rattle.lawful.proofs.HeldLaws.{held-says, held-count, held-filling}
+use Rattle.lawful.proofs.HeldLaws.{held-says, held-filling}
 use Rattle.cache.specs.Places.{Tidy}
 use Rattle.cache.proofs.SoundState.{long-parts, parts}
 

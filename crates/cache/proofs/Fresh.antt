@@ -1,12 +1,12 @@
 -- Caches whose marks are those of a reload: the smallest row set for their pairs. An operation keeps that. Assumes nothing.
 use Prim.Native.Nat.{ℕ}
-use mathlib.Core.Path.{_≡_, refl, sym, ap, subst, _∙_}
+use mathlib.Core.Path.{_≡_, refl, sym, subst}
 use mathlib.Core.Bool.{Bool, true, false, cond}
 use mathlib.Core.List.{List, [], _∷_, _++_}
 use Rattle.model.specs.Scheme.{Scheme}
 use Rattle.model.specs.Database.{Database}
 use Rattle.model.specs.Rounds.{reached}
-use Rattle.model.specs.Runs.{Pair, Operation, refer, drop, probe, listed, remove, taken, marks, marked, Cache, referLevels, reloadLevels, cacheAfter}
+use Rattle.model.specs.Runs.{Operation, refer, drop, probe, listed, taken, marks, Cache, reloadLevels, cacheAfter}
 use Rattle.model.proofs.Loads.{one-smallest}
 use Rattle.model.proofs.Marks.{marks-same}
 use Rattle.model.proofs.RunLaws.{Sound, refer-smallest, pairs-smallest, reload-sound}

@@ -4,23 +4,23 @@ use Prim.Native.Nat.{ℕ, _+_, _-_, _≤_, _<_}
 use native.Mathlib.Decide.{decLt}
 use native.Mathlib.Nat.{eq-or-lt-of-le}
 use native.Mathlib.Omega.{arith}
-use mathlib.Core.Path.{_≡_, refl, sym, ap, ap₂, _∙_}
-use mathlib.Core.Logic.{_⊎_, inl, inr, ⊎-elim}
+use mathlib.Core.Path.{_≡_, sym, ap, ap₂, _∙_}
+use mathlib.Core.Logic.{_⊎_, ⊎-elim}
 use mathlib.Core.List.{List, [], _∷_, _++_}
 use lib.Dec.{ltb}
 use lib.ListN.{length, getD, set, length-set, List·getD-eq-default}
-use lib.Seq.{ext-getD, getD-set-same, getD-set-other}
+use lib.Seq.{getD-set-same, getD-set-other}
 use Rattle.finite.specs.Finite.{tab}
 use Rattle.finite.proofs.Bools.{same-number}
-use Rattle.finite.proofs.Tables.{length-tab, tab-at, tab-of, tab-same}
+use Rattle.finite.proofs.Tables.{length-tab, tab-at, tab-of}
 use Rattle.model.specs.Runs.{Pair, listed, remove}
 use Rattle.state.specs.declared.held.HeldValue.{HeldValue}
 use Rattle.state.specs.declared.held.Held.{Held}
 use Rattle.state.specs.Held.{noValue, heldAt}
 use Rattle.state.specs.Meaning.{pairOf, pairsOf, heldOf}
 use Rattle.lawful.proofs.HeldLaws.{pairAt}
-use Rattle.cache.specs.Places.{pair, Tidy, placeOf, keptAt, without}
-use Rattle.cache.proofs.Pairs.{noPair, listed-place, end-length, end-before, end-last, end-past, skip, skip-before, skip-behind, skip-le, remove-none, remove-length, remove-at}
+use Rattle.cache.specs.Places.{Tidy, placeOf, keptAt, without}
+use Rattle.cache.proofs.Pairs.{noPair, listed-place, end-length, end-before, end-last, end-past, skip, remove-none, remove-length, remove-at}
 
 -- the value that stands for a pair
 abbrev pub valueOf : Pair → HeldValue

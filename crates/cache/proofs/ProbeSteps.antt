@@ -10,7 +10,7 @@ use Rattle.model.specs.Cell.{cellOf, isBlank}
 use Rattle.model.specs.Scheme.{Column, isColumn}
 use Rattle.model.specs.Runs.{heldIn, marked, probe}
 use Rattle.model.specs.Probe as Probe
-use Rattle.model.specs.Answers.{Answer, ground, sent, refused, orAnswer, groundOf}
+use Rattle.model.specs.Answers.{ground, sent, refused, orAnswer, groundOf}
 use Rattle.state.specs.Meaning.{pairsOf}
 use Rattle.state.specs.Step.{State, scheme, database, cache, sound, answerAt}
 use Rattle.cache.proofs.Answering.{probe-nowhere, probe-blank, probe-full}

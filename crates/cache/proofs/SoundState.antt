@@ -1,26 +1,22 @@
 -- Sound states: what `sound` says in parts, and that an operation leaves a sound state. Assumes nothing.
-use Prim.Native.Nat.{ℕ, _+_, _≤_, _<_}
+use Prim.Native.Nat.{ℕ, _+_, _≤_}
 use native.Mathlib.Omega.{arith}
 use mathlib.Core.Path.{_≡_, ap, ap₂, _∙_}
-use mathlib.Core.Bool.{Bool, true, false, not, cond, _&&_, and-eq-true-iff}
-use mathlib.Core.List.{List, [], _∷_, _++_}
-use borrow.Author.Tests.{le-leb, leb-true, eq-eqb, eqb-true, ltb-true, not-true}
-use lib.Dec.{eqb, leb, ltb}
+use mathlib.Core.Bool.{Bool, true, not, and-eq-true-iff}
+use mathlib.Core.List.{List, _++_}
+use borrow.Author.Tests.{le-leb, leb-true, eq-eqb, eqb-true}
+use lib.Dec.{leb}
 use lib.ListN.{length, getD, take, drop as past, length-append, List·getD-append}
 use lib.Seq.{getD-take, length-take-le}
 use Rattle.finite.proofs.Bools.{both, cond-true}
 use Rattle.finite.proofs.Search.{all-at, all-true}
-use Rattle.finite.proofs.Tables.{length-tab, tab-at, tab-of}
-use Rattle.model.specs.Scheme.{Scheme, candidate}
-use Rattle.model.specs.Database.{Database}
+use Rattle.finite.proofs.Tables.{tab-at, tab-of}
 use Rattle.model.specs.Answers.{unless, answer}
-use Rattle.model.specs.Rounds.{reached}
-use Rattle.model.specs.Runs.{Pair, Operation, refer, drop, probe, listed, remove, taken, places, heldAfter, marks, Cache, reloadLevels, cacheAfter}
+use Rattle.model.specs.Runs.{Operation, marks, Cache, cacheAfter}
 use Rattle.model.proofs.Marks.{length-marks}
 use Rattle.model.proofs.RunLaws.{step-pairs}
 use Rattle.state.specs.declared.design.Design.{Design}
 use Rattle.state.specs.declared.held.Held.{Held}
-use Rattle.state.specs.Design.{Backed}
 use Rattle.state.specs.Meaning.{schemeOf, databaseOf, pairsOf, heldOf, cacheOf}
 use Rattle.state.specs.Lawful.{lawfulDesign, lawfulRows, lawfulHeld, lawfulMarks}
 use Rattle.state.specs.Step.{State, lent, scheme, database, cache, longEnough, lawful, sound, stateAfter, answerAt, heldAfterAt, marksAfterAt}

@@ -1,8 +1,8 @@
 -- From the tests of the code to what an operation on a sound state answers and leaves. Assumes nothing.
 use Prim.Native.Nat.{ℕ, _≤_, _<_}
 use native.Mathlib.Omega.{arith}
-use mathlib.Core.Path.{_≡_, refl, sym, ap, ap₂, subst, _∙_}
-use mathlib.Core.Bool.{Bool, true, false, not, cond, _&&_, and-eq-true-iff}
+use mathlib.Core.Path.{_≡_, refl, sym, ap, ap₂, _∙_}
+use mathlib.Core.Bool.{Bool, true, false, not, _&&_}
 use mathlib.Core.List.{List, [], _∷_, _++_}
 use borrow.Author.Tests.{lt-ltb, le-ltb, eq-eqb, ne-eqb}
 use lib.Dec.{ltb}
@@ -11,15 +11,13 @@ use Rattle.finite.specs.Finite.{count}
 use Rattle.finite.proofs.Bools.{clash, refute, cond-false, and-left, and-right}
 use Rattle.finite.proofs.Counting.{count-same}
 use Rattle.finite.proofs.Tables.{length-tab}
-use Rattle.model.specs.Cell.{Cell, cellOf, isBlank}
+use Rattle.model.specs.Cell.{cellOf, isBlank}
 use Rattle.model.specs.Scheme.{candidate}
-use Rattle.model.specs.Database.{has}
-use Rattle.model.specs.Rounds.{reached, load, addedRows, laterRounds}
-use Rattle.model.specs.Runs.{Pair, Operation, refer, drop, listed, remove, places, marks, marked, Cache, referLevels, reloadLevels}
+use Rattle.model.specs.Rounds.{reached, addedRows, laterRounds}
+use Rattle.model.specs.Runs.{Operation, refer, drop, listed, remove, places, marks, marked, Cache, referLevels, reloadLevels}
 use Rattle.model.specs.Answers as Answers
 use Rattle.model.specs.Answers.{answer, unless, loaded, dropped}
 use Rattle.model.proofs.RoundsLaws.{load-same}
-use Rattle.state.specs.declared.design.Design.{Design}
 use Rattle.state.specs.declared.held.Held.{Held}
 use Rattle.state.specs.declared.answer.Answer.{Answer}
 use Rattle.state.specs.declared.answer.Answer.the-variants as A
@@ -31,7 +29,6 @@ use Rattle.state.specs.Step.{State, scheme, database, cache, longEnough, lawful
 use Rattle.lawful.proofs.DesignLaws.{low-full}
 use Rattle.lawful.proofs.HeldLaws.{PairsFit, held-count, held-filling, held-back, pairs-fit, pairs-back, fit-held}
 use Rattle.probe.proofs.GroundLaws.{marked-front}
-use Rattle.cache.specs.declared.outcome.Outcome.{Outcome}
 use Rattle.cache.specs.Places.{pair}
 use Rattle.cache.specs.Loads.{rowsOf, valueLevels, heldLevels, settled, goneRows}
 use Rattle.cache.specs.Stepped.{Stepped, SoundStep}

@@ -6,10 +6,10 @@ ghost use Rattle.state.specs.Meaning.{answerOf};
 ghost use Rattle.state.specs.Step.{lent, answerAt};
 ghost use Rattle.cache.specs.Places.{pair};
 ghost use Rattle.cache.specs.Stepped.{Stepped};
-use crate::dropping::drop_lawful;
+use crate::lending::drop_held;
+use crate::lending::refer_held;
 use crate::outcome::Outcome;
 use crate::probing::probe_lawful;
-use crate::referring::refer_lawful;
 use crate::tests::is_lawful;
 use crate::tests::is_long_enough;
 use state::Answer;
@@ -40,7 +40,7 @@ pub fn referred(
             answer: Answer::Refused(12),
         };
     }
-    refer_lawful(design, cells, tables, marks, held, filling, value)
+    refer_held(design, cells, tables, marks, held, filling, value)
 }
 
 // DROP. The test for cause 12 (rows × rows × (unique columns and constraints) at most), then one reload.
@@ -67,7 +67,7 @@ pub fn dropped(
             answer: Answer::Refused(12),
         };
     }
-    drop_lawful(design, cells, tables, marks, held, filling, value)
+    drop_held(design, cells, tables, marks, held, filling, value)
 }
 
 // PROBE. The test for cause 12 (rows × rows × (unique columns and constraints) at most), then rows for each constraint that ends at the column.

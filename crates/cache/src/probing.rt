@@ -3,7 +3,7 @@ ghost use mathlib.Core.Bool.{true};
 ghost use mathlib.Core.Path.{_≡_};
 ghost use Rattle.model.specs.Cell.{cellOf};
 ghost use Rattle.model.specs.Runs as Runs;
-ghost use Rattle.state.specs.Meaning.{columnOf, answerOf};
+ghost use Rattle.state.specs.Meaning.{answerOf};
 ghost use Rattle.state.specs.Step.{lent, sound, answerAt};
 use lawful::is_column;
 use probe::ground;

@@ -1,10 +1,6 @@
 -- `cache::loads::load_value` meets its contract: round 0, the later rounds, and what is read off the levels. Assumes nothing.
-use mathlib.Core.Path.{ap₂, ap, _∙_}
 use borrow.Author.Needs.{needs}
-use Rattle.model.specs.Answers as Answers
-use Rattle.model.specs.Rounds.{laterRounds}
-use Rattle.cache.specs.Loads.{rowsOf, valueLevels}
-use Rattle.cache.proofs.LoadLaws.{started-long, started-low, closed-is, closed-long, added-is, settled-is}
+use Rattle.cache.proofs.LoadLaws.{started-long, started-low, closed-is, closed-long, value-is, loaded-is, settled-is}
 use Rattle.cache.proofs.loads.load_value.Statement.{statement}
 use Rattle.cache.proofs.loads.load_value.Tie as tie
 
@@ -25,10 +21,10 @@ same-length : tie.Need-same-length
 same-length c = search needs
 
 returns : tie.Need-returns
-unfolding valueLevels
 returns c =
-    let L = closed-is (c .before .before .before .before .before .before .before .before .before .before .before .before .before .before .args .design) _ _ _ _ _ (c .before .before .before .before .before .before .before .before .before .start-value .ensures) _ (c .before .before .before .before .before .before .before .close .ensures .0) in
-    (ap₂ Answers.loaded (added-is (c .before .before .before .before .before .before .before .before .before .before .before .before .before .before .args .design) _ _ _ _ L _ (c .before .before .before .before .before .rows-added .ensures)) (c .before .before .before .before .before .before .before .close .ensures .1 ∙ ap (laterRounds _) L), settled-is (c .before .before .before .before .before .before .before .before .before .before .before .before .before .before .args .design) _ _ _ _ L _ _ (c .before .before .settle .ensures))
+    let L = value-is (c .before .before .before .before .before .before .before .before .before .before .before .before .before .before .args .design) _ _ _ _ _ _ (closed-is (c .before .before .before .before .before .before .before .before .before .before .before .before .before .before .args .design) _ _ _ _ _ (c .before .before .before .before .before .before .before .before .before .start-value .ensures) _ (c .before .before .before .before .before .before .before .close .ensures .0)) in
+    (loaded-is (c .before .before .before .before .before .before .before .before .before .before .before .before .before .before .args .design) _ _ _ _ L _ _ (c .before .before .before .before .before .rows-added .ensures) (c .before .before .before .before .before .before .before .close .ensures .1),
+    settled-is (c .before .before .before .before .before .before .before .before .before .before .before .before .before .before .args .design) _ _ _ _ L _ _ (c .before .before .settle .ensures))
 
 pub load-value-spec : {M : Type 1} → statement M
 load-value-spec =

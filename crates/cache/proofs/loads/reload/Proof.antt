@@ -1,8 +1,6 @@
 -- `cache::loads::reload` meets its contract: what is read off the levels. Assumes nothing.
-use mathlib.Core.Path.{ap}
 use borrow.Author.Needs.{needs}
-use Rattle.model.specs.Answers as Answers
-use Rattle.cache.proofs.LoadLaws.{gone-is, settled-is}
+use Rattle.cache.proofs.LoadLaws.{dropped-is, settled-is}
 use Rattle.cache.proofs.loads.reload.Statement.{statement}
 use Rattle.cache.proofs.loads.reload.Tie as tie
 
@@ -19,7 +17,9 @@ same-length : tie.Need-same-length
 same-length c = search needs
 
 returns : tie.Need-returns
-returns c = (ap Answers.dropped (gone-is (c .before .before .before .before .before .before .before .before .before .before .before .before .args .design) _ _ _ _ (c .before .before .before .before .before .before .before .before .reloaded .ensures) _ _ (c .before .before .before .before .before .rows-gone .ensures)), settled-is (c .before .before .before .before .before .before .before .before .before .before .before .before .args .design) _ _ _ _ (c .before .before .before .before .before .before .before .before .reloaded .ensures) _ _ (c .before .before .settle .ensures))
+returns c =
+    (dropped-is (c .before .before .before .before .before .before .before .before .before .before .before .before .args .design) _ _ _ _ (c .before .before .before .before .before .before .before .before .reloaded .ensures) _ _ (c .before .before .before .before .before .rows-gone .ensures),
+    settled-is (c .before .before .before .before .before .before .before .before .before .before .before .before .args .design) _ _ _ _ (c .before .before .before .before .before .before .before .before .reloaded .ensures) _ _ (c .before .before .settle .ensures))
 
 pub reload-spec : {M : Type 1} → statement M
 reload-spec =

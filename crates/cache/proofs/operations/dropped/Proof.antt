@@ -28,15 +28,15 @@ returns-2 : tie.Need-returns-2
 returns-2 c =
     stepped-unlawful _ _ (sym (c .before .before .before .before .is-long-enough .ensures _ _) ∙ not-false _ (c .before .before .before .if1 .left)) (sym (c .before .is-lawful .ensures) ∙ not-true _ (c .if2 .taken))
 
-drop-lawful-requires : tie.Need-drop-lawful-requires
-drop-lawful-requires c κs =
+drop-held-requires : tie.Need-drop-held-requires
+drop-held-requires c κs =
     both (sym (c .before .before .before .before .before .is-long-enough .ensures _ _) ∙ not-false _ (c .before .before .before .before .if1 .left)) (sym (c .before .before .is-lawful .ensures) ∙ not-false _ (c .before .if2 .left))
 
 same-length-3 : tie.Need-same-length-3
 same-length-3 c = search needs
 
 returns-3 : tie.Need-returns-3
-returns-3 c = c .before .before .drop-lawful .ensures .stepped
+returns-3 c = c .before .before .drop-held .ensures .stepped
 
 pub dropped-spec : {M : Type 1} → statement M
 dropped-spec =
@@ -48,6 +48,6 @@ dropped-spec =
     is-lawful-requires
     same-length-2
     returns-2
-    drop-lawful-requires
+    drop-held-requires
     same-length-3
     returns-3)

@@ -1,7 +1,6 @@
 -- `cache::values::closed` meets its contract: each place gets what stands there once the gap is closed. Assumes nothing.
 use Prim.Native.Nat.{_≤_, _-_}
 use native.Mathlib.Omega.{arith}
-use mathlib.Core.Path.{_≡_}
 use borrow.Author.Needs.{needs}
 use Rattle.finite.proofs.Tables.{Upto, upto-start, upto-set, upto-end}
 use Rattle.state.specs.Held.{noValue, heldAt}

@@ -1,9 +1,8 @@
 -- `probe::cached::seen` meets its contract: a search among the row numbers. Assumes nothing.
-use Prim.Native.Nat.{ℕ, _≤_, _-_}
+use Prim.Native.Nat.{_≤_, _-_}
 use native.Mathlib.Omega.{arith}
 use mathlib.Core.Path.{_≡_, sym, _∙_}
-use mathlib.Core.Bool.{Bool, false, _&&_}
-use mathlib.Core.List.{List}
+use mathlib.Core.Bool.{false, _&&_}
 use borrow.Author.Needs.{needs}
 use Rattle.finite.specs.Finite.{any}
 use Rattle.finite.proofs.Search.{any-start, any-more, any-hit, any-end}
