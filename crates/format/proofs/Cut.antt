@@ -1,0 +1,142 @@
+-- A lawful design cut after its first items: what its reader has made of it there. Places past the cut are 0. Assumes nothing.
+use Prim.Native.Nat.{ℕ, _+_, _*_, _-_, _/_, _%_, _≤_, _<_}
+use native.Mathlib.Nat.{div-add-mod, mod-lt}
+use native.Mathlib.Omega.{arith}
+use mathlib.Core.Path.{_≡_, refl, sym, ap, ap₂, subst, _∙_}
+use mathlib.Core.Bool.{Bool, true, false, cond, _&&_, and-eq-true-iff}
+use mathlib.Core.List.{List}
+use mathlib.Core.Logic.{_⊎_, ⊎-elim}
+use borrow.Author.Tests.{lt-ltb, le-ltb, ltb-true, ltb-false, eqb-true}
+use lib.Dec.{eqb, ltb}
+use lib.ListN.{length, getD, set, length-set}
+use lib.Seq.{sets, length-sets, getD-set-same, getD-set-other, ext-getD}
+use Rattle.finite.specs.Finite.{tab, all}
+use Rattle.finite.proofs.Bools.{dec, cond-true, cond-false}
+use Rattle.finite.proofs.Search.{all-at}
+use Rattle.finite.proofs.Tables.{tab-at, tab-of, tab-same, length-tab}
+use Rattle.model.specs.Cell.{cellOf, blank, isBlank}
+use Rattle.state.specs.declared.design.Table.{Table}
+use Rattle.state.specs.declared.design.Column.{Column}
+use Rattle.state.specs.declared.design.Constraint.{Constraint}
+use Rattle.state.specs.declared.design.Filling.{Filling}
+use Rattle.state.specs.declared.design.Design.{Design}
+use Rattle.state.specs.Design.{noTable, noColumn, noConstraint, noFilling, tableAt, constraintAt, fillingAt, emptyDesign}
+use Rattle.state.specs.Meaning.{schemeOf, databaseOf}
+use Rattle.state.specs.Lawful.{usedOr, tableFits, zeroTable, zeroColumn, constraintFits, zeroConstraint, fillingFits, zeroFilling, zeroRow}
+use Rattle.format.specs.Reading.{withTable, withConstraint, withFilling, withRows}
+use Rattle.format.proofs.ListLaws.{getD-sets-before, getD-sets-at, getD-sets-after}
+use Rattle.format.proofs.LawfulLaws.{Parts, RowParts, order, rowTest, unused}
+
+-- ---- lists cut after k elements: f up to there, then e
+
+abbrev pub cutList : {A : Type 0} → A → ℕ → ℕ → (ℕ → A) → List A
+cutList e n k f = tab n (λ i. cond (ltb i k) (f i) e)
+
+module _ {A : Type 0} (e : A) (n : ℕ) (f : ℕ → A) where
+  pub cut-at : (k i : ℕ) → i < n → i < k → getD (cutList e n k f) i e ≡ f i
+  cut-at k i l h = tab-at e n (λ j. cond (ltb j k) (f j) e) i l ∙ cond-true (ltb i k) (f i) e (lt-ltb i k h)
+
+  pub cut-none : tab n (λ _. e) ≡ cutList e n 0 f
+  cut-none = tab-same n (λ _. e) (λ i. cond (ltb i 0) (f i) e) (λ i l. sym (cond-false (ltb i 0) (f i) e (le-ltb i 0 (omega arith))))
+
+  pub cut-more : (k : ℕ) → k < n → set (cutList e n k f) k (f k) ≡ cutList e n (k + 1) f
+  cut-more k l =
+      tab-of e n (λ i. cond (ltb i (k + 1)) (f i) e) (set (cutList e n k f) k (f k)) (length-set (cutList e n k f) k (f k) ∙ length-tab n (λ i. cond (ltb i k) (f i) e))
+      (λ i h. ⊎-elim (λ (q : i < k). getD-set-other (cutList e n k f) k i (f k) e (λ (z : i ≡ k). omega arith) ∙ cut-at k i h q ∙ sym (cond-true (ltb i (k + 1)) (f i) e (lt-ltb i (k + 1) (omega arith))))
+      (λ (q : (i ≡ k) ⊎ (k < i)). ⊎-elim
+      (λ (z : i ≡ k). let b : k < length (cutList e n k f) = subst (λ (m : ℕ). k < m) (sym (length-tab n (λ i. cond (ltb i k) (f i) e))) l in
+      subst (λ (j : ℕ). getD (set (cutList e n k f) k (f k)) j e ≡ cond (ltb j (k + 1)) (f j) e) (sym z)
+      (getD-set-same (cutList e n k f) k (f k) e b ∙ sym (cond-true (ltb k (k + 1)) (f k) e (lt-ltb k (k + 1) (omega arith)))))
+      (λ (g : k < i). getD-set-other (cutList e n k f) k i (f k) e (λ (z : i ≡ k). omega arith) ∙ tab-at e n (λ j. cond (ltb j k) (f j) e) i h ∙
+      cond-false (ltb i k) (f i) e (le-ltb i k (omega arith)) ∙ sym (cond-false (ltb i (k + 1)) (f i) e (le-ltb i (k + 1) (omega arith)))) q)
+      (order i k))
+
+  pub cut-whole : (k : ℕ) (xs : List A) → length xs ≡ n → ((i : ℕ) → i < n → getD xs i e ≡ f i) → ((i : ℕ) → i < n → k ≤ i → f i ≡ e) → cutList e n k f ≡ xs
+  cut-whole k xs long g h =
+      sym (tab-of e n (λ i. cond (ltb i k) (f i) e) xs long
+      (λ i l. g i l ∙ ⊎-elim (λ (q : ltb i k ≡ true). sym (cond-true (ltb i k) (f i) e q))
+      (λ (q : ltb i k ≡ false). h i l (ltb-false i k q) ∙ sym (cond-false (ltb i k) (f i) e q)) (dec (ltb i k))))
+
+-- eight more elements
+pub cut-eight : (n : ℕ) (f : ℕ → ℕ) (r : ℕ) → 8 * r + 8 ≤ n → sets (cutList 0 n (8 * r) f) (8 * r) (tab 8 (λ c. f (8 * r + c))) ≡ cutList 0 n (8 * (r + 1)) f
+cut-eight n f r l =
+    let xs = cutList 0 n (8 * r) f in
+    let vs = tab 8 (λ c. f (8 * r + c)) in
+    let lx : length xs ≡ n = length-tab n (λ i. cond (ltb i (8 * r)) (f i) 0) in
+    let lv : length vs ≡ 8 = length-tab 8 (λ c. f (8 * r + c)) in
+    tab-of 0 n (λ i. cond (ltb i (8 * (r + 1))) (f i) 0) (sets xs (8 * r) vs) (length-sets xs (8 * r) vs ∙ lx)
+    (λ i h. ⊎-elim (λ (q : ltb i (8 * r) ≡ true). let b = ltb-true i (8 * r) q in
+    getD-sets-before vs xs (8 * r) i 0 b ∙ cut-at 0 n f (8 * r) i h b ∙ sym (cond-true (ltb i (8 * (r + 1))) (f i) 0 (lt-ltb i (8 * (r + 1)) (omega arith))))
+    (λ (q : ltb i (8 * r) ≡ false). let b = ltb-false i (8 * r) q in
+    ⊎-elim (λ (z : ltb i (8 * r + 8) ≡ true). let g = ltb-true i (8 * r + 8) z in
+    let j : 8 * r + (i - 8 * r) ≡ i = omega arith in
+    ap (λ (k : ℕ). getD (sets xs (8 * r) vs) k 0) (sym j) ∙ getD-sets-at vs xs (8 * r) (i - 8 * r) 0 (omega arith) (omega arith) ∙
+    tab-at 0 8 (λ c. f (8 * r + c)) (i - 8 * r) (omega arith) ∙ ap f j ∙ sym (cond-true (ltb i (8 * (r + 1))) (f i) 0 (lt-ltb i (8 * (r + 1)) (omega arith))))
+    (λ (z : ltb i (8 * r + 8) ≡ false). let g = ltb-false i (8 * r + 8) z in
+    getD-sets-after vs xs (8 * r) i 0 (omega arith) ∙ tab-at 0 n (λ j. cond (ltb j (8 * r)) (f j) 0) i h ∙ cond-false (ltb i (8 * r)) (f i) 0 q ∙
+    sym (cond-false (ltb i (8 * (r + 1))) (f i) 0 (le-ltb i (8 * (r + 1)) (omega arith))))
+    (dec (ltb i (8 * r + 8)))) (dec (ltb i (8 * r))))
+
+-- ---- what is 0
+
+zero-table : (t : Table) → zeroTable t ≡ true → t ≡ noTable
+unfolding zeroTable
+zero-table t h =
+    let x = and-eq-true-iff (eqb (t .columns) 0) (eqb (t .unique) 0) .0 h in
+    ap₂ (λ (a b : ℕ). let y : Table = record { columns = a; unique = b } in y) (eqb-true _ _ (x .0)) (eqb-true _ _ (x .1))
+
+zero-column : (k : Column) → zeroColumn k ≡ true → k ≡ noColumn
+unfolding zeroColumn
+zero-column k h =
+    let x = and-eq-true-iff (eqb (k .table) 0) (eqb (k .place) 0) .0 h in
+    ap₂ (λ (a b : ℕ). let y : Column = record { table = a; place = b } in y) (eqb-true _ _ (x .0)) (eqb-true _ _ (x .1))
+
+zero-constraint : (c : Constraint) → zeroConstraint c ≡ true → c ≡ noConstraint
+unfolding zeroConstraint
+zero-constraint c h =
+    let x = and-eq-true-iff (zeroColumn (c .source)) (zeroColumn (c .target)) .0 h in
+    ap₂ (λ (a b : Column). let y : Constraint = record { source = a; target = b } in y) (zero-column _ (x .0)) (zero-column _ (x .1))
+
+zero-filling : (f : Filling) → zeroFilling f ≡ true → f ≡ noFilling
+unfolding zeroFilling
+zero-filling f h =
+    let x = and-eq-true-iff (zeroColumn (f .column)) (eqb (f .low) 0 && eqb (f .high) 0) .0 h in
+    let y = and-eq-true-iff (eqb (f .low) 0) (eqb (f .high) 0) .0 (x .1) in
+    ap (λ (k : Column). let z : Filling = record { column = k; low = f .low; high = f .high } in z) (zero-column _ (x .0)) ∙
+    ap₂ (λ (a b : ℕ). let z : Filling = record { column = noColumn; low = a; high = b } in z) (eqb-true _ _ (y .0)) (eqb-true _ _ (y .1))
+
+-- a row that is 0, in the buffers
+zero-row : (n : ℕ) (cells tables : List ℕ) (r : ℕ) → zeroRow (databaseOf n cells tables) r ≡ true → (getD tables r 0 ≡ 0) × ((c : ℕ) → c < 8 → getD cells (8 * r + c) 0 ≡ 0)
+unfolding zeroRow databaseOf isBlank
+zero-row n cells tables r h =
+    let blanks = all 8 (λ c. isBlank (cond (ltb c 8) (cellOf (getD cells (8 * r + c) 0)) blank)) in
+    let x = and-eq-true-iff (eqb (getD tables r 0) 0) blanks .0 h in (
+      eqb-true _ _ (x .0),
+      λ c l. eqb-true _ _ (ap (λ (b : Bool). isBlank (cond b (cellOf (getD cells (8 * r + c) 0)) blank)) (sym (lt-ltb c 8 l)) ∙ all-at 8 (λ c. isBlank (cond (ltb c 8) (cellOf (getD cells (8 * r + c) 0)) blank)) (x .1) c l),
+    )
+
+-- ---- unused places of a lawful design with its rows
+
+module _ (d : Design) (p : Parts d) where
+  pub unused-table : (i : ℕ) → i < 8 → d .tables ≤ i → tableAt d i ≡ noTable
+  unused-table i l h = zero-table (tableAt d i) (sym (unused i (d .tables) (tableFits (tableAt d i)) (zeroTable (tableAt d i)) h) ∙ p .table i l)
+
+  pub unused-constraint : (i : ℕ) → i < 16 → d .constraints ≤ i → constraintAt d i ≡ noConstraint
+  unused-constraint i l h =
+      zero-constraint (constraintAt d i) (sym (unused i (d .constraints) (constraintFits d i (constraintAt d i)) (zeroConstraint (constraintAt d i)) h) ∙ p .constraint i l)
+
+  pub unused-filling : (i : ℕ) → i < 8 → d .fillings ≤ i → fillingAt d i ≡ noFilling
+  unused-filling i l h = zero-filling (fillingAt d i) (sym (unused i (d .fillings) (fillingFits d i (fillingAt d i)) (zeroFilling (fillingAt d i)) h) ∙ p .filling i l)
+
+module _ (d : Design) (cells tables : List ℕ) (p : RowParts d cells tables) where
+  row-zero : (r : ℕ) → r < 512 → d .rows ≤ r → zeroRow (databaseOf (d .rows) cells tables) r ≡ true
+  row-zero r l h =
+      sym (unused r (d .rows) (rowTest (schemeOf d) (databaseOf (d .rows) cells tables) r) (zeroRow (databaseOf (d .rows) cells tables) r) h) ∙ p .row r l
+
+  pub unused-member : (r : ℕ) → r < 512 → d .rows ≤ r → getD tables r 0 ≡ 0
+  unused-member r l h = zero-row (d .rows) cells tables r (row-zero r l h) .0
+
+  pub unused-cell : (i : ℕ) → i < 4096 → 8 * d .rows ≤ i → getD cells i 0 ≡ 0
+  unused-cell i l h =
+      let e : 8 * (i / 8) + i % 8 ≡ i = div-add-mod i 8 in
+      ap (λ (k : ℕ). getD cells k 0) (sym e) ∙ zero-row (d .rows) cells tables (i / 8) (row-zero (i / 8) (omega arith) (omega arith)) .1 (i % 8) (omega arith)

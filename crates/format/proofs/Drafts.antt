@@ -1,0 +1,207 @@
+-- The drafts that the reader of a lawful design goes through: the first k items of a kind behind all items of the kinds before. Each item passes
+-- its test on the draft that it meets. Assumes nothing.
+use Prim.Native.Nat.{ℕ, _+_, _*_, _≤_, _<_}
+use native.Mathlib.Omega.{arith}
+use mathlib.Core.Path.{_≡_, refl, sym, ap, ap₂, subst, _∙_}
+use mathlib.Core.Bool.{Bool, true, _&&_}
+use mathlib.Core.List.{List}
+use lib.ListN.{length, getD, set}
+use lib.Seq.{sets}
+use Rattle.finite.specs.Finite.{tab}
+use Rattle.finite.proofs.Tables.{tab-same}
+use Rattle.model.specs.Scheme.{Scheme}
+use Rattle.model.specs.Database.{Database}
+use Rattle.state.specs.declared.design.Table.{Table}
+use Rattle.state.specs.declared.design.Constraint.{Constraint}
+use Rattle.state.specs.declared.design.Filling.{Filling}
+use Rattle.state.specs.declared.design.Design.{Design}
+use Rattle.state.specs.Design.{noTable, noConstraint, noFilling, tableAt, constraintAt, fillingAt, emptyDesign}
+use Rattle.state.specs.Meaning.{schemeOf, databaseOf}
+use Rattle.state.specs.Lawful.{usedOr, tableFits, zeroTable, constraintFits, zeroConstraint, fillingFits, zeroFilling, zeroRow}
+use Rattle.format.specs.Commands.{rowCellAt}
+use Rattle.format.specs.Reading.{Draft, emptyDraft, redesigned, withTable, withConstraint, withFilling, withRows, withRow}
+use Rattle.format.proofs.LawfulLaws.{Parts, RowParts, SameRow, rowTest, used, constraint-fits-same, filling-fits-same, same-row, live-same, row-test-same}
+use Rattle.format.proofs.Cut.{cutList, cut-at, cut-none, cut-more, cut-whole, cut-eight, unused-table, unused-constraint, unused-filling, unused-member, unused-cell}
+use Rattle.format.proofs.TakenLaws.{TookTable, TookConstraint, TookFilling, TookRow}
+use Rattle.format.proofs.Reached.{Sizes}
+
+abbrev noCells : List ℕ
+noCells = tab 4096 (λ _. 0)
+
+abbrev noMembers : List ℕ
+noMembers = tab 512 (λ _. 0)
+
+-- the first k tables; all tables and the first k constraints; all constraints too and the first k fillings; all of these and the first k rows
+unfoldable pub withTables : Design → ℕ → Draft
+withTables d k =
+    record {
+      design = record {
+        tables = k;
+        table = cutList noTable 8 k (tableAt d);
+        constraints = 0;
+        constraint = tab 16 (λ _. noConstraint);
+        fillings = 0;
+        filling = tab 8 (λ _. noFilling);
+        rows = 0;
+      };
+      cells = noCells;
+      tables = noMembers;
+    }
+
+unfoldable pub withConstraints : Design → ℕ → Draft
+withConstraints d k =
+    record {
+      design = record {
+        tables = d .tables;
+        table = d .table;
+        constraints = k;
+        constraint = cutList noConstraint 16 k (constraintAt d);
+        fillings = 0;
+        filling = tab 8 (λ _. noFilling);
+        rows = 0;
+      };
+      cells = noCells;
+      tables = noMembers;
+    }
+
+unfoldable pub withFillings : Design → ℕ → Draft
+withFillings d k =
+    record {
+      design = record {
+        tables = d .tables;
+        table = d .table;
+        constraints = d .constraints;
+        constraint = d .constraint;
+        fillings = k;
+        filling = cutList noFilling 8 k (fillingAt d);
+        rows = 0;
+      };
+      cells = noCells;
+      tables = noMembers;
+    }
+
+unfoldable pub withAllRows : Design → List ℕ → List ℕ → ℕ → Draft
+withAllRows d cells tables k =
+    record {
+      design = withRows d k;
+      cells = cutList 0 4096 (8 * k) (λ i. getD cells i 0);
+      tables = cutList 0 512 k (λ i. getD tables i 0);
+    }
+
+-- ---- from one kind to the next
+
+pub draft-start : (d : Design) → emptyDraft ≡ withTables d 0
+unfolding emptyDraft emptyDesign withTables
+draft-start d =
+    ap (λ (l : List Table). let x : Draft = record { design = record { tables = 0; table = l; constraints = 0; constraint = tab 16 (λ _. noConstraint); fillings = 0; filling = tab 8 (λ _. noFilling); rows = 0 }; cells = noCells; tables = noMembers } in x)
+    (cut-none noTable 8 (tableAt d))
+
+module _ (d : Design) (p : Parts d) (z : length (d .table) ≡ 8) (y : length (d .constraint) ≡ 16) (x : length (d .filling) ≡ 8) where
+  pub all-tables : withTables d (d .tables) ≡ withConstraints d 0
+  unfolding withTables withConstraints
+  all-tables =
+      ap₂ (λ (l : List Table) (m : List Constraint). let r : Draft = record { design = record { tables = d .tables; table = l; constraints = 0; constraint = m; fillings = 0; filling = tab 8 (λ _. noFilling); rows = 0 }; cells = noCells; tables = noMembers } in r)
+      (cut-whole noTable 8 (tableAt d) (d .tables) (d .table) z (λ i l. refl) (unused-table d p)) (cut-none noConstraint 16 (constraintAt d))
+
+  pub all-constraints : withConstraints d (d .constraints) ≡ withFillings d 0
+  unfolding withConstraints withFillings
+  all-constraints =
+      ap₂ (λ (l : List Constraint) (m : List Filling). let r : Draft = record { design = record { tables = d .tables; table = d .table; constraints = d .constraints; constraint = l; fillings = 0; filling = m; rows = 0 }; cells = noCells; tables = noMembers } in r)
+      (cut-whole noConstraint 16 (constraintAt d) (d .constraints) (d .constraint) y (λ i l. refl) (unused-constraint d p)) (cut-none noFilling 8 (fillingAt d))
+
+  pub all-fillings : (cells tables : List ℕ) → withFillings d (d .fillings) ≡ withAllRows d cells tables 0
+  unfolding withFillings withAllRows withRows
+  all-fillings cells tables =
+      ap (λ (l : List Filling). let r : Draft = record { design = record { tables = d .tables; table = d .table; constraints = d .constraints; constraint = d .constraint; fillings = d .fillings; filling = l; rows = 0 }; cells = noCells; tables = noMembers } in r)
+      (cut-whole noFilling 8 (fillingAt d) (d .fillings) (d .filling) x (λ i l. refl) (unused-filling d p)) ∙
+      ap₂ (λ (l m : List ℕ). let r : Draft = record { design = withRows d 0; cells = l; tables = m } in r)
+      (cut-none 0 4096 (λ i. getD cells i 0)) (cut-none 0 512 (λ i. getD tables i 0))
+
+pub all-rows : (d : Design) (cells tables : List ℕ) → RowParts d cells tables → length cells ≡ 4096 → length tables ≡ 512
+    → withAllRows d cells tables (d .rows) ≡ record { design = d; cells = cells; tables = tables }
+unfolding withAllRows withRows
+all-rows d cells tables p a b =
+    ap₂ (λ (l m : List ℕ). let r : Draft = record { design = d; cells = l; tables = m } in r)
+    (cut-whole 0 4096 (λ i. getD cells i 0) (8 * d .rows) cells a (λ i l. refl) (unused-cell d cells tables p))
+    (cut-whole 0 512 (λ i. getD tables i 0) (d .rows) tables b (λ i l. refl) (unused-member d cells tables p))
+
+-- ---- each item is taken
+
+module _ (d : Design) (p : Parts d) (k : ℕ) where
+  pub next-table : k < d .tables → TookTable (withTables d k) (withTables d (k + 1)) (tableAt d k)
+  unfolding withTables withTable
+  next-table l =
+      let h = p .tables in
+      record {
+        constraints = refl;
+        fillings = refl;
+        rows = refl;
+        room = omega arith;
+        fits = sym (used k (d .tables) (tableFits (tableAt d k)) (zeroTable (tableAt d k)) l) ∙ p .table k (omega arith);
+        is =
+            ap (λ (m : List Table). let x : Draft = record { design = record { tables = k + 1; table = m; constraints = 0; constraint = tab 16 (λ _. noConstraint); fillings = 0; filling = tab 8 (λ _. noFilling); rows = 0 }; cells = noCells; tables = noMembers } in x)
+            (cut-more noTable 8 (tableAt d) k (omega arith));
+      }
+
+  pub next-constraint : k < d .constraints → TookConstraint (withConstraints d k) (withConstraints d (k + 1)) (constraintAt d k)
+  unfolding withConstraints withConstraint
+  next-constraint l =
+      let h = p .constraints in
+      record {
+        fillings = refl;
+        rows = refl;
+        room = omega arith;
+        fits =
+            constraint-fits-same (withConstraints d k .design) d refl (λ t. refl) k (constraintAt d k) (λ i g. cut-at noConstraint 16 (constraintAt d) k i (omega arith) g) ∙
+            sym (used k (d .constraints) (constraintFits d k (constraintAt d k)) (zeroConstraint (constraintAt d k)) l) ∙ p .constraint k (omega arith);
+        is =
+            ap (λ (m : List Constraint). let x : Draft = record { design = record { tables = d .tables; table = d .table; constraints = k + 1; constraint = m; fillings = 0; filling = tab 8 (λ _. noFilling); rows = 0 }; cells = noCells; tables = noMembers } in x)
+            (cut-more noConstraint 16 (constraintAt d) k (omega arith));
+      }
+
+  pub next-filling : k < d .fillings → TookFilling (withFillings d k) (withFillings d (k + 1)) (fillingAt d k)
+  unfolding withFillings withFilling
+  next-filling l =
+      let h = p .fillings in
+      record {
+        rows = refl;
+        room = omega arith;
+        fits =
+            filling-fits-same (withFillings d k .design) d refl (λ t. refl) k (fillingAt d k) (λ i g. cut-at noFilling 8 (fillingAt d) k i (omega arith) g) ∙
+            sym (used k (d .fillings) (fillingFits d k (fillingAt d k)) (zeroFilling (fillingAt d k)) l) ∙ p .filling k (omega arith);
+        is =
+            ap (λ (m : List Filling). let x : Draft = record { design = record { tables = d .tables; table = d .table; constraints = d .constraints; constraint = d .constraint; fillings = k + 1; filling = m; rows = 0 }; cells = noCells; tables = noMembers } in x)
+            (cut-more noFilling 8 (fillingAt d) k (omega arith));
+      }
+
+-- the ROW at place i of a script has row k's table and cells
+module _ (d : Design) (cells tables : List ℕ) (rows : RowParts d cells tables) (most : d .rows ≤ 512) (k : ℕ) (l : k < d .rows) (s : List ℕ) (i t : ℕ)
+    (member : t ≡ getD tables k 0) (cell : (c : ℕ) → c < 8 → rowCellAt s i c ≡ getD cells (8 * k + c) 0) where
+  put : withRow (withAllRows d cells tables k) s i t ≡ withAllRows d cells tables (k + 1)
+  unfolding withRow withAllRows withRows
+  put =
+      ap₂ (λ (m n : List ℕ). let x : Draft = record { design = withRows d (k + 1); cells = m; tables = n } in x)
+      (ap (sets (cutList 0 4096 (8 * k) (λ j. getD cells j 0)) (8 * k)) (tab-same 8 (rowCellAt s i) (λ c. getD cells (8 * k + c) 0) cell) ∙ cut-eight 4096 (λ j. getD cells j 0) k (omega arith))
+      (ap (set (cutList 0 512 k (λ j. getD tables j 0)) k) member ∙ cut-more 0 512 (λ j. getD tables j 0) k (omega arith))
+
+  same : (r : ℕ) → r ≤ k → SameRow (databaseOf (k + 1) (cutList 0 4096 (8 * (k + 1)) (λ j. getD cells j 0)) (cutList 0 512 (k + 1) (λ j. getD tables j 0))) (databaseOf (d .rows) cells tables) r
+  same r h =
+      same-row (k + 1) (d .rows) _ cells _ tables r (cut-at 0 512 (λ j. getD tables j 0) (k + 1) r (omega arith) (omega arith))
+      (λ c g. cut-at 0 4096 (λ j. getD cells j 0) (8 * (k + 1)) (8 * r + c) (omega arith) (omega arith))
+
+  tested : rowTest (schemeOf (withAllRows d cells tables (k + 1) .design)) (databaseOf (withAllRows d cells tables (k + 1) .design .rows) (withAllRows d cells tables (k + 1) .cells) (withAllRows d cells tables (k + 1) .tables)) k ≡ true
+  unfolding withAllRows withRows schemeOf
+  tested =
+      let D : Database = databaseOf (d .rows) cells tables in
+      row-test-same (schemeOf d) _ D k (same k (omega arith)) (λ q h. same q (omega arith))
+      (λ q h. live-same (k + 1) (d .rows) _ cells _ tables q (omega arith) (omega arith)) ∙
+      sym (used k (d .rows) (rowTest (schemeOf d) D k) (zeroRow D k) l) ∙ rows .row k (omega arith)
+
+  pub next-row : TookRow (withAllRows d cells tables k) (withRow (withAllRows d cells tables k) s i t) (withAllRows d cells tables (k + 1))
+  unfolding withAllRows withRows
+  next-row =
+      record {
+        room = omega arith;
+        fits = subst (λ (x : Draft). rowTest (schemeOf (x .design)) (databaseOf (x .design .rows) (x .cells) (x .tables)) k ≡ true) (sym put) tested;
+        is = put;
+      }

@@ -1,0 +1,180 @@
+-- A lawful design place by place, and what the test of an item looks at: only what stands before the item. Assumes nothing.
+use Prim.Native.Nat.{ℕ, suc, _+_, _*_, _≤_, _<_}
+use native.Mathlib.Nat.{eq-or-lt-of-le}
+use native.Mathlib.Omega.{arith}
+use mathlib.Core.Path.{_≡_, refl, sym, ap, ap₂, _∙_}
+use mathlib.Core.Bool.{Bool, true, false, not, cond, _&&_, _||_, and-eq-true-iff}
+use mathlib.Core.Logic.{_⊎_, inl, inr, ⊎-elim}
+use mathlib.Core.List.{List}
+use borrow.Author.Tests.{lt-ltb, le-ltb, ltb-true, ltb-false, leb-true, le-leb}
+use lib.Dec.{eqb, leb, ltb}
+use lib.ListN.{getD}
+use Rattle.finite.specs.Finite.{any, all}
+use Rattle.finite.proofs.Bools.{dec, both, cond-true, cond-false}
+use Rattle.finite.proofs.Search.{any-same, all-same, all-at, all-true}
+use Rattle.model.specs.Cell.{Cell, cellOf, blank, isBlank, equal}
+use Rattle.model.specs.Scheme as Model
+use Rattle.model.specs.Scheme.{isColumn, sameColumn, Scheme}
+use Rattle.model.specs.Database.{Database, has}
+use Rattle.state.specs.declared.design.Constraint.{Constraint}
+use Rattle.state.specs.declared.design.Filling.{Filling}
+use Rattle.state.specs.declared.design.Design.{Design}
+use Rattle.state.specs.Design.{tableAt, constraintAt, fillingAt}
+use Rattle.state.specs.Meaning.{columnOf, schemeOf, databaseOf}
+use Rattle.state.specs.Lawful.{usedOr, tableFits, zeroTable, sameConstraint, constraintFits, zeroConstraint, fillingFits, zeroFilling, countsFit, lawfulDesign, rowFits, repeatsAt, repeats, zeroRow, lawfulRows}
+
+-- ---- a place that is used, and one that is not
+
+pub order : (i n : ℕ) → (i < n) ⊎ ((i ≡ n) ⊎ (n < i))
+order i n = ⊎-elim (λ (e : ltb i n ≡ true). inl (ltb-true i n e)) (λ (e : ltb i n ≡ false). inr (later (eq-or-lt-of-le (ltb-false i n e)))) (dec (ltb i n))
+  where
+    later : (n ≡ i) ⊎ (n < i) → (i ≡ n) ⊎ (n < i)
+    later (inl e) = inl (sym e)
+    later (inr l) = inr l
+
+pub used : (i n : ℕ) (a b : Bool) → i < n → usedOr i n a b ≡ a
+used i n a b h = cond-true (ltb i n) a b (lt-ltb i n h)
+
+pub unused : (i n : ℕ) (a b : Bool) → n ≤ i → usedOr i n a b ≡ b
+unused i n a b h = cond-false (ltb i n) a b (le-ltb i n h)
+
+-- no place is used: what the test of a used place says does not matter
+pub none-used : (i n : ℕ) (a b c : Bool) → n ≡ 0 → usedOr i n a c ≡ true → usedOr i n b c ≡ true
+none-used i n a b c e h = unused i n b c (omega arith) ∙ sym (unused i n a c (omega arith)) ∙ h
+
+-- one more place of m is used: the n before it are tested as they were, it passes its test, and those behind it are as they were
+module _ (m n : ℕ) (test test′ empty empty′ : ℕ → Bool) where
+  pub one-more : ((i : ℕ) → i < m → usedOr i n (test i) (empty i) ≡ true) → ((i : ℕ) → i < n → test′ i ≡ test i) → test′ n ≡ true
+      → ((i : ℕ) → n < i → i < m → empty′ i ≡ empty i) → (i : ℕ) → i < m → usedOr i (n + 1) (test′ i) (empty′ i) ≡ true
+  one-more h a b c i l =
+      ⊎-elim (λ (q : i < n). used i (n + 1) (test′ i) (empty′ i) (omega arith) ∙ a i q ∙ sym (used i n (test i) (empty i) q) ∙ h i l)
+      (λ (q : (i ≡ n) ⊎ (n < i)). ⊎-elim (λ (e : i ≡ n). used i (n + 1) (test′ i) (empty′ i) (omega arith) ∙ ap test′ e ∙ b)
+      (λ (k : n < i). unused i (n + 1) (test′ i) (empty′ i) (omega arith) ∙ c i k l ∙ sym (unused i n (test i) (empty i) (omega arith)) ∙ h i l) q)
+      (order i n)
+
+-- ---- a lawful design, place by place
+
+pub record Parts (d : Design) : Type 0 where
+  pub tables : d .tables ≤ 8
+  pub constraints : d .constraints ≤ 16
+  pub fillings : d .fillings ≤ 8
+  pub rows : d .rows ≤ 512
+  pub table : (i : ℕ) → i < 8 → usedOr i (d .tables) (tableFits (tableAt d i)) (zeroTable (tableAt d i)) ≡ true
+  pub constraint : (i : ℕ) → i < 16 → usedOr i (d .constraints) (constraintFits d i (constraintAt d i)) (zeroConstraint (constraintAt d i)) ≡ true
+  pub filling : (i : ℕ) → i < 8 → usedOr i (d .fillings) (fillingFits d i (fillingAt d i)) (zeroFilling (fillingAt d i)) ≡ true
+
+pub parts : (d : Design) → lawfulDesign d ≡ true → Parts d
+unfolding lawfulDesign countsFit
+parts d h =
+    let ts = all 8 (λ i. usedOr i (d .tables) (tableFits (tableAt d i)) (zeroTable (tableAt d i))) in
+    let cs = all 16 (λ i. usedOr i (d .constraints) (constraintFits d i (constraintAt d i)) (zeroConstraint (constraintAt d i))) in
+    let fs = all 8 (λ i. usedOr i (d .fillings) (fillingFits d i (fillingAt d i)) (zeroFilling (fillingAt d i))) in
+    let a = and-eq-true-iff (countsFit d) (ts && (cs && fs)) .0 h in
+    let b = and-eq-true-iff ts (cs && fs) .0 (a .1) in
+    let c = and-eq-true-iff cs fs .0 (b .1) in
+    let n = and-eq-true-iff (leb (d .tables) 8) (leb (d .constraints) 16 && (leb (d .fillings) 8 && leb (d .rows) 512)) .0 (a .0) in
+    let o = and-eq-true-iff (leb (d .constraints) 16) (leb (d .fillings) 8 && leb (d .rows) 512) .0 (n .1) in
+    let q = and-eq-true-iff (leb (d .fillings) 8) (leb (d .rows) 512) .0 (o .1) in
+    record {
+      tables = leb-true _ _ (n .0);
+      constraints = leb-true _ _ (o .0);
+      fillings = leb-true _ _ (q .0);
+      rows = leb-true _ _ (q .1);
+      table = all-at 8 _ (b .0);
+      constraint = all-at 16 _ (c .0);
+      filling = all-at 8 _ (c .1);
+    }
+
+pub whole : (d : Design) → Parts d → lawfulDesign d ≡ true
+unfolding lawfulDesign countsFit
+whole d p =
+    both (both (le-leb _ _ (p .tables)) (both (le-leb _ _ (p .constraints)) (both (le-leb _ _ (p .fillings)) (le-leb _ _ (p .rows)))))
+    (both (all-true 8 _ (p .table)) (both (all-true 16 _ (p .constraint)) (all-true 8 _ (p .filling))))
+
+-- ---- what the tests of constraints and fillings look at
+
+module _ (d e : Design) (counts : d .tables ≡ e .tables) (tables : (t : ℕ) → tableAt d t ≡ tableAt e t) where
+  pub column-same : (k : Model.Column) → isColumn (schemeOf d) k ≡ isColumn (schemeOf e) k
+  unfolding isColumn schemeOf
+  column-same k = ap₂ (λ n t. ltb (k .table) n && ltb (k .place) (t .columns)) counts (tables (k .table))
+
+  pub constraint-fits-same : (n : ℕ) (c : Constraint) → ((i : ℕ) → i < n → constraintAt d i ≡ constraintAt e i) → constraintFits d n c ≡ constraintFits e n c
+  unfolding constraintFits
+  constraint-fits-same n c h =
+      ap₂ _&&_ (column-same (columnOf (c .source)))
+      (ap₂ _&&_ (column-same (columnOf (c .target))) (ap not (any-same n _ _ (λ i l. ap (λ x. sameConstraint x c) (h i l)))))
+
+  pub filling-fits-same : (n : ℕ) (f : Filling) → ((i : ℕ) → i < n → fillingAt d i ≡ fillingAt e i) → fillingFits d n f ≡ fillingFits e n f
+  unfolding fillingFits
+  filling-fits-same n f h =
+      ap₂ _&&_ (column-same (columnOf (f .column)))
+      (ap (λ (b : Bool). leb 1 (f .low) && (leb (f .low) (f .high) && not b))
+      (any-same n _ _ (λ i l. ap (λ x. sameColumn (columnOf (x .column)) (columnOf (f .column))) (h i l))))
+
+-- ---- lawful rows, row by row
+
+-- row r is tested and passes, or is unused and 0
+abbrev pub rowTest : Scheme → Database → ℕ → Bool
+rowTest S D r = rowFits S D r && not (repeats S D r)
+
+pub record RowParts (d : Design) (cells tables : List ℕ) : Type 0 where
+  pub row : (r : ℕ) → r < 512 → usedOr r (d .rows) (rowTest (schemeOf d) (databaseOf (d .rows) cells tables) r) (zeroRow (databaseOf (d .rows) cells tables) r) ≡ true
+
+pub row-parts : (d : Design) (cells tables : List ℕ) → lawfulRows d cells tables ≡ true → RowParts d cells tables
+unfolding lawfulRows
+row-parts d cells tables h = record { row = all-at 512 _ h }
+
+pub whole-rows : (d : Design) (cells tables : List ℕ) → RowParts d cells tables → lawfulRows d cells tables ≡ true
+unfolding lawfulRows
+whole-rows d cells tables p = all-true 512 _ (p .row)
+
+-- ---- what the tests of a row look at
+
+-- the two databases have one row under number r
+pub record SameRow (D E : Database) (r : ℕ) : Type 0 where
+  pub table : D .table r ≡ E .table r
+  pub cell : (c : ℕ) → D .cell r c ≡ E .cell r c
+
+pub same-row : (m n : ℕ) (cells cells′ tables tables′ : List ℕ) (r : ℕ) → getD tables r 0 ≡ getD tables′ r 0
+    → ((c : ℕ) → c < 8 → getD cells (8 * r + c) 0 ≡ getD cells′ (8 * r + c) 0) → SameRow (databaseOf m cells tables) (databaseOf n cells′ tables′) r
+unfolding databaseOf
+same-row m n cells cells′ tables tables′ r t h = record { table = t; cell = λ c. go c (ltb c 8) (λ e. h c (ltb-true c 8 e)) refl }
+  where
+    go : (c : ℕ) (b : Bool) → (b ≡ true → getD cells (8 * r + c) 0 ≡ getD cells′ (8 * r + c) 0) → ltb c 8 ≡ b
+        → cond (ltb c 8) (cellOf (getD cells (8 * r + c) 0)) blank ≡ cond (ltb c 8) (cellOf (getD cells′ (8 * r + c) 0)) blank
+    go c true g e = ap (λ (x : ℕ). cond (ltb c 8) (cellOf x) blank) (g refl)
+    go c false g e = cond-false (ltb c 8) (cellOf (getD cells (8 * r + c) 0)) blank e ∙ sym (cond-false (ltb c 8) (cellOf (getD cells′ (8 * r + c) 0)) blank e)
+
+pub live-same : (m n : ℕ) (cells cells′ tables tables′ : List ℕ) (r : ℕ) → r < m → r < n → databaseOf m cells tables .live r ≡ databaseOf n cells′ tables′ .live r
+unfolding databaseOf
+live-same m n cells cells′ tables tables′ r h k = ap (λ (b : Bool). ltb r 512 && b) (lt-ltb r m h ∙ sym (lt-ltb r n k))
+
+module _ (S : Scheme) (D E : Database) (r : ℕ) (same : SameRow D E r) where
+  pub row-fits-same : rowFits S D r ≡ rowFits S E r
+  unfolding rowFits
+  row-fits-same =
+      ap₂ _&&_ (ap (λ (t : ℕ). ltb t (S .tables)) (same .table))
+      (all-same 8 _ _ (λ c l. ap₂ (λ t v. ltb c (S .columns t) || isBlank v) (same .table) (same .cell c)))
+
+  pub zero-row-same : zeroRow D r ≡ zeroRow E r
+  unfolding zeroRow
+  zero-row-same = ap₂ _&&_ (ap (λ (t : ℕ). eqb t 0) (same .table)) (all-same 8 _ _ (λ c l. ap isBlank (same .cell c)))
+
+  module _ (before : (q : ℕ) → q < r → SameRow D E q) (live : (q : ℕ) → q < r → D .live q ≡ E .live q) where
+    has-same : (k : Model.Column) (v : Cell) (q : ℕ) → q < r → has D k v q ≡ has E k v q
+    unfolding has
+    has-same k v q l =
+        ap₂ _&&_ (live q l) (ap₂ (λ t x. eqb t (k .table) && equal x v) (before q l .table) (before q l .cell (k .place)))
+
+    repeats-at-same : (c : ℕ) → repeatsAt S D r c ≡ repeatsAt S E r c
+    unfolding repeatsAt
+    repeats-at-same c =
+        ap₂ (λ t v. let k : Model.Column = record { table = t; place = c } in S .unique k && any r (has D k v)) (same .table) (same .cell c) ∙
+        ap (λ (b : Bool). S .unique (record { table = E .table r; place = c }) && b) (any-same r _ _ (λ q l. has-same _ _ q l))
+
+    pub repeats-same : repeats S D r ≡ repeats S E r
+    unfolding repeats
+    repeats-same = any-same 8 _ _ (λ c l. repeats-at-same c)
+
+    pub row-test-same : rowTest S D r ≡ rowTest S E r
+    row-test-same = ap₂ (λ a b. a && not b) row-fits-same repeats-same

@@ -1,0 +1,144 @@
+-- A lawful design that is written at the beginning of a script is read as itself: kind by kind, item by item. Assumes nothing.
+use Prim.Native.Nat.{ℕ, zero, suc, _+_, _*_, _<_, _^_}
+use native.Mathlib.Numerals.{add-one}
+use native.Mathlib.Omega.{arith}
+use mathlib.Core.Path.{_≡_, refl, sym, ap, ap₂, _∙_}
+use mathlib.Core.List.{List, [], _∷_, _++_, append-assoc}
+use lib.ListN.{length, getD, length-append}
+use Rattle.state.specs.declared.design.Design.{Design}
+use Rattle.state.specs.Design.{tableAt, constraintAt, fillingAt}
+use Rattle.format.specs.Bytes.{byteAt}
+use Rattle.format.specs.Commands.{widthOf, commandAt}
+use Rattle.format.specs.Reading.{Draft, emptyDraft, taken}
+use Rattle.format.specs.Reading.Taken.{on}
+use Rattle.format.specs.Reading.DesignRead.{accepted}
+use Rattle.format.specs.Writing.{tableBytes, constraintBytes, fillingBytes, rowBytes, designBytes}
+use Rattle.format.proofs.ListLaws.{length-collect}
+use Rattle.format.proofs.WritingLaws.{length-table, length-constraint, length-filling, length-row}
+use Rattle.format.proofs.LawfulLaws.{Parts, RowParts}
+use Rattle.format.proofs.Items.{tablesBytes, constraintsBytes, fillingsBytes, rowsBytes}
+use Rattle.format.proofs.TakenLaws.{take-table, take-constraint, take-filling, take-row, end-completes}
+use Rattle.format.proofs.ReadingLaws.{readAll, all-on, all-complete}
+use Rattle.format.proofs.Reached.{Sizes}
+use Rattle.format.proofs.Drafts.{withTables, withConstraints, withFillings, withAllRows, draft-start, all-tables, all-constraints, all-fillings, all-rows, next-table, next-constraint, next-filling, next-row}
+use Rattle.format.proofs.Standing.{Stands, stands-part, stands-piece, reads-table, reads-constraint, reads-filling, reads-row, reads-end, row-table, row-cells}
+
+-- ---- a kind of items read one after the other
+
+-- item k of width w is read where it stands, into the draft that has k of its kind
+pub record Turn (s : List ℕ) (p : ℕ → Draft) (i w k : ℕ) : Type 0 where
+  pub taken : taken (p k) s (i + w * k) (commandAt s (i + w * k)) ≡ on (p (k + 1))
+  pub width : widthOf (byteAt s (i + w * k)) ≡ w
+
+turns : (s : List ℕ) (p : ℕ → Draft) (i w n : ℕ) → ((k : ℕ) → k < n → Turn s p i w k) → readAll s (p 0) i ≡ readAll s (p n) (i + w * n)
+turns s p i w zero h = let e : i + w * 0 ≡ i = omega arith in ap (readAll s (p 0)) (sym e)
+turns s p i w (suc n) h =
+    let t = h n (omega arith) in
+    let e : i + w * n + w ≡ i + w * suc n = omega arith in
+    turns s p i w n (λ k l. h k (omega arith)) ∙ all-on s (p n) (i + w * n) (p (n + 1)) (t .taken) ∙
+    ap (λ (m : ℕ). readAll s (p (n + 1)) (i + w * n + m)) (t .width) ∙ ap₂ (λ (q : Draft) (m : ℕ). readAll s q m) (ap p (add-one n)) e
+
+-- ---- a lawful design that stands at the beginning of a script
+
+-- where the constraints begin, the fillings, the rows, the END
+abbrev constraintsFrom : Design → ℕ
+constraintsFrom d = 0 + 3 * d .tables
+
+abbrev fillingsFrom : Design → ℕ
+fillingsFrom d = 0 + 3 * d .tables + 5 * d .constraints
+
+abbrev rowsFrom : Design → ℕ
+rowsFrom d = 0 + 3 * d .tables + 5 * d .constraints + 11 * d .fillings
+
+abbrev endFrom : Design → ℕ
+endFrom d = 0 + 3 * d .tables + 5 * d .constraints + 11 * d .fillings + 34 * d .rows
+
+-- the numbers that are written as u32 are u32 numbers
+pub record Numbers (d : Design) (cells : List ℕ) : Type 0 where
+  pub low : (i : ℕ) → fillingAt d i .low < 2 ^ 32
+  pub high : (i : ℕ) → fillingAt d i .high < 2 ^ 32
+  pub cell : (i : ℕ) → getD cells i 0 < 2 ^ 32
+
+module _ (d : Design) (cells tables : List ℕ) (p : Parts d) (r : RowParts d cells tables) (z : Sizes (record { design = d; cells = cells; tables = tables })) (n : Numbers d cells)
+    (s : List ℕ) (h : Stands s 0 (designBytes d cells tables)) where
+  long-tables : length (tablesBytes d) ≡ 3 * d .tables
+  long-tables = length-collect 3 (λ i. tableBytes (tableAt d i)) (λ i. length-table _) (d .tables)
+
+  long-constraints : length (constraintsBytes d) ≡ 5 * d .constraints
+  long-constraints = length-collect 5 (λ i. constraintBytes (constraintAt d i)) (λ i. length-constraint _) (d .constraints)
+
+  long-fillings : length (fillingsBytes d) ≡ 11 * d .fillings
+  long-fillings = length-collect 11 (λ i. fillingBytes (fillingAt d i)) (λ i. length-filling _) (d .fillings)
+
+  long-rows : length (rowsBytes d cells tables) ≡ 34 * d .rows
+  long-rows = length-collect 34 (rowBytes cells tables) (length-row cells tables) (d .rows)
+
+  stand-tables : Stands s 0 (tablesBytes d)
+  unfolding designBytes
+  stand-tables = stands-part s _ [] (tablesBytes d) _ 0 0 h refl refl
+
+  stand-constraints : Stands s (constraintsFrom d) (constraintsBytes d)
+  unfolding designBytes
+  stand-constraints = stands-part s _ (tablesBytes d) (constraintsBytes d) _ 0 _ h refl (let e = long-tables in omega arith)
+
+  stand-fillings : Stands s (fillingsFrom d) (fillingsBytes d)
+  unfolding designBytes
+  stand-fillings =
+      stands-part s _ (tablesBytes d ++ constraintsBytes d) (fillingsBytes d) _ 0 _ h (sym (append-assoc (tablesBytes d) (constraintsBytes d) _))
+      (let e = long-tables in let f = long-constraints in let g = length-append (tablesBytes d) (constraintsBytes d) in omega arith)
+
+  stand-rows : Stands s (rowsFrom d) (rowsBytes d cells tables)
+  unfolding designBytes
+  stand-rows =
+      stands-part s _ (tablesBytes d ++ (constraintsBytes d ++ fillingsBytes d)) (rowsBytes d cells tables) (5 ∷ []) 0 _ h
+      (sym (append-assoc (tablesBytes d) (constraintsBytes d ++ fillingsBytes d) _ ∙ ap (λ (l : List ℕ). tablesBytes d ++ l) (append-assoc (constraintsBytes d) (fillingsBytes d) _)))
+      (let e = long-tables in let f = long-constraints in let g = long-fillings in
+      let k = length-append (tablesBytes d) (constraintsBytes d ++ fillingsBytes d) in let m = length-append (constraintsBytes d) (fillingsBytes d) in omega arith)
+
+  stand-end : Stands s (endFrom d) (5 ∷ [])
+  unfolding designBytes
+  stand-end =
+      let a = tablesBytes d in let b = constraintsBytes d in let c = fillingsBytes d in let e = rowsBytes d cells tables in
+      stands-part s _ (a ++ (b ++ (c ++ e))) (5 ∷ []) [] 0 _ h
+      (sym (append-assoc a (b ++ (c ++ e)) (5 ∷ []) ∙ ap (λ (l : List ℕ). a ++ l) (append-assoc b (c ++ e) (5 ∷ []) ∙ ap (λ (l : List ℕ). b ++ l) (append-assoc c e (5 ∷ [])))))
+      (let lt = long-tables in let lc = long-constraints in let lf = long-fillings in let lr = long-rows in
+      let k = length-append a (b ++ (c ++ e)) in let m = length-append b (c ++ e) in let q = length-append c e in omega arith)
+
+  turn-table : (k : ℕ) → k < d .tables → Turn s (withTables d) 0 3 k
+  turn-table k l =
+      let x = reads-table s (0 + 3 * k) (tableAt d k) (stands-piece s 0 3 (λ i. tableBytes (tableAt d i)) (λ i. length-table _) (d .tables) stand-tables k l) in
+      record { taken = ap (taken (withTables d k) s (0 + 3 * k)) (x .command) ∙ take-table _ _ s (0 + 3 * k) (tableAt d k) (next-table d p k l); width = x .width }
+
+  turn-constraint : (k : ℕ) → k < d .constraints → Turn s (withConstraints d) (constraintsFrom d) 5 k
+  turn-constraint k l =
+      let x = reads-constraint s (constraintsFrom d + 5 * k) (constraintAt d k) (stands-piece s (constraintsFrom d) 5 (λ i. constraintBytes (constraintAt d i)) (λ i. length-constraint _) (d .constraints) stand-constraints k l) in
+      record { taken = ap (taken (withConstraints d k) s (constraintsFrom d + 5 * k)) (x .command) ∙ take-constraint _ _ s (constraintsFrom d + 5 * k) (constraintAt d k) (next-constraint d p k l); width = x .width }
+
+  turn-filling : (k : ℕ) → k < d .fillings → Turn s (withFillings d) (fillingsFrom d) 11 k
+  turn-filling k l =
+      let x = reads-filling s (fillingsFrom d + 11 * k) (fillingAt d k) (n .low k) (n .high k) (stands-piece s (fillingsFrom d) 11 (λ i. fillingBytes (fillingAt d i)) (λ i. length-filling _) (d .fillings) stand-fillings k l) in
+      record { taken = ap (taken (withFillings d k) s (fillingsFrom d + 11 * k)) (x .command) ∙ take-filling _ _ s (fillingsFrom d + 11 * k) (fillingAt d k) (next-filling d p k l); width = x .width }
+
+  turn-row : (k : ℕ) → k < d .rows → Turn s (withAllRows d cells tables) (rowsFrom d) 34 k
+  turn-row k l =
+      let i = rowsFrom d + 34 * k in
+      let y = stands-piece s (rowsFrom d) 34 (rowBytes cells tables) (length-row cells tables) (d .rows) stand-rows k l in
+      let x = reads-row s i cells tables k y in
+      record {
+        taken =
+            ap (taken (withAllRows d cells tables k) s i) (x .command) ∙
+            take-row _ _ s i (byteAt s (i + 1))
+            (next-row d cells tables r (p .rows) k l s i (byteAt s (i + 1)) (row-table s i cells tables k y) (row-cells s i cells tables k y (n .cell)));
+        width = x .width;
+      }
+
+  pub reading : readAll s emptyDraft 0 ≡ accepted (record { design = d; cells = cells; tables = tables }) (endFrom d + 1)
+  reading =
+      let x = reads-end s (endFrom d) stand-end in
+      let q : Draft = record { design = d; cells = cells; tables = tables } in
+      ap (λ (a : Draft). readAll s a 0) (draft-start d) ∙ turns s (withTables d) 0 3 (d .tables) turn-table ∙
+      ap (λ (a : Draft). readAll s a (constraintsFrom d)) (all-tables d p (z .table) (z .constraint) (z .filling)) ∙ turns s (withConstraints d) (constraintsFrom d) 5 (d .constraints) turn-constraint ∙
+      ap (λ (a : Draft). readAll s a (fillingsFrom d)) (all-constraints d p (z .table) (z .constraint) (z .filling)) ∙ turns s (withFillings d) (fillingsFrom d) 11 (d .fillings) turn-filling ∙
+      ap (λ (a : Draft). readAll s a (rowsFrom d)) (all-fillings d p (z .table) (z .constraint) (z .filling) cells tables) ∙ turns s (withAllRows d cells tables) (rowsFrom d) 34 (d .rows) turn-row ∙
+      ap (λ (a : Draft). readAll s a (endFrom d)) (all-rows d cells tables r (z .cells) (z .tables)) ∙
+      all-complete s q (endFrom d) (ap (taken q s (endFrom d)) (x .command) ∙ end-completes q s (endFrom d)) ∙ ap (λ (m : ℕ). accepted q (endFrom d + m)) (x .width)

@@ -1,0 +1,116 @@
+-- What a lawful design is written as are bytes. Assumes nothing.
+use Prim.Native.Nat.{ℕ, zero, suc, _+_, _*_, _-_, _^_, _≤_, _<_}
+use native.Mathlib.Nat.{lt-of-lt-of-le, mod-lt}
+use native.Mathlib.Omega.{arith}
+use mathlib.Core.Path.{_≡_, refl, sym, ap, subst, _∙_}
+use mathlib.Core.Bool.{Bool, true, false, not, cond, _&&_, and-eq-true-iff}
+use mathlib.Core.List.{List, [], _∷_, _++_}
+use mathlib.Core.Logic.{_⊎_, ⊎-elim}
+use borrow.Author.Tests.{ltb-true, ltb-false, leb-true}
+use lib.Dec.{leb, ltb}
+use lib.ListN.{length, getD, List·getD-append}
+use lib.Pow.{pow-mono}
+use lib.Seq.{getD-append-add}
+use Rattle.finite.specs.Finite.{any, all, collect}
+use Rattle.finite.proofs.Bools.{dec}
+use Rattle.model.specs.Cell.{isBlank}
+use Rattle.model.specs.Scheme.{isColumn, sameColumn}
+use Rattle.state.specs.declared.design.Table.{Table}
+use Rattle.state.specs.declared.design.Column.{Column}
+use Rattle.state.specs.declared.design.Design.{Design}
+use Rattle.state.specs.Design.{tableAt, constraintAt, fillingAt}
+use Rattle.state.specs.Meaning.{columnOf, schemeOf, databaseOf}
+use Rattle.state.specs.Lawful.{usedOr, tableFits, zeroTable, sameConstraint, constraintFits, zeroConstraint, fillingFits, zeroFilling, rowFits, repeats, zeroRow, lawfulDesign, lawfulRows}
+use Rattle.format.specs.Bytes.{byteAt, u32Bytes}
+use Rattle.format.specs.Writing.{tableBytes, constraintBytes, fillingBytes, cellsBytes, rowBytes, designBytes}
+use Rattle.format.proofs.LawfulLaws.{Parts, RowParts, parts, row-parts, used, rowTest}
+
+-- every element is a byte
+pub record Small (xs : List ℕ) : Type 0 where
+  pub at : (j : ℕ) → getD xs j 0 < 256
+
+small-none : Small []
+small-none = record { at = λ j. omega arith }
+
+small-one : (x : ℕ) (xs : List ℕ) → x < 256 → Small xs → Small (x ∷ xs)
+small-one x xs h s = record { at = go }
+  where
+    go : (j : ℕ) → getD (x ∷ xs) j 0 < 256
+    go zero = h
+    go (suc j) = s .at j
+
+small-append : (xs ys : List ℕ) → Small xs → Small ys → Small (xs ++ ys)
+small-append [] ys a b = b
+small-append (x ∷ xs) ys a b = small-one x (xs ++ ys) (a .at 0) (small-append xs ys (record { at = λ j. a .at (suc j) }) b)
+
+small-collect : (n : ℕ) (f : ℕ → List ℕ) → ((i : ℕ) → i < n → Small (f i)) → Small (collect n (λ _. true) f)
+unfolding collect
+small-collect zero f h = small-none
+small-collect (suc n) f h = small-append (collect n (λ _. true) f) (f n) (small-collect n f (λ i l. h i (omega arith))) (h n (omega arith))
+
+small-u32 : (v : ℕ) → Small (u32Bytes v)
+unfolding u32Bytes
+small-u32 v = small-one _ _ (omega arith) (small-one _ _ (omega arith) (small-one _ _ (omega arith) (small-one _ _ (omega arith) small-none)))
+
+-- ---- the numbers of a lawful design
+
+module _ (d : Design) (p : Parts d) where
+  -- a table that is used has at most 8 columns, and no unique column past them
+  fitting : (i : ℕ) → i < d .tables → (tableAt d i .columns ≤ 8) × (tableAt d i .unique < 256)
+  unfolding tableFits
+  fitting i l =
+      let t = tableAt d i in
+      let f : tableFits t ≡ true = sym (used i (d .tables) (tableFits t) (zeroTable t) l) ∙ p .table i (let h = p .tables in omega arith) in
+      let x = and-eq-true-iff (leb 1 (t .columns)) (leb (t .columns) 8 && ltb (t .unique) (2 ^ t .columns)) .0 f in
+      let y = and-eq-true-iff (leb (t .columns) 8) (ltb (t .unique) (2 ^ t .columns)) .0 (x .1) in
+      (leb-true _ _ (y .0), lt-of-lt-of-le (ltb-true _ _ (y .1)) (pow-mono (leb-true _ _ (y .0))))
+
+  naming : (k : Column) → isColumn (schemeOf d) (columnOf k) ≡ true → (k .table < 8) × (k .place < 8)
+  unfolding isColumn schemeOf
+  naming k h =
+      let x = and-eq-true-iff (ltb (k .table) (d .tables)) (ltb (k .place) (tableAt d (k .table) .columns)) .0 h in
+      let a = ltb-true (k .table) (d .tables) (x .0) in let b = ltb-true (k .place) (tableAt d (k .table) .columns) (x .1) in let c = fitting (k .table) a in let e = p .tables in
+      (omega arith, omega arith)
+
+  small-table : (i : ℕ) → i < d .tables → Small (tableBytes (tableAt d i))
+  unfolding tableBytes
+  small-table i l = let x = fitting i l in small-one _ _ (omega arith) (small-one _ _ (omega arith) (small-one _ _ (omega arith) small-none))
+
+  small-constraint : (i : ℕ) → i < d .constraints → Small (constraintBytes (constraintAt d i))
+  unfolding constraintBytes constraintFits
+  small-constraint i l =
+      let c = constraintAt d i in
+      let f : constraintFits d i c ≡ true = sym (used i (d .constraints) (constraintFits d i c) (zeroConstraint c) l) ∙ p .constraint i (let h = p .constraints in omega arith) in
+      let others = not (any i (λ j. sameConstraint (constraintAt d j) c)) in
+      let x = and-eq-true-iff (isColumn (schemeOf d) (columnOf (c .source))) (isColumn (schemeOf d) (columnOf (c .target)) && others) .0 f in
+      let y = and-eq-true-iff (isColumn (schemeOf d) (columnOf (c .target))) others .0 (x .1) in
+      let a = naming (c .source) (x .0) in let b = naming (c .target) (y .0) in
+      small-one _ _ (omega arith) (small-one _ _ (omega arith) (small-one _ _ (omega arith) (small-one _ _ (omega arith) (small-one _ _ (omega arith) small-none))))
+
+  small-filling : (i : ℕ) → i < d .fillings → Small (fillingBytes (fillingAt d i))
+  unfolding fillingBytes fillingFits
+  small-filling i l =
+      let f = fillingAt d i in
+      let h : fillingFits d i f ≡ true = sym (used i (d .fillings) (fillingFits d i f) (zeroFilling f) l) ∙ p .filling i (let h = p .fillings in omega arith) in
+      let rest = leb 1 (f .low) && (leb (f .low) (f .high) && not (any i (λ j. sameColumn (columnOf (fillingAt d j .column)) (columnOf (f .column))))) in
+      let a = naming (f .column) (and-eq-true-iff (isColumn (schemeOf d) (columnOf (f .column))) rest .0 h .0) in
+      small-one _ _ (omega arith) (small-one _ _ (omega arith) (small-one _ _ (omega arith) (small-append (u32Bytes (f .low)) (u32Bytes (f .high)) (small-u32 _) (small-u32 _))))
+
+  small-row : (cells tables : List ℕ) → RowParts d cells tables → (r : ℕ) → r < d .rows → Small (rowBytes cells tables r)
+  unfolding rowBytes cellsBytes rowFits schemeOf databaseOf
+  small-row cells tables q r l =
+      let S = schemeOf d in let D = databaseOf (d .rows) cells tables in
+      let t : rowTest S D r ≡ true = sym (used r (d .rows) (rowTest S D r) (zeroRow D r) l) ∙ q .row r (let h = p .rows in omega arith) in
+      let f : rowFits S D r ≡ true = and-eq-true-iff (rowFits S D r) (not (repeats S D r)) .0 t .0 in
+      let a = ltb-true (getD tables r 0) (d .tables) (and-eq-true-iff (ltb (getD tables r 0) (d .tables)) _ .0 f .0) in
+      let e = p .tables in
+      small-one _ _ (omega arith) (small-one _ _ (omega arith) (small-collect 8 _ (λ c g. small-u32 _)))
+
+pub small-design : (d : Design) (cells tables : List ℕ) → lawfulDesign d ≡ true → lawfulRows d cells tables ≡ true → Small (designBytes d cells tables)
+unfolding designBytes
+small-design d cells tables h g =
+    let p = parts d h in
+    small-append _ _ (small-collect (d .tables) _ (small-table d p))
+    (small-append _ _ (small-collect (d .constraints) _ (small-constraint d p))
+    (small-append _ _ (small-collect (d .fillings) _ (small-filling d p))
+    (small-append _ _ (small-collect (d .rows) _ (small-row d p cells tables (row-parts d cells tables g))) (small-one 5 [] (omega arith) small-none))))

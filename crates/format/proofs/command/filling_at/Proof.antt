@@ -1,0 +1,37 @@
+-- `format::command::filling_at` meets its contract. Assumes nothing.
+use borrow.Author.Needs.{needs}
+use Rattle.format.proofs.command.filling_at.Statement.{statement}
+use Rattle.format.proofs.command.filling_at.Tie as tie
+
+add-column-at : tie.Need-add-column-at
+add-column-at c = search needs
+
+column-at-requires : tie.Need-column-at-requires
+column-at-requires c κs = search needs
+
+add-u32-at : tie.Need-add-u32-at
+add-u32-at c = search needs
+
+u32-at-requires : tie.Need-u32-at-requires
+u32-at-requires c κs = search needs
+
+add-u32-at-2 : tie.Need-add-u32-at-2
+add-u32-at-2 c = search needs
+
+u32-at-requires-2 : tie.Need-u32-at-requires-2
+u32-at-requires-2 c κs = search needs
+
+returns : tie.Need-returns
+returns c = cc
+
+pub filling-at-spec : {M : Type 1} → statement M
+filling-at-spec =
+    tie.close
+    (tie.spec
+    add-column-at
+    column-at-requires
+    add-u32-at
+    u32-at-requires
+    add-u32-at-2
+    u32-at-requires-2
+    returns)

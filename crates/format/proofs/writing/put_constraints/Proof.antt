@@ -1,0 +1,75 @@
+-- `format::writing::put_constraints` meets its contract: the constraints passed are stored. Assumes nothing.
+use Prim.Native.Nat.{_-_, _≤_}
+use native.Mathlib.Omega.{arith}
+use borrow.Author.Needs.{needs}
+use Rattle.state.specs.Design.{constraintAt}
+use Rattle.format.specs.Writing.{constraintBytes}
+use Rattle.format.proofs.ListLaws.{Stored, stored-start, stored-more, stored-end}
+use Rattle.format.proofs.WritingLaws.{length-constraint}
+use Rattle.format.proofs.writing.put_constraints.Statement.{statement}
+use Rattle.format.proofs.writing.put_constraints.Tie as tie
+
+abbrev Inv-loop : tie.InvT-loop
+Inv-loop out₀ at d n i₀ out i = (i ≤ n) × Stored (λ j. constraintBytes (constraintAt d j)) out₀ at i out
+
+abbrev μ-loop : tie.MeasureT-loop
+μ-loop out₀ at d n i₀ out i = n - i
+
+loop-holds : tie.Need-loop-holds Inv-loop μ-loop
+loop-holds c = (omega arith, stored-start _ _ _)
+
+mul-put-constraint : tie.Need-mul-put-constraint Inv-loop μ-loop
+mul-put-constraint c = search needs
+
+add-put-constraint : tie.Need-add-put-constraint Inv-loop μ-loop
+add-put-constraint c = omega arith
+
+mul-put-constraint-2 : tie.Need-mul-put-constraint-2 Inv-loop μ-loop
+mul-put-constraint-2 c = search needs
+
+element-copy-out-put-constraint : tie.Need-element-copy-out-put-constraint Inv-loop μ-loop
+element-copy-out-put-constraint c = search needs
+
+put-constraint-requires : tie.Need-put-constraint-requires Inv-loop μ-loop
+put-constraint-requires c κs = omega arith
+
+add-i : tie.Need-add-i Inv-loop μ-loop
+add-i c = omega arith
+
+loop-less : tie.Need-loop-less Inv-loop μ-loop
+loop-less c = omega arith
+
+loop-again : tie.Need-loop-again Inv-loop μ-loop
+loop-again c = (omega arith, stored-more 5 _ (λ j. length-constraint _) _ _ _ _ _ (c .before .before .before .before .before .before .loop .inv .1) (c .before .before .put-constraint .ensures))
+
+mul-result : tie.Need-mul-result Inv-loop μ-loop
+mul-result c = search needs
+
+add-result : tie.Need-add-result Inv-loop μ-loop
+add-result c = omega arith
+
+same-length : tie.Need-same-length Inv-loop μ-loop
+same-length c = omega arith
+
+returns : tie.Need-returns Inv-loop μ-loop
+returns c = (omega arith, stored-end _ _ _ _ _ _ (c .before .loop .inv .0) (c .loop-test .left) (c .before .loop .inv .1))
+
+pub put-constraints-spec : {M : Type 1} → statement M
+put-constraints-spec =
+    tie.close
+    (tie.spec
+    Inv-loop
+    μ-loop
+    loop-holds
+    mul-put-constraint
+    add-put-constraint
+    mul-put-constraint-2
+    element-copy-out-put-constraint
+    put-constraint-requires
+    add-i
+    loop-less
+    loop-again
+    mul-result
+    add-result
+    same-length
+    returns)

@@ -1,0 +1,208 @@
+-- What a byte string reads as: a design with its rows and where its END ends, or a cause and a place (01, "The script" and "Causes of refusal":
+-- "command by command 2, 1, 3, 4 (counts), 5, then 6"). Assumes nothing.
+use Prim.Native.Nat.{ℕ, zero, suc, _+_, _*_}
+use mathlib.Core.Path.{_≡_}
+use mathlib.Core.Bool.{Bool, true, false, not, cond, _||_}
+use mathlib.Core.List.{List, [], _∷_, _++_}
+use lib.Dec.{leb, ltb}
+use lib.ListN.{length, set, drop}
+use lib.Seq.{sets}
+use Rattle.finite.specs.Finite.{tab}
+use Rattle.state.specs.declared.design.Design.{Design}
+use Rattle.state.specs.declared.design.Table as State-table
+use Rattle.state.specs.declared.design.Constraint as State-constraint
+use Rattle.state.specs.declared.design.Filling as State-filling
+use Rattle.state.specs.Design.{emptyDesign}
+use Rattle.state.specs.Held.{noneHeld}
+use Rattle.state.specs.Step.{lent, longEnough}
+use Rattle.state.specs.Meaning.{schemeOf, databaseOf}
+use Rattle.state.specs.Lawful.{tableFits, constraintFits, fillingFits, rowFits, repeats}
+use Rattle.format.specs.declared.command.Command.{Command}
+use Rattle.format.specs.declared.command.Command.the-variants.{Table, Constraint, Filling, Row, End, Refer, Drop, Probe, Query, Unknown, Short}
+use Rattle.format.specs.declared.verdict.Verdict.{Verdict}
+use Rattle.format.specs.declared.verdict.Verdict.the-variants.{Accepted, Refused}
+use Rattle.format.specs.declared.verdict.DesignReading.{DesignReading}
+use Rattle.format.specs.declared.reading.Outcome.{Outcome}
+use Rattle.format.specs.declared.reading.Outcome.the-variants.{On, Complete, Cause}
+use Rattle.format.specs.declared.reading.Step.{Step}
+use Rattle.format.specs.Bytes.{byteAt}
+use Rattle.format.specs.Commands.{commandAt, widthOf, rowCellAt}
+
+-- a design with its rows, as far as it has been read: 4,096 cells and 512 row tables, 0 where no row has been read
+pub record Draft : Type 0 where
+  pub design : Design
+  pub cells : List ℕ
+  pub tables : List ℕ
+
+unfoldable pub emptyDraft : Draft
+emptyDraft = record { design = emptyDesign; cells = tab 4096 (λ _. 0); tables = tab 512 (λ _. 0) }
+
+-- ---- one more table, constraint, filling or row
+
+unfoldable pub withTable : Design → State-table.Table → Design
+withTable d t = record { tables = d .tables + 1; table = set (d .table) (d .tables) t; constraints = d .constraints; constraint = d .constraint; fillings = d .fillings; filling = d .filling; rows = d .rows }
+
+unfoldable pub withConstraint : Design → State-constraint.Constraint → Design
+withConstraint d c = record { tables = d .tables; table = d .table; constraints = d .constraints + 1; constraint = set (d .constraint) (d .constraints) c; fillings = d .fillings; filling = d .filling; rows = d .rows }
+
+unfoldable pub withFilling : Design → State-filling.Filling → Design
+withFilling d f = record { tables = d .tables; table = d .table; constraints = d .constraints; constraint = d .constraint; fillings = d .fillings + 1; filling = set (d .filling) (d .fillings) f; rows = d .rows }
+
+unfoldable pub withRows : Design → ℕ → Design
+withRows d n = record { tables = d .tables; table = d .table; constraints = d .constraints; constraint = d .constraint; fillings = d .fillings; filling = d .filling; rows = n }
+
+-- the row whose command stands at place i: "row r's cells begin at cell 8 times r"
+unfoldable pub withRow : Draft → List ℕ → ℕ → ℕ → Draft
+withRow p s i t =
+    record {
+      design = withRows (p .design) (p .design .rows + 1);
+      cells = sets (p .cells) (8 * p .design .rows) (tab 8 (rowCellAt s i));
+      tables = set (p .tables) (p .design .rows) t;
+    }
+
+-- ---- one command of a design
+
+-- what a command gives: the reading goes on with a draft, the design is complete, or a cause of refusal
+pub data Taken : Type 0 where
+  on : Draft → Taken
+  complete : Taken
+  refused : ℕ → Taken
+
+-- the refusal where its cause applies, else what comes after it in the order of causes
+abbrev pub unless : Bool → ℕ → Taken → Taken
+unless true n t = refused n
+unless false n t = t
+
+-- "all TABLEs, then CONSTRAINTs, FILLINGs, ROWs, then END": something of a later kind has been read
+abbrev pub afterTables : Design → Bool
+afterTables d = ltb 0 (d .constraints) || (ltb 0 (d .fillings) || ltb 0 (d .rows))
+
+abbrev pub afterConstraints : Design → Bool
+afterConstraints d = ltb 0 (d .fillings) || ltb 0 (d .rows)
+
+abbrev pub afterFillings : Design → Bool
+afterFillings d = ltb 0 (d .rows)
+
+abbrev pub redesigned : Draft → Design → Draft
+redesigned p d = record { design = d; cells = p .cells; tables = p .tables }
+
+-- q is the draft with row r put in: causes 5 and 6 of that row
+unfoldable pub rowTaken : Draft → ℕ → Taken
+rowTaken q r =
+    unless (not (rowFits (schemeOf (q .design)) (databaseOf (q .design .rows) (q .cells) (q .tables)) r)) 5
+    (unless (repeats (schemeOf (q .design)) (databaseOf (q .design .rows) (q .cells) (q .tables)) r) 6
+    (on q))
+
+-- the command c, which stands at place i, read into the draft p
+unfoldable pub taken : Draft → List ℕ → ℕ → Command → Taken
+taken p s i (Table t) =
+    unless (afterTables (p .design)) 3
+    (unless (leb 8 (p .design .tables)) 4
+    (unless (not (tableFits t)) 5
+    (on (redesigned p (withTable (p .design) t)))))
+taken p s i (Constraint c) =
+    unless (afterConstraints (p .design)) 3
+    (unless (leb 16 (p .design .constraints)) 4
+    (unless (not (constraintFits (p .design) (p .design .constraints) c)) 5
+    (on (redesigned p (withConstraint (p .design) c)))))
+taken p s i (Filling f) =
+    unless (afterFillings (p .design)) 3
+    (unless (leb 8 (p .design .fillings)) 4
+    (unless (not (fillingFits (p .design) (p .design .fillings) f)) 5
+    (on (redesigned p (withFilling (p .design) f)))))
+taken p s i (Row t) = unless (leb 512 (p .design .rows)) 4 (rowTaken (withRow p s i t) (p .design .rows))
+taken p s i End = complete
+taken p s i (Refer f v) = refused 3
+taken p s i (Drop f v) = refused 3
+taken p s i (Probe k v) = refused 3
+taken p s i (Query k v n) = refused 3
+taken p s i Unknown = refused 2
+taken p s i Short = refused 1
+
+-- what the code answers for a command, and the draft that it leaves: the design beside the answer (an enum holds no array), and the two arrays
+abbrev pub outcomeOf : Taken → Outcome
+outcomeOf (on p) = On
+outcomeOf complete = Complete
+outcomeOf (refused n) = Cause n
+
+abbrev pub draft : Design → List ℕ → List ℕ → Draft
+draft d cells tables = record { design = d; cells = cells; tables = tables }
+
+abbrev pub causeOf : Outcome → ℕ
+causeOf (Cause n) = n
+causeOf On = 0
+causeOf Complete = 0
+
+-- the command c at place i, read into the draft p: the code has answered r and left the arrays
+pub record Took (p : Draft) (s : List ℕ) (i : ℕ) (c : Command) (r : Step) (cells tables : List ℕ) : Type 0 where
+  pub outcome : r .outcome ≡ outcomeOf (taken p s i c)
+  pub goes : (q : Draft) → taken p s i c ≡ on q → q ≡ draft (r .design) cells tables
+  pub whole : taken p s i c ≡ complete → p ≡ draft (r .design) cells tables
+
+-- ---- the whole design
+
+-- a design with its rows and the place after its END; or a cause and the place of the faulty command
+pub data DesignRead : Type 0 where
+  accepted : Draft → ℕ → DesignRead
+  refusedAt : ℕ → ℕ → DesignRead
+
+-- what the command at place i, of width w, leads to: `go` reads on
+abbrev pub readOn : (Draft → ℕ → DesignRead) → Draft → ℕ → ℕ → Taken → DesignRead
+readOn go p i w (on q) = go q (i + w)
+readOn go p i w complete = accepted p (i + w)
+readOn go p i w (refused c) = refusedAt c i
+
+-- the design read on from place i, with n more commands at the most
+unfoldable pub readFrom : ℕ → List ℕ → Draft → ℕ → DesignRead
+readFrom zero s p i = refusedAt 1 i
+readFrom (suc n) s p i = readOn (readFrom n s) p i (widthOf (byteAt s i)) (taken p s i (commandAt s i))
+
+-- the most bytes that a script may have
+abbrev pub mostBytes : ℕ
+mostBytes = 65536
+
+-- "Over 65,536 script bytes" is 4 at place 0. A command takes at least one byte, so there are fewer commands than length s + 1.
+unfoldable pub readDesign : List ℕ → DesignRead
+readDesign s = cond (ltb mostBytes (length s)) (refusedAt 4 0) (readFrom (suc (length s)) s emptyDraft 0)
+
+-- what a reading answers
+abbrev pub verdictOf : DesignRead → Verdict
+verdictOf (accepted p i) = Accepted i
+verdictOf (refusedAt c i) = Refused c i
+
+abbrev pub designOf : DesignRead → Design
+designOf (accepted p i) = p .design
+designOf (refusedAt c i) = emptyDesign
+
+-- what the code answers for a whole design, and the arrays that it leaves where it is accepted
+pub record Read (w : DesignRead) (r : DesignReading) (cells tables : List ℕ) : Type 0 where
+  pub verdict : r .verdict ≡ verdictOf w
+  pub design : r .design ≡ designOf w
+  pub rows : (p : Draft) (i : ℕ) → w ≡ accepted p i → (cells ≡ p .cells) × (tables ≡ p .tables)
+
+-- ---- reading into lent buffers
+
+-- cause 7 first, whatever the script: 4,096 cells, 512 row tables and 512 marks are lent, or more
+unfoldable pub readInto : List ℕ → List ℕ → List ℕ → List ℕ → DesignRead
+readInto s cells tables marks = cond (longEnough (lent emptyDesign cells tables marks noneHeld)) (readDesign s) (refusedAt 7 0)
+
+-- the lent buffers afterwards: stored only with an accepted design, "the cache is empty, and longer buffers are untouched past the sizes"
+abbrev pub cellsAfter : DesignRead → List ℕ → List ℕ
+cellsAfter (accepted p i) cells = p .cells ++ drop 4096 cells
+cellsAfter (refusedAt c i) cells = cells
+
+abbrev pub tablesAfter : DesignRead → List ℕ → List ℕ
+tablesAfter (accepted p i) tables = p .tables ++ drop 512 tables
+tablesAfter (refusedAt c i) tables = tables
+
+abbrev pub marksAfter : DesignRead → List ℕ → List ℕ
+marksAfter (accepted p i) marks = tab 512 (λ _. 0) ++ drop 512 marks
+marksAfter (refusedAt c i) marks = marks
+
+-- what a call of the reader answers, and what it leaves of each lent buffer, before and after
+pub record Leaves (w : DesignRead) (r : DesignReading) (cs cs′ ts ts′ ms ms′ : List ℕ) : Type 0 where
+  pub verdict : r .verdict ≡ verdictOf w
+  pub design : r .design ≡ designOf w
+  pub cells : cs′ ≡ cellsAfter w cs
+  pub tables : ts′ ≡ tablesAfter w ts
+  pub marks : ms′ ≡ marksAfter w ms

@@ -1,0 +1,23 @@
+// Scripts as bytes: the command at a place, reading a design with its rows, writing it, and (in proofs/) that the two undo each other.
+mod bytes;
+mod command;
+mod reader;
+mod reading;
+mod verdict;
+mod writing;
+
+pub use bytes::put_u32;
+pub use bytes::u32_at;
+pub use command::Command;
+pub use command::pair_constraint;
+pub use command::pair_position;
+pub use command::row_cell;
+pub use command::width_of;
+pub use reader::ScriptReader;
+pub use reader::command_at;
+pub use reading::MOST_BYTES;
+pub use reading::read_design;
+pub use verdict::DesignReading;
+pub use verdict::Verdict;
+pub use writing::design_length;
+pub use writing::write_design;

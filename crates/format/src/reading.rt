@@ -1,0 +1,357 @@
+// Reading a design with its rows, command by command, into a draft: a design by value and two arrays that are lent. The causes of refusal are
+// tested in document 01's order.
+ghost use mathlib.Core.Path.{_≡_};
+ghost use mathlib.Core.List.{List, _++_};
+ghost use Prim.Native.Nat.{ℕ, suc, _+_, _*_, _≤_, _<_};
+ghost use lib.ListN.{length, drop};
+ghost use lib.Seq.{sets};
+ghost use Rattle.finite.specs.Finite.{tab};
+ghost use Rattle.state.specs.Design.{emptyDesign};
+ghost use Rattle.format.specs.declared.command.Command.the-variants as C;
+ghost use Rattle.format.specs.declared.reading.Outcome.the-variants as O;
+ghost use Rattle.format.specs.declared.verdict.Verdict.the-variants as Answer;
+ghost use Rattle.format.specs.Commands.{commandAt, rowCellAt};
+ghost use Rattle.format.specs.Reading.{afterTables, afterConstraints, withTable, withConstraint, withFilling, withRows, emptyDraft, draft, causeOf, Took, Read, Leaves, readFrom, readInto};
+use crate::command::Command;
+use crate::command::row_cell;
+use crate::command::width_of;
+use crate::reader::command_at;
+use crate::verdict::DesignReading;
+use crate::verdict::Verdict;
+use state::Constraint;
+use state::Design;
+use state::Filling;
+use state::Table;
+
+// What a command gives: the reading goes on, the design is complete, or the command is refused, with its cause.
+pub enum Outcome {
+    On,
+    Complete,
+    Cause(u8),
+}
+
+// The outcome with the design afterwards.
+pub struct Step {
+    pub outcome: Outcome,
+    pub design: Design,
+}
+
+// ---- one more table, constraint, filling or row. Constant time.
+
+fn with_table(mut d: Design, t: Table) -> Design
+    requires { ⌜ d .tables < 8 ⌝ }
+    ensures { λ r. ⌜ r ≡ withTable d t ⌝ }
+{
+    let n = d.tables;
+    d.table[n] = t;
+    d.tables = n + 1;
+    d
+}
+
+fn with_constraint(mut d: Design, c: Constraint) -> Design
+    requires { ⌜ d .constraints < 16 ⌝ }
+    ensures { λ r. ⌜ r ≡ withConstraint d c ⌝ }
+{
+    let n = d.constraints;
+    d.constraint[n] = c;
+    d.constraints = n + 1;
+    d
+}
+
+fn with_filling(mut d: Design, f: Filling) -> Design
+    requires { ⌜ d .fillings < 8 ⌝ }
+    ensures { λ r. ⌜ r ≡ withFilling d f ⌝ }
+{
+    let n = d.fillings;
+    d.filling[n] = f;
+    d.fillings = n + 1;
+    d
+}
+
+fn with_rows(mut d: Design, n: usize) -> Design
+    ensures { λ r. ⌜ r ≡ withRows d n ⌝ }
+{
+    d.rows = n;
+    d
+}
+
+// The cells of the ROW at place `at`, stored as row r's.
+fn store_cells(script: &[u8], at: usize, cells: &mut [u32], r: usize)
+    requires { ⌜ (r < 512) × (at + 34 ≤ length (now script)) × (length (now cells) ≡ 4096) ⌝ }
+    ensures { λ _. ⌜ now (cells .exit) ≡ sets (now (cells .entry)) (8 * r) (tab 8 (rowCellAt (now (script .entry)) at)) ⌝ }
+{
+    for c in 0..8usize {
+        cells[8 * r + c] = row_cell(script, at, c);
+    }
+}
+
+// ---- one command
+
+// Whether something of a later kind than a table has been read, or than a constraint. Constant time.
+fn after_tables(d: Design) -> bool
+    ensures { λ b. ⌜ b ≡ afterTables d ⌝ }
+{
+    if 0 < d.constraints {
+        return true;
+    }
+    if 0 < d.fillings {
+        return true;
+    }
+    0 < d.rows
+}
+
+fn after_constraints(d: Design) -> bool
+    ensures { λ b. ⌜ b ≡ afterConstraints d ⌝ }
+{
+    if 0 < d.fillings {
+        return true;
+    }
+    0 < d.rows
+}
+
+// A command that is refused leaves the design as it was.
+fn refused(d: Design, cause: u8) -> Step
+    ensures { λ r. ⌜ r ≡ record { outcome = O.Cause cause; design = d } ⌝ }
+{
+    Step {
+        outcome: Outcome::Cause(cause),
+        design: d,
+    }
+}
+
+// A TABLE read into the draft. Constant time.
+fn take_table(d: Design, t: Table) -> Step
+    ensures { λ r. ⌜ ((s cells tables : List ℕ) (i : ℕ) → Took (draft d cells tables) s i (C.Table t) r cells tables) ⌝ }
+{
+    if after_tables(d) {
+        return refused(d, 3);
+    }
+    if Design::TABLES <= d.tables {
+        return refused(d, 4);
+    }
+    if !lawful::table_fits(t) {
+        return refused(d, 5);
+    }
+    Step {
+        outcome: Outcome::On,
+        design: with_table(d, t),
+    }
+}
+
+// A CONSTRAINT. One look at each constraint before it.
+fn take_constraint(d: Design, c: Constraint) -> Step
+    ensures { λ r. ⌜ ((s cells tables : List ℕ) (i : ℕ) → Took (draft d cells tables) s i (C.Constraint c) r cells tables) ⌝ }
+{
+    if after_constraints(d) {
+        return refused(d, 3);
+    }
+    let n = d.constraints;
+    if Design::CONSTRAINTS <= n {
+        return refused(d, 4);
+    }
+    if !lawful::constraint_fits(d, n, c) {
+        return refused(d, 5);
+    }
+    Step {
+        outcome: Outcome::On,
+        design: with_constraint(d, c),
+    }
+}
+
+// A FILLING. One look at each filling before it.
+fn take_filling(d: Design, f: Filling) -> Step
+    ensures { λ r. ⌜ ((s cells tables : List ℕ) (i : ℕ) → Took (draft d cells tables) s i (C.Filling f) r cells tables) ⌝ }
+{
+    if 0 < d.rows {
+        return refused(d, 3);
+    }
+    let n = d.fillings;
+    if Design::FILLINGS <= n {
+        return refused(d, 4);
+    }
+    if !lawful::filling_fits(d, n, f) {
+        return refused(d, 5);
+    }
+    Step {
+        outcome: Outcome::On,
+        design: with_filling(d, f),
+    }
+}
+
+// The ROW at place `at`, of table t. One look at each row before it for each unique column.
+fn take_row(
+    d: Design,
+    script: &[u8],
+    at: usize,
+    t: u8,
+    cells: &mut [u32],
+    tables: &mut [u8],
+) -> Step
+    requires { ⌜ (at + 34 ≤ length (now script)) × (length (now cells) ≡ 4096) × (length (now tables) ≡ 512) ⌝ }
+    ensures { λ r. ⌜ Took (draft d (now (cells .entry)) (now (tables .entry))) (now (script .entry)) at (C.Row t) r (now (cells .exit)) (now (tables .exit)) ⌝ }
+{
+    let n = d.rows;
+    if Design::ROWS <= n {
+        return refused(d, 4);
+    }
+    store_cells(script, at, cells, n);
+    tables[n] = t;
+    let e = with_rows(d, n + 1);
+    if !lawful::row_fits(e, cells, tables, n) {
+        return refused(d, 5);
+    }
+    if lawful::row_repeats(e, cells, tables, n) {
+        return refused(d, 6);
+    }
+    Step {
+        outcome: Outcome::On,
+        design: e,
+    }
+}
+
+// Any command, which stands at place `at`, read into the draft.
+fn take(
+    d: Design,
+    script: &[u8],
+    at: usize,
+    c: Command,
+    cells: &mut [u32],
+    tables: &mut [u8],
+) -> Step
+    requires { ⌜ (c ≡ commandAt (now script) at) × (length (now cells) ≡ 4096) × (length (now tables) ≡ 512) ⌝ }
+    ensures { λ r. ⌜ Took (draft d (now (cells .entry)) (now (tables .entry))) (now (script .entry)) at c r (now (cells .exit)) (now (tables .exit)) ⌝ }
+{
+    match c {
+        Command::Table(t) => take_table(d, t),
+        Command::Constraint(k) => take_constraint(d, k),
+        Command::Filling(f) => take_filling(d, f),
+        Command::Row(t) => take_row(d, script, at, t, cells, tables),
+        Command::End => Step {
+            outcome: Outcome::Complete,
+            design: d,
+        },
+        Command::Refer(_, _) => refused(d, 3),
+        Command::Drop(_, _) => refused(d, 3),
+        Command::Probe(_, _) => refused(d, 3),
+        Command::Query(_, _, _) => refused(d, 3),
+        Command::Unknown => refused(d, 2),
+        Command::Short => refused(d, 1),
+    }
+}
+
+// ---- the whole design
+
+// The cause of a refusal.
+fn cause_of(o: Outcome) -> u8
+    ensures { λ n. ⌜ n ≡ causeOf o ⌝ }
+{
+    let Outcome::Cause(n) = o else {
+        return 0;
+    };
+    n
+}
+
+// A reading that is refused: its design is empty.
+fn refusal(cause: u8, at: usize) -> DesignReading
+    ensures { λ r. ⌜ r ≡ record { verdict = Answer.Refused cause at; design = emptyDesign } ⌝ }
+{
+    DesignReading {
+        verdict: Verdict::Refused(cause, at),
+        design: Design::empty(),
+    }
+}
+
+// Reads from the first command to the END, or to the first that is refused. Each command is read once; a row costs one look at each row before it
+// for each unique column.
+fn read_commands(script: &[u8], cells: &mut [u32], tables: &mut [u8]) -> DesignReading
+    requires { ⌜ (length (now cells) ≡ 4096) × (length (now tables) ≡ 512) ⌝ }
+    ensures { λ r. ⌜ Read (readFrom (suc (length (now (script .entry)))) (now (script .entry)) (draft emptyDesign (now (cells .entry)) (now (tables .entry))) 0) r (now (cells .exit)) (now (tables .exit)) ⌝ }
+{
+    let mut d = Design::empty();
+    let mut at = 0usize;
+    loop {
+        let c = command_at(script, at);
+        let step = take(d, script, at, c, cells, tables);
+        let o = step.outcome;
+        if let Outcome::Complete = o {
+            return DesignReading {
+                verdict: Verdict::Accepted(at + 1),
+                design: d,
+            };
+        }
+        let Outcome::On = o else {
+            return refusal(cause_of(o), at);
+        };
+        let e = step.design;
+        d = e;
+        at = at + width_of(script[at]);
+    }
+}
+
+// ---- into lent buffers
+
+// Stores the rows of an accepted design, 4,096 cells and 512 row tables, and marks no row. Longer buffers are untouched past these.
+fn copy_cells(from: &[u32], to: &mut [u32])
+    requires { ⌜ (length (now from) ≡ 4096) × (4096 ≤ length (now to)) ⌝ }
+    ensures { λ _. ⌜ now (to .exit) ≡ now (from .entry) ++ drop 4096 (now (to .entry)) ⌝ }
+{
+    for i in 0..Design::CELLS {
+        to[i] = from[i];
+    }
+}
+
+fn copy_bytes(from: &[u8], to: &mut [u8])
+    requires { ⌜ (length (now from) ≡ 512) × (512 ≤ length (now to)) ⌝ }
+    ensures { λ _. ⌜ now (to .exit) ≡ now (from .entry) ++ drop 512 (now (to .entry)) ⌝ }
+{
+    for i in 0..Design::ROWS {
+        to[i] = from[i];
+    }
+}
+
+// Reads into buffers that are long enough. Nothing lent is written until the whole design is accepted.
+fn read_into(script: &[u8], cells: &mut [u32], tables: &mut [u8], marks: &mut [u8]) -> DesignReading
+    requires { ⌜ (4096 ≤ length (now cells)) × (512 ≤ length (now tables)) × (512 ≤ length (now marks)) ⌝ }
+    ensures { λ r. ⌜ Leaves (readFrom (suc (length (now (script .entry)))) (now (script .entry)) emptyDraft 0) r (now (cells .entry)) (now (cells .exit)) (now (tables .entry)) (now (tables .exit)) (now (marks .entry)) (now (marks .exit)) ⌝ }
+{
+    let mut x = [0u32; 4096];
+    let mut y = [0u8; 512];
+    let z = [0u8; 512];
+    let r = read_commands(script, &mut x, &mut y);
+    let v = r.verdict;
+    let Verdict::Accepted(_) = v else {
+        return r;
+    };
+    copy_cells(&x, cells);
+    copy_bytes(&y, tables);
+    copy_bytes(&z, marks);
+    r
+}
+
+pub const MOST_BYTES: usize = 65536;
+
+// Reads a design with its rows into lent buffers: the verdict, with the place after the END or the cause and place of the refusal, and the design,
+// which is empty where it is refused. The buffers are written only where it is accepted: the rows, and no row marked. Each command is read once; a
+// row costs one look at each row before it for each unique column.
+pub fn read_design(
+    script: &[u8],
+    cells: &mut [u32],
+    tables: &mut [u8],
+    marks: &mut [u8],
+) -> DesignReading
+    ensures { λ r. ⌜ Leaves (readInto (now (script .entry)) (now (cells .entry)) (now (tables .entry)) (now (marks .entry))) r (now (cells .entry)) (now (cells .exit)) (now (tables .entry)) (now (tables .exit)) (now (marks .entry)) (now (marks .exit)) ⌝ }
+{
+    if cells.len() < Design::CELLS {
+        return refusal(7, 0);
+    }
+    if tables.len() < Design::ROWS {
+        return refusal(7, 0);
+    }
+    if marks.len() < Design::ROWS {
+        return refusal(7, 0);
+    }
+    if MOST_BYTES < script.len() {
+        return refusal(4, 0);
+    }
+    read_into(script, cells, tables, marks)
+}
