@@ -22,9 +22,10 @@ same-length c = search needs
 
 returns : tie.Need-returns
 returns c =
-    let L = value-is (c .before .before .before .before .before .before .before .before .before .before .before .before .before .before .args .design) _ _ _ _ _ _ (closed-is (c .before .before .before .before .before .before .before .before .before .before .before .before .before .before .args .design) _ _ _ _ _ (c .before .before .before .before .before .before .before .before .before .start-value .ensures) _ (c .before .before .before .before .before .before .before .close .ensures .0)) in
-    (loaded-is (c .before .before .before .before .before .before .before .before .before .before .before .before .before .before .args .design) _ _ _ _ L _ _ (c .before .before .before .before .before .rows-added .ensures) (c .before .before .before .before .before .before .before .close .ensures .1),
-    settled-is (c .before .before .before .before .before .before .before .before .before .before .before .before .before .before .args .design) _ _ _ _ L _ _ (c .before .before .settle .ensures))
+    let L = value-is (c .before .before .before .before .before .before .before .before .before .before .before .before .before .before .args .design) _ _ _ _ _ _ (closed-is (c .before .before .before .before .before .before .before .before .before .before .before .before .before .before .args .design) _ _ _ _ _ (c .before .before .before .before .before .before .before .before .before .start-value .ensures) _ (c .before .before .before .before .before .before .before .close .ensures .0)) in (
+      loaded-is (c .before .before .before .before .before .before .before .before .before .before .before .before .before .before .args .design) _ _ _ _ L _ _ (c .before .before .before .before .before .rows-added .ensures) (c .before .before .before .before .before .before .before .close .ensures .1),
+      settled-is (c .before .before .before .before .before .before .before .before .before .before .before .before .before .before .args .design) _ _ _ _ L _ _ (c .before .before .settle .ensures),
+    )
 
 pub load-value-spec : {M : Type 1} → statement M
 load-value-spec =
