@@ -51,12 +51,20 @@ module _ (S : Scheme) (D : Database) (c : Cache) (p : Pair) where
     -- a blank value, which is no candidate
     pub refer-blank : isBlank (p .value) ≡ true → candidate (S .filling (p .filling)) (p .value) ≡ false → Leaves S D c (refer p) (refused 9)
     unfolding answer taken
-    refer-blank b n = record { answers = go _ 5 _ (ap not f) (stop _ 9 _ b); cache = untaken (and-right (ltb (p .filling) (S .fillings)) _ (and-left (candidate (S .filling (p .filling)) (p .value)) _ n)) }
+    refer-blank b n = record {
+      answers = go _ 5 _ (ap not f) (stop _ 9 _ b);
+      cache = untaken (and-right (ltb (p .filling) (S .fillings)) _ (and-left
+          (candidate (S .filling (p .filling)) (p .value)) _ n));
+    }
 
     module _ (b : isBlank (p .value) ≡ false) where
       pub refer-none : candidate (S .filling (p .filling)) (p .value) ≡ false → Leaves S D c (refer p) noCandidate
       unfolding answer taken
-      refer-none n = record { answers = go _ 5 _ (ap not f) (go _ 9 _ b (first _ _ _ (ap not n))); cache = untaken (and-right (ltb (p .filling) (S .fillings)) _ (and-left (candidate (S .filling (p .filling)) (p .value)) _ n)) }
+      refer-none n = record {
+        answers = go _ 5 _ (ap not f) (go _ 9 _ b (first _ _ _ (ap not n)));
+        cache = untaken (and-right (ltb (p .filling)
+            (S .fillings)) _ (and-left (candidate (S .filling (p .filling)) (p .value)) _ n));
+      }
 
       module _ (k : candidate (S .filling (p .filling)) (p .value) ≡ true) where
         pub refer-held : listed p (c .pairs) ≡ true → Leaves S D c (refer p) held
@@ -64,7 +72,8 @@ module _ (S : Scheme) (D : Database) (c : Cache) (p : Pair) where
         refer-held l =
             record {
               answers = go _ 5 _ (ap not f) (go _ 9 _ b (second _ _ _ (ap not k) (first _ _ _ l)));
-              cache = untaken (and-right (ltb (p .filling) (S .fillings)) _ (and-right (candidate (S .filling (p .filling)) (p .value)) _ (and-left (not (listed p (c .pairs))) _ (ap not l))));
+              cache = untaken (and-right (ltb (p .filling) (S .fillings)) _ (and-right (candidate (S .filling (p .filling)) (p .value)) _ (and-left (not
+                  (listed p (c .pairs))) _ (ap not l))));
             }
 
         module _ (l : listed p (c .pairs) ≡ false) where
@@ -73,7 +82,8 @@ module _ (S : Scheme) (D : Database) (c : Cache) (p : Pair) where
           refer-full r =
               record {
                 answers = go _ 5 _ (ap not f) (go _ 9 _ b (second _ _ _ (ap not k) (second _ _ _ l (stop _ 8 _ (ap not r)))));
-                cache = untaken (and-right (ltb (p .filling) (S .fillings)) _ (and-right (candidate (S .filling (p .filling)) (p .value)) _ (and-right (not (listed p (c .pairs))) _ r)));
+                cache = untaken (and-right (ltb (p .filling) (S .fillings)) _ (and-right (candidate (S .filling (p .filling)) (p .value)) _ (and-right (not
+                    (listed p (c .pairs))) _ r)));
               }
 
           module _ (r : ltb (length (c .pairs)) places ≡ true) where
@@ -81,7 +91,11 @@ module _ (S : Scheme) (D : Database) (c : Cache) (p : Pair) where
             unfolding answer
             refer-loads = go _ 5 _ (ap not f) (go _ 9 _ b (second _ _ _ (ap not k) (second _ _ _ l (go _ 8 _ (ap not r) refl))))
 
-            pub refer-leaves : cacheAfter S D c (refer p) ≡ record { pairs = c .pairs ++ (p ∷ []); marks = marks D (reached (referLevels S D (marked (c .marks)) p)) }
+            pub refer-leaves : cacheAfter S D c (refer p) ≡ record {
+              pairs = c .pairs ++ (p ∷ []);
+              marks = marks D (reached (referLevels S D (marked
+                  (c .marks)) p));
+            }
             unfolding cacheAfter taken
             refer-leaves = cond-true _ _ _ (both f (both k (both (ap not l) r)))
 
@@ -109,7 +123,8 @@ module _ (S : Scheme) (D : Database) (c : Cache) (p : Pair) where
       drop-none n = record { answers = go _ 5 _ (ap not f) (go _ 9 _ b (stop _ 10 _ (ap not n))); cache = unlisted n }
 
       module _ (l : listed p (c .pairs) ≡ true) where
-        pub drop-drops : let L = reloadLevels S D (remove p (c .pairs)) in dropped (count (D .size) (λ r. marked (c .marks) r && not (reached L r))) ≡ answer S D c (drop p)
+        pub drop-drops : let L = reloadLevels S D (remove p (c .pairs)) in dropped (count (D .size) (λ r. marked (c .marks) r && not
+            (reached L r))) ≡ answer S D c (drop p)
         unfolding answer
         drop-drops = go _ 5 _ (ap not f) (go _ 9 _ b (go _ 10 _ (ap not l) refl))
 

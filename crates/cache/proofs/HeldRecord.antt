@@ -47,7 +47,8 @@ pairs-all h t l i = go (decLt i (h .count)) (decLt i 64)
     go : Dec (i < h .count) → Dec (i < 64) → pairAt (pairsOf h) i ≡ pairOf (heldAt h i)
     go (yes k) m = pairs-at h i k
     go (no k) (yes m) = List·getD-eq-default (pairsOf h) noPair (omega (arith, pairs-length h)) ∙ ap pairOf (sym (t .unused i (omega arith) m))
-    go (no k) (no m) = List·getD-eq-default (pairsOf h) noPair (omega (arith, pairs-length h)) ∙ ap pairOf (sym (List·getD-eq-default (h .values) noValue (omega arith)))
+    go (no k) (no m) = List·getD-eq-default (pairsOf h) noPair (omega (arith, pairs-length h)) ∙
+        ap pairOf (sym (List·getD-eq-default (h .values) noValue (omega arith)))
 
 -- ---- the record of a list of pairs
 
@@ -56,7 +57,8 @@ unfolding heldOf
 held-at ps i l = tab-at noValue 64 (λ j. valueOf (pairAt ps j)) i l
 
 -- a record with this count and these values
-pub held-is : (h : Held) (ps : List Pair) → h .count ≡ length ps → length (h .values) ≡ 64 → ((i : ℕ) → i < 64 → heldAt h i ≡ valueOf (pairAt ps i)) → h ≡ heldOf ps
+pub held-is : (h : Held) (ps : List Pair) → h .count ≡ length ps → length (h .values) ≡ 64 → ((i : ℕ) → i < 64 → heldAt h i ≡ valueOf (pairAt ps i)) →
+    h ≡ heldOf ps
 unfolding heldOf
 held-is h ps n l at = λ i. record { count = n i; values = tab-of noValue 64 (λ j. valueOf (pairAt ps j)) (h .values) l at i }
 
@@ -69,7 +71,8 @@ record-back h t l = sym (held-is h (pairsOf h) (sym (pairs-length h)) l (λ i k.
 module _ (h : Held) (t : Tidy h) (room : h .count < 64) (l : length (h .values) ≡ 64) (v : HeldValue) where
   ends : (i : ℕ) → i < 64 → getD (set (h .values) (h .count) v) i noValue ≡ valueOf (pairAt (pairsOf h ++ (pairOf v ∷ [])) i)
   ends i k = ⊎-elim
-      (λ (e : i ≡ h .count). rw e (getD-set-same (h .values) (h .count) v noValue (omega arith)) ∙ ap valueOf (sym (end-last (pairsOf h) (pairOf v) i (e ∙ sym (pairs-length h)))))
+      (λ (e : i ≡ h .count). rw e (getD-set-same (h .values) (h .count) v noValue (omega arith)) ∙ ap valueOf (sym (end-last (pairsOf h) (pairOf v) i (e ∙
+      sym (pairs-length h)))))
       (λ (ne : i ≡ h .count → ⊥). getD-set-other (h .values) (h .count) i v noValue ne ∙ other ne (decLt i (h .count)))
       (same-number i (h .count))
     where
@@ -78,14 +81,21 @@ module _ (h : Held) (t : Tidy h) (room : h .count < 64) (l : length (h .values) 
 
       other : (i ≡ h .count → ⊥) → Dec (i < h .count) → heldAt h i ≡ valueOf (pairAt (pairsOf h ++ (pairOf v ∷ [])) i)
       other ne (yes b) = ap valueOf (sym (end-before (pairsOf h) (pairOf v) i (omega (arith, pairs-length h)) ∙ pairs-at h i b))
-      other ne (no b) = t .unused i (omega arith) k ∙ ap valueOf (sym (end-past (pairsOf h) (pairOf v) i (omega (arith, pairs-length h, above ne (omega arith)))))
+      other ne (no b) = t .unused i (omega arith) k ∙ ap valueOf (sym (end-past (pairsOf h) (pairOf v) i (omega (
+        arith,
+        pairs-length h,
+        above ne
+            (omega arith),
+      ))))
 
   pub append-is : _≡_ {A = Held} (record { count = h .count + 1; values = set (h .values) (h .count) v }) (heldOf (pairsOf h ++ (pairOf v ∷ [])))
-  append-is = held-is _ (pairsOf h ++ (pairOf v ∷ [])) (omega (arith, pairs-length h, end-length (pairsOf h) (pairOf v))) (length-set (h .values) (h .count) v ∙ l) ends
+  append-is = held-is _ (pairsOf h ++ (pairOf v ∷ [])) (omega (arith, pairs-length h, end-length (pairsOf h) (pairOf v))) (length-set (h .values)
+      (h .count) v ∙ l) ends
 
 -- ---- one fewer
 
-pub closed-is : (h : Held) (gap : ℕ) (values : List HeldValue) → values ≡ tab 64 (keptAt h gap) → _≡_ {A = Held} (record { count = h .count - 1; values = values }) (without h gap)
+pub closed-is : (h : Held) (gap : ℕ) (values : List HeldValue) → values ≡ tab 64 (keptAt h gap) →
+    _≡_ {A = Held} (record { count = h .count - 1; values = values }) (without h gap)
 unfolding without
 closed-is h gap values e = λ i. record { count = h .count - 1; values = e i }
 

@@ -61,7 +61,8 @@ module _ (d : Design) (cells tables : List ℕ) where
     unfolding settled marks databaseOf
     settled-is m new f = f ∙ ap (λ (J : List ℕ). tab 512 (λ r. cond (reached J r) 1 0) ++ drop 512 m) e
 
-  pub agree-is : (h : Held) (m K : List ℕ) → K ≡ heldLevels d cells tables h → all 512 (λ r. eqb (getD m r 0) (cond (reached K r) 1 0)) ≡ lawfulMarks d cells tables h m
+  pub agree-is : (h : Held) (m K : List ℕ) → K ≡ heldLevels d cells tables h → all 512 (λ r. eqb (getD m r 0) (cond
+      (reached K r) 1 0)) ≡ lawfulMarks d cells tables h m
   unfolding lawfulMarks heldLevels
   agree-is h m K e = ap (λ (J : List ℕ). all 512 (λ r. eqb (getD m r 0) (cond (reached J r) 1 0))) e
 

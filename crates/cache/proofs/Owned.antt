@@ -1,7 +1,11 @@
--- One law for the functions above the thin wrappers, `refer_held` and `drop_held`, whose parameters are plain: a body that copies the record into a local, lends the local by `&mut` to the function named k, and puts the outcome together of the local and the answer, meets the contract that says the outcome, from the wrapper's contract, which says its parts.
+-- One law for the functions above the thin wrappers, `refer_held` and `drop_held`, whose parameters are plain: a body that copies the record into a local,
+-- lends the local by `&mut` to the function named k, and puts the outcome together of the local and the answer, meets the contract that says the outcome,
+-- from the wrapper's contract, which says its parts.
 --     shape k      the functions' MIR, but for the callee's name, k
 --     owner        the law. The contract is the one that `Thin.antt` has of the wrapper's callee
--- The local is lent for a lifetime that is made for the call; the lifetime is ended, and the local is taken back at the last value that the callee says. The two `&` slices are Copy: what each owns is had twice, once for the callee and once for the exit. The `&mut` slice goes to the callee at its own lifetime, share and name, and is given up for good.
+-- The local is lent for a lifetime that is made for the call; the lifetime is ended, and the local is taken back at the last value that the callee says. The
+-- two `&` slices are Copy: what each owns is had twice, once for the callee and once for the exit. The `&mut` slice goes to the callee at its own lifetime,
+-- share and name, and is given up for good.
 -- Assumes `Given`.
 use mathlib.Core.Path.{_≡_, refl, ap}
 use mathlib.Core.Bool.{true}
@@ -69,14 +73,17 @@ shape k = record {
   lifetimes = 3;
   outlives = [];
   params = 7;
-  locals = local O′.mir valueLocal ∷ local D′.mir valueLocal ∷ local (lone (ShrSlice (named 0) [] u32 .mir)) valueLocal ∷ local (lone (ShrSlice (named 1) [] u8 .mir)) valueLocal ∷ local (marksTy (named 2)) valueLocal
-      ∷ local T′.mir valueLocal ∷ local (tyInt w8) valueLocal ∷ local (tyInt w32) valueLocal ∷ local T′.mir memorySlot ∷ local N′.mir valueLocal ∷ local (tyRef erased mut (tyInt w8)) valueLocal ∷ local (marksTy erased) valueLocal
+  locals = local O′.mir valueLocal ∷ local D′.mir valueLocal ∷ local (lone (ShrSlice (named 0) [] u32 .mir)) valueLocal ∷ local (lone (ShrSlice
+      (named 1) [] u8 .mir)) valueLocal ∷ local (marksTy (named 2)) valueLocal
+      ∷ local T′.mir valueLocal ∷ local (tyInt w8) valueLocal ∷ local (tyInt w32) valueLocal ∷ local T′.mir memorySlot ∷ local N′.mir valueLocal ∷ local
+      (tyRef erased mut (tyInt w8)) valueLocal ∷ local (marksTy erased) valueLocal
       ∷ local (tyRef erased mut (pointee (T.the-row .written))) valueLocal ∷ local T′.mir valueLocal ∷ [];
   body = seq (assign (place 8 []) (rvOpd (copy (place 5 []))))
       (seq (assign (place 10 []) (addrOf (place 4 (field 0 ∷ deref (tyInt w8) ∷ []))))
       (seq (assign (place 11 []) (aggregate (copy (place 10 []) ∷ copy (place 4 (field 1 ∷ [])) ∷ [])))
       (seq (assign (place 12 []) (addrOf (place 8 [])))
-      (seq (call k (copy (place 1 []) ∷ copy (place 2 []) ∷ copy (place 3 []) ∷ copy (place 11 []) ∷ copy (place 12 []) ∷ copy (place 6 []) ∷ copy (place 7 []) ∷ []) (place 9 []))
+      (seq (call k (copy (place 1 []) ∷ copy (place 2 []) ∷ copy (place 3 []) ∷ copy (place 11 []) ∷ copy (place 12 []) ∷ copy (place 6 []) ∷ copy
+      (place 7 []) ∷ []) (place 9 []))
       (seq (assign (place 13 []) (rvOpd (copy (place 8 []))))
       (seq (assign (place 0 []) (aggregate (copy (place 13 []) ∷ copy (place 9 []) ∷ []))) return))))));
 }
@@ -97,7 +104,8 @@ stayed = (
 abbrev pub G : (op : Op) {M : Type 1} (𝓤 : URA M) (H : Heap 𝓤) (A : Atoms 𝓤) → Contract 𝓤
 G op 𝓤 H A = tripleOf 𝓤 H A g.signature (closing 𝓤 H A g.ended (wrapper op 𝓤))
 
-module _ (op : Op) (k : Name) {M : Type 1} (𝓤 : URA M) (H : Heap 𝓤) (A : Atoms 𝓤) (W : Given 𝓤 H A) (κ₀ κ₁ κ₂ : Lft) (q₀ q₁ q₂ : Share) (d : Design) (c t : RefT (List ℕ)) (b o : ℕ) (γ : GName) (ys : List ℕ) (h : Held) (n v : ℕ) (n-fits : n < 2 ^ 8) (v-fits : v < 2 ^ 32) where
+module _ (op : Op) (k : Name) {M : Type 1} (𝓤 : URA M) (H : Heap 𝓤) (A : Atoms 𝓤) (W : Given 𝓤 H A) (κ₀ κ₁ κ₂ : Lft) (q₀ q₁ q₂ : Share) (d : Design)
+    (c t : RefT (List ℕ)) (b o : ℕ) (γ : GName) (ys : List ℕ) (h : Held) (n v : ℕ) (n-fits : n < 2 ^ 8) (v-fits : v < 2 ^ 32) where
   -- the marks' borrow
   abbrev x : RefT (List ℕ)
   x = record { ptr = (b, o); name = γ; now = ys }
@@ -170,15 +178,18 @@ module _ (op : Op) (k : Name) {M : Type 1} (𝓤 : URA M) (H : Heap 𝓤) (A : A
   to ν l δ = (((κ₀, (κ₁, (κ₂, (ν ∷ [], tt)))), (q₀, (q₁, (q₂, (fullShare, tt)))), tt, ga l δ, passed ν l), tt)
 
   goes-to : sound (st d c t x h) ≡ true → (ν l : ℕ) (δ : GName) → Is D.the-row d (vD ∷ [])
-      → ent 𝓤 (⋆ 𝓤 H A ((‵ (flft κ₀ q₀) ⊛ ‵ (flft κ₁ q₁) ⊛ ‵ (flft κ₂ q₂) ⊛ ‵ ftrue) ∷ ‵ (flft (ν ∷ []) fullShare) ∷ ‵ (fsep Sent (OwnR ν l δ)) ∷ [])) (G op 𝓤 H A .pre (to ν l δ))
+      → ent 𝓤 (⋆ 𝓤 H A ((‵ (flft κ₀ q₀) ⊛ ‵ (flft κ₁ q₁) ⊛ ‵ (flft κ₂ q₂) ⊛ ‵ ftrue) ∷ ‵ (flft (ν ∷ []) fullShare) ∷ ‵ (fsep Sent (OwnR ν l δ)) ∷ []))
+      (G op 𝓤 H A .pre (to ν l δ))
   goes-to pre ν l δ isD =
       qed W ((‵ (flft κ₀ q₀) ⊛ ‵ (flft κ₁ q₁) ⊛ ‵ (flft κ₂ q₂) ⊛ ‵ ftrue) ∷ ‵ (flft (ν ∷ []) fullShare) ∷ ‵ (fsep Sent (OwnR ν l δ)) ∷ []) ∵
       -- the four tokens
-      says ! pre $ split ! $ move ! (1 ∷ []) $ split ! $ move ! (1 ∷ []) $ split ! $ move ! (4 ∷ 1 ∷ []) $ join ! $ move ! (1 ∷ 0 ∷ []) $ join ! $ move ! (1 ∷ 0 ∷ []) $ join ! $ move ! (1 ∷ 0 ∷ []) $ join ! $
+      says ! pre $ split ! $ move ! (1 ∷ []) $ split ! $ move ! (1 ∷ []) $ split ! $ move ! (4 ∷ 1 ∷ []) $ join ! $ move ! (1 ∷ 0 ∷ []) $ join ! $
+      move ! (1 ∷ 0 ∷ []) $ join ! $ move ! (1 ∷ 0 ∷ []) $ join ! $
       -- [the tokens; what the slices and the reference own]
       frame ! $ fsplit ! $ fsplit3 ! $
       -- [what cells owns; tables; marks; the reference]
-      nothing ! $ owned ! u32 (Is u32) (uint-makes 𝓤 H A W w32) v _ (refl, v-fits) $ fjoin ! $ owned ! u8 (Is u8) (uint-makes 𝓤 H A W w8) n _ (refl, n-fits) $ fjoin ! $
+      nothing ! $ owned ! u32 (Is u32) (uint-makes 𝓤 H A W w32) v _ (refl, v-fits) $ fjoin ! $
+      owned ! u8 (Is u8) (uint-makes 𝓤 H A W w8) n _ (refl, n-fits) $ fjoin ! $
       move ! (4 ∷ 0 ∷ []) $ fjoin ! $ move ! (3 ∷ 0 ∷ []) $ fjoin ! $ move ! (2 ∷ 0 ∷ []) $ fjoin ! $ move ! (1 ∷ 0 ∷ []) $ fjoin ! $
       owned ! D.the-row (Is D.the-row) (LL.makes D.the-type D′.the-plain 𝓤 H A) d _ isD $ fjoin ! $ done !
 
@@ -190,27 +201,35 @@ module _ (op : Op) (k : Name) {M : Type 1} (𝓤 : URA M) (H : Heap 𝓤) (A : A
   abbrev made : Answer → Held → Outcome
   made r z = record { held = z; answer = r }
 
-  made-is : (r : Answer) (z : Held) → Is N.the-row r (vA r ∷ []) → Is T.the-row z (vH z ∷ []) → Is O.the-row (made r z) (LL.vals O.the-type O′.the-laws (made r z))
+  made-is : (r : Answer) (z : Held) → Is N.the-row r (vA r ∷ []) → Is T.the-row z (vH z ∷ []) →
+      Is O.the-row (made r z) (LL.vals O.the-type O′.the-laws (made r z))
   made-is r z isA isK = LL.owes O.the-type O′.the-laws (made r z) (isK, (isA, tt))
 
-  exits : (r : Answer) (z : Held) (zs : List ℕ) → Said r z zs → length zs ≡ length ys → Is D.the-row d (vD ∷ []) → Is T.the-row h (vH h ∷ []) → Is N.the-row r (vA r ∷ []) → Is T.the-row z (vH z ∷ [])
-      → ent 𝓤 (⋆ 𝓤 H A ((‵ (flft κ₀ q₀) ⊛ ‵ (flft κ₁ q₁) ⊛ ‵ (flft κ₂ q₂) ⊛ ‵ ftrue) ∷ ‵ (finally u8 γ zs) ∷ ‵ Kept ∷ [])) (Post (LL.val O.the-type O′.the-laws (made r z)))
+  exits : (r : Answer) (z : Held) (zs : List ℕ) → Said r z zs → length zs ≡ length ys → Is D.the-row d (vD ∷ []) → Is T.the-row h (vH h ∷ []) →
+      Is N.the-row r (vA r ∷ []) → Is T.the-row z (vH z ∷ [])
+      → ent 𝓤 (⋆ 𝓤 H A ((‵ (flft κ₀ q₀) ⊛ ‵ (flft κ₁ q₁) ⊛ ‵ (flft κ₂ q₂) ⊛ ‵ ftrue) ∷ ‵ (finally u8 γ zs) ∷ ‵ Kept ∷ [])) (Post
+      (LL.val O.the-type O′.the-laws (made r z)))
   exits r z zs e l isD isH isA isK =
       qed W ((‵ (flft κ₀ q₀) ⊛ ‵ (flft κ₁ q₁) ⊛ ‵ (flft κ₂ q₂) ⊛ ‵ ftrue) ∷ ‵ (finally u8 γ zs) ∷ ‵ Kept ∷ []) ∵
-      suffices ! _ (ends-at 𝓤 H A f.ended stayed (callee op 𝓤) W (((κ₀, (κ₁, (κ₂, tt))), (q₀, (q₁, (q₂, tt))), tt, a, vals), tt) (LL.val O.the-type O′.the-laws (made r z)) (made r z) (tt, (tt, (tt, (zs, (tt, (tt, (tt, tt))))))) (tt, (tt, (tt, (l, (tt, (tt, (tt, tt)))))))) $
+      suffices ! _ (ends-at 𝓤 H A f.ended stayed (callee op 𝓤) W (((κ₀, (κ₁, (κ₂, tt))), (q₀, (q₁, (q₂, tt))), tt, a, vals), tt)
+      (LL.val O.the-type O′.the-laws (made r z)) (made r z) (tt, (tt, (tt, (zs, (tt, (tt, (tt, tt))))))) (tt, (tt, (tt, (l, (tt, (tt, (tt, tt)))))))) $
       says ! e $ frame ! $
       -- [the last marks; what the `&` slices own]
-      nothing ! $ owned ! u32 (Is u32) (uint-makes 𝓤 H A W w32) v _ (refl, v-fits) $ fjoin ! $ owned ! u8 (Is u8) (uint-makes 𝓤 H A W w8) n _ (refl, n-fits) $ fjoin ! $
+      nothing ! $ owned ! u32 (Is u32) (uint-makes 𝓤 H A W w32) v _ (refl, v-fits) $ fjoin ! $
+      owned ! u8 (Is u8) (uint-makes 𝓤 H A W w8) n _ (refl, n-fits) $ fjoin ! $
       owned ! T.the-row (Is T.the-row) (LL.makes T.the-type T′.the-plain 𝓤 H A) h _ isH $ fjoin ! $
       move ! (1 ∷ 0 ∷ []) $ fjoin ! $ move ! (1 ∷ []) $ fsplit ! $ move ! (1 ∷ 2 ∷ []) $ fjoin ! $ move ! (1 ∷ 0 ∷ []) $ fjoin ! $
       owned ! D.the-row (Is D.the-row) (LL.makes D.the-type D′.the-plain 𝓤 H A) d _ isD $ fjoin ! $
       owned ! O.the-row (Is O.the-row) (LL.makes O.the-type O′.the-plain 𝓤 H A) (made r z) _ (made-is r z isA isK) $ move ! (1 ∷ 0 ∷ []) $ done !
 
   module _ (C : Calls 𝓤 H) (Λ : Loops 𝓤 H) (fm : FmC 𝓤 H (W .laws) C) (known : Triple 𝓤 (C k) (G op 𝓤 H A)) where
-    walk : sound (st d c t x h) ≡ true → Is D.the-row d (vD ∷ []) → Is (ShrSlice (named 0) κ₀ u32) c (vC ∷ []) → Is (ShrSlice (named 1) κ₁ u8) t (vT ∷ []) → Room u8 (length ys) → Is T.the-row h (vH h ∷ [])
-        → ent 𝓤 (onEntry 𝓤 H A f.signature (κ₀, (κ₁, (κ₂, tt))) (q₀, (q₁, (q₂, tt))) a vals) (WpFn 𝓤 H C Λ (shape k) (vD ∷ vC ∷ vT ∷ vX ∷ vH h ∷ vint w8 n ∷ vint w32 v ∷ []) Post)
+    walk : sound (st d c t x h) ≡ true → Is D.the-row d (vD ∷ []) → Is (ShrSlice (named 0) κ₀ u32) c (vC ∷ []) → Is (ShrSlice (named 1) κ₁ u8) t (vT ∷ []) →
+        Room u8 (length ys) → Is T.the-row h (vH h ∷ [])
+        → ent 𝓤 (onEntry 𝓤 H A f.signature (κ₀, (κ₁, (κ₂, tt))) (q₀, (q₁, (q₂, tt))) a vals) (WpFn 𝓤 H C Λ (shape k)
+        (vD ∷ vC ∷ vT ∷ vX ∷ vH h ∷ vint w8 n ∷ vint w32 v ∷ []) Post)
     walk pre isD isC isT room isH =
-        qed W ((‵ (flft κ₀ q₀) ⊛ ‵ (flft κ₁ q₁) ⊛ ‵ (flft κ₂ q₂) ⊛ ‵ ftrue) ∷ ‵ (owns (D.the-row ∷ ShrSlice (named 0) κ₀ u32 ∷ ShrSlice (named 1) κ₁ u8 ∷ MutSlice (named 2) κ₂ u8 ∷ T.the-row ∷ u8 ∷ u32 ∷ []) a vals) ∷ []) ∵
+        qed W ((‵ (flft κ₀ q₀) ⊛ ‵ (flft κ₁ q₁) ⊛ ‵ (flft κ₂ q₂) ⊛ ‵ ftrue) ∷ ‵ (owns (D.the-row ∷ ShrSlice (named 0) κ₀ u32 ∷ ShrSlice
+        (named 1) κ₁ u8 ∷ MutSlice (named 2) κ₂ u8 ∷ T.the-row ∷ u8 ∷ u32 ∷ []) a vals) ∷ []) ∵
         move ! (1 ∷ []) $ fsplit ! $ drop ! $ fsplit ! $ use1 W (‵ OwnC ⊛ ‵ OwnC) (shr-slice-copy 𝓤 H A W (named 0) κ₀ u32 .twice c (vC ∷ [])) $ split ! $
         move ! (2 ∷ []) $ fsplit ! $ use1 W (‵ OwnT ⊛ ‵ OwnT) (shr-slice-copy 𝓤 H A W (named 1) κ₁ u8 .twice t (vT ∷ [])) $ split ! $
         move ! (2 ∷ []) $ fsplit ! $ move ! (1 ∷ []) $ drop ! $
@@ -218,51 +237,93 @@ module _ (op : Op) (k : Name) {M : Type 1} (𝓤 : URA M) (H : Heap 𝓤) (A : A
         move ! (1 ∷ 0 ∷ []) $ fjoin ! $ move ! (2 ∷ 0 ∷ []) $ fjoin ! $ move ! (2 ∷ 1 ∷ []) $ fjoin ! $ move ! (2 ∷ 1 ∷ 0 ∷ []) $
         -- [the tokens; Sent; Kept]
         enter ! C Λ (shape k) (vD ∷ vC ∷ vT ∷ vX ∷ vH h ∷ vint w8 n ∷ vint w32 v ∷ []) _ $
-        alloc1 ! (λ l₀. alloc1 ! (λ l₁. alloc1 ! (λ l₂. alloc1 ! (λ l₃. alloc1 ! (λ l₄. alloc1 ! (λ l₅. alloc1 ! (λ l₆. alloc1 ! (λ l₇. alloc1 ! (λ l₈. alloc1 ! (λ l₉. alloc1 ! (λ l₁₀. alloc1 ! (λ l₁₁. alloc1 ! (λ l₁₂. alloc1 ! (λ l₁₃. alloc0 ! $ params1 ! $
-        pass1 ! (init ! 24 refl (LL.lawful D.the-type D′.the-laws 𝓤 H A W .typed d _ isD .0)) $ pass1 ! (init ! 22 refl (shr-slice-lawful 𝓤 H A W (named 0) κ₀ u32 .typed c (vC ∷ []) isC .0)) $ pass1 ! (init ! 20 refl (shr-slice-lawful 𝓤 H A W (named 1) κ₁ u8 .typed t (vT ∷ []) isT .0)) $
-        pass1 ! (init ! 18 refl (tt, (tt, (record { fits = room .0 }, tt)))) $ pass1 ! (init ! 16 refl (LL.lawful T.the-type T′.the-laws 𝓤 H A W .typed h _ isH .0)) $ pass1 ! (init ! 14 refl (tt, record { fits = n-fits })) $ pass1 ! (init ! 12 refl (tt, record { fits = v-fits })) $ pass0 ! $
+        alloc1 ! (λ l₀. alloc1 ! (λ l₁. alloc1 ! (λ l₂. alloc1 ! (λ l₃. alloc1 ! (λ l₄. alloc1 ! (λ l₅. alloc1 ! (λ l₆. alloc1 ! (λ l₇. alloc1 !
+        (λ l₈. alloc1 ! (λ l₉. alloc1 ! (λ l₁₀. alloc1 ! (λ l₁₁. alloc1 ! (λ l₁₂. alloc1 ! (λ l₁₃. alloc0 ! $ params1 ! $
+        pass1 ! (init ! 24 refl (LL.lawful D.the-type D′.the-laws 𝓤 H A W .typed d _ isD .0)) $
+        pass1 ! (init ! 22 refl (shr-slice-lawful 𝓤 H A W (named 0) κ₀ u32 .typed c (vC ∷ []) isC .0)) $
+        pass1 ! (init ! 20 refl (shr-slice-lawful 𝓤 H A W (named 1) κ₁ u8 .typed t (vT ∷ []) isT .0)) $
+        pass1 ! (init ! 18 refl (tt, (tt, (record { fits = room .0 }, tt)))) $ pass1 ! (init ! 16 refl
+        (LL.lawful T.the-type T′.the-laws 𝓤 H A W .typed h _ isH .0)) $ pass1 ! (init ! 14 refl (tt, record { fits = n-fits })) $
+        pass1 ! (init ! 12 refl (tt, record { fits = v-fits })) $ pass0 ! $
         -- [_13 at 0; …; _8 at 10; …; _0 at 26; …; the tokens at 28; Sent; Kept]
-        assigns ! (of-opd ! (load ! (from ! (stop !)) (look ! 16 refl))) (from ! (stop !)) (init ! 10 refl (LL.lawful T.the-type T′.the-laws 𝓤 H A W .typed h _ isH .0)) $
+        assigns ! (of-opd ! (load ! (from ! (stop !)) (look ! 16 refl))) (from ! (stop !)) (init ! 10 refl
+        (LL.lawful T.the-type T′.the-laws 𝓤 H A W .typed h _ isH .0)) $
         assigns ! (addr ! (from ! (fld ! refl (hop ! (look-in ! 18 (sub ! 0 refl (whole !))) (stop !))))) (from ! (stop !)) (init ! 6 refl (tt, tt)) $
-        assigns ! (agg ! (and-then ! (load ! (from ! (stop !)) (look ! 6 refl)) (and-then ! (load ! (from ! (fld ! refl (stop !))) (look-in ! 18 (sub ! 1 refl (whole !)))) (no-more !)))) (from ! (stop !)) (init ! 4 refl (tt, (tt, (record { fits = room .0 }, tt)))) $
+        assigns ! (agg ! (and-then ! (load ! (from ! (stop !)) (look ! 6 refl)) (and-then ! (load ! (from ! (fld ! refl (stop !))) (look-in ! 18
+        (sub ! 1 refl (whole !)))) (no-more !)))) (from ! (stop !)) (init ! 4 refl (tt, (tt, (record { fits = room .0 }, tt)))) $
         assigns ! (addr ! (from ! (stop !))) (from ! (stop !)) (init ! 2 refl (tt, tt)) $
         -- the local is lent for a lifetime ν of the call
         move ! (10 ∷ []) $ use1 W (‵ (partAt T.the-row fullShare h l₈ 0)) (in-mem 𝓤 H A W h l₈ isH) $ lft-new ! tt (λ ν. move ! (1 ∷ []) $
-        use1 W (later (some (λ (δ : GName). ‵ (OwnR ν l₈ δ) ⊛ ‵ (flent (ν ∷ []) (Body (mem T.the-row) l₈ 0 δ))))) (lends-ref 𝓤 H A W T.the-row (named 3) (ν ∷ []) h l₈ 0) $ await ! tt $ pick ! (λ δ. split ! $
+        use1 W (later (some (λ (δ : GName). ‵ (OwnR ν l₈ δ) ⊛ ‵ (flent (ν ∷ []) (Body (mem T.the-row) l₈ 0 δ))))) (lends-ref 𝓤 H A W T.the-row (named 3)
+        (ν ∷ []) h l₈ 0) $ await ! tt $ pick ! (λ δ. split ! $
         -- [what the reference owns; the lender's part; ν's token; _13 at 3; …; _9 at 11; …; what frees _8 at 13; _7 at 14; …; the tokens at 30; Sent; Kept]
         move ! (31 ∷ 0 ∷ []) $ fjoin ! $ move ! (30 ∷ 2 ∷ 0 ∷ []) $ use3 W (raw (G op 𝓤 H A .pre (to ν l₈ δ))) (goes-to pre ν l₈ δ isD) $
-        calls-at ! fm (G op 𝓤 H A) known (to ν l₈ δ) (and-then ! (load ! (from ! (stop !)) (look ! 25 refl)) (and-then ! (load ! (from ! (stop !)) (look ! 23 refl)) (and-then ! (load ! (from ! (stop !)) (look ! 21 refl)) (and-then ! (load ! (from ! (stop !)) (look ! 6 refl))
-        (and-then ! (load ! (from ! (stop !)) (look ! 4 refl)) (and-then ! (load ! (from ! (stop !)) (look ! 15 refl)) (and-then ! (load ! (from ! (stop !)) (look ! 13 refl)) (no-more !)))))))) (λ w.
-        use1 W (later (some (λ (r : Answer). ((‵ (flft κ₀ q₀) ⊛ ‵ (flft κ₁ q₁) ⊛ ‵ (flft κ₂ q₂) ⊛ ‵ (flft (ν ∷ []) fullShare) ⊛ ‵ ftrue) ⊛ ‵ (N.the-row .own r (w ∷ []))) ⊛ raw (ensured 𝓤 H A g.ended (wrapper op 𝓤) (κ₀, (κ₁, (κ₂, (ν ∷ [], tt)))) (ga l₈ δ) tt r)))) (id⊢ 𝓤 _) $ await ! tt $ pick ! (λ r.
-        split ! $ move ! (1 ∷ []) $ use1 W (some (λ (zs : Unit {0} × (Unit {0} × (Unit {0} × (List ℕ × (Held × (Unit {0} × (Unit {0} × Unit {0}))))))). ‵ (lasts g.ended (κ₀, (κ₁, (κ₂, (ν ∷ [], tt)))) (ga l₈ δ) zs) ⊛ raw (fact 𝓤 (Said r (zs .1 .1 .1 .1 .0) (zs .1 .1 .1 .0))))) (id⊢ 𝓤 _) $ pick ! (λ zs.
-        split ! $ move ! (1 ∷ []) $ heard ! (Said r (zs .1 .1 .1 .1 .0) (zs .1 .1 .1 .0)) (λ e. fsplit ! $ drop ! $ fsplit ! $ drop ! $ fsplit ! $ drop ! $ fsplit ! $ move ! (1 ∷ []) $ fsplit ! $ move ! (1 ∷ []) $ drop ! $ move ! (1 ∷ []) $ fsplit ! $ move ! (1 ∷ []) $ feqL ! (λ l.
+        calls-at ! fm (G op 𝓤 H A) known (to ν l₈ δ) (and-then ! (load ! (from ! (stop !)) (look ! 25 refl)) (and-then ! (load ! (from ! (stop !))
+        (look ! 23 refl)) (and-then ! (load ! (from ! (stop !)) (look ! 21 refl)) (and-then ! (load ! (from ! (stop !)) (look ! 6 refl))
+        (and-then ! (load ! (from ! (stop !)) (look ! 4 refl)) (and-then ! (load ! (from ! (stop !)) (look ! 15 refl)) (and-then ! (load ! (from ! (stop !))
+        (look ! 13 refl)) (no-more !)))))))) (λ w.
+        use1 W (later (some (λ (r : Answer). ((‵ (flft κ₀ q₀) ⊛ ‵ (flft κ₁ q₁) ⊛ ‵ (flft κ₂ q₂) ⊛ ‵ (flft (ν ∷ []) fullShare) ⊛ ‵ ftrue) ⊛ ‵
+        (N.the-row .own r (w ∷ []))) ⊛ raw (ensured 𝓤 H A g.ended (wrapper op 𝓤) (κ₀, (κ₁, (κ₂, (ν ∷ [], tt)))) (ga l₈ δ) tt r)))) (id⊢ 𝓤 _) $
+        await ! tt $ pick ! (λ r.
+        split ! $ move ! (1 ∷ []) $ use1 W (some (λ (zs : Unit {0} × (Unit {0} × (Unit {0} × (List ℕ × (Held × (Unit {0} × (Unit {0} ×
+        Unit {0}))))))). ‵ (lasts g.ended (κ₀, (κ₁, (κ₂, (ν ∷ [], tt)))) (ga l₈ δ) zs) ⊛ raw (fact 𝓤 (Said r (zs .1 .1 .1 .1 .0) (zs .1 .1 .1 .0)))))
+        (id⊢ 𝓤 _) $ pick ! (λ zs.
+        split ! $ move ! (1 ∷ []) $ heard ! (Said r (zs .1 .1 .1 .1 .0) (zs .1 .1 .1 .0)) (λ e. fsplit ! $ drop ! $ fsplit ! $ drop ! $ fsplit ! $ drop ! $
+        fsplit ! $ move ! (1 ∷ []) $ fsplit ! $ move ! (1 ∷ []) $ drop ! $ move ! (1 ∷ []) $ fsplit ! $ move ! (1 ∷ []) $ feqL ! (λ l.
         -- [the last marks; the last record; the tokens and the answer; the lender's part; _13 at 4; …]
         move ! (2 ∷ []) $ split ! $ move ! (1 ∷ []) $ peeks ! N.the-row (Is N.the-row) (shows 𝓤 H A N.the-row) r (w ∷ []) (λ is.
         -- [what the answer owns; the tokens; the last marks; the last record; the lender's part; _13 at 5; …; _9 at 13; …]
-        land ! (from ! (stop !)) (init ! 13 refl (EL.lawful N.the-type N′.the-laws 𝓤 H A W tt .typed r _ is .0)) $ rewrite ! 13 (λ (u : Val). ‵ (fat fullShare N′.mir l₉ 0 u)) (ap only (EL.tells N.the-type N′.the-laws r _ is)) refl $
-        rewrite ! 0 (λ (us : List Val). ‵ (N.the-row .own r us)) (EL.tells N.the-type N′.the-laws r _ is) refl $ peeks ! N.the-row (Is N.the-row) (shows 𝓤 H A N.the-row) r (vA r ∷ []) (λ isA. drop ! $
+        land ! (from ! (stop !)) (init ! 13 refl (EL.lawful N.the-type N′.the-laws 𝓤 H A W tt .typed r _ is .0)) $
+        rewrite ! 13 (λ (u : Val). ‵ (fat fullShare N′.mir l₉ 0 u)) (ap only (EL.tells N.the-type N′.the-laws r _ is)) refl $
+        rewrite ! 0 (λ (us : List Val). ‵ (N.the-row .own r us)) (EL.tells N.the-type N′.the-laws r _ is) refl $
+        peeks ! N.the-row (Is N.the-row) (shows 𝓤 H A N.the-row) r (vA r ∷ []) (λ isA. drop ! $
         -- the lifetime is ended, and the local is taken back at its last value
-        split ! $ move ! (1 ∷ []) $ split ! $ move ! (1 ∷ []) $ split ! $ move ! (1 ∷ []) $ split ! $ lft-end ! tt $ move ! (2 ∷ 1 ∷ []) $ join ! $ move ! (2 ∷ 0 ∷ []) $ join ! $ move ! (2 ∷ 0 ∷ []) $ join ! $
-        move ! (1 ∷ 4 ∷ 3 ∷ []) $ use3 W (later (‵ (partAt T.the-row fullShare (zs .1 .1 .1 .1 .0) l₈ 0))) (ref-back 𝓤 H A W T.the-row (ν ∷ []) δ (zs .1 .1 .1 .1 .0) l₈ 0) $ await ! tt $
-        use1 W (‵ (fat fullShare T′.mir l₈ 0 (vH (zs .1 .1 .1 .1 .0))) ⊛ ‵ (T.the-row .own (zs .1 .1 .1 .1 .0) (vH (zs .1 .1 .1 .1 .0) ∷ []))) (out-mem 𝓤 H A W (zs .1 .1 .1 .1 .0) l₈) $ split ! $
+        split ! $ move ! (1 ∷ []) $ split ! $ move ! (1 ∷ []) $ split ! $ move ! (1 ∷ []) $ split ! $ lft-end ! tt $ move ! (2 ∷ 1 ∷ []) $ join ! $
+        move ! (2 ∷ 0 ∷ []) $ join ! $ move ! (2 ∷ 0 ∷ []) $ join ! $
+        move ! (1 ∷ 4 ∷ 3 ∷ []) $ use3 W (later (‵ (partAt T.the-row fullShare (zs .1 .1 .1 .1 .0) l₈ 0))) (ref-back 𝓤 H A W T.the-row (ν ∷ []) δ
+        (zs .1 .1 .1 .1 .0) l₈ 0) $ await ! tt $
+        use1 W (‵ (fat fullShare T′.mir l₈ 0 (vH (zs .1 .1 .1 .1 .0))) ⊛ ‵ (T.the-row .own (zs .1 .1 .1 .1 .0) (vH (zs .1 .1 .1 .1 .0) ∷ [])))
+        (out-mem 𝓤 H A W (zs .1 .1 .1 .1 .0) l₈) $ split ! $
         move ! (1 ∷ []) $ peeks ! T.the-row (Is T.the-row) (shows 𝓤 H A T.the-row) (zs .1 .1 .1 .1 .0) (vH (zs .1 .1 .1 .1 .0) ∷ []) (λ isK. drop ! $
         -- [_8; the tokens; the last marks; _13 at 3; …; _9 at 11; …; what frees _8 at 13; _7 at 14; …; _0 at 28; …; Kept]
-        assigns ! (of-opd ! (load ! (from ! (stop !)) (look ! 0 refl))) (from ! (stop !)) (init ! 3 refl (LL.lawful T.the-type T′.the-laws 𝓤 H A W .typed (zs .1 .1 .1 .1 .0) _ isK .0)) $
-        assigns ! (agg ! (and-then ! (load ! (from ! (stop !)) (look ! 3 refl)) (and-then ! (load ! (from ! (stop !)) (look ! 11 refl)) (no-more !)))) (from ! (stop !)) (init ! 28 refl (LL.lawful O.the-type O′.the-laws 𝓤 H A W .typed (made r (zs .1 .1 .1 .1 .0)) _ (made-is r (zs .1 .1 .1 .1 .0) isA isK) .0)) $
-        returns ! (look ! 28 refl) $ forget ! 0 refl $ forget ! 3 refl $ forget ! 5 refl $ forget ! 7 refl $ forget ! 9 refl $ forget ! 11 refl $ forget ! 14 refl $ forget ! 16 refl $ forget ! 18 refl $ forget ! 20 refl $ forget ! 22 refl $ forget ! 24 refl $ forget ! 26 refl $ forget ! 28 refl $
-        move ! (28 ∷ 29 ∷ []) $ free1 ! $ move ! (26 ∷ 27 ∷ []) $ free1 ! $ move ! (24 ∷ 25 ∷ []) $ free1 ! $ move ! (22 ∷ 23 ∷ []) $ free1 ! $ move ! (20 ∷ 21 ∷ []) $ free1 ! $ move ! (18 ∷ 19 ∷ []) $ free1 ! $ move ! (16 ∷ 17 ∷ []) $ free1 ! $ move ! (14 ∷ 15 ∷ []) $ free1 ! $
-        move ! (0 ∷ 13 ∷ []) $ free1 ! $ move ! (10 ∷ 11 ∷ []) $ free1 ! $ move ! (8 ∷ 9 ∷ []) $ free1 ! $ move ! (6 ∷ 7 ∷ []) $ free1 ! $ move ! (4 ∷ 5 ∷ []) $ free1 ! $ move ! (2 ∷ 3 ∷ []) $ free1 ! $ free0 ! $
+        assigns ! (of-opd ! (load ! (from ! (stop !)) (look ! 0 refl))) (from ! (stop !)) (init ! 3 refl (LL.lawful T.the-type T′.the-laws 𝓤 H A W .typed
+        (zs .1 .1 .1 .1 .0) _ isK .0)) $
+        assigns ! (agg ! (and-then ! (load ! (from ! (stop !)) (look ! 3 refl)) (and-then ! (load ! (from ! (stop !)) (look ! 11 refl)) (no-more !))))
+        (from ! (stop !)) (init ! 28 refl (LL.lawful O.the-type O′.the-laws 𝓤 H A W .typed (made r (zs .1 .1 .1 .1 .0)) _ (made-is r
+        (zs .1 .1 .1 .1 .0) isA isK) .0)) $
+        returns ! (look ! 28 refl) $ forget ! 0 refl $ forget ! 3 refl $ forget ! 5 refl $ forget ! 7 refl $ forget ! 9 refl $ forget ! 11 refl $
+        forget ! 14 refl $ forget ! 16 refl $ forget ! 18 refl $ forget ! 20 refl $ forget ! 22 refl $ forget ! 24 refl $ forget ! 26 refl $
+        forget ! 28 refl $
+        move ! (28 ∷ 29 ∷ []) $ free1 ! $ move ! (26 ∷ 27 ∷ []) $ free1 ! $ move ! (24 ∷ 25 ∷ []) $ free1 ! $ move ! (22 ∷ 23 ∷ []) $ free1 ! $
+        move ! (20 ∷ 21 ∷ []) $ free1 ! $ move ! (18 ∷ 19 ∷ []) $ free1 ! $ move ! (16 ∷ 17 ∷ []) $ free1 ! $ move ! (14 ∷ 15 ∷ []) $ free1 ! $
+        move ! (0 ∷ 13 ∷ []) $ free1 ! $ move ! (10 ∷ 11 ∷ []) $ free1 ! $ move ! (8 ∷ 9 ∷ []) $ free1 ! $ move ! (6 ∷ 7 ∷ []) $ free1 ! $
+        move ! (4 ∷ 5 ∷ []) $ free1 ! $ move ! (2 ∷ 3 ∷ []) $ free1 ! $ free0 ! $
         by ! (exits r (zs .1 .1 .1 .1 .0) (zs .1 .1 .1 .0) e l isD isH isA isK)))))))))))))))))))))))))
 
 module _ (op : Op) (k : Name) {M : Type 1} (𝓤 : URA M) (H : Heap 𝓤) (A : Atoms 𝓤) (W : Given 𝓤 H A) where
-  walks : (C : Calls 𝓤 H) (Λ : Loops 𝓤 H) → FmC 𝓤 H (W .laws) C → Triple 𝓤 (C k) (G op 𝓤 H A) → Walks 𝓤 H A f.ended stayed (WpFn 𝓤 H C Λ (shape k)) (callee op 𝓤)
+  walks : (C : Calls 𝓤 H) (Λ : Loops 𝓤 H) → FmC 𝓤 H (W .laws) C → Triple 𝓤 (C k) (G op 𝓤 H A) →
+      Walks 𝓤 H A f.ended stayed (WpFn 𝓤 H C Λ (shape k)) (callee op 𝓤)
   walks C Λ fm known = walked 𝓤 H A f.ended stayed (callee op 𝓤) (WpFn 𝓤 H C Λ (shape k))
       (λ κs. (LL.vals D.the-type D′.the-laws, (slice-vals, (slice-vals, (slice-vals, (LL.vals T.the-type T′.the-laws, (uint-vals w8, (uint-vals w32, tt))))))))
-      (λ κs. (LL.tells D.the-type D′.the-laws, (shr-slice-tells (named 0) (κs .0) u32, (shr-slice-tells (named 1) (κs .1 .0) u8, (mut-slice-tells (named 2) (κs .1 .1 .0) u8, (LL.tells T.the-type T′.the-laws, (uint-tells w8, (uint-tells w32, tt))))))))
+      (λ κs. (
+        LL.tells D.the-type D′.the-laws,
+        (
+          shr-slice-tells (named 0) (κs .0) u32,
+          (
+            shr-slice-tells (named 1) (κs .1 .0) u8,
+            (
+              mut-slice-tells (named 2)
+                  (κs .1 .1 .0) u8,
+              (LL.tells T.the-type T′.the-laws, (uint-tells w8, (uint-tells w32, tt))),
+            ),
+          ),
+        ),
+      ))
       (λ κs qs bounds a _ are. needs 𝓤 (sound (st (a .0) (a .1 .0) (a .1 .1 .0) (a .1 .1 .1 .0) (a .1 .1 .1 .1 .0)) ≡ true) _ (λ pre.
       walk op k 𝓤 H A W (κs .0) (κs .1 .0) (κs .1 .1 .0) (qs .0) (qs .1 .0) (qs .1 .1 .0) (a .0) (a .1 .0) (a .1 .1 .0)
       (a .1 .1 .1 .0 .ptr .0) (a .1 .1 .1 .0 .ptr .1) (a .1 .1 .1 .0 .name) (a .1 .1 .1 .0 .now) (a .1 .1 .1 .1 .0)
-      (a .1 .1 .1 .1 .1 .0) (a .1 .1 .1 .1 .1 .1 .0) (are .1 .1 .1 .1 .1 .0 .1) (are .1 .1 .1 .1 .1 .1 .0 .1) C Λ fm known pre (are .0) (are .1 .0) (are .1 .1 .0) (are .1 .1 .1 .0 .0 .1) (are .1 .1 .1 .1 .0)))
+      (a .1 .1 .1 .1 .1 .0) (a .1 .1 .1 .1 .1 .1 .0) (are .1 .1 .1 .1 .1 .0 .1) (are .1 .1 .1 .1 .1 .1 .0 .1) C Λ fm known pre (are .0) (are .1 .0)
+      (are .1 .1 .0) (are .1 .1 .1 .0 .0 .1) (are .1 .1 .1 .1 .0)))
 
   goes : AllGo 𝓤 H A W 3 (f.signature .params) (f.ended .kept) stayed
   goes = (
@@ -273,7 +334,17 @@ module _ (op : Op) (k : Name) {M : Type 1} (𝓤 : URA M) (H : Heap 𝓤) (A : A
         goes-none-slice 𝓤 H A W 3 (1 ∷ []) tt (plain (λ _. u8)) yes,
         (
           goes-gave-slice 𝓤 H A W 3 2 tt (plain (λ _. u8)),
-          (goes-none 𝓤 H A W 3 (λ _. T.the-row) yes (λ κs x f. refl), (goes-none 𝓤 H A W 3 (λ _. u8) yes (λ κs x f. refl), (goes-none 𝓤 H A W 3 (λ _. u32) yes (λ κs x f. refl), tt))),
+          (
+            goes-none 𝓤 H A W 3 (λ _. T.the-row) yes (λ κs x f. refl),
+            (
+              goes-none 𝓤 H A W 3 (λ _. u8) yes (λ κs x f. refl),
+              (
+                goes-none 𝓤 H A W 3
+                    (λ _. u32) yes (λ κs x f. refl),
+                tt,
+              ),
+            ),
+          ),
         ),
       ),
     ),

@@ -142,7 +142,8 @@ unfolding placeOf remove
 remove-length p [] l = absurd (not-suc-le-zero l)
 remove-length p (q ∷ qs) l = go (samePair q p) l (remove-length p qs)
   where
-    go : (b : Bool) → cond b 0 (suc (placeOf p qs)) < suc (length qs) → (placeOf p qs < length qs → length (remove p qs) + 1 ≡ length qs) → length (cond b qs (q ∷ remove p qs)) + 1 ≡ suc (length qs)
+    go : (b : Bool) → cond b 0 (suc (placeOf p qs)) < suc (length qs) → (placeOf p qs < length qs → length (remove p qs) + 1 ≡ length qs) →
+        length (cond b qs (q ∷ remove p qs)) + 1 ≡ suc (length qs)
     go true h ih = omega arith
     go false h ih = omega (arith, ih (le-of-suc-le-suc h))
 
@@ -156,7 +157,8 @@ remove-at p (q ∷ qs) l i = go (samePair q p) l (remove-at p qs) i
     later ih zero = sym (ap (pairAt (q ∷ qs)) (skip-before (suc (placeOf p qs)) 0 (omega arith)))
     later ih (suc j) = ih j ∙ sym (ap (pairAt (q ∷ qs)) (skip-next (placeOf p qs) j))
 
-    go : (b : Bool) → cond b 0 (suc (placeOf p qs)) < suc (length qs) → (placeOf p qs < length qs → (k : ℕ) → pairAt (remove p qs) k ≡ pairAt qs (skip (placeOf p qs) k)) →
+    go : (b : Bool) → cond b 0 (suc (placeOf p qs)) < suc (length qs) → (placeOf p qs < length qs → (k : ℕ) →
+        pairAt (remove p qs) k ≡ pairAt qs (skip (placeOf p qs) k)) →
         (j : ℕ) → pairAt (cond b qs (q ∷ remove p qs)) j ≡ pairAt (q ∷ qs) (skip (cond b 0 (suc (placeOf p qs))) j)
     go true h ih j = sym (ap (pairAt (q ∷ qs)) (skip-behind 0 j (omega arith) ∙ add-one j))
     go false h ih j = later (ih (le-of-suc-le-suc h)) j

@@ -50,7 +50,8 @@ module _ (S : Scheme) (ps : List Pair) (H : PairsFit S ps) (p : Pair) where
       filling i l (yes k) = rw (end-before ps p i k) (H .filling i k)
       filling i l (no m) = rw (end-last ps p i (last i l m)) (t .filling)
 
-      value : (i : ℕ) → i < length (ps ++ (p ∷ [])) → Dec (i < length ps) → candidate (S .filling (pairAt (ps ++ (p ∷ [])) i .filling)) (pairAt (ps ++ (p ∷ [])) i .value) ≡ true
+      value : (i : ℕ) → i < length (ps ++ (p ∷ [])) → Dec (i < length ps) → candidate (S .filling (pairAt (ps ++ (p ∷ [])) i .filling)) (pairAt (ps ++
+          (p ∷ [])) i .value) ≡ true
       value i l (yes k) = rw (end-before ps p i k) (H .value i k)
       value i l (no m) = rw (end-last ps p i (last i l m)) (t .value)
 
@@ -96,7 +97,8 @@ step-fit S ps (probe k v) H = H
 listed-at : (p : Pair) (ps : List Pair) → listed p ps ≡ true → (i : ℕ) × (i < length ps) × (samePair (pairAt ps i) p ≡ true)
 unfolding listed
 listed-at p [] e = clash refl (sym e)
-listed-at p (q ∷ qs) e = ⊎-elim (λ h. (0, omega arith, h)) (λ h. let f = listed-at p qs h in (suc (f .0), omega (arith, f .1), f .2)) (or-cases (samePair q p) (listed p qs) e)
+listed-at p (q ∷ qs) e = ⊎-elim (λ h. (0, omega arith, h)) (λ h. let f = listed-at p qs h in (suc (f .0), omega (arith, f .1), f .2)) (or-cases
+    (samePair q p) (listed p qs) e)
 
 pub listed-fits : (S : Scheme) (ps : List Pair) → PairsFit S ps → (p : Pair) → listed p ps ≡ true → p .filling < S .fillings
 unfolding samePair

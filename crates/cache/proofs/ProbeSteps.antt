@@ -25,7 +25,8 @@ module _ (s : State) (e : sound s ≡ true) (k : Column) (value : ℕ) where
     unfolding isBlank
     probe-9 z = probe-blank (scheme s) (database s) (cache s) k (cellOf value) f (eq-eqb value 0 z) ∙ sym (answer-at s e _)
 
-    module _ (b : value ≡ 0 → ⊥) (g : ℕ) (p : g ≡ Probe.probe (scheme s) (database s) (heldIn (scheme s) (pairsOf (s .held))) (marked (take 512 (s .marks))) k (cellOf value)) where
+    module _ (b : value ≡ 0 → ⊥) (g : ℕ) (p : g ≡ Probe.probe (scheme s) (database s) (heldIn (scheme s) (pairsOf (s .held))) (marked (take 512
+        (s .marks))) k (cellOf value)) where
       grounded : groundOf g ≡ answerAt s (probe k (cellOf value))
       unfolding isBlank
       grounded = ap groundOf p ∙ probe-full (scheme s) (database s) (cache s) k (cellOf value) f (ne-eqb value 0 b) ∙ sym (answer-at s e _)

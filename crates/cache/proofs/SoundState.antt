@@ -76,7 +76,8 @@ pub fresh-lawful : (d : Design) (cells tables : List ℕ) (h : Held) (m rest : L
     Fresh (schemeOf d) (databaseOf (d .rows) cells tables) (record { pairs = pairsOf h; marks = m }) → lawfulMarks d cells tables h (m ++ rest) ≡ true
 unfolding lawfulMarks marks databaseOf
 fresh-lawful d cells tables h m rest f =
-    all-true 512 _ (λ r k. eq-eqb _ _ (List·getD-append m rest 0 r (omega (arith, fresh-long d cells tables _ f)) ∙ ap (λ (xs : List ℕ). getD xs r 0) (f .reloaded) ∙ tab-at 0 512 _ r k))
+    all-true 512 _ (λ r k. eq-eqb _ _ (List·getD-append m rest 0 r (omega (arith, fresh-long d cells tables _ f)) ∙
+    ap (λ (xs : List ℕ). getD xs r 0) (f .reloaded) ∙ tab-at 0 512 _ r k))
 
 -- ---- an operation
 
@@ -115,7 +116,16 @@ module _ (s : State) (e : sound s ≡ true) (o : Operation) where
       rw (held-after, marks-after)
       (from-parts (lent (s .design) (s .cells) (s .tables) (after s o .marks ++ past 512 (s .marks)) (heldOf (after s o .pairs)))
       (record {
-        long = record { cells = parts s e .long .cells; tables = parts s e .long .tables; marks = omega (arith, long, length-append (after s o .marks) (past 512 (s .marks))) };
+        long = record {
+          cells = parts s e .long .cells;
+          tables = parts s e .long .tables;
+          marks = omega (
+            arith,
+            long,
+            length-append (after s o .marks)
+                (past 512 (s .marks)),
+          );
+        };
         design = parts s e .design;
         rows = parts s e .rows;
         held = fit-held (s .design) (after s o .pairs) after-fit;

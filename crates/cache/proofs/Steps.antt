@@ -74,7 +74,8 @@ module _ (s : State) (e : sound s ≡ true) where
   stays : length (s .held .values) ≡ 64 → (op : Operation) (a : Answer) → Leaves (scheme s) (database s) (cache s) op (answerOf a) →
       SoundStep s op (record { held = s .held; answer = a }) (s .marks)
   stays l op a k =
-      steps op a (s .held) (s .marks) (k .answers) (sym (ap (λ (c : Cache). heldOf (c .pairs)) (k .cache) ∙ held-back (s .design) (s .held) (parts s e .held) l))
+      steps op a (s .held) (s .marks) (k .answers) (sym (ap (λ (c : Cache). heldOf (c .pairs)) (k .cache) ∙
+      held-back (s .design) (s .held) (parts s e .held) l))
       (sym (ap (λ (c : Cache). c .marks ++ past 512 (s .marks)) (k .cache) ∙ take-append-drop 512 (s .marks)))
 
   -- ---- REFER
@@ -139,7 +140,11 @@ module _ (s : State) (e : sound s ≡ true) where
                 room = lt-ltb (length (pairsOf (s .held))) 64 (omega (arith, pairs-length (s .held)))
 
                 left : after s (refer (pair filling value)) ≡
-                    record { pairs = pairsOf (s .held) ++ (pair filling value ∷ []); marks = marks (database s) (reached (referLevels (scheme s) (database s) (marked (take 512 (s .marks))) (pair filling value))) }
+                    record {
+                      pairs = pairsOf (s .held) ++ (pair filling value ∷ []);
+                      marks = marks (database s) (reached (referLevels (scheme s)
+                          (database s) (marked (take 512 (s .marks))) (pair filling value)));
+                    }
                 left = refer-leaves (scheme s) (database s) (cache s) (pair filling value) fits (ne-eqb value 0 b) k n room
 
   -- ---- DROP
@@ -149,7 +154,8 @@ module _ (s : State) (e : sound s ≡ true) where
     unfolding schemeOf
     drop-5 h =
         stays l _ (A.Refused 5) (drop-nowhere _ _ _ _ (le-ltb filling (s .design .fillings) h)
-        (refute _ (λ n. let g = listed-fits (scheme s) (pairsOf (s .held)) (pairs-fit (s .design) (s .held) (parts s e .held)) (pair filling value) n in omega arith)))
+        (refute _ (λ n. let g = listed-fits (scheme s) (pairsOf (s .held)) (pairs-fit (s .design) (s .held) (parts s e .held))
+        (pair filling value) n in omega arith)))
 
     module _ (f : filling < s .design .fillings) where
       pub drop-9 : value ≡ 0 → SoundStep s (drop (pair filling value)) (record { held = s .held; answer = A.Refused 9 }) (s .marks)
@@ -164,7 +170,8 @@ module _ (s : State) (e : sound s ≡ true) where
         unfolding schemeOf isBlank
         drop-10 n = stays l _ (A.Refused 10) (drop-none _ _ _ _ (lt-ltb filling (s .design .fillings) f) (ne-eqb value 0 b) n)
 
-        module _ (n : listed (pair filling value) (pairsOf (s .held)) ≡ true) (h : Held) (q : h ≡ heldOf (remove (pair filling value) (pairsOf (s .held)))) where
+        module _ (n : listed (pair filling value) (pairsOf (s .held)) ≡ true) (h : Held) (q : h ≡ heldOf (remove (pair filling value) (pairsOf
+            (s .held)))) where
           left-fit : PairsFit (scheme s) (remove (pair filling value) (pairsOf (s .held)))
           left-fit = fit-fewer (scheme s) (pairsOf (s .held)) (pairs-fit (s .design) (s .held) (parts s e .held)) (pair filling value)
 
@@ -208,5 +215,9 @@ module _ (s : State) (e : sound s ≡ true) where
               fits : ltb filling (s .design .fillings) ≡ true
               fits = lt-ltb filling (s .design .fillings) f
 
-              left : after s (drop (pair filling value)) ≡ record { pairs = remove (pair filling value) (pairsOf (s .held)); marks = marks (database s) (reached (reloadLevels (scheme s) (database s) (remove (pair filling value) (pairsOf (s .held))))) }
+              left : after s (drop (pair filling value)) ≡ record {
+                pairs = remove (pair filling value) (pairsOf (s .held));
+                marks = marks (database s)
+                    (reached (reloadLevels (scheme s) (database s) (remove (pair filling value) (pairsOf (s .held)))));
+              }
               left = drop-leaves (scheme s) (database s) (cache s) (pair filling value) fits (ne-eqb value 0 b) n

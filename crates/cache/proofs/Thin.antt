@@ -1,8 +1,11 @@
--- One law for the thin wrappers over a lent record, `refer` and `drop`: a body that reads the record whole, calls the function named k on the design, the slices and the record, stores the record of the outcome whole and returns its answer, meets the contract that says the outcome's parts, from the callee's contract, which says the outcome.
+-- One law for the thin wrappers over a lent record, `refer` and `drop`: a body that reads the record whole, calls the function named k on the design, the
+-- slices and the record, stores the record of the outcome whole and returns its answer, meets the contract that says the outcome's parts, from the callee's
+-- contract, which says the outcome.
 --     shape k      the wrappers' MIR, but for the callee's name, k
 --     callee, wrapper      the two contracts, over the operation op
 --     thin         the law
--- The borrow of the record is opened and closed. The two `&` slices are Copy: what each owns is had twice, once for the callee and once for the exit. The `&mut` slice goes to the callee at its own lifetime, share and name, and is given up for good.
+-- The borrow of the record is opened and closed. The two `&` slices are Copy: what each owns is had twice, once for the callee and once for the exit. The
+-- `&mut` slice goes to the callee at its own lifetime, share and name, and is given up for good.
 -- Assumes `Given`.
 use mathlib.Core.Path.{_≡_, refl, ap}
 use mathlib.Core.Bool.{true}
@@ -71,12 +74,16 @@ shape k = record {
   lifetimes = 4;
   outlives = [];
   params = 7;
-  locals = local N′.mir valueLocal ∷ local D′.mir valueLocal ∷ local (lone (ShrSlice (named 0) [] u32 .mir)) valueLocal ∷ local (lone (ShrSlice (named 1) [] u8 .mir)) valueLocal ∷ local (marksTy (named 2)) valueLocal
-      ∷ local (tyRef (named 3) mut (pointee (T.the-row .written))) valueLocal ∷ local (tyInt w8) valueLocal ∷ local (tyInt w32) valueLocal ∷ local T′.mir valueLocal ∷ local O′.mir valueLocal ∷ local (tyRef erased mut (tyInt w8)) valueLocal ∷ local (marksTy erased) valueLocal ∷ [];
+  locals = local N′.mir valueLocal ∷ local D′.mir valueLocal ∷ local (lone (ShrSlice (named 0) [] u32 .mir)) valueLocal ∷ local (lone (ShrSlice
+      (named 1) [] u8 .mir)) valueLocal ∷ local (marksTy (named 2)) valueLocal
+      ∷ local (tyRef (named 3) mut (pointee (T.the-row .written))) valueLocal ∷ local (tyInt w8) valueLocal ∷ local
+      (tyInt w32) valueLocal ∷ local T′.mir valueLocal ∷ local O′.mir valueLocal ∷ local (tyRef erased mut (tyInt w8)) valueLocal ∷ local
+      (marksTy erased) valueLocal ∷ [];
   body = seq (assign (place 8 []) (rvOpd (copy (place 5 (deref T′.mir ∷ [])))))
       (seq (assign (place 10 []) (addrOf (place 4 (field 0 ∷ deref (tyInt w8) ∷ []))))
       (seq (assign (place 11 []) (aggregate (copy (place 10 []) ∷ copy (place 4 (field 1 ∷ [])) ∷ [])))
-      (seq (call k (copy (place 1 []) ∷ copy (place 2 []) ∷ copy (place 3 []) ∷ copy (place 11 []) ∷ copy (place 8 []) ∷ copy (place 6 []) ∷ copy (place 7 []) ∷ []) (place 9 []))
+      (seq (call k (copy (place 1 []) ∷ copy (place 2 []) ∷ copy (place 3 []) ∷ copy (place 11 []) ∷ copy (place 8 []) ∷ copy (place 6 []) ∷ copy
+      (place 7 []) ∷ []) (place 9 []))
       (seq (assign (place 5 (deref T′.mir ∷ [])) (rvOpd (copy (place 9 (field 0 ∷ [])))))
       (seq (assign (place 0 []) (rvOpd (copy (place 9 (field 1 ∷ []))))) return)))));
 }
@@ -102,20 +109,23 @@ module _ (op : Op) {M : Type 1} (𝓤 : URA M) where
   callee κs a = record {
     ghost = Unit {0};
     requires = λ _. fact 𝓤 (sound (st (a .0) (a .1 .0) (a .1 .1 .0) (a .1 .1 .1 .0) (a .1 .1 .1 .1 .0)) ≡ true);
-    ensures = λ _ r e. fact 𝓤 (SoundStep (st (a .0) (a .1 .0) (a .1 .1 .0) (a .1 .1 .1 .0) (a .1 .1 .1 .1 .0)) (op (a .1 .1 .1 .1 .1 .0) (a .1 .1 .1 .1 .1 .1 .0)) r (e .1 .1 .1 .0 .now));
+    ensures = λ _ r e. fact 𝓤 (SoundStep (st (a .0) (a .1 .0) (a .1 .1 .0) (a .1 .1 .1 .0) (a .1 .1 .1 .1 .0)) (op (a .1 .1 .1 .1 .1 .0)
+        (a .1 .1 .1 .1 .1 .1 .0)) r (e .1 .1 .1 .0 .now));
   }
 
   abbrev pub wrapper : Clauses 𝓤 f.ended
   wrapper κs a = record {
     ghost = Unit {0};
     requires = λ _. fact 𝓤 (sound (st (a .0) (a .1 .0) (a .1 .1 .0) (a .1 .1 .1 .0) (a .1 .1 .1 .1 .0 .now)) ≡ true);
-    ensures = λ _ r e. fact 𝓤 (SoundStep (st (a .0) (a .1 .0) (a .1 .1 .0) (a .1 .1 .1 .0) (a .1 .1 .1 .1 .0 .now)) (op (a .1 .1 .1 .1 .1 .0) (a .1 .1 .1 .1 .1 .1 .0)) (record { held = e .1 .1 .1 .1 .0 .now; answer = r }) (e .1 .1 .1 .0 .now));
+    ensures = λ _ r e. fact 𝓤 (SoundStep (st (a .0) (a .1 .0) (a .1 .1 .0) (a .1 .1 .1 .0) (a .1 .1 .1 .1 .0 .now)) (op (a .1 .1 .1 .1 .1 .0)
+        (a .1 .1 .1 .1 .1 .1 .0)) (record { held = e .1 .1 .1 .1 .0 .now; answer = r }) (e .1 .1 .1 .0 .now));
   }
 
 abbrev pub G : (op : Op) {M : Type 1} (𝓤 : URA M) (H : Heap 𝓤) (A : Atoms 𝓤) → Contract 𝓤
 G op 𝓤 H A = tripleOf 𝓤 H A g.signature (closing 𝓤 H A g.ended (callee op 𝓤))
 
-module _ (op : Op) (k : Name) {M : Type 1} (𝓤 : URA M) (H : Heap 𝓤) (A : Atoms 𝓤) (W : Given 𝓤 H A) (κ₀ κ₁ κ₂ κ₃ : Lft) (q₀ q₁ q₂ q₃ : Share) (d : Design) (c t : RefT (List ℕ)) (b o : ℕ) (γ : GName) (ys : List ℕ) (b′ o′ : ℕ) (γ′ : GName) (h : Held) (n v : ℕ) (n-fits : n < 2 ^ 8) (v-fits : v < 2 ^ 32) where
+module _ (op : Op) (k : Name) {M : Type 1} (𝓤 : URA M) (H : Heap 𝓤) (A : Atoms 𝓤) (W : Given 𝓤 H A) (κ₀ κ₁ κ₂ κ₃ : Lft) (q₀ q₁ q₂ q₃ : Share) (d : Design)
+    (c t : RefT (List ℕ)) (b o : ℕ) (γ : GName) (ys : List ℕ) (b′ o′ : ℕ) (γ′ : GName) (h : Held) (n v : ℕ) (n-fits : n < 2 ^ 8) (v-fits : v < 2 ^ 32) where
   -- the marks' borrow
   abbrev x : RefT (List ℕ)
   x = record { ptr = (b, o); name = γ; now = ys }
@@ -185,7 +195,8 @@ module _ (op : Op) (k : Name) {M : Type 1} (𝓤 : URA M) (H : Heap 𝓤) (A : A
   goes-to pre isD isH =
       qed W ((‵ (flft κ₀ q₀) ⊛ ‵ (flft κ₁ q₁) ⊛ ‵ (flft κ₂ q₂) ⊛ ‵ ftrue) ∷ ‵ Sent ∷ []) ∵ says ! pre $ frame ! $ fsplit3 ! $
       -- [what cells owns; tables; marks]
-      nothing ! $ owned ! u32 (Is u32) (uint-makes 𝓤 H A W w32) v _ (refl, v-fits) $ fjoin ! $ owned ! u8 (Is u8) (uint-makes 𝓤 H A W w8) n _ (refl, n-fits) $ fjoin ! $
+      nothing ! $ owned ! u32 (Is u32) (uint-makes 𝓤 H A W w32) v _ (refl, v-fits) $ fjoin ! $
+      owned ! u8 (Is u8) (uint-makes 𝓤 H A W w8) n _ (refl, n-fits) $ fjoin ! $
       owned ! T.the-row (Is T.the-row) (LL.makes T.the-type T′.the-plain 𝓤 H A) h _ isH $ fjoin ! $
       move ! (3 ∷ 0 ∷ []) $ fjoin ! $ move ! (2 ∷ 0 ∷ []) $ fjoin ! $ move ! (1 ∷ 0 ∷ []) $ fjoin ! $
       owned ! D.the-row (Is D.the-row) (LL.makes D.the-type D′.the-plain 𝓤 H A) d _ isD $ fjoin ! $ done !
@@ -195,16 +206,21 @@ module _ (op : Op) (k : Name) {M : Type 1} (𝓤 : URA M) (H : Heap 𝓤) (A : A
   Said r zs = SoundStep (st d c t x h) (op n v) r zs
 
   exits : (r : Outcome) (zs : List ℕ) → Said r zs → length zs ≡ length ys → Is D.the-row d (vD ∷ []) → Is N.the-row (r .answer) (vA r ∷ [])
-      → ent 𝓤 (⋆ 𝓤 H A (‵ (fobs γ′ (T.the-row .coded .code (r .held))) ∷ ‵ (fbor κ₃ (Body (mem T.the-row) b′ o′ γ′)) ∷ ‵ (flft κ₃ q₃) ∷ (‵ (flft κ₀ q₀) ⊛ ‵ (flft κ₁ q₁) ⊛ ‵ (flft κ₂ q₂) ⊛ ‵ ftrue) ∷ ‵ (finally u8 γ zs) ∷ ‵ Kept ∷ [])) (Post (vA r))
+      → ent 𝓤 (⋆ 𝓤 H A (‵ (fobs γ′ (T.the-row .coded .code (r .held))) ∷ ‵ (fbor κ₃ (Body (mem T.the-row) b′ o′ γ′)) ∷ ‵ (flft κ₃ q₃) ∷ (‵ (flft κ₀ q₀) ⊛ ‵
+      (flft κ₁ q₁) ⊛ ‵ (flft κ₂ q₂) ⊛ ‵ ftrue) ∷ ‵ (finally u8 γ zs) ∷ ‵ Kept ∷ [])) (Post (vA r))
   exits r zs e l isD isA =
-      qed W (‵ (fobs γ′ (T.the-row .coded .code (r .held))) ∷ ‵ (fbor κ₃ (Body (mem T.the-row) b′ o′ γ′)) ∷ ‵ (flft κ₃ q₃) ∷ (‵ (flft κ₀ q₀) ⊛ ‵ (flft κ₁ q₁) ⊛ ‵ (flft κ₂ q₂) ⊛ ‵ ftrue) ∷ ‵ (finally u8 γ zs) ∷ ‵ Kept ∷ []) ∵
-      suffices ! _ (ends-at 𝓤 H A f.ended stayed (wrapper op 𝓤) W (((κ₀, (κ₁, (κ₂, (κ₃, tt)))), (q₀, (q₁, (q₂, (q₃, tt)))), tt, a, vals), tt) (vA r) (r .answer) (tt, (tt, (tt, (zs, (r .held, (tt, (tt, tt))))))) (tt, (tt, (tt, (l, (tt, (tt, (tt, tt)))))))) $
+      qed W (‵ (fobs γ′ (T.the-row .coded .code (r .held))) ∷ ‵ (fbor κ₃ (Body (mem T.the-row) b′ o′ γ′)) ∷ ‵ (flft κ₃ q₃) ∷ (‵ (flft κ₀ q₀) ⊛ ‵
+      (flft κ₁ q₁) ⊛ ‵ (flft κ₂ q₂) ⊛ ‵ ftrue) ∷ ‵ (finally u8 γ zs) ∷ ‵ Kept ∷ []) ∵
+      suffices ! _ (ends-at 𝓤 H A f.ended stayed (wrapper op 𝓤) W (((κ₀, (κ₁, (κ₂, (κ₃, tt)))), (q₀, (q₁, (q₂, (q₃, tt)))), tt, a, vals), tt) (vA r)
+      (r .answer) (tt, (tt, (tt, (zs, (r .held, (tt, (tt, tt))))))) (tt, (tt, (tt, (l, (tt, (tt, (tt, tt)))))))) $
       says ! e $
       -- the four tokens
-      move ! (3 ∷ []) $ split ! $ move ! (1 ∷ []) $ split ! $ move ! (1 ∷ []) $ split ! $ move ! (6 ∷ 1 ∷ []) $ join ! $ move ! (1 ∷ 0 ∷ []) $ join ! $ move ! (1 ∷ 0 ∷ []) $ join ! $ move ! (1 ∷ 0 ∷ []) $ join ! $ frame ! $
+      move ! (3 ∷ []) $ split ! $ move ! (1 ∷ []) $ split ! $ move ! (1 ∷ []) $ split ! $ move ! (6 ∷ 1 ∷ []) $ join ! $ move ! (1 ∷ 0 ∷ []) $ join ! $
+      move ! (1 ∷ 0 ∷ []) $ join ! $ move ! (1 ∷ 0 ∷ []) $ join ! $ frame ! $
       -- [obs; the borrow; the last marks; what the `&` slices own]
       feqI ! (List Val) (vptr b′ o′ ∷ []) (vptr b′ o′ ∷ []) refl $ fjoin3 ! $
-      nothing ! $ owned ! u32 (Is u32) (uint-makes 𝓤 H A W w32) v _ (refl, v-fits) $ fjoin ! $ owned ! u8 (Is u8) (uint-makes 𝓤 H A W w8) n _ (refl, n-fits) $ fjoin ! $ move ! (1 ∷ 0 ∷ []) $ fjoin ! $
+      nothing ! $ owned ! u32 (Is u32) (uint-makes 𝓤 H A W w32) v _ (refl, v-fits) $ fjoin ! $
+      owned ! u8 (Is u8) (uint-makes 𝓤 H A W w8) n _ (refl, n-fits) $ fjoin ! $ move ! (1 ∷ 0 ∷ []) $ fjoin ! $
       move ! (1 ∷ 0 ∷ []) $ fjoin ! $ move ! (1 ∷ []) $ fsplit ! $ move ! (1 ∷ 2 ∷ []) $ fjoin ! $ move ! (1 ∷ 0 ∷ []) $ fjoin ! $
       owned ! D.the-row (Is D.the-row) (LL.makes D.the-type D′.the-plain 𝓤 H A) d _ isD $ fjoin ! $
       owned ! N.the-row (Is N.the-row) (EL.makes N.the-type N′.the-plain 𝓤 H A) (r .answer) _ isA $ move ! (1 ∷ 0 ∷ []) $ done !
@@ -217,60 +233,101 @@ module _ (op : Op) (k : Name) {M : Type 1} (𝓤 : URA M) (H : Heap 𝓤) (A : A
   answer-is r w is = LL.owed O.the-type O′.the-laws r _ is .1 .0
 
   module _ (C : Calls 𝓤 H) (Λ : Loops 𝓤 H) (fm : FmC 𝓤 H (W .laws) C) (known : Triple 𝓤 (C k) (G op 𝓤 H A)) where
-    walk : sound (st d c t x h) ≡ true → Is D.the-row d (vD ∷ []) → Is (ShrSlice (named 0) κ₀ u32) c (vC ∷ []) → Is (ShrSlice (named 1) κ₁ u8) t (vT ∷ []) → Room u8 (length ys)
-        → ent 𝓤 (onEntry 𝓤 H A f.signature (κ₀, (κ₁, (κ₂, (κ₃, tt)))) (q₀, (q₁, (q₂, (q₃, tt)))) a vals) (WpFn 𝓤 H C Λ (shape k) (vD ∷ vC ∷ vT ∷ vX ∷ vptr b′ o′ ∷ vint w8 n ∷ vint w32 v ∷ []) Post)
+    walk : sound (st d c t x h) ≡ true → Is D.the-row d (vD ∷ []) → Is (ShrSlice (named 0) κ₀ u32) c (vC ∷ []) → Is (ShrSlice (named 1) κ₁ u8) t (vT ∷ []) →
+        Room u8 (length ys)
+        → ent 𝓤 (onEntry 𝓤 H A f.signature (κ₀, (κ₁, (κ₂, (κ₃, tt)))) (q₀, (q₁, (q₂, (q₃, tt)))) a vals) (WpFn 𝓤 H C Λ (shape k)
+        (vD ∷ vC ∷ vT ∷ vX ∷ vptr b′ o′ ∷ vint w8 n ∷ vint w32 v ∷ []) Post)
     walk pre isD isC isT room =
-        qed W ((‵ (flft κ₀ q₀) ⊛ ‵ (flft κ₁ q₁) ⊛ ‵ (flft κ₂ q₂) ⊛ ‵ (flft κ₃ q₃) ⊛ ‵ ftrue) ∷ ‵ (owns (D.the-row ∷ ShrSlice (named 0) κ₀ u32 ∷ ShrSlice (named 1) κ₁ u8 ∷ MutSlice (named 2) κ₂ u8 ∷ MutRef (named 3) κ₃ T.the-row ∷ u8 ∷ u32 ∷ []) a vals) ∷ []) ∵
+        qed W ((‵ (flft κ₀ q₀) ⊛ ‵ (flft κ₁ q₁) ⊛ ‵ (flft κ₂ q₂) ⊛ ‵ (flft κ₃ q₃) ⊛ ‵ ftrue) ∷ ‵ (owns (D.the-row ∷ ShrSlice (named 0) κ₀ u32 ∷ ShrSlice
+        (named 1) κ₁ u8 ∷ MutSlice (named 2) κ₂ u8 ∷ MutRef (named 3) κ₃ T.the-row ∷ u8 ∷ u32 ∷ []) a vals) ∷ []) ∵
         -- the tokens: the callee's three, and the record's
-        split ! $ move ! (1 ∷ []) $ split ! $ move ! (1 ∷ []) $ split ! $ move ! (1 ∷ []) $ split ! $ move ! (2 ∷ 1 ∷ []) $ join ! $ move ! (2 ∷ 0 ∷ []) $ join ! $ move ! (2 ∷ 0 ∷ []) $ join ! $
+        split ! $ move ! (1 ∷ []) $ split ! $ move ! (1 ∷ []) $ split ! $ move ! (1 ∷ []) $ split ! $ move ! (2 ∷ 1 ∷ []) $ join ! $ move ! (2 ∷ 0 ∷ []) $
+        join ! $ move ! (2 ∷ 0 ∷ []) $ join ! $
         -- [the three tokens; the record's; what the parameters own]
         move ! (2 ∷ []) $ fsplit ! $ drop ! $ fsplit ! $ use1 W (‵ OwnC ⊛ ‵ OwnC) (shr-slice-copy 𝓤 H A W (named 0) κ₀ u32 .twice c (vC ∷ [])) $ split ! $
         move ! (2 ∷ []) $ fsplit ! $ use1 W (‵ OwnT ⊛ ‵ OwnT) (shr-slice-copy 𝓤 H A W (named 1) κ₁ u8 .twice t (vT ∷ [])) $ split ! $
         move ! (2 ∷ []) $ fsplit ! $ move ! (1 ∷ []) $ fsplit ! $ move ! (1 ∷ []) $ drop ! $
         -- [what held owns; marks; tables; tables; cells; cells; the three tokens; the record's]
-        move ! (2 ∷ 1 ∷ []) $ fjoin ! $ move ! (3 ∷ 0 ∷ []) $ fjoin ! $ move ! (3 ∷ 2 ∷ []) $ fjoin ! $ move ! (2 ∷ []) $ fsplit3 ! $ drop ! $ move ! (0 ∷ 1 ∷ 5 ∷ 4 ∷ 3 ∷ 2 ∷ []) $
+        move ! (2 ∷ 1 ∷ []) $ fjoin ! $ move ! (3 ∷ 0 ∷ []) $ fjoin ! $ move ! (3 ∷ 2 ∷ []) $ fjoin ! $ move ! (2 ∷ []) $ fsplit3 ! $ drop ! $
+        move ! (0 ∷ 1 ∷ 5 ∷ 4 ∷ 3 ∷ 2 ∷ []) $
         -- [obs; the borrow; the record's token; the three tokens; Sent; Kept]
         enter ! C Λ (shape k) (vD ∷ vC ∷ vT ∷ vX ∷ vptr b′ o′ ∷ vint w8 n ∷ vint w32 v ∷ []) _ $
-        alloc1 ! (λ l₀. alloc1 ! (λ l₁. alloc1 ! (λ l₂. alloc1 ! (λ l₃. alloc1 ! (λ l₄. alloc1 ! (λ l₅. alloc1 ! (λ l₆. alloc1 ! (λ l₇. alloc1 ! (λ l₈. alloc1 ! (λ l₉. alloc1 ! (λ l₁₀. alloc1 ! (λ l₁₁. alloc0 ! $ params1 ! $
-        pass1 ! (init ! 20 refl (LL.lawful D.the-type D′.the-laws 𝓤 H A W .typed d _ isD .0)) $ pass1 ! (init ! 18 refl (shr-slice-lawful 𝓤 H A W (named 0) κ₀ u32 .typed c (vC ∷ []) isC .0)) $ pass1 ! (init ! 16 refl (shr-slice-lawful 𝓤 H A W (named 1) κ₁ u8 .typed t (vT ∷ []) isT .0)) $
-        pass1 ! (init ! 14 refl (tt, (tt, (record { fits = room .0 }, tt)))) $ pass1 ! (init ! 12 refl (tt, tt)) $ pass1 ! (init ! 10 refl (tt, record { fits = n-fits })) $ pass1 ! (init ! 8 refl (tt, record { fits = v-fits })) $ pass0 ! $
+        alloc1 ! (λ l₀. alloc1 ! (λ l₁. alloc1 ! (λ l₂. alloc1 ! (λ l₃. alloc1 ! (λ l₄. alloc1 ! (λ l₅. alloc1 ! (λ l₆. alloc1 ! (λ l₇. alloc1 !
+        (λ l₈. alloc1 ! (λ l₉. alloc1 ! (λ l₁₀. alloc1 ! (λ l₁₁. alloc0 ! $ params1 ! $
+        pass1 ! (init ! 20 refl (LL.lawful D.the-type D′.the-laws 𝓤 H A W .typed d _ isD .0)) $
+        pass1 ! (init ! 18 refl (shr-slice-lawful 𝓤 H A W (named 0) κ₀ u32 .typed c (vC ∷ []) isC .0)) $
+        pass1 ! (init ! 16 refl (shr-slice-lawful 𝓤 H A W (named 1) κ₁ u8 .typed t (vT ∷ []) isT .0)) $
+        pass1 ! (init ! 14 refl (tt, (tt, (record { fits = room .0 }, tt)))) $ pass1 ! (init ! 12 refl (tt, tt)) $
+        pass1 ! (init ! 10 refl (tt, record { fits = n-fits })) $ pass1 ! (init ! 8 refl (tt, record { fits = v-fits })) $ pass0 ! $
         -- the record's borrow is opened
-        move ! (24 ∷ 25 ∷ 26 ∷ []) $ opens ! tt T.the-row {h = h} b′ o′ (λ vs. spelt ! T.the-row (Is T.the-row) (shows 𝓤 H A T.the-row) (LL.vals T.the-type T′.the-laws) (LL.tells T.the-type T′.the-laws) fullShare h vs b′ o′ $
+        move ! (24 ∷ 25 ∷ 26 ∷ []) $ opens ! tt T.the-row {h = h} b′ o′ (λ vs. spelt ! T.the-row (Is T.the-row) (shows 𝓤 H A T.the-row)
+        (LL.vals T.the-type T′.the-laws) (LL.tells T.the-type T′.the-laws) fullShare h vs b′ o′ $
         move ! (1 ∷ []) $ peeks ! T.the-row (Is T.the-row) (shows 𝓤 H A T.the-row) h (vH h ∷ []) (λ was. move ! (1 ∷ 0 ∷ []) $
         -- [the record's cell; what it owns; the open borrow; obs; auth; _11 at 5; _10 at 7; …; _0 at 27; …; the three tokens at 29; Sent; Kept]
-        assigns ! (of-opd ! (load ! (from ! (hop ! (look ! 17 refl) (stop !))) (look-raw ! 0 refl))) (from ! (stop !)) (init ! 11 refl (LL.lawful T.the-type T′.the-laws 𝓤 H A W .typed h _ was .0)) $
+        assigns ! (of-opd ! (load ! (from ! (hop ! (look ! 17 refl) (stop !))) (look-raw ! 0 refl))) (from ! (stop !)) (init ! 11 refl
+        (LL.lawful T.the-type T′.the-laws 𝓤 H A W .typed h _ was .0)) $
         assigns ! (addr ! (from ! (fld ! refl (hop ! (look-in ! 19 (sub ! 0 refl (whole !))) (stop !))))) (from ! (stop !)) (init ! 7 refl (tt, tt)) $
-        assigns ! (agg ! (and-then ! (load ! (from ! (stop !)) (look ! 7 refl)) (and-then ! (load ! (from ! (fld ! refl (stop !))) (look-in ! 19 (sub ! 1 refl (whole !)))) (no-more !)))) (from ! (stop !)) (init ! 5 refl (tt, (tt, (record { fits = room .0 }, tt)))) $
+        assigns ! (agg ! (and-then ! (load ! (from ! (stop !)) (look ! 7 refl)) (and-then ! (load ! (from ! (fld ! refl (stop !))) (look-in ! 19
+        (sub ! 1 refl (whole !)))) (no-more !)))) (from ! (stop !)) (init ! 5 refl (tt, (tt, (record { fits = room .0 }, tt)))) $
         -- the call
         move ! (29 ∷ 30 ∷ []) $ use2 W (raw (G op 𝓤 H A .pre to)) (goes-to pre isD was) $
-        calls-at ! fm (G op 𝓤 H A) known to (and-then ! (load ! (from ! (stop !)) (look ! 26 refl)) (and-then ! (load ! (from ! (stop !)) (look ! 24 refl)) (and-then ! (load ! (from ! (stop !)) (look ! 22 refl)) (and-then ! (load ! (from ! (stop !)) (look ! 6 refl))
-        (and-then ! (load ! (from ! (stop !)) (look ! 12 refl)) (and-then ! (load ! (from ! (stop !)) (look ! 16 refl)) (and-then ! (load ! (from ! (stop !)) (look ! 14 refl)) (no-more !)))))))) (λ w.
-        use1 W (later (some (λ (r : Outcome). ((‵ (flft κ₀ q₀) ⊛ ‵ (flft κ₁ q₁) ⊛ ‵ (flft κ₂ q₂) ⊛ ‵ ftrue) ⊛ ‵ (O.the-row .own r (w ∷ []))) ⊛ raw (ensured 𝓤 H A g.ended (callee op 𝓤) (κ₀, (κ₁, (κ₂, tt))) ga tt r)))) (id⊢ 𝓤 _) $ await ! tt $ pick ! (λ r.
-        split ! $ move ! (1 ∷ []) $ use1 W (some (λ (zs : Unit {0} × (Unit {0} × (Unit {0} × (List ℕ × (Unit {0} × (Unit {0} × (Unit {0} × Unit {0}))))))). ‵ (lasts g.ended (κ₀, (κ₁, (κ₂, tt))) ga zs) ⊛ raw (fact 𝓤 (Said r (zs .1 .1 .1 .0))))) (id⊢ 𝓤 _) $ pick ! (λ zs.
-        split ! $ move ! (1 ∷ []) $ heard ! (Said r (zs .1 .1 .1 .0)) (λ e. fsplit ! $ drop ! $ fsplit ! $ drop ! $ fsplit ! $ drop ! $ fsplit ! $ move ! (1 ∷ []) $ drop ! $ fsplit ! $ move ! (1 ∷ []) $ feqL ! (λ l.
+        calls-at ! fm (G op 𝓤 H A) known to (and-then ! (load ! (from ! (stop !)) (look ! 26 refl)) (and-then ! (load ! (from ! (stop !)) (look ! 24 refl))
+        (and-then ! (load ! (from ! (stop !)) (look ! 22 refl)) (and-then ! (load ! (from ! (stop !)) (look ! 6 refl))
+        (and-then ! (load ! (from ! (stop !)) (look ! 12 refl)) (and-then ! (load ! (from ! (stop !)) (look ! 16 refl)) (and-then ! (load ! (from !
+        (stop !)) (look ! 14 refl)) (no-more !)))))))) (λ w.
+        use1 W (later (some (λ (r : Outcome). ((‵ (flft κ₀ q₀) ⊛ ‵ (flft κ₁ q₁) ⊛ ‵ (flft κ₂ q₂) ⊛ ‵ ftrue) ⊛ ‵ (O.the-row .own r (w ∷ []))) ⊛ raw
+        (ensured 𝓤 H A g.ended (callee op 𝓤) (κ₀, (κ₁, (κ₂, tt))) ga tt r)))) (id⊢ 𝓤 _) $ await ! tt $ pick ! (λ r.
+        split ! $ move ! (1 ∷ []) $ use1 W (some (λ (zs : Unit {0} × (Unit {0} × (Unit {0} × (List ℕ × (Unit {0} × (Unit {0} × (Unit {0} ×
+        Unit {0}))))))). ‵ (lasts g.ended (κ₀, (κ₁, (κ₂, tt))) ga zs) ⊛ raw (fact 𝓤 (Said r (zs .1 .1 .1 .0))))) (id⊢ 𝓤 _) $ pick ! (λ zs.
+        split ! $ move ! (1 ∷ []) $ heard ! (Said r (zs .1 .1 .1 .0)) (λ e. fsplit ! $ drop ! $ fsplit ! $ drop ! $ fsplit ! $ drop ! $ fsplit ! $
+        move ! (1 ∷ []) $ drop ! $ fsplit ! $ move ! (1 ∷ []) $ feqL ! (λ l.
         -- [the last marks; the three tokens and the result; the record's cell; what it owned; …]
         move ! (1 ∷ []) $ split ! $ move ! (1 ∷ []) $ peeks ! O.the-row (Is O.the-row) (shows 𝓤 H A O.the-row) r (w ∷ []) (λ is.
-        -- [what the result owns; the three tokens; the last marks; the record's cell; what it owned; the open borrow; obs; auth; _11 at 8; …; _0 at 30; …; Kept]
-        land ! (from ! (stop !)) (init ! 12 refl (LL.lawful O.the-type O′.the-laws 𝓤 H A W .typed r _ is .0)) $ rewrite ! 12 (λ (u : Val). ‵ (fat fullShare O′.mir l₉ 0 u)) (ap only (LL.tells O.the-type O′.the-laws r _ is)) refl $
+        -- [what the result owns; the three tokens; the last marks; the record's cell; what it owned; the open borrow; obs; auth; _11 at 8; …; _0 at 30; …;
+        -- Kept]
+        land ! (from ! (stop !)) (init ! 12 refl (LL.lawful O.the-type O′.the-laws 𝓤 H A W .typed r _ is .0)) $
+        rewrite ! 12 (λ (u : Val). ‵ (fat fullShare O′.mir l₉ 0 u)) (ap only (LL.tells O.the-type O′.the-laws r _ is)) refl $
         -- the new record is stored whole, and the answer is returned
-        assigns ! (of-opd ! (load ! (from ! (fld ! refl (stop !))) (look-in ! 12 (sub ! 0 refl (whole !))))) (from ! (hop ! (look ! 20 refl) (stop !))) (store-raw ! 3 refl (LL.lawful T.the-type T′.the-laws 𝓤 H A W .typed (r .held) _ (held-is r w is) .0)) $
-        assigns ! (of-opd ! (load ! (from ! (fld ! refl (stop !))) (look-in ! 12 (sub ! 1 refl (whole !))))) (from ! (stop !)) (init ! 30 refl (EL.lawful N.the-type N′.the-laws 𝓤 H A W tt .typed (r .answer) _ (answer-is r w is) .0)) $
-        drop ! $ move ! (3 ∷ []) $ drop ! $ owned ! T.the-row (Is T.the-row) (LL.makes T.the-type T′.the-plain 𝓤 H A) (r .held) _ (held-is r w is) $ move ! (3 ∷ 0 ∷ 4 ∷ 5 ∷ 6 ∷ []) $ closes ! tt T.the-row (r .held) (vH (r .held) ∷ []) b′ o′ $
+        assigns ! (of-opd ! (load ! (from ! (fld ! refl (stop !))) (look-in ! 12 (sub ! 0 refl (whole !))))) (from ! (hop ! (look ! 20 refl) (stop !)))
+        (store-raw ! 3 refl (LL.lawful T.the-type T′.the-laws 𝓤 H A W .typed (r .held) _ (held-is r w is) .0)) $
+        assigns ! (of-opd ! (load ! (from ! (fld ! refl (stop !))) (look-in ! 12 (sub ! 1 refl (whole !))))) (from ! (stop !)) (init ! 30 refl
+        (EL.lawful N.the-type N′.the-laws 𝓤 H A W tt .typed (r .answer) _ (answer-is r w is) .0)) $
+        drop ! $ move ! (3 ∷ []) $ drop ! $ owned ! T.the-row (Is T.the-row) (LL.makes T.the-type T′.the-plain 𝓤 H A) (r .held) _ (held-is r w is) $
+        move ! (3 ∷ 0 ∷ 4 ∷ 5 ∷ 6 ∷ []) $ closes ! tt T.the-row (r .held) (vH (r .held) ∷ []) b′ o′ $
         -- [obs; the borrow; the record's token; the three tokens; the last marks; _11 at 5; …; _0 at 27; …; Kept]
-        returns ! (look ! 27 refl) $ forget ! 5 refl $ forget ! 7 refl $ forget ! 9 refl $ forget ! 11 refl $ forget ! 13 refl $ forget ! 15 refl $ forget ! 17 refl $ forget ! 19 refl $ forget ! 21 refl $ forget ! 23 refl $ forget ! 25 refl $ forget ! 27 refl $
-        move ! (27 ∷ 28 ∷ []) $ free1 ! $ move ! (25 ∷ 26 ∷ []) $ free1 ! $ move ! (23 ∷ 24 ∷ []) $ free1 ! $ move ! (21 ∷ 22 ∷ []) $ free1 ! $ move ! (19 ∷ 20 ∷ []) $ free1 ! $ move ! (17 ∷ 18 ∷ []) $ free1 ! $
-        move ! (15 ∷ 16 ∷ []) $ free1 ! $ move ! (13 ∷ 14 ∷ []) $ free1 ! $ move ! (11 ∷ 12 ∷ []) $ free1 ! $ move ! (9 ∷ 10 ∷ []) $ free1 ! $ move ! (7 ∷ 8 ∷ []) $ free1 ! $ move ! (5 ∷ 6 ∷ []) $ free1 ! $ free0 ! $
+        returns ! (look ! 27 refl) $ forget ! 5 refl $ forget ! 7 refl $ forget ! 9 refl $ forget ! 11 refl $ forget ! 13 refl $ forget ! 15 refl $
+        forget ! 17 refl $ forget ! 19 refl $ forget ! 21 refl $ forget ! 23 refl $ forget ! 25 refl $ forget ! 27 refl $
+        move ! (27 ∷ 28 ∷ []) $ free1 ! $ move ! (25 ∷ 26 ∷ []) $ free1 ! $ move ! (23 ∷ 24 ∷ []) $ free1 ! $ move ! (21 ∷ 22 ∷ []) $ free1 ! $
+        move ! (19 ∷ 20 ∷ []) $ free1 ! $ move ! (17 ∷ 18 ∷ []) $ free1 ! $
+        move ! (15 ∷ 16 ∷ []) $ free1 ! $ move ! (13 ∷ 14 ∷ []) $ free1 ! $ move ! (11 ∷ 12 ∷ []) $ free1 ! $ move ! (9 ∷ 10 ∷ []) $ free1 ! $
+        move ! (7 ∷ 8 ∷ []) $ free1 ! $ move ! (5 ∷ 6 ∷ []) $ free1 ! $ free0 ! $
         by ! (exits r (zs .1 .1 .1 .0) e l isD (answer-is r w is))))))))))))))))))))))
 
 module _ (op : Op) (k : Name) {M : Type 1} (𝓤 : URA M) (H : Heap 𝓤) (A : Atoms 𝓤) (W : Given 𝓤 H A) where
-  walks : (C : Calls 𝓤 H) (Λ : Loops 𝓤 H) → FmC 𝓤 H (W .laws) C → Triple 𝓤 (C k) (G op 𝓤 H A) → Walks 𝓤 H A f.ended stayed (WpFn 𝓤 H C Λ (shape k)) (wrapper op 𝓤)
+  walks : (C : Calls 𝓤 H) (Λ : Loops 𝓤 H) → FmC 𝓤 H (W .laws) C → Triple 𝓤 (C k) (G op 𝓤 H A) →
+      Walks 𝓤 H A f.ended stayed (WpFn 𝓤 H C Λ (shape k)) (wrapper op 𝓤)
   walks C Λ fm known = walked 𝓤 H A f.ended stayed (wrapper op 𝓤) (WpFn 𝓤 H C Λ (shape k))
       (λ κs. (LL.vals D.the-type D′.the-laws, (slice-vals, (slice-vals, (slice-vals, (ptr-vals, (uint-vals w8, (uint-vals w32, tt))))))))
-      (λ κs. (LL.tells D.the-type D′.the-laws, (shr-slice-tells (named 0) (κs .0) u32, (shr-slice-tells (named 1) (κs .1 .0) u8, (mut-slice-tells (named 2) (κs .1 .1 .0) u8, (mut-tells (named 3) (κs .1 .1 .1 .0) T.the-row, (uint-tells w8, (uint-tells w32, tt))))))))
+      (λ κs. (
+        LL.tells D.the-type D′.the-laws,
+        (
+          shr-slice-tells (named 0) (κs .0) u32,
+          (
+            shr-slice-tells (named 1) (κs .1 .0) u8,
+            (
+              mut-slice-tells (named 2)
+                  (κs .1 .1 .0) u8,
+              (mut-tells (named 3) (κs .1 .1 .1 .0) T.the-row, (uint-tells w8, (uint-tells w32, tt))),
+            ),
+          ),
+        ),
+      ))
       (λ κs qs bounds a _ are. needs 𝓤 (sound (st (a .0) (a .1 .0) (a .1 .1 .0) (a .1 .1 .1 .0) (a .1 .1 .1 .1 .0 .now)) ≡ true) _ (λ pre.
       walk op k 𝓤 H A W (κs .0) (κs .1 .0) (κs .1 .1 .0) (κs .1 .1 .1 .0) (qs .0) (qs .1 .0) (qs .1 .1 .0) (qs .1 .1 .1 .0) (a .0) (a .1 .0) (a .1 .1 .0)
-      (a .1 .1 .1 .0 .ptr .0) (a .1 .1 .1 .0 .ptr .1) (a .1 .1 .1 .0 .name) (a .1 .1 .1 .0 .now) (a .1 .1 .1 .1 .0 .ptr .0) (a .1 .1 .1 .1 .0 .ptr .1) (a .1 .1 .1 .1 .0 .name) (a .1 .1 .1 .1 .0 .now)
-      (a .1 .1 .1 .1 .1 .0) (a .1 .1 .1 .1 .1 .1 .0) (are .1 .1 .1 .1 .1 .0 .1) (are .1 .1 .1 .1 .1 .1 .0 .1) C Λ fm known pre (are .0) (are .1 .0) (are .1 .1 .0) (are .1 .1 .1 .0 .0 .1)))
+      (a .1 .1 .1 .0 .ptr .0) (a .1 .1 .1 .0 .ptr .1) (a .1 .1 .1 .0 .name) (a .1 .1 .1 .0 .now) (a .1 .1 .1 .1 .0 .ptr .0) (a .1 .1 .1 .1 .0 .ptr .1)
+      (a .1 .1 .1 .1 .0 .name) (a .1 .1 .1 .1 .0 .now)
+      (a .1 .1 .1 .1 .1 .0) (a .1 .1 .1 .1 .1 .1 .0) (are .1 .1 .1 .1 .1 .0 .1) (are .1 .1 .1 .1 .1 .1 .0 .1) C Λ fm known pre (are .0) (are .1 .0)
+      (are .1 .1 .0) (are .1 .1 .1 .0 .0 .1)))
 
   goes : AllGo 𝓤 H A W 4 (f.signature .params) (f.ended .kept) stayed
   goes = (
@@ -281,7 +338,17 @@ module _ (op : Op) (k : Name) {M : Type 1} (𝓤 : URA M) (H : Heap 𝓤) (A : A
         goes-none-slice 𝓤 H A W 4 (1 ∷ []) tt (plain (λ _. u8)) yes,
         (
           goes-gave-slice 𝓤 H A W 4 2 tt (plain (λ _. u8)),
-          (goes-ref 𝓤 H A W 4 3 tt (plain (λ _. T.the-row)), (goes-none 𝓤 H A W 4 (λ _. u8) yes (λ κs x f. refl), (goes-none 𝓤 H A W 4 (λ _. u32) yes (λ κs x f. refl), tt))),
+          (
+            goes-ref 𝓤 H A W 4 3 tt (plain (λ _. T.the-row)),
+            (
+              goes-none 𝓤 H A W 4 (λ _. u8) yes (λ κs x f. refl),
+              (
+                goes-none 𝓤 H A W 4 (λ _. u32) yes
+                    (λ κs x f. refl),
+                tt,
+              ),
+            ),
+          ),
         ),
       ),
     ),

@@ -25,26 +25,21 @@ pub fn drop_lawful(
     value: u32,
 ) -> Outcome
     requires { ⌜ sound (lent design (now cells) (now tables) (now marks) held) ≡ true ⌝ }
-    ensures { λ o. ⌜ SoundStep (lent design (now (cells .entry)) (now (tables .entry)) (now (marks .entry)) held) (Runs.drop (pair filling value)) o (now (marks .exit)) ⌝ }
+    ensures { λ o. ⌜ SoundStep (lent design (now (cells .entry)) (now (tables .entry)) (now (marks .entry)) held)
+        (Runs.drop (pair filling value)) o (now (marks .exit)) ⌝ }
 {
     let f = filling as usize;
     if design.fillings <= f {
-        return Outcome {
-            held: held,
-            answer: Answer::Refused(5),
-        };
+        let answer = Answer::Refused(5);
+        return Outcome { held, answer };
     }
     if value == 0 {
-        return Outcome {
-            held: held,
-            answer: Answer::Refused(9),
-        };
+        let answer = Answer::Refused(9);
+        return Outcome { held, answer };
     }
     if !listed(held, filling, value) {
-        return Outcome {
-            held: held,
-            answer: Answer::Refused(10),
-        };
+        let answer = Answer::Refused(10);
+        return Outcome { held, answer };
     }
     let fewer = removed(held, filling, value);
     let answer = reload(design, cells, tables, marks, fewer);

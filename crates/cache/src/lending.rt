@@ -24,7 +24,8 @@ pub fn refer(
     value: u32,
 ) -> Answer
     requires { ⌜ sound (lent design (now cells) (now tables) (now marks) (now held)) ≡ true ⌝ }
-    ensures { λ a. ⌜ SoundStep (lent design (now (cells .entry)) (now (tables .entry)) (now (marks .entry)) (now (held .entry))) (Runs.refer (pair filling value)) (record { held = now (held .exit); answer = a }) (now (marks .exit)) ⌝ }
+    ensures { λ a. ⌜ SoundStep (lent design (now (cells .entry)) (now (tables .entry)) (now (marks .entry)) (now (held .entry)))
+        (Runs.refer (pair filling value)) (record { held = now (held .exit); answer = a }) (now (marks .exit)) ⌝ }
 {
     let h = *held;
     let o = refer_lawful(design, cells, tables, marks, h, filling, value);
@@ -43,7 +44,8 @@ pub fn drop(
     value: u32,
 ) -> Answer
     requires { ⌜ sound (lent design (now cells) (now tables) (now marks) (now held)) ≡ true ⌝ }
-    ensures { λ a. ⌜ SoundStep (lent design (now (cells .entry)) (now (tables .entry)) (now (marks .entry)) (now (held .entry))) (Runs.drop (pair filling value)) (record { held = now (held .exit); answer = a }) (now (marks .exit)) ⌝ }
+    ensures { λ a. ⌜ SoundStep (lent design (now (cells .entry)) (now (tables .entry)) (now (marks .entry)) (now (held .entry)))
+        (Runs.drop (pair filling value)) (record { held = now (held .exit); answer = a }) (now (marks .exit)) ⌝ }
 {
     let h = *held;
     let o = drop_lawful(design, cells, tables, marks, h, filling, value);
@@ -62,7 +64,8 @@ pub fn refer_held(
     value: u32,
 ) -> Outcome
     requires { ⌜ sound (lent design (now cells) (now tables) (now marks) held) ≡ true ⌝ }
-    ensures { λ o. ⌜ SoundStep (lent design (now (cells .entry)) (now (tables .entry)) (now (marks .entry)) held) (Runs.refer (pair filling value)) o (now (marks .exit)) ⌝ }
+    ensures { λ o. ⌜ SoundStep (lent design (now (cells .entry)) (now (tables .entry)) (now (marks .entry)) held)
+        (Runs.refer (pair filling value)) o (now (marks .exit)) ⌝ }
 {
     let mut h = held;
     let a = refer(design, cells, tables, marks, &mut h, filling, value);
@@ -80,7 +83,8 @@ pub fn drop_held(
     value: u32,
 ) -> Outcome
     requires { ⌜ sound (lent design (now cells) (now tables) (now marks) held) ≡ true ⌝ }
-    ensures { λ o. ⌜ SoundStep (lent design (now (cells .entry)) (now (tables .entry)) (now (marks .entry)) held) (Runs.drop (pair filling value)) o (now (marks .exit)) ⌝ }
+    ensures { λ o. ⌜ SoundStep (lent design (now (cells .entry)) (now (tables .entry)) (now (marks .entry)) held)
+        (Runs.drop (pair filling value)) o (now (marks .exit)) ⌝ }
 {
     let mut h = held;
     let a = drop(design, cells, tables, marks, &mut h, filling, value);

@@ -40,8 +40,10 @@ pub fn load_value(
 ) -> Answer
     requires { ⌜ InRange design × Backed (now cells) (now tables) × (512 ≤ length (now marks)) × (column .place < 8) ⌝ }
     ensures { λ a. ⌜ (answerOf a ≡ Answers.loaded
-        (addedRows (rowsOf design (now (cells .entry)) (now (tables .entry))) (valueLevels design (now (cells .entry)) (now (tables .entry)) (now (marks .entry)) column value))
-        (laterRounds (rowsOf design (now (cells .entry)) (now (tables .entry))) (valueLevels design (now (cells .entry)) (now (tables .entry)) (now (marks .entry)) column value)))
+        (addedRows (rowsOf design (now (cells .entry)) (now (tables .entry)))
+        (valueLevels design (now (cells .entry)) (now (tables .entry)) (now (marks .entry)) column value))
+        (laterRounds (rowsOf design (now (cells .entry)) (now (tables .entry)))
+        (valueLevels design (now (cells .entry)) (now (tables .entry)) (now (marks .entry)) column value)))
         × (now (marks .exit) ≡ settled (rowsOf design (now (cells .entry)) (now (tables .entry)))
         (valueLevels design (now (cells .entry)) (now (tables .entry)) (now (marks .entry)) column value) (now (marks .entry))) ⌝ }
 {

@@ -26,19 +26,16 @@ pub fn referred(
     filling: u8,
     value: u32,
 ) -> Outcome
-    ensures { λ o. ⌜ Stepped (lent design (now (cells .entry)) (now (tables .entry)) (now (marks .entry)) held) (Runs.refer (pair filling value)) o (now (marks .exit)) ⌝ }
+    ensures { λ o. ⌜ Stepped (lent design (now (cells .entry)) (now (tables .entry)) (now (marks .entry)) held)
+        (Runs.refer (pair filling value)) o (now (marks .exit)) ⌝ }
 {
     if !is_long_enough(cells, tables, marks) {
-        return Outcome {
-            held: held,
-            answer: Answer::Refused(7),
-        };
+        let answer = Answer::Refused(7);
+        return Outcome { held, answer };
     }
     if !is_lawful(design, cells, tables, marks, held) {
-        return Outcome {
-            held: held,
-            answer: Answer::Refused(12),
-        };
+        let answer = Answer::Refused(12);
+        return Outcome { held, answer };
     }
     refer_held(design, cells, tables, marks, held, filling, value)
 }
@@ -53,19 +50,16 @@ pub fn dropped(
     filling: u8,
     value: u32,
 ) -> Outcome
-    ensures { λ o. ⌜ Stepped (lent design (now (cells .entry)) (now (tables .entry)) (now (marks .entry)) held) (Runs.drop (pair filling value)) o (now (marks .exit)) ⌝ }
+    ensures { λ o. ⌜ Stepped (lent design (now (cells .entry)) (now (tables .entry)) (now (marks .entry)) held)
+        (Runs.drop (pair filling value)) o (now (marks .exit)) ⌝ }
 {
     if !is_long_enough(cells, tables, marks) {
-        return Outcome {
-            held: held,
-            answer: Answer::Refused(7),
-        };
+        let answer = Answer::Refused(7);
+        return Outcome { held, answer };
     }
     if !is_lawful(design, cells, tables, marks, held) {
-        return Outcome {
-            held: held,
-            answer: Answer::Refused(12),
-        };
+        let answer = Answer::Refused(12);
+        return Outcome { held, answer };
     }
     drop_held(design, cells, tables, marks, held, filling, value)
 }

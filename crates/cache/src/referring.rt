@@ -26,39 +26,30 @@ pub fn refer_lawful(
     value: u32,
 ) -> Outcome
     requires { ⌜ sound (lent design (now cells) (now tables) (now marks) held) ≡ true ⌝ }
-    ensures { λ o. ⌜ SoundStep (lent design (now (cells .entry)) (now (tables .entry)) (now (marks .entry)) held) (Runs.refer (pair filling value)) o (now (marks .exit)) ⌝ }
+    ensures { λ o. ⌜ SoundStep (lent design (now (cells .entry)) (now (tables .entry)) (now (marks .entry)) held)
+        (Runs.refer (pair filling value)) o (now (marks .exit)) ⌝ }
 {
     let f = filling as usize;
     if design.fillings <= f {
-        return Outcome {
-            held: held,
-            answer: Answer::Refused(5),
-        };
+        let answer = Answer::Refused(5);
+        return Outcome { held, answer };
     }
     if value == 0 {
-        return Outcome {
-            held: held,
-            answer: Answer::Refused(9),
-        };
+        let answer = Answer::Refused(9);
+        return Outcome { held, answer };
     }
     let candidates = design.filling[f];
     if !is_candidate(candidates, value) {
-        return Outcome {
-            held: held,
-            answer: Answer::NoCandidate,
-        };
+        let answer = Answer::NoCandidate;
+        return Outcome { held, answer };
     }
     if listed(held, filling, value) {
-        return Outcome {
-            held: held,
-            answer: Answer::Held,
-        };
+        let answer = Answer::Held;
+        return Outcome { held, answer };
     }
     if Held::PLACES <= held.count {
-        return Outcome {
-            held: held,
-            answer: Answer::Refused(8),
-        };
+        let answer = Answer::Refused(8);
+        return Outcome { held, answer };
     }
     let column = candidates.column;
     let answer = load_value(design, cells, tables, marks, column, value);

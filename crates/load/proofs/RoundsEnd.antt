@@ -9,7 +9,7 @@ use mathlib.Core.List.{List}
 use borrow.Author.Tests.{eqb-true, eq-eqb, ne-eqb}
 use lib.Dec.{eqb}
 use lib.ListN.{length}
-use Rattle.finite.specs.Finite.{any, tab}
+use Rattle.finite.specs.Finite.{any}
 use Rattle.finite.proofs.Search.{any-found, any-true, any-none, any-refuted}
 use Rattle.finite.proofs.Bools.{clash, and-left}
 use Rattle.finite.proofs.Counting.{count-prefix}
@@ -92,6 +92,26 @@ module _ (S : Scheme) (D : Database) (L : List ℕ) where
       empty : (m : ℕ) → n ≤ m → any (D .size) (λ r. eqb (level M r) (suc (suc (suc m)))) ≡ false
       empty m h = any-refuted (D .size) (λ r. eqb (level M r) (suc (suc (suc m)))) (λ r k. ne-eqb _ _ (λ (w : level M r ≡ suc (suc (suc m))). omega (arith, top r k)))
 
+  -- after a round that added nothing no round adds anything
+  quiet : (n : ℕ) (N : List ℕ) → length N ≡ D .size → N ≡ levels S D L n → ((r : ℕ) → r < D .size → level N r ≤ n + 1) → (k : ℕ) → levels S D L (n + k) ≡ N
+  unfolding levels
+  quiet n N long is top zero = let a : n + 0 ≡ n = omega arith in rw a (sym is)
+  quiet n N long is top (suc k) =
+      let a : n + suc k ≡ suc (n + k) = omega arith in
+      rw a (ap (next S D (n + k)) (quiet n N long is top k) ∙ next-same S D (n + k) N long (λ r h w. omega (arith, top r h)))
+
+  -- ... so a loop may stop there
+  stopped : (n : ℕ) (N : List ℕ) → length N ≡ D .size → N ≡ levels S D L n → ((r : ℕ) → r < D .size → level N r ≤ n + 1) → n ≤ D .size → N ≡ levels S D L (D .size)
+  stopped n N long is top l = let a : n + (D .size - n) ≡ D .size = omega arith in sym (quiet n N long is top (D .size - n)) ∙ ap (levels S D L) a
+
+  -- round 0 added nothing
+  pub running-none : length L ≡ D .size → ((r : ℕ) → r < D .size → level L r ≤ 1) → (L ≡ levels S D L (D .size)) × (0 ≡ laterRounds D L)
+  unfolding levels
+  running-none e h = (
+    stopped 0 L e refl (λ r l. omega (arith, h r l)) (omega arith),
+    counted 0 L (omega arith) (λ m l. absurd (omega arith)) (λ r l. omega (arith, h r l)),
+  )
+
   module _ (n : ℕ) (M N : List ℕ) (u : Running n M) (e : N ≡ next S D n M) where
     long : length N ≡ D .size
     long = ap length e ∙ length-next S D n M
@@ -121,19 +141,9 @@ module _ (S : Scheme) (D : Database) (L : List ℕ) where
           let t : level N r ≡ n + 3 → ⊥ = λ w. clash (eq-eqb _ _ w) (any-none (D .size) (λ i. eqb (level N i) (n + 3)) q r h) in
           omega (arith, top r)
 
-      -- the round added nothing: no later one does
-      quiet : (k : ℕ) → levels S D L (n + 1 + k) ≡ N
-      unfolding levels
-      quiet zero = let a : n + 1 + 0 ≡ n + 1 = omega arith in rw a (sym is)
-      quiet (suc k) =
-          let a : n + 1 + suc k ≡ suc (n + 1 + k) = omega arith in
-          rw a (ap (next S D (n + 1 + k)) (quiet k) ∙ next-same S D (n + 1 + k) N long (λ r h w. omega (arith, below r h)))
-
       -- a loop may stop at the first round that adds nothing
       pub running-stop : n < D .size → (N ≡ levels S D L (D .size)) × (n ≡ laterRounds D N)
-      running-stop l =
-          let a : n + 1 + (D .size - (n + 1)) ≡ D .size = omega arith in
-          (sym (quiet (D .size - (n + 1))) ∙ ap (levels S D L) a, counted n N (omega arith) still below)
+      running-stop l = (stopped (n + 1) N long is (λ r h. omega (arith, below r h)) (omega arith), counted n N (omega arith) still below)
 
   -- it need not run more rounds than there are row numbers
   pub running-end : (n : ℕ) (M : List ℕ) → Running n M → n ≤ D .size → D .size ≤ n → (M ≡ levels S D L (D .size)) × (n ≡ laterRounds D M)

@@ -1,13 +1,15 @@
--- Round 0 as a step from the cached rows to level 2, and what the later rounds ask of its levels. Assumes nothing.
+-- Round 0, and what the later rounds ask of its levels. Assumes nothing.
 use Prim.Native.Nat.{ℕ, zero, suc, _≤_, _<_}
 use native.Mathlib.Decide.{decLt}
 use native.Mathlib.Omega.{arith}
 use mathlib.Core.Path.{_≡_, refl, sym, ap, _∙_}
 use mathlib.Core.Bool.{Bool, true, false, cond, _||_}
 use mathlib.Core.List.{List}
-use lib.ListN.{length, replicate, length-replicate, getD-replicate}
+use lib.Dec.{ltb}
+use lib.ListN.{length, replicate, getD-replicate}
 use Rattle.finite.specs.Finite.{any, tab}
-use Rattle.finite.proofs.Tables.{length-tab, tab-at, tab-past, tab-of, tab-same}
+use Rattle.finite.proofs.Bools.{cond-true, cond-false}
+use Rattle.finite.proofs.Tables.{length-tab, tab-at, tab-past, tab-same}
 use Rattle.model.specs.Cell.{cellOf}
 use Rattle.model.specs.Scheme.{Scheme}
 use Rattle.model.specs.Database.{Database, has}
@@ -18,8 +20,10 @@ use Rattle.state.specs.declared.held.Held.{Held}
 use Rattle.state.specs.Meaning.{databaseOf, pairsOf, pairOf}
 use Rattle.state.specs.Held.{heldAt}
 use Rattle.load.specs.Raised.{raised}
+use Rattle.load.specs.Queue.{added, Listed}
 use Rattle.load.proofs.FiniteExtra.{any-front}
 use Rattle.load.proofs.RaisedLaws.{raised-same}
+use Rattle.load.proofs.QueueLaws.{listed-none}
 
 -- ---- what `close` asks of the levels, and what it gives on round 0
 
@@ -46,20 +50,18 @@ pub load-is : (S : Scheme) (rows : ℕ) (cells tables : List ℕ) (old seed : Ro
 unfolding load databaseOf
 load-is S rows cells tables old seed = refl
 
--- ---- round 0 as a step
+-- ---- round 0 of a load of one value: one row
 
-module _ (rows : ℕ) (cells tables : List ℕ) where
-  -- from the levels K of the cached rows
-  pub start-raised : (old seed : RowSet) (K L : List ℕ) → K ≡ tab 512 (λ r. cond (old r) 1 0) → L ≡ raised K 2 seed → L ≡ start (databaseOf rows cells tables) old seed
-  unfolding start raised databaseOf
-  start-raised old seed K L e h = h ∙ ap (λ (J : List ℕ). raised J 2 seed) e ∙ tab-same 512 _ _ at
-    where
-      go : (a : Bool) (m : ℕ) → orElse (cond a 1 0) m ≡ cond a 1 m
-      go true m = refl
-      go false m = refl
+pub start-one : (a : Bool) (m : ℕ) → a ≡ true → _≡_ {A = ℕ} 1 (cond a 1 m)
+start-one a m h = sym (cond-true a 1 m h)
 
-      at : (r : ℕ) → r < 512 → orElse (level (tab 512 (λ i. cond (old i) 1 0)) r) (cond (seed r) 2 0) ≡ cond (old r) 1 (cond (seed r) 2 0)
-      at r l = ap (λ (m : ℕ). orElse m (cond (seed r) 2 0)) (tab-at 0 512 (λ i. cond (old i) 1 0) r l) ∙ go (old r) (cond (seed r) 2 0)
+pub start-two : (a t b : Bool) → a ≡ false → t ≡ b → t ≡ true → _≡_ {A = ℕ} 2 (cond a 1 (cond b 2 0))
+start-two a t b h e g = sym (cond-false a 1 _ h ∙ cond-true b 2 0 (sym e ∙ g))
+
+pub start-zero : (a t b : Bool) → a ≡ false → t ≡ b → t ≡ false → _≡_ {A = ℕ} 0 (cond a 1 (cond b 2 0))
+start-zero a t b h e g = sym (cond-false a 1 _ h ∙ cond-false b 2 0 (sym e ∙ g))
+
+-- ---- round 0 of a load of all held values
 
 -- a row is wanted if it has one of the values in its filling's column
 wanted-tab : (S : Scheme) (D : Database) (r n : ℕ) (f : ℕ → Pair) → wanted S D (tab n f) r ≡ any n (λ i. has D (S .filling (f i .filling) .column) (f i .value) r)
@@ -76,9 +78,18 @@ wanted-any S D h r = sym (wanted-tab S D r (h .count) (λ i. pairOf (heldAt h i)
 
 -- from nothing, by steps for the held values
 pub start-all : (S : Scheme) (rows : ℕ) (cells tables : List ℕ) (h : Held) (L : List ℕ) → let D = databaseOf rows cells tables in
-    L ≡ raised (replicate 512 0) 2 (λ r. any (h .count) (λ i. has D (S .filling (heldAt h i .filling) .column) (cellOf (heldAt h i .value)) r)) → L ≡ start D (λ _. false) (wanted S D (pairsOf h))
+    L ≡ raised (replicate 512 0) 2 (λ r. any (h .count) (λ i. has D (S .filling (heldAt h i .filling) .column) (cellOf (heldAt h i .value)) r)) →
+    L ≡ start D (λ _. false) (wanted S D (pairsOf h))
+unfolding start raised databaseOf
 start-all S rows cells tables h L e =
     let D = databaseOf rows cells tables in
-    start-raised rows cells tables (λ _. false) (wanted S D (pairsOf h)) (replicate 512 0) L
-    (tab-of 0 512 (λ _. 0) (replicate 512 0) (length-replicate {A = ℕ} 512 0) (λ r l. getD-replicate {A = ℕ} 512 r 0 0 l))
-    (e ∙ raised-same (replicate 512 0) 2 _ _ (λ r l. wanted-any S D h r))
+    e ∙ raised-same (replicate 512 0) 2 _ (wanted S D (pairsOf h)) (λ r l. wanted-any S D h r) ∙
+    tab-same 512 _ _ (λ r l. ap (λ (m : ℕ). orElse m (cond (wanted S D (pairsOf h) r) 2 0)) (zeros r l))
+  where
+    zeros : (r : ℕ) → r < 512 → level (replicate 512 0) r ≡ 0
+    zeros r l = getD-replicate {A = ℕ} 512 r 0 0 l
+
+-- no row has been added
+pub none-added : (q : List ℕ) → length q ≡ 512 → Listed (added (replicate 512 0)) q 0
+unfolding added
+none-added q e = listed-none _ q e (λ r l. ap (ltb 1) (getD-replicate {A = ℕ} 512 r 0 0 l))

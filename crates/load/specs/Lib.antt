@@ -1,2 +1,6 @@
--- Raised: what one step of a load does to the levels.
+-- Raised: what one step of a load does to the levels. Source: the value by which a constraint goes. Queue: where a load keeps the rows that its rounds
+-- have added. Built: indexes that are made where they are first needed.
 pub mod Raised
+pub mod Source
+pub mod Queue
+pub mod Built

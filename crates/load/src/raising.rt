@@ -1,54 +1,92 @@
 // One step of a load: the rows that have a value and no level yet get one.
 ghost use mathlib.Core.Path.{_≡_};
-ghost use mathlib.Core.Bool.{cond};
-ghost use Prim.Native.Nat.{_<_};
+ghost use Prim.Native.Nat.{_≤_, _<_};
 ghost use lib.ListN.{length};
 ghost use Rattle.model.specs.Cell.{cellOf};
 ghost use Rattle.model.specs.Database.{has};
-ghost use Rattle.model.specs.Rounds.{orElse};
 ghost use Rattle.state.specs.Design.{Backed};
 ghost use Rattle.state.specs.Meaning.{columnOf, databaseOf};
-ghost use Rattle.load.specs.Raised.{raised};
+ghost use Rattle.index.specs.Index.{Indexes};
+ghost use Rattle.load.specs.Queue.{Listed, added, Grown};
+ghost use Rattle.load.specs.Built.{Standing, Kept};
+use crate::indexing::provide;
+use crate::queue::reach;
+use index::after;
+use index::first;
 use state::Column;
-use state::row_has;
+use state::Design;
 
-// Row r's level once the rows that have v in column k are demanded: `old` if it has one, else `to` if row r has v there. Constant time.
-pub fn raised_level(
+// Gives level `to` and a place in the queue to the rows without a level that have v in column k, by the column's index, number i; where the queue
+// ends then. One step for each row of v's bucket: the rows that have v, if the values are spread.
+pub fn walk(
     rows: usize,
     cells: &[u32],
     tables: &[u8],
     k: Column,
+    i: usize,
     v: u32,
-    r: usize,
-    old: u16,
+    heads: &[u16],
+    links: &[u16],
+    levels: &mut [u16; 512],
     to: u16,
-) -> u16
-    requires { ⌜ (r < 512) × (k .place < 8) × Backed (now cells) (now tables) ⌝ }
-    ensures { λ n. ⌜ n ≡ orElse old (cond (has (databaseOf rows (now (cells .entry)) (now (tables .entry))) (columnOf k) (cellOf v) r) to 0) ⌝ }
+    queue: &mut [u16; 512],
+    end: usize,
+) -> usize
+    requires { ⌜ Backed (now cells) (now tables) ⌝ }
+    requires { ⌜ Indexes rows (now cells) (now tables) k i (now heads) (now links) ⌝ }
+    requires { ⌜ (k .place < 8) × (1 < to) × (length (now levels) ≡ 512) × Listed (added (now levels)) (now queue) end ⌝ }
+    ensures { λ e. ⌜ Grown to (has (databaseOf rows (now (cells .entry)) (now (tables .entry))) (columnOf k) (cellOf v))
+        (now (levels .entry)) (now (queue .entry)) end (now (levels .exit)) (now (queue .exit)) e ⌝ }
 {
-    if old != 0 {
-        return old;
+    let mut e = end;
+    let mut r = first(rows, cells, tables, k, i, heads, links, v);
+    while r < Design::ROWS {
+        e = reach(r, levels, to, queue, e);
+        r = after(rows, cells, tables, k, i, heads, links, v, r);
     }
-    if row_has(rows, cells, tables, k, v, r) {
-        return to;
-    }
-    0
+    e
 }
 
-// Gives level `to` to the rows without a level that have v in column k. One pass over the row numbers.
+// The same, with the index made first, unless it stands. Constant time for a blank; else the walk, and for a new index 512 steps and one for each row.
 pub fn raise(
     rows: usize,
     cells: &[u32],
     tables: &[u8],
     k: Column,
+    i: usize,
     v: u32,
+    built: &mut [bool; 16],
+    heads: &mut [u16],
+    links: &mut [u16],
     levels: &mut [u16; 512],
     to: u16,
-)
-    requires { ⌜ (length (now levels) ≡ 512) × (k .place < 8) × Backed (now cells) (now tables) ⌝ }
-    ensures { λ _. ⌜ now (levels .exit) ≡ raised (now (levels .entry)) to (has (databaseOf rows (now (cells .entry)) (now (tables .entry))) (columnOf k) (cellOf v)) ⌝ }
+    queue: &mut [u16; 512],
+    end: usize,
+) -> usize
+    requires { ⌜ Backed (now cells) (now tables) × (rows ≤ 512) × (k .place < 8) × (i < 16) ⌝ }
+    requires { ⌜ Standing rows (now cells) (now tables) k i (now built) (now heads) (now links) ⌝ }
+    requires { ⌜ (1 < to) × (length (now levels) ≡ 512) × Listed (added (now levels)) (now queue) end ⌝ }
+    ensures { λ e. ⌜ Grown to (has (databaseOf rows (now (cells .entry)) (now (tables .entry))) (columnOf k) (cellOf v))
+        (now (levels .entry)) (now (queue .entry)) end (now (levels .exit)) (now (queue .exit)) e ⌝ }
+    ensures { λ _. ⌜ Kept rows (now (cells .entry)) (now (tables .entry)) k i (now (built .entry)) (now (heads .entry)) (now (links .entry))
+        (now (built .exit)) (now (heads .exit)) (now (links .exit)) ⌝ }
 {
-    for r in 0..512usize {
-        levels[r] = raised_level(rows, cells, tables, k, v, r, levels[r], to);
+    if v == 0 {
+        return end;
     }
+    provide(rows, cells, tables, k, i, built, heads, links);
+    walk(
+        rows,
+        cells,
+        tables,
+        k,
+        i,
+        v,
+        heads,
+        links,
+        levels,
+        to,
+        queue,
+        end,
+    )
 }

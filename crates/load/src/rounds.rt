@@ -1,93 +1,129 @@
 // The later rounds.
 ghost use mathlib.Core.Path.{_≡_};
 ghost use Prim.Native.Nat.{ℕ, _+_, _≤_, _<_};
-ghost use lib.Dec.{eqb};
 ghost use lib.ListN.{length, getD};
-ghost use Rattle.finite.specs.Finite.{any};
 ghost use Rattle.model.specs.Rounds as Rounds;
-ghost use Rattle.model.specs.Rounds.{leads, demands, level, next, laterRounds};
-ghost use Rattle.state.specs.Design.{InRange, Backed};
-ghost use Rattle.state.specs.Meaning.{constraintOf, databaseOf, schemeOf};
-ghost use Rattle.load.specs.Raised.{raised};
-use crate::raising::raise;
-use state::Constraint;
+ghost use Rattle.model.specs.Rounds.{next, laterRounds};
+ghost use Rattle.state.specs.Design.{InRange, Backed, constraintAt};
+ghost use Rattle.state.specs.Meaning.{databaseOf, schemeOf};
+ghost use Rattle.load.specs.Queue.{Listed, added, Front};
+ghost use Rattle.load.specs.Built.{Built};
+use crate::expanding::expand;
+use crate::queue::list_added;
 use state::Design;
 
-// Gives level `to` to the rows without a level that constraint j demands of row s. At most one pass over the row numbers.
-pub fn follow(
-    rows: usize,
+// Round n + 1: expands the rows of round n, which stand in the queue from `from` on; where the queue ends then. The cost is that of expanding them.
+pub fn round(
+    d: Design,
     cells: &[u32],
     tables: &[u8],
-    j: Constraint,
-    s: usize,
+    built: &mut [bool; 16],
+    heads: &mut [u16],
+    links: &mut [u16],
     levels: &mut [u16; 512],
-    to: u16,
-)
-    requires { ⌜ (length (now levels) ≡ 512) × (s < 512) × (j .source .place < 8) × (j .target .place < 8) × Backed (now cells) (now tables) ⌝ }
-    ensures { λ _. ⌜ now (levels .exit) ≡ raised (now (levels .entry)) to (leads (databaseOf rows (now (cells .entry)) (now (tables .entry))) (constraintOf j) s) ⌝ }
-{
-    if rows <= s {
-        return;
-    }
-    if tables[s] != j.source.table {
-        return;
-    }
-    let v = cells[8 * s + j.source.place as usize];
-    if v == 0 {
-        return;
-    }
-    raise(rows, cells, tables, j.target, v, levels, to);
-}
-
-// Gives level `to` to the rows without a level that row s demands. One pass over the row numbers for each constraint of row s's table.
-pub fn expand(d: Design, cells: &[u32], tables: &[u8], s: usize, levels: &mut [u16; 512], to: u16)
-    requires { ⌜ InRange d × Backed (now cells) (now tables) × (length (now levels) ≡ 512) × (s < 512) × (0 < to) ⌝ }
-    ensures { λ _. ⌜ now (levels .exit) ≡ raised (now (levels .entry)) to (demands (schemeOf d) (databaseOf (d .rows) (now (cells .entry)) (now (tables .entry))) s) ⌝ }
-{
-    for i in 0..d.constraints {
-        follow(d.rows, cells, tables, d.constraint[i], s, levels, to);
-    }
-}
-
-// Round n + 1: expands the rows of round n. One pass over the row numbers, and another for each row of round n and constraint of its table.
-pub fn round(d: Design, cells: &[u32], tables: &[u8], levels: &mut [u16; 512], n: u16)
-    requires { ⌜ InRange d × Backed (now cells) (now tables) × (length (now levels) ≡ 512) × (n < 512) ⌝ }
+    n: u16,
+    queue: &mut [u16; 512],
+    from: usize,
+    end: usize,
+) -> usize
+    requires { ⌜ InRange d × Backed (now cells) (now tables) × (n < 512) × (length (now levels) ≡ 512) ⌝ }
+    requires { ⌜ Built (d .rows) (now cells) (now tables) (λ j. constraintAt d j .target) (now built) (now heads) (now links) ⌝ }
+    requires { ⌜ Listed (added (now levels)) (now queue) end × Front (n + 2) (now levels) (now queue) from end ⌝ }
     ensures { λ _. ⌜ now (levels .exit) ≡ next (schemeOf d) (databaseOf (d .rows) (now (cells .entry)) (now (tables .entry))) n (now (levels .entry)) ⌝ }
+    ensures { λ e. ⌜ Listed (added (now (levels .exit))) (now (queue .exit)) e × Front (n + 3) (now (levels .exit)) (now (queue .exit)) end e ⌝ }
+    ensures { λ _. ⌜ Built (d .rows) (now (cells .entry)) (now (tables .entry)) (λ j. constraintAt d j .target)
+        (now (built .exit)) (now (heads .exit)) (now (links .exit)) ⌝ }
 {
-    for s in 0..512usize {
-        if levels[s] == n + 2 {
-            expand(d, cells, tables, s, levels, n + 3);
-        }
+    let mut e = end;
+    for i in from..end {
+        e = expand(
+            d,
+            cells,
+            tables,
+            queue[i] as usize,
+            built,
+            heads,
+            links,
+            levels,
+            n + 3,
+            queue,
+            e,
+        );
     }
+    e
 }
 
-// Whether a row has the level. One pass over the row numbers.
-pub fn has_level(levels: &[u16; 512], l: u16) -> bool
-    requires { ⌜ length (now levels) ≡ 512 ⌝ }
-    ensures { λ b. ⌜ b ≡ any 512 (λ r. eqb (level (now (levels .entry)) r) l) ⌝ }
+// The later rounds, until one adds nothing; how many added a row. Round 0 has added the rows that stand in the queue. The cost is that of
+// expanding each row that is added once.
+pub fn run(
+    d: Design,
+    cells: &[u32],
+    tables: &[u8],
+    built: &mut [bool; 16],
+    heads: &mut [u16],
+    links: &mut [u16],
+    levels: &mut [u16; 512],
+    queue: &mut [u16; 512],
+    end: usize,
+) -> usize
+    requires { ⌜ InRange d × Backed (now cells) (now tables) × (length (now levels) ≡ 512) × ((r : ℕ) → getD (now levels) r 0 ≤ 2) ⌝ }
+    requires { ⌜ Built (d .rows) (now cells) (now tables) (λ j. constraintAt d j .target) (now built) (now heads) (now links) ⌝ }
+    requires { ⌜ Listed (added (now levels)) (now queue) end × Front 2 (now levels) (now queue) 0 end ⌝ }
+    ensures { λ n. ⌜ (now (levels .exit) ≡ Rounds.levels (schemeOf d) (databaseOf (d .rows) (now (cells .entry)) (now (tables .entry))) (now (levels .entry)) 512)
+        × (n ≡ laterRounds (databaseOf (d .rows) (now (cells .entry)) (now (tables .entry))) (now (levels .exit))) ⌝ }
 {
-    for r in 0..512usize {
-        if levels[r] == l {
-            return true;
+    let mut n: u16 = 0;
+    let mut from: usize = 0;
+    let mut to = end;
+    while n < 512 {
+        let next = round(
+            d,
+            cells,
+            tables,
+            built,
+            heads,
+            links,
+            levels,
+            n,
+            queue,
+            from,
+            to,
+        );
+        if next == to {
+            return n as usize;
         }
+        from = to;
+        to = next;
+        n += 1;
     }
-    false
+    n as usize
 }
 
-// The later rounds, until one adds nothing; how many added a row. Each row is expanded once: rows × (constraints of its table) × rows at most,
-// and two passes over the row numbers for each round.
+// The later rounds, in place; how many added a row. One pass over the row numbers; then each row that is added costs one step for each constraint
+// and, for the constraints of its table, the walk of the rows that have its value. A target column is indexed where it is first needed: 512 steps
+// and one for each row. If round 0 added nothing, neither does any other.
 pub fn close(d: Design, cells: &[u32], tables: &[u8], levels: &mut [u16; 512]) -> usize
     requires { ⌜ InRange d × Backed (now cells) (now tables) × (length (now levels) ≡ 512) × ((r : ℕ) → getD (now levels) r 0 ≤ 2) ⌝ }
     ensures { λ n. ⌜ (now (levels .exit) ≡ Rounds.levels (schemeOf d) (databaseOf (d .rows) (now (cells .entry)) (now (tables .entry))) (now (levels .entry)) 512)
         × (n ≡ laterRounds (databaseOf (d .rows) (now (cells .entry)) (now (tables .entry))) (now (levels .exit))) ⌝ }
 {
-    let mut n: u16 = 0;
-    while n < 512 {
-        round(d, cells, tables, levels, n);
-        if !has_level(levels, n + 3) {
-            return n as usize;
-        }
-        n += 1;
+    let mut queue = [0u16; 512];
+    let end = list_added(levels, &mut queue);
+    if end == 0 {
+        return 0;
     }
-    n as usize
+    let mut built = [false; 16];
+    let mut heads = [0u16; 8192];
+    let mut links = [0u16; 8192];
+    run(
+        d,
+        cells,
+        tables,
+        &mut built,
+        &mut heads,
+        &mut links,
+        levels,
+        &mut queue,
+        end,
+    )
 }

@@ -4,7 +4,6 @@ ghost use mathlib.Core.Bool.{false, cond};
 ghost use Prim.Native.Nat.{ℕ, _≤_, _<_};
 ghost use lib.Dec.{eqb};
 ghost use lib.ListN.{length};
-ghost use Rattle.finite.specs.Finite.{tab};
 ghost use Rattle.model.specs.Cell.{cellOf};
 ghost use Rattle.model.specs.Database.{has};
 ghost use Rattle.model.specs.Rounds.{start};
@@ -12,32 +11,37 @@ ghost use Rattle.model.specs.Runs.{marked, wanted};
 ghost use Rattle.state.specs.Design.{InRange, Backed};
 ghost use Rattle.state.specs.Held.{heldAt};
 ghost use Rattle.state.specs.Meaning.{columnOf, databaseOf, schemeOf, pairsOf};
+use crate::places::filling_at;
+use crate::places::held_at;
 use crate::raising::raise;
 use state::Column;
 use state::Design;
 use state::Held;
-use state::HeldValue;
+use state::row_has;
 
-// The level of a row with this mark: 1 if it is cached. Constant time.
-pub fn cached_level(mark: u8) -> u16
-    ensures { λ n. ⌜ n ≡ cond (eqb mark 1) 1 0 ⌝ }
+// Row r's level in round 0 of a load of v in column k, where it has this mark. Constant time.
+pub fn start_level(
+    rows: usize,
+    cells: &[u32],
+    tables: &[u8],
+    mark: u8,
+    k: Column,
+    v: u32,
+    r: usize,
+) -> u16
+    requires { ⌜ (r < 512) × (k .place < 8) × Backed (now cells) (now tables) ⌝ }
+    ensures { λ n. ⌜ n ≡ cond (eqb mark 1) 1 (cond (has (databaseOf rows (now (cells .entry)) (now (tables .entry))) (columnOf k) (cellOf v) r) 2 0) ⌝ }
 {
-    if mark == 1 { 1 } else { 0 }
-}
-
-// The levels of the cached rows before a load. One pass over the row numbers.
-pub fn cached_levels(marks: &[u8]) -> [u16; 512]
-    requires { ⌜ 512 ≤ length (now marks) ⌝ }
-    ensures { λ a. ⌜ a ≡ tab 512 (λ r. cond (marked (now (marks .entry)) r) 1 0) ⌝ }
-{
-    let mut levels = [0u16; 512];
-    for r in 0..512usize {
-        levels[r] = cached_level(marks[r]);
+    if mark == 1 {
+        return 1;
     }
-    levels
+    if row_has(rows, cells, tables, k, v, r) {
+        return 2;
+    }
+    0
 }
 
-// Round 0 of a load of one value: the rows that have v in column k, added to the marked rows. Two passes over the row numbers.
+// Round 0 of a load of one value: the rows that have v in column k, added to the marked rows. One pass over the row numbers.
 pub fn start_value(
     rows: usize,
     cells: &[u32],
@@ -50,23 +54,45 @@ pub fn start_value(
     ensures { λ a. ⌜ a ≡ start (databaseOf rows (now (cells .entry)) (now (tables .entry))) (marked (now (marks .entry)))
         (has (databaseOf rows (now (cells .entry)) (now (tables .entry))) (columnOf k) (cellOf v)) ⌝ }
 {
-    let mut levels = cached_levels(marks);
-    raise(rows, cells, tables, k, v, &mut levels, 2);
+    let mut levels = [0u16; 512];
+    for r in 0..Design::ROWS {
+        levels[r] = start_level(rows, cells, tables, marks[r], k, v, r);
+    }
     levels
 }
 
-// Round 0 of a load of all held values from nothing: the rows that have one of them in its filling's column.
-// One pass over the row numbers for each held value.
+// Round 0 of a load of all held values from nothing: the rows that have one of them in its filling's column. An index for each filling that has a
+// held value, and the walk of each held value's rows.
 pub fn start_held(d: Design, cells: &[u32], tables: &[u8], held: Held) -> [u16; 512]
     requires { ⌜ InRange d × Backed (now cells) (now tables) × (held .count ≤ 64) × ((i : ℕ) → heldAt held i .filling < 8) ⌝ }
     ensures { λ a. ⌜ a ≡ start (databaseOf (d .rows) (now (cells .entry)) (now (tables .entry))) (λ _. false)
         (wanted (schemeOf d) (databaseOf (d .rows) (now (cells .entry)) (now (tables .entry))) (pairsOf held)) ⌝ }
 {
     let mut levels = [0u16; 512];
+    let mut queue = [0u16; 512];
+    let mut built = [false; 16];
+    let mut heads = [0u16; 8192];
+    let mut links = [0u16; 8192];
+    let mut end: usize = 0;
     for i in 0..held.count {
-        let v = held.values[i];
-        let f = d.filling[v.filling as usize];
-        raise(d.rows, cells, tables, f.column, v.value, &mut levels, 2);
+        let v = held_at(held, i);
+        let at = v.filling as usize;
+        let f = filling_at(d, at);
+        end = raise(
+            d.rows,
+            cells,
+            tables,
+            f.column,
+            at,
+            v.value,
+            &mut built,
+            &mut heads,
+            &mut links,
+            &mut levels,
+            2,
+            &mut queue,
+            end,
+        );
     }
     levels
 }

@@ -45,7 +45,8 @@ fn is_demanded_by(
 // ends there.
 fn is_demanded(d: Design, cells: &[u32], tables: &[u8], marks: &[u8], k: Column, v: u32) -> bool
     requires { ⌜ InRange d × Backed (now cells) (now tables) × (512 ≤ length (now marks)) ⌝ }
-    ensures { λ b. ⌜ b ≡ Probe.demanded (schemeOf d) (databaseOf (d .rows) (now (cells .entry)) (now (tables .entry))) (marked (now (marks .entry))) (columnOf k) (cellOf v) ⌝ }
+    ensures { λ b. ⌜ b ≡ Probe.demanded (schemeOf d) (databaseOf (d .rows) (now (cells .entry)) (now (tables .entry)))
+        (marked (now (marks .entry))) (columnOf k) (cellOf v) ⌝ }
 {
     let n = d.constraints;
     for i in 0..n {
@@ -67,7 +68,8 @@ fn is_uniquely_seen(
     v: u32,
 ) -> bool
     requires { ⌜ (k .place < 8) × Backed (now cells) (now tables) × (512 ≤ length (now marks)) ⌝ }
-    ensures { λ b. ⌜ b ≡ Probe.uniquelySeen (schemeOf d) (databaseOf (d .rows) (now (cells .entry)) (now (tables .entry))) (marked (now (marks .entry))) (columnOf k) (cellOf v) ⌝ }
+    ensures { λ b. ⌜ b ≡ Probe.uniquelySeen (schemeOf d) (databaseOf (d .rows) (now (cells .entry)) (now (tables .entry)))
+        (marked (now (marks .entry))) (columnOf k) (cellOf v) ⌝ }
 {
     if !is_unique(d, k) {
         return false;

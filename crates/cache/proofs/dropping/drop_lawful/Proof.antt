@@ -9,17 +9,22 @@ use Rattle.cache.proofs.dropping.drop_lawful.Statement.{statement}
 use Rattle.cache.proofs.dropping.drop_lawful.Tie as tie
 
 returns : tie.Need-returns
-returns c = drop-5 _ (c .before .before .before .before .before .pre) (held-sized (c .before .before .before .before .before .args .held) _ (c .before .before .before .before .before .good .1 .1 .1 .1 .0)) _ _ (c .if1 .taken)
+returns c =
+    let s = c .before .before .before .before .before in
+    drop-5 _ (s .pre) (held-sized (s .args .held) _ (s .good .1 .1 .1 .1 .0)) _ _ (c .if1 .taken)
 
 returns-2 : tie.Need-returns-2
-returns-2 c = drop-9 _ (c .before .before .before .before .before .before .pre) (held-sized (c .before .before .before .before .before .before .args .held) _ (c .before .before .before .before .before .before .good .1 .1 .1 .1 .0)) _ _ (c .before .if1 .left) (c .if2 .taken)
+returns-2 c =
+    let s = c .before .before .before .before .before .before in
+    drop-9 _ (s .pre) (held-sized (s .args .held) _ (s .good .1 .1 .1 .1 .0)) _ _ (c .before .if1 .left) (c .if2 .taken)
 
 listed-requires : tie.Need-listed-requires
 listed-requires c κs = sound-tidy _ (c .before .before .before .before .before .before .pre) .few
 
 returns-3 : tie.Need-returns-3
 returns-3 c =
-    drop-10 _ (c .before .before .before .before .before .before .before .before .pre) (held-sized (c .before .before .before .before .before .before .before .before .args .held) _ (c .before .before .before .before .before .before .before .before .good .1 .1 .1 .1 .0)) _ _ (c .before .before .before .if1 .left) (c .before .before .if2 .left)
+    let s = c .before .before .before .before .before .before .before .before in
+    drop-10 _ (s .pre) (held-sized (s .args .held) _ (s .good .1 .1 .1 .1 .0)) _ _ (c .before .before .before .if1 .left) (c .before .before .if2 .left)
     (sym (c .before .listed .ensures) ∙ not-true _ (c .if3 .taken))
 
 removed-requires : tie.Need-removed-requires
@@ -27,13 +32,15 @@ removed-requires c κs = sound-tidy _ (c .before .before .before .before .before
 
 reload-requires : tie.Need-reload-requires
 reload-requires c κs =
-    let long = held-sized (c .before .before .before .before .before .before .before .before .before .before .args .held) _ (c .before .before .before .before .before .before .before .before .before .before .good .1 .1 .1 .1 .0) in
-    let is = sym (c .before .before .before .listed .ensures) ∙ not-false _ (c .before .before .if3 .left) in (
-      sound-range _ (c .before .before .before .before .before .before .before .before .before .before .pre) (sized (c .before .before .before .before .before .before .before .before .before .before .args .design) _ (c .before .before .before .before .before .before .before .before .before .before .good .0)),
-      sound-backed _ (c .before .before .before .before .before .before .before .before .before .before .pre),
-      sound-marks _ (c .before .before .before .before .before .before .before .before .before .before .pre),
-      left-count _ (c .before .before .before .before .before .before .before .before .before .before .pre) long _ _ (c .before .before .before .before .before .if1 .left) (c .before .before .before .before .if2 .left) is _ (c .before .removed .ensures),
-      left-filling _ (c .before .before .before .before .before .before .before .before .before .before .pre) long _ _ (c .before .before .before .before .before .if1 .left) (c .before .before .before .before .if2 .left) is _ (c .before .removed .ensures),
+    let p = c .before .before .before in
+    let s = p .before .before .before .before .before .before .before in
+    let long = held-sized (s .args .held) _ (s .good .1 .1 .1 .1 .0) in
+    let is = sym (p .listed .ensures) ∙ not-false _ (c .before .before .if3 .left) in (
+      sound-range _ (s .pre) (sized (s .args .design) _ (s .good .0)),
+      sound-backed _ (s .pre),
+      sound-marks _ (s .pre),
+      left-count _ (s .pre) long _ _ (p .before .before .if1 .left) (p .before .if2 .left) is _ (c .before .removed .ensures),
+      left-filling _ (s .pre) long _ _ (p .before .before .if1 .left) (p .before .if2 .left) is _ (c .before .removed .ensures),
     )
 
 same-length : tie.Need-same-length
@@ -41,8 +48,11 @@ same-length c = search needs
 
 returns-4 : tie.Need-returns-4
 returns-4 c =
-    drop-load _ (c .before .before .before .before .before .before .before .before .before .before .before .before .before .pre) (held-sized (c .before .before .before .before .before .before .before .before .before .before .before .before .before .args .held) _ (c .before .before .before .before .before .before .before .before .before .before .before .before .before .good .1 .1 .1 .1 .0)) _ _ (c .before .before .before .before .before .before .before .before .if1 .left) (c .before .before .before .before .before .before .before .if2 .left)
-    (sym (c .before .before .before .before .before .before .listed .ensures) ∙ not-false _ (c .before .before .before .before .before .if3 .left)) _ (c .before .before .before .before .removed .ensures) _ _ (c .before .before .reload .ensures)
+    let p = c .before .before .before .before .before .before in
+    let s = p .before .before .before .before .before .before .before in
+    drop-load _ (s .pre) (held-sized (s .args .held) _ (s .good .1 .1 .1 .1 .0)) _ _ (p .before .before .if1 .left) (p .before .if2 .left)
+    (sym (p .listed .ensures) ∙ not-false _ (c .before .before .before .before .before .if3 .left)) _
+    (c .before .before .before .before .removed .ensures) _ _ (c .before .before .reload .ensures)
 
 pub drop-lawful-spec : {M : Type 1} → statement M
 drop-lawful-spec =

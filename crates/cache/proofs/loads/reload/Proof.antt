@@ -18,8 +18,10 @@ same-length c = search needs
 
 returns : tie.Need-returns
 returns c = (
-  dropped-is (c .before .before .before .before .before .before .before .before .before .before .before .before .args .design) _ _ _ _ (c .before .before .before .before .before .before .before .before .reloaded .ensures) _ _ (c .before .before .before .before .before .rows-gone .ensures),
-  settled-is (c .before .before .before .before .before .before .before .before .before .before .before .before .args .design) _ _ _ _ (c .before .before .before .before .before .before .before .before .reloaded .ensures) _ _ (c .before .before .settle .ensures),
+  dropped-is (c .before .before .before .before .before .before .before .before .before .before .before .before .args .design) _ _ _ _
+      (c .before .before .before .before .before .before .before .before .reloaded .ensures) _ _ (c .before .before .before .before .before .rows-gone .ensures),
+  settled-is (c .before .before .before .before .before .before .before .before .before .before .before .before .args .design) _ _ _ _
+      (c .before .before .before .before .before .before .before .before .reloaded .ensures) _ _ (c .before .before .settle .ensures),
 )
 
 pub reload-spec : {M : Type 1} → statement M

@@ -19,18 +19,21 @@ returns c = stepped-short _ _ (sym (c .before .is-long-enough .ensures _ _) ∙ 
 
 is-lawful-requires : tie.Need-is-lawful-requires
 is-lawful-requires c κs =
-    long-asked _ (sym (c .before .before .is-long-enough .ensures (c .before .before .before .before .before .before .before .args .design) (c .before .before .before .before .before .before .before .args .held)) ∙ not-false _ (c .before .if1 .left))
+    let s = c .before .before .before .before .before .before .before in
+    long-asked _ (sym (c .before .before .is-long-enough .ensures (s .args .design) (s .args .held)) ∙ not-false _ (c .before .if1 .left))
 
 same-length-2 : tie.Need-same-length-2
 same-length-2 c = search needs
 
 returns-2 : tie.Need-returns-2
 returns-2 c =
-    stepped-unlawful _ _ (sym (c .before .before .before .before .is-long-enough .ensures _ _) ∙ not-false _ (c .before .before .before .if1 .left)) (sym (c .before .is-lawful .ensures) ∙ not-true _ (c .if2 .taken))
+    stepped-unlawful _ _ (sym (c .before .before .before .before .is-long-enough .ensures _ _) ∙ not-false _ (c .before .before .before .if1 .left))
+    (sym (c .before .is-lawful .ensures) ∙ not-true _ (c .if2 .taken))
 
 drop-held-requires : tie.Need-drop-held-requires
 drop-held-requires c κs =
-    both (sym (c .before .before .before .before .before .is-long-enough .ensures _ _) ∙ not-false _ (c .before .before .before .before .if1 .left)) (sym (c .before .before .is-lawful .ensures) ∙ not-false _ (c .before .if2 .left))
+    both (sym (c .before .before .before .before .before .is-long-enough .ensures _ _) ∙ not-false _ (c .before .before .before .before .if1 .left))
+    (sym (c .before .before .is-lawful .ensures) ∙ not-false _ (c .before .if2 .left))
 
 same-length-3 : tie.Need-same-length-3
 same-length-3 c = search needs

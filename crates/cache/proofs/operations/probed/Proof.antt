@@ -16,15 +16,18 @@ returns c = short-answer _ _ (sym (c .before .is-long-enough .ensures _ _) ∙ n
 
 is-lawful-requires : tie.Need-is-lawful-requires
 is-lawful-requires c κs =
-    long-asked _ (sym (c .before .is-long-enough .ensures (c .before .before .before .before .before .args .design) (c .before .before .before .before .before .args .held)) ∙ not-false _ (c .if1 .left))
+    let s = c .before .before .before .before .before in
+    long-asked _ (sym (c .before .is-long-enough .ensures (s .args .design) (s .args .held)) ∙ not-false _ (c .if1 .left))
 
 returns-2 : tie.Need-returns-2
 returns-2 c =
-    unlawful-answer _ _ (sym (c .before .before .before .is-long-enough .ensures _ _) ∙ not-false _ (c .before .before .if1 .left)) (sym (c .before .is-lawful .ensures) ∙ not-true _ (c .if2 .taken))
+    unlawful-answer _ _ (sym (c .before .before .before .is-long-enough .ensures _ _) ∙ not-false _ (c .before .before .if1 .left))
+    (sym (c .before .is-lawful .ensures) ∙ not-true _ (c .if2 .taken))
 
 probe-lawful-requires : tie.Need-probe-lawful-requires
 probe-lawful-requires c κs =
-    both (sym (c .before .before .before .is-long-enough .ensures _ _) ∙ not-false _ (c .before .before .if1 .left)) (sym (c .before .is-lawful .ensures) ∙ not-false _ (c .if2 .left))
+    both (sym (c .before .before .before .is-long-enough .ensures _ _) ∙ not-false _ (c .before .before .if1 .left))
+    (sym (c .before .is-lawful .ensures) ∙ not-false _ (c .if2 .left))
 
 returns-3 : tie.Need-returns-3
 returns-3 c = c .probe-lawful .ensures

@@ -15,25 +15,32 @@ returns : tie.Need-returns
 returns c = probe-5 _ (c .before .before .before .before .before .pre) _ _ (sym (c .before .is-column .ensures) ∙ not-true _ (c .if1 .taken))
 
 returns-2 : tie.Need-returns-2
-returns-2 c = probe-9 _ (c .before .before .before .before .before .before .pre) _ _ (sym (c .before .before .is-column .ensures) ∙ not-false _ (c .before .if1 .left)) (c .if2 .taken)
+returns-2 c =
+    probe-9 _ (c .before .before .before .before .before .before .pre) _ _ (sym (c .before .before .is-column .ensures) ∙
+    not-false _ (c .before .if1 .left)) (c .if2 .taken)
 
 ground-requires : tie.Need-ground-requires
-ground-requires c κs = (
-  sound-range _ (c .before .before .before .before .before .before .pre) (sized (c .before .before .before .before .before .before .args .design) _ (c .before .before .before .before .before .before .good .0)),
-  sound-backed _ (c .before .before .before .before .before .before .pre),
-  sound-marks _ (c .before .before .before .before .before .before .pre),
-  sound-tidy _ (c .before .before .before .before .before .before .pre) .few,
-  sound-column _ (c .before .before .before .before .before .before .pre) _ (sym (c .before .before .is-column .ensures) ∙ not-false _ (c .before .if1 .left)),
-  sound-filling _ (c .before .before .before .before .before .before .pre) (held-sized (c .before .before .before .before .before .before .args .held) _ (c .before .before .before .before .before .before .good .1 .1 .1 .1 .0)),
-)
+ground-requires c κs =
+    let s = c .before .before .before .before .before .before in (
+      sound-range _ (s .pre) (sized (s .args .design) _ (s .good .0)),
+      sound-backed _ (s .pre),
+      sound-marks _ (s .pre),
+      sound-tidy _ (s .pre) .few,
+      sound-column _ (s .pre) _ (sym (c .before .before .is-column .ensures) ∙ not-false _ (c .before .if1 .left)),
+      sound-filling _ (s .pre) (held-sized (s .args .held) _ (s .good .1 .1 .1 .1 .0)),
+    )
 
 returns-3 : tie.Need-returns-3
 returns-3 c =
-    probe-sent _ (c .before .before .before .before .before .before .before .before .pre) _ _ (sym (c .before .before .before .before .is-column .ensures) ∙ not-false _ (c .before .before .before .if1 .left)) (c .before .before .if2 .left) _ (c .before .ground .ensures) (c .if3 .taken)
+    let p = c .before .before .before .before in
+    probe-sent _ (p .before .before .before .before .pre) _ _ (sym (p .is-column .ensures) ∙
+    not-false _ (c .before .before .before .if1 .left)) (c .before .before .if2 .left) _ (c .before .ground .ensures) (c .if3 .taken)
 
 returns-4 : tie.Need-returns-4
 returns-4 c =
-    probe-ground _ (c .before .before .before .before .before .before .before .before .pre) _ _ (sym (c .before .before .before .before .is-column .ensures) ∙ not-false _ (c .before .before .before .if1 .left)) (c .before .before .if2 .left) _ (c .before .ground .ensures) (c .if3 .left)
+    let p = c .before .before .before .before in
+    probe-ground _ (p .before .before .before .before .pre) _ _ (sym (p .is-column .ensures) ∙
+    not-false _ (c .before .before .before .if1 .left)) (c .before .before .if2 .left) _ (c .before .ground .ensures) (c .if3 .left)
 
 pub probe-lawful-spec : {M : Type 1} → statement M
 probe-lawful-spec =

@@ -10,10 +10,14 @@ use Rattle.cache.proofs.referring.refer_lawful.Statement.{statement}
 use Rattle.cache.proofs.referring.refer_lawful.Tie as tie
 
 returns : tie.Need-returns
-returns c = refer-5 _ (c .before .before .before .before .pre) (held-sized (c .before .before .before .before .args .held) _ (c .before .before .before .before .good .1 .1 .1 .1 .0)) _ _ (c .if1 .taken)
+returns c =
+    let s = c .before .before .before .before in
+    refer-5 _ (s .pre) (held-sized (s .args .held) _ (s .good .1 .1 .1 .1 .0)) _ _ (c .if1 .taken)
 
 returns-2 : tie.Need-returns-2
-returns-2 c = refer-9 _ (c .before .before .before .before .before .pre) (held-sized (c .before .before .before .before .before .args .held) _ (c .before .before .before .before .before .good .1 .1 .1 .1 .0)) _ _ (c .before .if1 .left) (c .if2 .taken)
+returns-2 c =
+    let s = c .before .before .before .before .before in
+    refer-9 _ (s .pre) (held-sized (s .args .held) _ (s .good .1 .1 .1 .1 .0)) _ _ (c .before .if1 .left) (c .if2 .taken)
 
 mul-candidates : tie.Need-mul-candidates
 mul-candidates c = search needs
@@ -26,7 +30,9 @@ is-candidate-requires c κs = search needs
 
 returns-3 : tie.Need-returns-3
 returns-3 c =
-    refer-no-candidate _ (c .before .before .before .before .before .before .before .before .pre) (held-sized (c .before .before .before .before .before .before .before .before .args .held) _ (c .before .before .before .before .before .before .before .before .good .1 .1 .1 .1 .0)) _ _ (c .before .before .before .before .if1 .left) (c .before .before .before .if2 .left)
+    let s = c .before .before .before .before .before .before .before .before in
+    refer-no-candidate _ (s .pre) (held-sized (s .args .held) _ (s .good .1 .1 .1 .1 .0)) _ _ (c .before .before .before .before .if1 .left)
+    (c .before .before .before .if2 .left)
     (sym (c .before .is-candidate .ensures) ∙ not-true _ (c .if3 .taken))
 
 listed-requires : tie.Need-listed-requires
@@ -34,29 +40,43 @@ listed-requires c κs = sound-tidy _ (c .before .before .before .before .before 
 
 returns-4 : tie.Need-returns-4
 returns-4 c =
-    refer-already _ (c .before .before .before .before .before .before .before .before .before .before .pre) (held-sized (c .before .before .before .before .before .before .before .before .before .before .args .held) _ (c .before .before .before .before .before .before .before .before .before .before .good .1 .1 .1 .1 .0)) _ _ (c .before .before .before .before .before .before .if1 .left) (c .before .before .before .before .before .if2 .left)
-    (sym (c .before .before .before .is-candidate .ensures) ∙ not-false _ (c .before .before .if3 .left)) (sym (c .before .listed .ensures) ∙ c .if4 .taken)
+    let p = c .before .before .before in
+    let s = p .before .before .before .before .before .before .before in
+    refer-already _ (s .pre) (held-sized (s .args .held) _ (s .good .1 .1 .1 .1 .0)) _ _ (p .before .before .before .if1 .left) (p .before .before .if2 .left)
+    (sym (p .is-candidate .ensures) ∙ not-false _ (c .before .before .if3 .left)) (sym (c .before .listed .ensures) ∙ c .if4 .taken)
 
 returns-5 : tie.Need-returns-5
 returns-5 c =
-    refer-8 _ (c .before .before .before .before .before .before .before .before .before .before .before .before .pre) (held-sized (c .before .before .before .before .before .before .before .before .before .before .before .before .args .held) _ (c .before .before .before .before .before .before .before .before .before .before .before .before .good .1 .1 .1 .1 .0)) _ _ (c .before .before .before .before .before .before .before .before .if1 .left) (c .before .before .before .before .before .before .before .if2 .left)
-    (sym (c .before .before .before .before .before .is-candidate .ensures) ∙ not-false _ (c .before .before .before .before .if3 .left)) (sym (c .before .before .before .listed .ensures) ∙ c .before .before .if4 .left) (c .if5 .taken)
+    let p = c .before .before .before .before .before in
+    let s = p .before .before .before .before .before .before .before in
+    refer-8 _ (s .pre) (held-sized (s .args .held) _ (s .good .1 .1 .1 .1 .0)) _ _ (p .before .before .before .if1 .left) (p .before .before .if2 .left)
+    (sym (p .is-candidate .ensures) ∙ not-false _ (c .before .before .before .before .if3 .left)) (sym (c .before .before .before .listed .ensures) ∙
+    c .before .before .if4 .left) (c .if5 .taken)
 
 load-value-requires : tie.Need-load-value-requires
 load-value-requires c κs =
-    let range = sound-range _ (c .before .before .before .before .before .before .before .before .before .before .before .before .before .before .pre) (sized (c .before .before .before .before .before .before .before .before .before .before .before .before .before .before .args .t1) _ (c .before .before .before .before .before .before .before .before .before .before .before .before .before .before .good .0)) in
-    (range, sound-backed _ (c .before .before .before .before .before .before .before .before .before .before .before .before .before .before .pre), sound-marks _ (c .before .before .before .before .before .before .before .before .before .before .before .before .before .before .pre), range .column _)
+    let s = c .before .before .before .before .before .before .before .before .before .before .before .before .before .before in
+    let range = sound-range _ (s .pre) (sized (s .args .t1) _ (s .good .0)) in
+    (range, sound-backed _ (s .pre), sound-marks _ (s .pre), range .column _)
 
 appended-requires : tie.Need-appended-requires
-appended-requires c κs = (sound-tidy _ (c .before .before .before .before .before .before .before .before .before .before .before .before .before .before .before .before .before .pre), c .before .before .before .before .before .if5 .left)
+appended-requires c κs = (
+  sound-tidy _ (c .before .before .before .before .before .before .before .before .before .before .before .before .before .before
+      .before .before .before .pre),
+  c .before .before .before .before .before .if5 .left,
+)
 
 same-length : tie.Need-same-length
 same-length c = search needs
 
 returns-6 : tie.Need-returns-6
 returns-6 c =
-    refer-load _ (c .before .before .before .before .before .before .before .before .before .before .before .before .before .before .before .before .before .before .pre) (held-sized (c .before .before .before .before .before .before .before .before .before .before .before .before .before .before .before .before .before .before .args .held) _ (c .before .before .before .before .before .before .before .before .before .before .before .before .before .before .before .before .before .before .good .1 .1 .1 .1 .0)) _ _ (c .before .before .before .before .before .before .before .before .before .before .before .before .before .before .if1 .left) (c .before .before .before .before .before .before .before .before .before .before .before .before .before .if2 .left)
-    (sym (c .before .before .before .before .before .before .before .before .before .before .before .is-candidate .ensures) ∙ not-false _ (c .before .before .before .before .before .before .before .before .before .before .if3 .left)) (sym (c .before .before .before .before .before .before .before .before .before .listed .ensures) ∙ c .before .before .before .before .before .before .before .before .if4 .left) (c .before .before .before .before .before .before .if5 .left) _ _ _
+    let l = c .before .before .before .before .before .before .before .before .before in
+    let p = l .before .before in
+    let s = p .before .before .before .before .before .before .before in
+    refer-load _ (s .pre) (held-sized (s .args .held) _ (s .good .1 .1 .1 .1 .0)) _ _ (p .before .before .before .if1 .left) (p .before .before .if2 .left)
+    (sym (p .is-candidate .ensures) ∙ not-false _ (l .before .if3 .left)) (sym (l .listed .ensures) ∙
+    c .before .before .before .before .before .before .before .before .if4 .left) (c .before .before .before .before .before .before .if5 .left) _ _ _
     (c .before .before .before .load-value .ensures) (c .appended .ensures)
 
 pub refer-lawful-spec : {M : Type 1} → statement M

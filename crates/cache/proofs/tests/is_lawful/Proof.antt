@@ -24,7 +24,8 @@ lawful-rows-requires c κs = search needs
 returns-2 : tie.Need-returns-2
 unfolding lawful
 returns-2 c =
-    and-go _ _ (sym (c .before .before .before .lawful-design .ensures) ∙ not-false _ (c .before .before .if1 .left)) (and-stop _ _ (sym (c .before .lawful-rows .ensures) ∙ not-true _ (c .if2 .taken)))
+    and-go _ _ (sym (c .before .before .before .lawful-design .ensures) ∙ not-false _ (c .before .before .if1 .left))
+    (and-stop _ _ (sym (c .before .lawful-rows .ensures) ∙ not-true _ (c .if2 .taken)))
 
 lawful-held-requires : tie.Need-lawful-held-requires
 lawful-held-requires c κs = search needs
@@ -33,13 +34,20 @@ returns-3 : tie.Need-returns-3
 unfolding lawful
 returns-3 c =
     and-go _ _ (sym (c .before .before .before .before .before .lawful-design .ensures) ∙ not-false _ (c .before .before .before .before .if1 .left))
-    (and-go _ _ (sym (c .before .before .before .lawful-rows .ensures) ∙ not-false _ (c .before .before .if2 .left)) (and-stop _ _ (sym (c .before .lawful-held .ensures) ∙ not-true _ (c .if3 .taken))))
+    (and-go _ _ (sym (c .before .before .before .lawful-rows .ensures) ∙ not-false _ (c .before .before .if2 .left))
+    (and-stop _ _ (sym (c .before .lawful-held .ensures) ∙ not-true _ (c .if3 .taken))))
 
 reloaded-requires : tie.Need-reloaded-requires
 reloaded-requires c κs =
-    let d = sym (c .before .before .before .before .before .lawful-design .ensures) ∙ not-false _ (c .before .before .before .before .if1 .left) in
-    let h = sym (c .before .lawful-held .ensures) ∙ not-false _ (c .if3 .left) in
-    (in-range (c .before .before .before .before .before .before .before .before .before .args .design) (sized (c .before .before .before .before .before .before .before .before .before .args .design) _ (c .before .before .before .before .before .before .before .before .before .good .0)) d, c .before .before .before .before .before .before .before .before .before .pre .0, held-count (c .before .before .before .before .before .before .before .before .before .args .design) (c .before .before .before .before .before .before .before .before .before .args .held) h, held-filling (c .before .before .before .before .before .before .before .before .before .args .design) (c .before .before .before .before .before .before .before .before .before .args .held) d h (held-sized (c .before .before .before .before .before .before .before .before .before .args .held) _ (c .before .before .before .before .before .before .before .before .before .good .1 .1 .1 .1 .0)))
+    let p = c .before .before .before .before .before in
+    let s = p .before .before .before .before in
+    let d = sym (p .lawful-design .ensures) ∙ not-false _ (c .before .before .before .before .if1 .left) in
+    let h = sym (c .before .lawful-held .ensures) ∙ not-false _ (c .if3 .left) in (
+      in-range (s .args .design) (sized (s .args .design) _ (s .good .0)) d,
+      s .pre .0,
+      held-count (s .args .design) (s .args .held) h,
+      held-filling (s .args .design) (s .args .held) d h (held-sized (s .args .held) _ (s .good .1 .1 .1 .1 .0)),
+    )
 
 marks-agree-requires : tie.Need-marks-agree-requires
 marks-agree-requires c κs = search needs
@@ -47,8 +55,10 @@ marks-agree-requires c κs = search needs
 returns-4 : tie.Need-returns-4
 unfolding lawful
 returns-4 c =
-    and-go _ _ (sym (c .before .before .before .before .before .before .before .before .lawful-design .ensures) ∙ not-false _ (c .before .before .before .before .before .before .before .if1 .left))
-    (and-go _ _ (sym (c .before .before .before .before .before .before .lawful-rows .ensures) ∙ not-false _ (c .before .before .before .before .before .if2 .left))
+    and-go _ _ (sym (c .before .before .before .before .before .before .before .before .lawful-design .ensures) ∙
+    not-false _ (c .before .before .before .before .before .before .before .if1 .left))
+    (and-go _ _ (sym (c .before .before .before .before .before .before .lawful-rows .ensures) ∙
+    not-false _ (c .before .before .before .before .before .if2 .left))
     (and-go _ _ (sym (c .before .before .before .before .lawful-held .ensures) ∙ not-false _ (c .before .before .before .if3 .left))
     (c .marks-agree .ensures ∙ agree-is _ _ _ _ _ _ (c .before .before .reloaded .ensures))))
 

@@ -34,7 +34,9 @@ is-pair-requires c κs = search needs
 
 returns : tie.Need-returns Inv-loop μ-loop
 unfolding pairsOf
-returns c = place-found _ _ _ _ (c .before .before .before .loop-test .taken) (any-none _ _ (c .before .before .before .before .loop .inv .1)) (sym (c .before .is-pair .ensures) ∙ c .if1 .taken)
+returns c =
+    place-found _ _ _ _ (c .before .before .before .loop-test .taken) (any-none _ _ (c .before .before .before .before .loop .inv .1)) (sym
+    (c .before .is-pair .ensures) ∙ c .if1 .taken)
 
 add-i : tie.Need-add-i Inv-loop μ-loop
 add-i c = omega arith

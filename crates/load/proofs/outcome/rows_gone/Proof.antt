@@ -45,8 +45,10 @@ loop-less c = omega arith
 loop-again : tie.Need-loop-again Inv-loop μ-loop
 unfolding marked reached
 loop-again c =
-    ⊎-elim (λ w. (omega arith, omega (arith, w .1), w .1 ∙ count-hit _ _ _ (c .before .before .before .before .before .loop .inv .2) (sym (c .before .is-gone .ensures) ∙ w .0 .taken)))
-    (λ w. (omega arith, omega (arith, w .1), w .1 ∙ count-miss _ _ _ (c .before .before .before .before .before .loop .inv .2) (sym (c .before .is-gone .ensures) ∙ w .0 .left)))
+    let e = c .before .before .before .before .before .loop .inv .2 in
+    let b = sym (c .before .is-gone .ensures) in
+    ⊎-elim (λ w. (omega arith, omega (arith, w .1), w .1 ∙ count-hit _ _ _ e (b ∙ w .0 .taken)))
+    (λ w. (omega arith, omega (arith, w .1), w .1 ∙ count-miss _ _ _ e (b ∙ w .0 .left)))
     (c .if1 .came)
 
 returns : tie.Need-returns Inv-loop μ-loop

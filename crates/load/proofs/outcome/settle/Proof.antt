@@ -47,7 +47,9 @@ same-length : tie.Need-same-length Inv-loop μ-loop
 same-length c = omega arith
 
 returns : tie.Need-returns Inv-loop μ-loop
-returns c = upto-stored 0 _ _ _ (c .before .before .before .args .marks .now) _ (c .before .loop .inv .1) (c .before .loop .inv .0) (c .loop-test .left) (c .before .before .before .pre .0)
+returns c =
+    let i = c .before .loop .inv in
+    upto-stored 0 _ _ _ (c .before .before .before .args .marks .now) _ (i .1) (i .0) (c .loop-test .left) (c .before .before .before .pre .0)
 
 pub settle-spec : {M : Type 1} → statement M
 settle-spec =

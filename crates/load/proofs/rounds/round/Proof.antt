@@ -1,58 +1,100 @@
--- `load::rounds::round` meets its contract: a loop of steps to one level, by the rows of the level before. Assumes nothing.
+-- `load::rounds::round` meets its contract: a loop of steps to one level, by the rows in the queue's front. Assumes nothing.
 use Prim.Native.Nat.{_+_, _-_, _≤_}
 use native.Mathlib.Omega.{arith}
-use mathlib.Core.Logic.{⊎-elim}
-use mathlib.Core.Path.{_∙_, subst, sym}
-use borrow.Author.Needs.{needs}
+use Rattle.finite.specs.Finite.{any}
+use Rattle.model.proofs.QueryLaws.{target}
 use Rattle.model.specs.Rounds.{demands, levels}
 use Rattle.model.specs.Runs.{taken}
+use Rattle.state.specs.Design.{constraintAt}
 use Rattle.state.specs.Meaning.{databaseOf, schemeOf}
-use Rattle.load.proofs.RaisedLaws.{Raising, asks, raising-end, raising-start, round-end, round-hit, round-miss}
+use Rattle.load.specs.Built.{Built}
+use Rattle.load.specs.Queue.{Grown}
+use Rattle.load.proofs.FrontLaws.{asks, asks-here, asks-none, front-next, front-round}
+use Rattle.load.proofs.QueueLaws.{grown-end, grown-start, grown-turn, listed-most}
 use Rattle.load.proofs.rounds.round.Statement.{statement}
 use Rattle.load.proofs.rounds.round.Tie as tie
 
 abbrev Inv-loop : tie.InvT-loop
-Inv-loop d cells tables levels₀ n s₀ levels s =
-    (s ≤ 512) × Raising (n + 3) (asks (demands (schemeOf d) (databaseOf (d .rows) cells tables)) levels₀ (n + 2)) levels₀ s levels
+Inv-loop d cells tables built₀ heads₀ links₀ levels₀ n queue₀ from end e₀ i₀ built heads links levels queue e i =
+    (from ≤ i) ×
+    (i ≤ end) ×
+    Grown (n + 3) (λ r. any i (λ j. asks (demands (schemeOf d) (databaseOf (d .rows) cells tables)) from queue₀ j r)) levels₀ queue₀ end levels queue e ×
+    Built (d .rows) cells tables (λ j. constraintAt d j .target) built heads links
 
 abbrev μ-loop : tie.MeasureT-loop
-μ-loop d cells tables levels₀ n s₀ levels s = 512 - s
+μ-loop d cells tables built₀ heads₀ links₀ levels₀ n queue₀ from end e₀ i₀ built heads links levels queue e i = end - i
 
 loop-holds : tie.Need-loop-holds Inv-loop μ-loop
-loop-holds c = (omega arith, raising-start _ _ _ (omega arith))
+loop-holds c =
+    let p = c .before .before .before .before .pre in
+    (omega arith, p .1 .1 .1 .order, grown-start _ _ _ _ _ _ (p .0 .3) (p .1 .1 .0) (λ r l. asks-none _ _ _ r), p .1 .0)
 
-mul-if1 : tie.Need-mul-if1 Inv-loop μ-loop
-mul-if1 c = search needs
+mul-expand : tie.Need-mul-expand Inv-loop μ-loop
+mul-expand c = omega (arith, listed-most _ _ _ (c .before .before .before .before .before .before .pre .1 .1 .0), c .loop-test .taken)
 
-element-copy-out-if1 : tie.Need-element-copy-out-if1 Inv-loop μ-loop
-element-copy-out-if1 c = search needs
+element-copy-out-expand : tie.Need-element-copy-out-expand Inv-loop μ-loop
+element-copy-out-expand c = omega (arith, listed-most _ _ _ (c .before .before .before .before .before .before .pre .1 .1 .0), c .loop-test .taken)
 
-add-if1 : tie.Need-add-if1 Inv-loop μ-loop
-add-if1 c = omega arith
+cast-expand : tie.Need-cast-expand Inv-loop μ-loop
+cast-expand c =
+    let g = c .before .before .loop .inv .2 in
+    omega (arith, g .queue .row (c .before .before .loop .i) (omega (arith, c .before .loop-test .taken, g .longer)))
 
 add-expand : tie.Need-add-expand Inv-loop μ-loop
-add-expand c = omega arith
+add-expand c =
+    let c8 = c .before .before .before .before .before .before .before .before in
+    omega (arith, c8 .before .before .before .pre .0 .2)
 
 expand-requires : tie.Need-expand-requires Inv-loop μ-loop
-expand-requires c κs = (c .before .before .before .before .before .before .before .pre .0, c .before .before .before .before .before .before .before .pre .1, omega arith, omega arith, omega arith)
+expand-requires c κs =
+    let c8 = c .before .before .before .before .before .before .before .before in
+    let p = c8 .before .before .before .before .pre in
+    let g = c .before .before .before .before .before .before .before .loop .inv .2 in
+    let t = c .before .before .before .before .before .before .loop-test .taken in
+    let s = g .queue .row (c .before .before .before .before .before .before .before .loop .i) (omega (arith, t, g .longer)) in (
+      (p .0 .0, p .0 .1, s, omega arith, g .long),
+      (c .before .before .before .before .before .before .before .loop .inv .3, g .queue),
+    )
 
-add-s : tie.Need-add-s Inv-loop μ-loop
-add-s c = omega arith
+add-i : tie.Need-add-i Inv-loop μ-loop
+add-i c =
+    let c8 = c .before .before .before .before .before .before .before .before in
+    let c16 = c8 .before .before .before .before .before .before .before .before in
+    omega (arith, listed-most _ _ _ (c16 .before .pre .1 .1 .0), c8 .before .before .before .loop-test .taken)
 
 loop-less : tie.Need-loop-less Inv-loop μ-loop
-loop-less c = omega arith
+loop-less c =
+    let c8 = c .before .before .before .before .before .before .before .before in
+    omega (arith, c8 .before .before .before .loop-test .taken)
 
 loop-again : tie.Need-loop-again Inv-loop μ-loop
-loop-again c = (
-  omega arith,
-  ⊎-elim
-      (λ w. round-hit _ _ _ _ _ _ (c .before .before .before .loop .inv .1) (c .before .before .loop-test .taken) (omega arith) (omega arith) _ (w .0 .taken) (w .3 ∙ w .2 .ensures))
-      (λ w. subst (Raising _ _ _ _) (sym (w .1)) (round-miss _ _ _ _ _ _ (c .before .before .before .loop .inv .1) (c .before .before .loop-test .taken) (omega arith) (omega arith) (w .0 .left)))
-      (c .if1 .came),
-)
+loop-again c =
+    let c8 = c .before .before .before .before .before .before .before .before in
+    let c16 = c8 .before .before .before .before .before .before .before .before in
+    let h = c8 .before .before .before .before .loop in
+    let g = h .inv .2 in
+    let t = c8 .before .before .before .loop-test .taken in (
+      omega (arith, h .inv .0),
+      omega (arith, t),
+      grown-turn _ _ _ _ _ _ _ _ _ _ _ _ _ (omega arith) g (c .before .before .before .before .expand .ensures .0)
+          (λ r l. asks-here _ _ (c16 .before .args .queue .now) (h .queue) _ (h .inv .0) (g .kept _ t) r),
+      c .before .before .before .before .expand .ensures .1,
+    )
+
+same-length : tie.Need-same-length Inv-loop μ-loop
+same-length c = omega (arith, c .before .loop .inv .3 .heads-long, c .before .before .before .before .before .before .pre .1 .0 .heads-long)
+
+same-length-2 : tie.Need-same-length-2 Inv-loop μ-loop
+same-length-2 c = omega (arith, c .before .loop .inv .3 .links-long, c .before .before .before .before .before .before .pre .1 .0 .links-long)
 
 returns : tie.Need-returns Inv-loop μ-loop
-returns c = round-end _ _ _ _ _ _ _ (raising-end _ _ _ _ _ (c .before .loop .inv .1) _ (c .before .loop .inv .0) (c .loop-test .left))
+returns c =
+    let u = c .before .before .before .before .before .before .pre .1 .1 .0 in
+    let w = c .before .before .before .before .before .before .pre .1 .1 .1 in
+    let g = grown-end _ _ _ _ _ _ _ _ _ _ (c .before .loop .inv .1) (c .loop-test .left) (c .before .loop .inv .2) in (
+      front-round _ _ _ _ _ _ _ _ _ u w _ (g .levels),
+      ((g .queue, front-next _ _ _ _ _ u w _ (omega arith) _ _ _ _ g), c .before .loop .inv .3),
+    )
 
 pub round-spec : {M : Type 1} → statement M
 round-spec =
@@ -61,12 +103,14 @@ round-spec =
     Inv-loop
     μ-loop
     loop-holds
-    mul-if1
-    element-copy-out-if1
-    add-if1
+    mul-expand
+    element-copy-out-expand
+    cast-expand
     add-expand
     expand-requires
-    add-s
+    add-i
     loop-less
     loop-again
+    same-length
+    same-length-2
     returns)

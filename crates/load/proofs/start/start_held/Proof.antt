@@ -1,61 +1,104 @@
 -- `load::start::start_held` meets its contract: a loop of steps to level 2. Assumes nothing.
 use Prim.Native.Nat.{_-_, _≤_, ℕ}
 use native.Mathlib.Omega.{arith}
-use borrow.Author.Needs.{needs}
+use mathlib.Core.Path.{ap, sym}
 use lib.ListN.{length-replicate}
-use Rattle.finite.specs.Finite.{count}
+use Rattle.finite.proofs.Search.{any-start}
+use Rattle.finite.specs.Finite.{any, count}
 use Rattle.model.specs.Cell.{cellOf}
 use Rattle.model.specs.Database.{has}
 use Rattle.model.specs.Rounds.{levels}
+use Rattle.model.specs.Runs.{taken}
 use Rattle.state.specs.Design.{fillingAt}
 use Rattle.state.specs.Held.{heldAt}
 use Rattle.state.specs.Meaning.{columnOf, databaseOf, schemeOf}
-use Rattle.load.proofs.RaisedLaws.{Raising, raising-end, raising-more, raising-start}
-use Rattle.load.proofs.StartLaws.{start-all}
+use Rattle.state.specs.declared.design.Filling.{Filling}
+use Rattle.load.specs.Built.{Built}
+use Rattle.load.specs.Queue.{Grown}
+use Rattle.load.proofs.BuiltLaws.{built-none, built-standing}
+use Rattle.load.proofs.PlaceLaws.{column-place, filling-below, held-has}
+use Rattle.load.proofs.QueueLaws.{grown-end, grown-start, grown-turn}
+use Rattle.load.proofs.StartLaws.{none-added, start-all}
 use Rattle.load.proofs.start.start_held.Statement.{statement}
 use Rattle.load.proofs.start.start_held.Tie as tie
 
 abbrev Inv-loop : tie.InvT-loop
-Inv-loop cells tables d held levels₀ i₀ i-end levels i =
+Inv-loop d cells tables held levels₀ queue₀ built₀ heads₀ links₀ end₀ i₀ i-end levels queue built heads links end i =
     (i ≤ held .count) ×
-    Raising 2 (λ j. has (databaseOf (d .rows) cells tables) (columnOf (fillingAt d (heldAt held j .filling) .column)) (cellOf (heldAt held j .value))) levels₀ i levels
+    Grown 2
+    (λ r. any i (λ j. has (databaseOf (d .rows) cells tables) (columnOf (fillingAt d (heldAt held j .filling) .column)) (cellOf (heldAt held j .value)) r))
+    levels₀ queue₀ end₀ levels queue end ×
+    Built (d .rows) cells tables (λ f. fillingAt d f .column) built heads links
 
 abbrev μ-loop : tie.MeasureT-loop
-μ-loop cells tables d held levels₀ i₀ i-end levels i = held .count - i
+μ-loop d cells tables held levels₀ queue₀ built₀ heads₀ links₀ end₀ i₀ i-end levels queue built heads links end i = held .count - i
 
 loop-holds : tie.Need-loop-holds Inv-loop μ-loop
-loop-holds c = (omega arith, raising-start _ _ _ (length-replicate {A = ℕ} 512 0))
+loop-holds c = (
+  omega arith,
+  grown-start _ _ _ _ _ 0 (length-replicate {A = ℕ} 512 0) (none-added _ (length-replicate {A = ℕ} 512 0)) (λ r l. any-start _),
+  built-none _ _ _ _ _ _ (length-replicate {A = ℕ} 8192 0) (length-replicate {A = ℕ} 8192 0),
+)
 
-mul-v : tie.Need-mul-v Inv-loop μ-loop
-mul-v c = search needs
+held-at-requires : tie.Need-held-at-requires Inv-loop μ-loop
+held-at-requires c κs = omega (arith, c .before .before .before .before .pre .2, c .loop-test .taken)
 
-element-copy-out-v : tie.Need-element-copy-out-v Inv-loop μ-loop
-element-copy-out-v c = search needs
+cast-at : tie.Need-cast-at Inv-loop μ-loop
+cast-at c =
+    let s = c .before .before .before .before .before .before in
+    omega (arith, filling-below (s .args .held) (c .before .before .before .loop .i) _ (s .pre .3) (c .before .held-at .ensures))
 
-cast-f : tie.Need-cast-f Inv-loop μ-loop
-cast-f c = omega (arith, c .before .before .before .before .before .before .pre .3 (c .before .before .before .loop .i))
+filling-at-requires : tie.Need-filling-at-requires Inv-loop μ-loop
+filling-at-requires c κs =
+    let s = c .before .before .before .before .before .before in
+    filling-below (s .args .held) (c .before .before .before .loop .i) _ (s .pre .3) (c .before .held-at .ensures)
 
-mul-f : tie.Need-mul-f Inv-loop μ-loop
-mul-f c = omega (arith, c .before .before .before .before .before .before .pre .3 (c .before .before .before .loop .i))
+slice-aggregate-raise : tie.Need-slice-aggregate-raise Inv-loop μ-loop
+slice-aggregate-raise c = sym (c .before .before .before .before .before .before .loop .inv .2 .heads-long)
 
-element-copy-out-f : tie.Need-element-copy-out-f Inv-loop μ-loop
-element-copy-out-f c = c .before .before .before .before .before .before .pre .3 _
+slice-aggregate-raise-2 : tie.Need-slice-aggregate-raise-2 Inv-loop μ-loop
+slice-aggregate-raise-2 c = sym (c .before .before .before .before .before .before .before .loop .inv .2 .links-long)
 
 raise-requires : tie.Need-raise-requires Inv-loop μ-loop
-raise-requires c κs = (omega arith, c .before .before .before .before .before .before .before .before .pre .0 .column _, c .before .before .before .before .before .before .before .before .pre .1)
+raise-requires c κs =
+    let c8 = c .before .before .before .before .before .before .before .before in
+    let p = c8 .before .before .before .before .pre in
+    let v = c8 .before .loop .inv in
+    let x = c .before .before .before .before .before .before .before .held-at .ensures in
+    let b = filling-below (c8 .before .before .before .before .args .held) (c8 .before .loop .i) _ (p .3) x in
+    let e = c .before .before .before .before .before .filling-at .ensures in (
+      (p .1, p .0 .rows, column-place _ _ (p .0) _ e, omega (arith, b)),
+      (built-standing _ _ _ _ _ _ _ _ _ (ap (λ (f : Filling). f .column) (sym e)) (v .2), (omega arith, v .1 .long, v .1 .queue)),
+    )
 
 add-i : tie.Need-add-i Inv-loop μ-loop
-add-i c = omega arith
+add-i c =
+    let c8 = c .before .before .before .before .before .before .before .before in
+    omega (arith, c8 .before .before .before .before .before .before .before .pre .2, c8 .before .before .before .loop-test .taken)
 
 loop-less : tie.Need-loop-less Inv-loop μ-loop
-loop-less c = omega arith
+loop-less c =
+    let c8 = c .before .before .before .before .before .before .before .before in
+    omega (arith, c8 .before .before .before .loop-test .taken)
 
 loop-again : tie.Need-loop-again Inv-loop μ-loop
-loop-again c = (omega arith, raising-more _ _ _ _ _ (c .before .before .before .before .before .before .loop .inv .1) _ (omega arith) (c .raise .ensures))
+loop-again c =
+    let c8 = c .before .before .before .before .before .before .before .before in
+    let a = c8 .before .before .before .before .before .before .before .args in
+    let v = c8 .before .before .before .before .loop .inv in
+    let t = c8 .before .before .before .loop-test .taken in
+    let h = c8 .before .before .held-at .ensures in
+    let e = c8 .filling-at .ensures in
+    let u = c .before .before .raise .ensures in (
+      omega (arith, t),
+      grown-turn _ _ _ _ _ _ _ _ _ _ _ _ _ (omega arith) (v .1) (u .0) (λ r l. held-has _ (a .d) (a .held) (c8 .before .before .before .before .loop .i) _ _ h e r),
+      u .1 .still _ (ap (λ (f : Filling). f .column) (sym e)) (v .2),
+    )
 
 returns : tie.Need-returns Inv-loop μ-loop
 unfolding schemeOf
-returns c = start-all _ _ _ _ _ _ (raising-end _ _ _ _ _ (c .before .loop .inv .1) _ (c .before .loop .inv .0) (c .loop-test .left))
+returns c =
+    start-all _ _ _ _ _ _ (grown-end _ _ _ _ _ _ _ _ _ _ (c .before .loop .inv .0) (c .loop-test .left) (c .before .loop .inv .1) .levels)
 
 pub start-held-spec : {M : Type 1} → statement M
 start-held-spec =
@@ -64,11 +107,11 @@ start-held-spec =
     Inv-loop
     μ-loop
     loop-holds
-    mul-v
-    element-copy-out-v
-    cast-f
-    mul-f
-    element-copy-out-f
+    held-at-requires
+    cast-at
+    filling-at-requires
+    slice-aggregate-raise
+    slice-aggregate-raise-2
     raise-requires
     add-i
     loop-less

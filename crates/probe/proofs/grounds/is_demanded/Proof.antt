@@ -40,7 +40,9 @@ element-copy-out-c : tie.Need-element-copy-out-c Inv-loop μ-loop
 element-copy-out-c c = search needs
 
 is-demanded-by-requires : tie.Need-is-demanded-by-requires Inv-loop μ-loop
-is-demanded-by-requires c κs = (c .before .before .before .before .before .before .pre .0 .source (c .before .before .loop .i), c .before .before .before .before .before .before .pre .1, c .before .before .before .before .before .before .pre .2)
+is-demanded-by-requires c κs =
+    let s = c .before .before .before .before .before .before in
+    (s .pre .0 .source (c .before .before .loop .i), s .pre .1, s .pre .2)
 
 returns : tie.Need-returns Inv-loop μ-loop
 unfolding demanded schemeOf

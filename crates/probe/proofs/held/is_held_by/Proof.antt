@@ -29,7 +29,9 @@ returns-2 c = one-blank _ _ _ _ (sym (c .before .before .before .same-column .en
 
 returns-3 : tie.Need-returns-3
 unfolding schemeOf
-returns-3 c = one-value _ _ _ _ (sym (c .before .before .before .before .same-column .ensures) ∙ not-false _ (c .before .before .before .if1 .left)) (c .before .if2 .left)
+returns-3 c =
+    one-value _ _ _ _ (sym (c .before .before .before .before .same-column .ensures) ∙ not-false _ (c .before .before .before .if1 .left))
+    (c .before .if2 .left)
 
 pub is-held-by-spec : {M : Type 1} → statement M
 is-held-by-spec =

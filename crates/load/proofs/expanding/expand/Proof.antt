@@ -1,0 +1,108 @@
+-- `load::expanding::expand` meets its contract: a loop of steps to one level. Assumes nothing.
+use Prim.Native.Nat.{_-_, _≤_}
+use native.Mathlib.Omega.{arith}
+use mathlib.Core.Path.{ap, sym}
+use Rattle.finite.proofs.Search.{any-start}
+use Rattle.finite.specs.Finite.{any}
+use Rattle.model.proofs.QueryLaws.{target}
+use Rattle.model.specs.Rounds.{demands, leads, levels}
+use Rattle.model.specs.Runs.{taken}
+use Rattle.state.specs.Design.{constraintAt}
+use Rattle.state.specs.Meaning.{constraintOf, databaseOf, schemeOf}
+use Rattle.state.specs.declared.design.Constraint.{Constraint}
+use Rattle.load.specs.Built.{Built}
+use Rattle.load.specs.Queue.{Grown}
+use Rattle.load.proofs.BuiltLaws.{built-standing}
+use Rattle.load.proofs.PlaceLaws.{leads-of, source-place, target-place}
+use Rattle.load.proofs.QueueLaws.{grown-end, grown-start, grown-turn}
+use Rattle.load.proofs.SourceLaws.{source-value}
+use Rattle.load.proofs.expanding.expand.Statement.{statement}
+use Rattle.load.proofs.expanding.expand.Tie as tie
+
+abbrev Inv-loop : tie.InvT-loop
+Inv-loop d cells tables s built₀ heads₀ links₀ levels₀ to queue₀ end e₀ i₀ i-end built heads links levels queue e i =
+    (i ≤ d .constraints) ×
+    Grown to (λ r. any i (λ j. leads (databaseOf (d .rows) cells tables) (constraintOf (constraintAt d j)) s r)) levels₀ queue₀ end levels queue e ×
+    Built (d .rows) cells tables (λ j. constraintAt d j .target) built heads links
+
+abbrev μ-loop : tie.MeasureT-loop
+μ-loop d cells tables s built₀ heads₀ links₀ levels₀ to queue₀ end e₀ i₀ i-end built heads links levels queue e i = d .constraints - i
+
+loop-holds : tie.Need-loop-holds Inv-loop μ-loop
+loop-holds c =
+    let p = c .before .before .before .before .pre in
+    (omega arith, grown-start _ _ _ _ _ 0 (p .0 .4) (p .1 .1) (λ r l. any-start _), p .1 .0)
+
+constraint-at-requires : tie.Need-constraint-at-requires Inv-loop μ-loop
+constraint-at-requires c κs = omega (arith, c .before .before .before .before .before .before .pre .0 .0 .constraints, c .loop-test .taken)
+
+source-value-requires : tie.Need-source-value-requires Inv-loop μ-loop
+source-value-requires c κs =
+    let p = c .before .before .before .before .before .before .before .pre .0 in
+    (p .2, source-place _ _ (p .0) _ (c .constraint-at .ensures), p .1)
+
+raise-requires : tie.Need-raise-requires Inv-loop μ-loop
+raise-requires c κs =
+    let c8 = c .before .before .before .before .before .before .before .before in
+    let p = c8 .before .before .before .before .before .pre .0 in
+    let v = c8 .loop .inv in
+    let t = c .before .before .before .before .before .before .before .loop-test .taken in
+    let e = c .before .before .before .before .before .before .constraint-at .ensures in (
+      (p .1, p .0 .rows, target-place _ _ (p .0) _ e, omega (arith, p .0 .constraints, t)),
+      (built-standing _ _ _ _ _ _ _ _ _ (ap (λ (j : Constraint). j .target) (sym e)) (v .2), (p .3, v .1 .long, v .1 .queue)),
+    )
+
+add-i : tie.Need-add-i Inv-loop μ-loop
+add-i c =
+    let c8 = c .before .before .before .before .before .before .before .before in
+    let c16 = c8 .before .before .before .before .before .before .before .before in
+    omega (arith, c16 .before .before .pre .0 .0 .constraints, c8 .before .before .before .before .loop-test .taken)
+
+loop-less : tie.Need-loop-less Inv-loop μ-loop
+loop-less c =
+    let c8 = c .before .before .before .before .before .before .before .before in
+    omega (arith, c8 .before .before .before .before .loop-test .taken)
+
+loop-again : tie.Need-loop-again Inv-loop μ-loop
+loop-again c =
+    let c8 = c .before .before .before .before .before .before .before .before in
+    let c16 = c8 .before .before .before .before .before .before .before .before in
+    let v = c8 .before .before .before .before .before .loop .inv in
+    let t = c8 .before .before .before .before .loop-test .taken in
+    let e = c8 .before .before .before .constraint-at .ensures in
+    let s = c8 .before .before .source-value .ensures in
+    let u = c .before .before .before .before .raise .ensures in (
+      omega (arith, t),
+      grown-turn _ _ _ _ _ _ _ _ _ _ _ _ _ (omega (arith, c16 .before .before .pre .0 .3)) (v .1) (u .0) (λ r l. leads-of _ _ _ _ _ s e r),
+      u .1 .still _ (ap (λ (j : Constraint). j .target) (sym e)) (v .2),
+    )
+
+same-length : tie.Need-same-length Inv-loop μ-loop
+same-length c = omega (arith, c .before .loop .inv .2 .heads-long, c .before .before .before .before .before .before .pre .1 .0 .heads-long)
+
+same-length-2 : tie.Need-same-length-2 Inv-loop μ-loop
+same-length-2 c = omega (arith, c .before .loop .inv .2 .links-long, c .before .before .before .before .before .before .pre .1 .0 .links-long)
+
+returns : tie.Need-returns Inv-loop μ-loop
+unfolding demands schemeOf
+returns c = (
+  grown-end _ _ _ _ _ _ _ _ _ _ (c .before .loop .inv .0) (c .loop-test .left) (c .before .loop .inv .1),
+  c .before .loop .inv .2,
+)
+
+pub expand-spec : {M : Type 1} → statement M
+expand-spec =
+    tie.close
+    (tie.spec
+    Inv-loop
+    μ-loop
+    loop-holds
+    constraint-at-requires
+    source-value-requires
+    raise-requires
+    add-i
+    loop-less
+    loop-again
+    same-length
+    same-length-2
+    returns)

@@ -1,0 +1,74 @@
+// What a row demands.
+ghost use mathlib.Core.Path.{_≡_};
+ghost use Prim.Native.Nat.{_<_};
+ghost use lib.ListN.{length};
+ghost use Rattle.model.specs.Rounds.{demands};
+ghost use Rattle.state.specs.Design.{InRange, Backed, constraintAt};
+ghost use Rattle.state.specs.Meaning.{columnOf, databaseOf, schemeOf};
+ghost use Rattle.load.specs.Source.{sourceValue};
+ghost use Rattle.load.specs.Queue.{Listed, added, Grown};
+ghost use Rattle.load.specs.Built.{Built};
+use crate::places::constraint_at;
+use crate::raising::raise;
+use state::Column;
+use state::Design;
+
+// The value of row s in column k; 0, as for a blank, if it is no row of k's table. Constant time.
+pub fn source_value(rows: usize, cells: &[u32], tables: &[u8], k: Column, s: usize) -> u32
+    requires { ⌜ (s < 512) × (k .place < 8) × Backed (now cells) (now tables) ⌝ }
+    ensures { λ v. ⌜ v ≡ sourceValue (databaseOf rows (now (cells .entry)) (now (tables .entry))) (columnOf k) s ⌝ }
+{
+    if rows <= s {
+        return 0;
+    }
+    if tables[s] != k.table {
+        return 0;
+    }
+    cells[8 * s + k.place as usize]
+}
+
+// Gives level `to` and a place in the queue to the rows without a level that row s demands; where the queue ends then.
+// One step for each constraint, and for those of row s's table the walk of the rows that have its value.
+pub fn expand(
+    d: Design,
+    cells: &[u32],
+    tables: &[u8],
+    s: usize,
+    built: &mut [bool; 16],
+    heads: &mut [u16],
+    links: &mut [u16],
+    levels: &mut [u16; 512],
+    to: u16,
+    queue: &mut [u16; 512],
+    end: usize,
+) -> usize
+    requires { ⌜ InRange d × Backed (now cells) (now tables) × (s < 512) × (1 < to) × (length (now levels) ≡ 512) ⌝ }
+    requires { ⌜ Built (d .rows) (now cells) (now tables) (λ j. constraintAt d j .target) (now built) (now heads) (now links) ⌝ }
+    requires { ⌜ Listed (added (now levels)) (now queue) end ⌝ }
+    ensures { λ e. ⌜ Grown to (demands (schemeOf d) (databaseOf (d .rows) (now (cells .entry)) (now (tables .entry))) s)
+        (now (levels .entry)) (now (queue .entry)) end (now (levels .exit)) (now (queue .exit)) e ⌝ }
+    ensures { λ _. ⌜ Built (d .rows) (now (cells .entry)) (now (tables .entry)) (λ j. constraintAt d j .target)
+        (now (built .exit)) (now (heads .exit)) (now (links .exit)) ⌝ }
+{
+    let mut e = end;
+    for i in 0..d.constraints {
+        let j = constraint_at(d, i);
+        let v = source_value(d.rows, cells, tables, j.source, s);
+        e = raise(
+            d.rows,
+            cells,
+            tables,
+            j.target,
+            i,
+            v,
+            built,
+            heads,
+            links,
+            levels,
+            to,
+            queue,
+            e,
+        );
+    }
+    e
+}

@@ -1,0 +1,41 @@
+// The queue of the rows that a load has added.
+ghost use mathlib.Core.Path.{_≡_};
+ghost use Prim.Native.Nat.{_<_};
+ghost use lib.Dec.{eqb};
+ghost use lib.ListN.{length};
+ghost use Rattle.load.specs.Queue.{Listed, added, Grown};
+use state::Design;
+
+// The rows that have been added, in the order of their numbers; how many they are. One pass over the row numbers.
+pub fn list_added(levels: &[u16; 512], queue: &mut [u16; 512]) -> usize
+    requires { ⌜ (length (now levels) ≡ 512) × (length (now queue) ≡ 512) ⌝ }
+    ensures { λ end. ⌜ Listed (added (now (levels .entry))) (now (queue .exit)) end ⌝ }
+{
+    let mut end: usize = 0;
+    for r in 0..Design::ROWS {
+        if 1 < levels[r] {
+            queue[end] = r as u16;
+            end += 1;
+        }
+    }
+    end
+}
+
+// Gives row r level `to` and the queue's next place, if it has no level; where the queue ends then. Constant time.
+pub fn reach(
+    r: usize,
+    levels: &mut [u16; 512],
+    to: u16,
+    queue: &mut [u16; 512],
+    end: usize,
+) -> usize
+    requires { ⌜ (r < 512) × (1 < to) × (length (now levels) ≡ 512) × Listed (added (now levels)) (now queue) end ⌝ }
+    ensures { λ e. ⌜ Grown to (λ s. eqb s r) (now (levels .entry)) (now (queue .entry)) end (now (levels .exit)) (now (queue .exit)) e ⌝ }
+{
+    if levels[r] != 0 {
+        return end;
+    }
+    levels[r] = to;
+    queue[end] = r as u16;
+    end + 1
+}
