@@ -1,0 +1,6 @@
+-- Sums: sums below n, and numbers under a cap. Weights: elimination. Lists: what the position step and the row trial write.
+-- Plan: a query's operands in the model, and the plan made of them.
+pub mod Sums
+pub mod Weights
+pub mod Lists
+pub mod Plan
