@@ -3,7 +3,7 @@ use Prim.Native.Nat.{ℕ, zero, suc, _+_, _-_, _≤_, _<_}
 use native.Mathlib.Decide.{decLt}
 use native.Mathlib.Omega.{arith}
 use mathlib.Core.Path.{_≡_, refl, sym, ap, subst, _∙_}
-use mathlib.Core.Bool.{Bool, true, false, cond, _||_}
+use mathlib.Core.Bool.{Bool, true, false, cond, _||_, or-assoc, or-false}
 use mathlib.Core.Logic.{_⊎_, inl, inr}
 use mathlib.Core.List.{List, _++_}
 use borrow.Author.Tests.{lt-ltb, le-ltb, ltb-true}
@@ -16,18 +16,10 @@ use Rattle.finite.proofs.Search.{below-suc}
 use Rattle.finite.proofs.Counting.{count-same, count-prefix}
 use Rattle.finite.proofs.Tables.{Upto, length-tab, tab-at}
 
-or-assoc : (a b c : Bool) → (a || b) || c ≡ a || (b || c)
-or-assoc true b c = refl
-or-assoc false b c = refl
-
-or-swap : (a : Bool) → false || a ≡ a || false
-or-swap true = refl
-or-swap false = refl
-
 -- the first number apart
 pub any-front : (n : ℕ) (p : ℕ → Bool) → any (suc n) p ≡ p 0 || any n (λ i. p (suc i))
 unfolding any
-any-front zero p = or-swap (p 0)
+any-front zero p = sym (or-false (p 0))
 any-front (suc n) p = ap (λ (b : Bool). b || p (suc n)) (any-front n p) ∙ or-assoc (p 0) _ (p (suc n))
 
 -- two tests that pass alike

@@ -23,7 +23,7 @@ pub record Listed (P : RowSet) (q : List ℕ) (end : ℕ) : Type 0 where
   pub is : (i : ℕ) → i < end → P (getD q i 0) ≡ true
   pub there : (r : ℕ) → r < 512 → P r ≡ true → (i : ℕ) × (i < end) × (getD q i 0 ≡ r)
 
--- a step: the rows of P that had no level have level n and a place at the queue's end, and nothing else is changed
+-- a step: the rows of P that had no level have level n and a place at the queue's end; other levels and earlier places stay
 pub record Grown (n : ℕ) (P : RowSet) (L q : List ℕ) (end : ℕ) (L′ q′ : List ℕ) (end′ : ℕ) : Type 0 where
   pub long : length L′ ≡ 512
   pub levels : L′ ≡ raised L n P
