@@ -1,10 +1,11 @@
 -- Tests as Booleans, and what a test that passes or fails says. Assumes nothing.
-use Prim.Native.Nat.{ℕ}
+use Prim.Native.Nat.{ℕ, _<_}
+use native.Mathlib.Nat.{eq-or-lt-of-le}
 use mathlib.Core.Path.{_≡_, refl, sym, ap, _∙_}
-use mathlib.Core.Logic.{_⊎_, inl, inr, ⊎-map}
+use mathlib.Core.Logic.{_⊎_, inl, inr, ⊎-elim, ⊎-map}
 use mathlib.Core.Bool.{Bool, true, false, not, cond, _&&_, _||_, true≢false}
-use borrow.Author.Tests.{eq-eqb, ne-eqb, eqb-true, eqb-false}
-use lib.Dec.{eqb}
+use borrow.Author.Tests.{eq-eqb, ne-eqb, eqb-true, eqb-false, ltb-true, ltb-false}
+use lib.Dec.{eqb, ltb}
 
 pub dec : (b : Bool) → (b ≡ true) ⊎ (b ≡ false)
 dec true = inl refl
@@ -18,8 +19,20 @@ pub refute : (b : Bool) → (b ≡ true → ⊥) → b ≡ false
 refute true h = absurd (h refl)
 refute false h = refl
 
+-- two tests that pass alike
+pub bool-ext : (a b : Bool) → (a ≡ true → b ≡ true) → (b ≡ true → a ≡ true) → a ≡ b
+bool-ext true b f g = sym (f refl)
+bool-ext false b f g = sym (refute b (λ e. clash (g e) refl))
+
 pub same-number : (a b : ℕ) → (a ≡ b) ⊎ (a ≡ b → ⊥)
 same-number a b = ⊎-map (eqb-true a b) (eqb-false a b) (dec (eqb a b))
+
+pub order : (i n : ℕ) → (i < n) ⊎ ((i ≡ n) ⊎ (n < i))
+order i n = ⊎-elim (λ (e : ltb i n ≡ true). inl (ltb-true i n e)) (λ (e : ltb i n ≡ false). inr (later (eq-or-lt-of-le (ltb-false i n e)))) (dec (ltb i n))
+  where
+    later : (n ≡ i) ⊎ (n < i) → (i ≡ n) ⊎ (n < i)
+    later (inl e) = inl (sym e)
+    later (inr l) = inr l
 
 pub or-cases : (a b : Bool) → a || b ≡ true → (a ≡ true) ⊎ (b ≡ true)
 or-cases true b e = inl refl
@@ -68,3 +81,8 @@ cond-true b x y h = ap (λ (c : Bool). cond c x y) h
 
 pub cond-false : {A : Type 0} (b : Bool) (x y : A) → b ≡ false → cond b x y ≡ y
 cond-false b x y h = ap (λ (c : Bool). cond c x y) h
+
+-- what holds of both results holds of the chosen one
+pub cond-case : {A : Type 0} (P : A → Type 0) (b : Bool) (x y : A) → (b ≡ true → P x) → (b ≡ false → P y) → P (cond b x y)
+cond-case P true x y f g = f refl
+cond-case P false x y f g = g refl

@@ -1,11 +1,13 @@
 -- The laws of `collect`. Assumes nothing.
-use Prim.Native.Nat.{ℕ, zero, suc, _<_}
+use Prim.Native.Nat.{ℕ, zero, suc, _+_, _*_, _<_}
 use native.Mathlib.Nat.{not-suc-le-zero}
+use native.Mathlib.Numerals.{add-one}
 use native.Mathlib.Omega.{arith}
-use mathlib.Core.Path.{_≡_, refl, ap, ap₂, _∙_}
+use mathlib.Core.Path.{_≡_, refl, sym, ap, ap₂, _∙_}
 use mathlib.Core.Logic.{_⊎_, inl, inr, ⊎-elim}
 use mathlib.Core.Bool.{Bool, true, false, cond}
-use mathlib.Core.List.{List, [], _++_, List·Memᴰ, List·Memᴰ·not-nil, List·Memᴰ·append-cases, Memᴰ·append-left, Memᴰ·append-right}
+use mathlib.Core.List.{List, [], _++_, append-nil, List·Memᴰ, List·Memᴰ·not-nil, List·Memᴰ·append-cases, Memᴰ·append-left, Memᴰ·append-right}
+use lib.ListN.{length, length-append}
 use Rattle.finite.specs.Finite.{collect}
 use Rattle.finite.proofs.Search.{below-suc}
 
@@ -44,3 +46,28 @@ collect-has {A} {x} (suc n) p f i l e m = go (below-suc l) (λ k. collect-has n 
     go : (i ≡ n) ⊎ (i < n) → (i < n → List·Memᴰ x (collect n p f)) → List·Memᴰ x (collect n p f ++ cond (p n) (f n) [])
     go (inl q) ih = let e′ : p n ≡ true = rw q at e in Memᴰ·append-right (collect n p f) (rw e′ (rw q at m))
     go (inr k) ih = Memᴰ·append-left (cond (p n) (f n) []) (ih k)
+
+-- ---- a loop that collects: its start, a number that passes, one that does not
+
+module _ {A : Type 0} (f : ℕ → Bool) (g : ℕ → List A) where
+  pub collect-start : [] ≡ collect 0 f g
+  unfolding collect
+  collect-start = refl
+
+  pub collect-suc : (r : ℕ) → collect (r + 1) f g ≡ collect r f g ++ cond (f r) (g r) []
+  unfolding collect
+  collect-suc r = rw add-one
+
+  module _ (r : ℕ) (xs : List A) (h : xs ≡ collect r f g) where
+    pub collect-hit : f r ≡ true → xs ++ g r ≡ collect (r + 1) f g
+    collect-hit e = ap (λ ys. ys ++ g r) h ∙ sym (collect-suc r ∙ ap (λ (b : Bool). collect r f g ++ cond b (g r) []) e)
+
+    pub collect-miss : f r ≡ false → xs ≡ collect (r + 1) f g
+    collect-miss e = h ∙ sym (collect-suc r ∙ ap (λ (b : Bool). collect r f g ++ cond b (g r) []) e ∙ append-nil (collect r f g))
+
+-- ---- pieces of one length w
+
+pub length-pieces : {A : Type 0} (w : ℕ) (f : ℕ → List A) → ((i : ℕ) → length (f i) ≡ w) → (n : ℕ) → length (collect n (λ _. true) f) ≡ w * n
+unfolding collect
+length-pieces w f even zero = omega arith
+length-pieces w f even (suc n) = let h = length-pieces w f even n in let k = length-append (collect n (λ _. true) f) (f n) in let e = even n in omega arith

@@ -68,6 +68,23 @@ unfolding count
 count-same zero p q h = refl
 count-same (suc n) p q h = ap₂ _+_ (count-same n p q (λ i l. h i (omega arith))) (ap (λ (b : Bool). cond b 1 0) (h n (omega arith)))
 
+-- nothing passes
+pub count-none : (n : ℕ) (p : ℕ → Bool) → ((r : ℕ) → r < n → p r ≡ false) → count n p ≡ 0
+count-none n p h = count-same n p (λ _. false) h ∙ count-prefix n 0 (λ _. false) (omega arith) (λ i l. absurd (omega arith)) (λ i l. refl)
+
+-- one number more passes
+pub count-one : (n : ℕ) (p q : ℕ → Bool) (r : ℕ) → r < n → p r ≡ false → q r ≡ true → ((x : ℕ) → x < n → (x ≡ r → ⊥) → p x ≡ q x) → count n q ≡ count n p + 1
+unfolding count
+count-one zero p q r l a b h = absurd (omega arith)
+count-one (suc n) p q r l a b h = go (below-suc l) (λ k. count-one n p q r k a b (λ x m. h x (omega arith)))
+  where
+    go : (r ≡ n) ⊎ (r < n) → (r < n → count n q ≡ count n p + 1) → count n q + cond (q n) 1 0 ≡ count n p + cond (p n) 1 0 + 1
+    go (inl e) ih =
+        let u : p n ≡ false = rw e at a in
+        let v : q n ≡ true = rw e at b in
+        rw (u, v) (omega (arith, count-same n p q (λ x k. h x (omega arith) (λ (w : x ≡ r). omega arith))))
+    go (inr k) ih = rw (h n (omega arith) (λ (w : n ≡ r). omega arith)) (omega (arith, ih k))
+
 -- ---- a loop that counts: its start, a number that passes, one that does not, its end
 
 pub count-start : (p : ℕ → Bool) → 0 ≡ count 0 p

@@ -1,7 +1,10 @@
--- Bools: tests and their facts. Search, Counting, Tables, Collecting: the laws of any and all, count, tab, collect. Writing: into a lent buffer.
+-- Bools: tests and their facts. Search, Counting, Tables, Collecting: the laws of any and all, count, tab, collect. Skipping: loops that pass over
+-- numbers at which nothing happens. Writing: into a lent buffer. Stores: what stands where after it.
 pub mod Bools
 pub mod Search
 pub mod Counting
 pub mod Tables
 pub mod Collecting
+pub mod Skipping
 pub mod Writing
+pub mod Stores

@@ -5,9 +5,10 @@ use native.Mathlib.Numerals.{add-one}
 use native.Mathlib.Omega.{arith}
 use mathlib.Core.Path.{_≡_, refl, sym, ap, ap₂, _∙_, subst}
 use mathlib.Core.Logic.{_⊎_, inl, inr}
-use mathlib.Core.Bool.{Bool, true, false, _&&_, _||_, or-true, true≢false, and-eq-true-iff}
+use mathlib.Core.Bool.{Bool, true, false, not, _&&_, _||_, or-true, or-false, or-assoc, true≢false, and-eq-true-iff}
+use borrow.Author.Tests.{not-true}
 use Rattle.finite.specs.Finite.{any, all}
-use Rattle.finite.proofs.Bools.{or-cases, clash, refute, both, and-left}
+use Rattle.finite.proofs.Bools.{or-cases, clash, refute, both}
 
 pub below-suc : {i n : ℕ} → i < suc n → (i ≡ n) ⊎ (i < n)
 below-suc h = eq-or-lt-of-le (le-of-suc-le-suc h)
@@ -43,6 +44,19 @@ any-same (suc n) p q h = ap₂ _||_ (any-same n p q (λ i l. h i (omega arith)))
 -- nothing passes
 pub any-refuted : (n : ℕ) (p : ℕ → Bool) → ((i : ℕ) → i < n → p i ≡ false) → any n p ≡ false
 any-refuted n p h = refute (any n p) (λ e. let f = any-found n p e in clash (f .2) (h (f .0) (f .1)))
+
+-- the first number apart
+pub any-front : (n : ℕ) (p : ℕ → Bool) → any (suc n) p ≡ p 0 || any n (λ i. p (suc i))
+unfolding any
+any-front zero p = sym (or-false (p 0))
+any-front (suc n) p = ap (λ (b : Bool). b || p (suc n)) (any-front n p) ∙ or-assoc (p 0) (any n (λ i. p (suc i))) (p (suc n))
+
+-- none passes
+pub none-before : (n : ℕ) (p : ℕ → Bool) → not (any n p) ≡ true → (i : ℕ) → i < n → p i ≡ false
+none-before n p e = any-none n p (not-true (any n p) e)
+
+pub not-before : (n : ℕ) (p : ℕ → Bool) → ((i : ℕ) → i < n → p i ≡ false) → not (any n p) ≡ true
+not-before n p h = ap not (any-refuted n p h)
 
 -- a loop that leaves with true at the first number that passes: its start, a turn, its end
 pub any-start : (p : ℕ → Bool) → any 0 p ≡ false

@@ -1,16 +1,18 @@
 -- The laws of `tab`, over any type of element, and of a loop that passes a list from the front and stores new elements in it.
 -- A list is read by `getD` with an element e for the indices past its end. Assumes nothing.
-use Prim.Native.Nat.{ℕ, zero, suc, _+_, _≤_, _<_}
+use Prim.Native.Nat.{ℕ, zero, suc, _+_, _-_, _≤_, _<_}
 use native.Mathlib.Nat.{le-of-suc-le-suc, not-suc-le-zero, eq-or-lt-of-le}
+use native.Mathlib.Decide.{decLt}
+use native.Mathlib.Numerals.{add-one}
 use native.Mathlib.Omega.{arith}
 use mathlib.Core.Path.{_≡_, refl, sym, ap, subst, _∙_}
 use mathlib.Core.Bool.{Bool, true, false, cond}
-use mathlib.Core.List.{List, [], _∷_}
-use mathlib.Core.Logic.{_⊎_, ⊎-elim}
+use mathlib.Core.List.{List, [], _∷_, _++_}
+use mathlib.Core.Logic.{⊎-elim}
 use borrow.Author.Tests.{lt-ltb, le-ltb, ltb-true, ltb-false}
 use lib.Dec.{ltb}
-use lib.ListN.{length, getD, set, length-set}
-use lib.Seq.{ext-getD, getD-set-same, getD-set-other}
+use lib.ListN.{length, getD, set, drop, replicate, length-set, length-append, length-drop, List·getD-append}
+use lib.Seq.{ext-getD, getD-set-same, getD-set-other, getD-append-add, getD-drop}
 use Rattle.finite.specs.Finite.{tab}
 use Rattle.finite.proofs.Bools.{dec, same-number}
 
@@ -42,6 +44,21 @@ unfolding tab
 tab-same zero f g h = refl
 tab-same (suc n) f g h = ap (λ x. x ∷ tab n (λ i. f (suc i))) (h 0 (omega arith)) ∙ ap (λ xs. g 0 ∷ xs) (tab-same n (λ i. f (suc i)) (λ i. g (suc i)) (λ i l. h (suc i) (omega arith)))
 
+-- the last element apart
+tab-last : {A : Type 0} (n : ℕ) (f : ℕ → A) → tab (suc n) f ≡ tab n f ++ (f n ∷ [])
+unfolding tab
+tab-last zero f = refl
+tab-last (suc n) f = ap (λ l. f 0 ∷ l) (tab-last n (λ i. f (suc i)))
+
+pub tab-more : {A : Type 0} (n : ℕ) (f : ℕ → A) → tab (n + 1) f ≡ tab n f ++ (f n ∷ [])
+tab-more n f = ap (λ (k : ℕ). tab k f) (add-one n) ∙ tab-last n f
+
+-- the same element everywhere
+pub replicate-tab : {A : Type 0} (n : ℕ) (v : A) → replicate n v ≡ tab n (λ _. v)
+unfolding tab
+replicate-tab zero v = refl
+replicate-tab (suc n) v = ap (λ l. v ∷ l) (replicate-tab n v)
+
 -- a list that is a table: its length, for arithmetic, and the equation
 pub record Made {A : Type 0} (n : ℕ) (f : ℕ → A) (xs : List A) : Type 0 where
   pub long : length xs ≡ n
@@ -52,7 +69,8 @@ made n f xs e = record { long = ap length e ∙ length-tab n f; is = e }
 
 -- ---- a loop that stores
 
-ltb-next : (r i : ℕ) → (r ≡ i → ⊥) → ltb r i ≡ ltb r (i + 1)
+-- a number other than i is below i exactly if it is below i + 1
+pub ltb-next : (r i : ℕ) → (r ≡ i → ⊥) → ltb r i ≡ ltb r (i + 1)
 ltb-next r i ne =
     ⊎-elim (λ (q : ltb r i ≡ true). q ∙ sym (lt-ltb r (i + 1) (omega (arith, ltb-true r i q))))
     (λ (q : ltb r i ≡ false). q ∙ sym (le-ltb r (i + 1) (above (ltb-false r i q))))
@@ -114,3 +132,41 @@ module _ {A : Type 0} (e : A) (n i : ℕ) (new old : ℕ → A) (xs : List A) (u
 pub upto-end : {A : Type 0} (e : A) (n i : ℕ) (new old : ℕ → A) (xs : List A) → Upto e n i new old xs → i ≤ n → n ≤ i → xs ≡ tab n new
 upto-end e n i new old xs u l g =
     tab-of e n new xs (u .long) (λ r h. u .at r h ∙ ap (λ (b : Bool). cond b (new r) (old r)) (lt-ltb r i (omega arith)))
+
+-- ---- the same loop in the first m elements of a longer list
+
+upto-front : {A : Type 0} (e : A) (m : ℕ) (new : ℕ → A) (old xs : List A) → Upto e (length old) m new (λ r. getD old r e) xs → m ≤ length old →
+    xs ≡ tab m new ++ drop m old
+upto-front {A} e m new old xs u l = ext-getD e xs (tab m new ++ drop m old) long at
+  where
+    long : length xs ≡ length (tab m new ++ drop m old)
+    long = u .long ∙ simp (length-append, length-tab, length-drop) (omega arith)
+
+    past : (r : ℕ) → m ≤ r → getD (tab m new ++ drop m old) r e ≡ getD old r e
+    past r h =
+        let q : length (tab m new) + (r - m) ≡ r = omega (arith, length-tab m new) in
+        let s : m + (r - m) ≡ r = omega arith in
+        ap (λ (i : ℕ). getD (tab m new ++ drop m old) i e) (sym q) ∙ getD-append-add (tab m new) (drop m old) (r - m) e ∙ getD-drop m old (r - m) e ∙
+        ap (λ (i : ℕ). getD old i e) s
+
+    go : (r : ℕ) → r < length old → Dec (r < m) → getD xs r e ≡ getD (tab m new ++ drop m old) r e
+    go r h (yes b) =
+        u .at r h ∙ ap (λ (t : Bool). cond t (new r) (getD old r e)) (lt-ltb r m b) ∙
+        sym (List·getD-append (tab m new) (drop m old) e r (omega (arith, length-tab m new)) ∙ tab-at e m new r b)
+    go r h (no b) = u .at r h ∙ ap (λ (t : Bool). cond t (new r) (getD old r e)) (le-ltb r m (omega arith)) ∙ sym (past r (omega arith))
+
+    at : (r : ℕ) → r < length xs → getD xs r e ≡ getD (tab m new ++ drop m old) r e
+    at r h = go r (omega (arith, u .long)) (decLt r m)
+
+-- its end
+pub upto-stored : {A : Type 0} (e : A) (m i : ℕ) (new : ℕ → A) (old xs : List A) → Upto e (length old) i new (λ r. getD old r e) xs → i ≤ m → m ≤ i →
+    m ≤ length old → xs ≡ tab m new ++ drop m old
+upto-stored e m i new old xs u l g h =
+    let q : i ≡ m = omega arith in
+    upto-front e m new old xs (subst (λ (k : ℕ). Upto e (length old) k new (λ r. getD old r e) xs) q u) h
+
+-- ... where it copies a list
+pub upto-copied : {A : Type 0} (e : A) (m i : ℕ) (from old xs : List A) → Upto e (length old) i (λ r. getD from r e) (λ r. getD old r e) xs → i ≤ m → m ≤ i →
+    m ≤ length old → length from ≡ m → xs ≡ from ++ drop m old
+upto-copied e m i from old xs u l g h k =
+    upto-stored e m i (λ r. getD from r e) old xs u l g h ∙ ap (λ ys. ys ++ drop m old) (sym (tab-of e m (λ r. getD from r e) from k (λ r b. refl)))
