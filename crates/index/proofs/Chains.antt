@@ -9,12 +9,11 @@ use mathlib.Core.Logic.{⊎-elim}
 use borrow.Author.Tests.{lt-ltb, le-ltb}
 use lib.Dec.{ltb}
 use lib.ListN.{length, getD, set}
-use Rattle.finite.proofs.Bools.{same-number, cond-true, cond-false}
+use Rattle.finite.proofs.Bools.{same-number, cond-true, cond-false, cond-case}
 use Rattle.model.specs.Scheme as Model
 use Rattle.model.specs.Database.{Database}
 use Rattle.index.specs.First.{firstFrom}
 use Rattle.index.specs.Index.{hash, keyed, inBucket, headAt, linkAt, storedIn, headsWith, linksWith}
-use Rattle.index.proofs.FiniteExtra.{cond-case}
 use Rattle.index.proofs.FirstLaws.{first-here, first-skip, first-none}
 use Rattle.index.proofs.Parts.{stored-is, stored-set, stored-same, stored-still, stored-again}
 use Rattle.index.proofs.Buckets.{hash-below, not-keyed, other-bucket, own-bucket}

@@ -4,9 +4,8 @@ use native.Mathlib.Decide.{decLt}
 use native.Mathlib.Omega.{arith}
 use mathlib.Core.Path.{_≡_, sym, ap, subst, _∙_}
 use mathlib.Core.Bool.{Bool, true, false}
-use Rattle.finite.proofs.Bools.{clash, refute}
+use Rattle.finite.proofs.Bools.{clash, refute, cond-case}
 use Rattle.index.specs.First.{firstOf, firstFrom, Hit}
-use Rattle.index.proofs.FiniteExtra.{cond-case}
 
 -- r is the first row number from i on that passes p, or 512 and there is none
 pub record First (p : ℕ → Bool) (i r : ℕ) : Type 0 where

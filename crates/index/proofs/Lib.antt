@@ -1,6 +1,5 @@
--- FiniteExtra, Parts: laws of loops and lists. FirstLaws: the laws of `firstFrom`. Walks: loops that go from one row that passes to the next.
+-- Parts: the places of an index. FirstLaws: the laws of `firstFrom`. Walks: loops that go from one row that passes to the next.
 -- Buckets, Chains, Seeks: rows in buckets, chains while they are built, chains while they are walked. Indexing: an added index, and others beside it.
-pub mod FiniteExtra
 pub mod Parts
 pub mod FirstLaws
 pub mod Walks

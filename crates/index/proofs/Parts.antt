@@ -1,86 +1,17 @@
--- A list with the elements of another stored in it from a place on: what stands where, and one more store. Assumes nothing.
-use Prim.Native.Nat.{ℕ, zero, suc, _+_, _*_, _≤_, _<_}
-use native.Mathlib.Nat.{le-of-suc-le-suc, not-suc-le-zero, add-zero, suc-inj}
-use native.Mathlib.Numerals.{add-one}
+-- The 512 places of an index in a list of indexes: what stands there, and one more store. Assumes nothing.
+use Prim.Native.Nat.{ℕ, _+_, _*_, _≤_, _<_}
 use native.Mathlib.Decide.{decLt}
 use native.Mathlib.Omega.{arith}
-use mathlib.Core.Path.{_≡_, refl, sym, ap, subst, _∙_}
-use mathlib.Core.List.{List, [], _∷_}
+use mathlib.Core.Path.{_≡_, sym, ap, subst, _∙_}
+use mathlib.Core.List.{List}
 use mathlib.Core.Logic.{⊎-elim}
 use lib.ListN.{length, getD, set, length-set}
-use lib.Seq.{sets, length-sets, set-set, set-comm, getD-set-same, getD-set-other}
+use lib.Seq.{sets, length-sets, getD-set-same, getD-set-other}
 use Rattle.finite.specs.Finite.{tab}
 use Rattle.finite.proofs.Bools.{same-number}
 use Rattle.finite.proofs.Tables.{length-tab, tab-at, tab-of, tab-same}
+use Rattle.finite.proofs.Stores.{sets-below, sets-above, sets-at, sets-set, sets-twice}
 use Rattle.index.specs.Index.{Stored, storedIn}
-
-module _ {A : Type 0} where
-  -- ---- what stands where
-
-  pub sets-below : (e : A) (l : List A) (b : ℕ) (vs : List A) (x : ℕ) → x < b → getD (sets l b vs) x e ≡ getD l x e
-  sets-below e l b [] x h = refl
-  sets-below e l b (a ∷ vs) x h = sets-below e (set l b a) (suc b) vs x (omega arith) ∙ getD-set-other l b x a e (λ q. omega arith)
-
-  pub sets-above : (e : A) (l : List A) (b : ℕ) (vs : List A) (x : ℕ) → b + length vs ≤ x → getD (sets l b vs) x e ≡ getD l x e
-  sets-above e l b [] x h = refl
-  sets-above e l b (a ∷ vs) x h = sets-above e (set l b a) (suc b) vs x (omega arith) ∙ getD-set-other l b x a e (λ q. omega arith)
-
-  pub sets-at : (e : A) (l : List A) (b : ℕ) (vs : List A) (j : ℕ) → b + length vs ≤ length l → j < length vs → getD (sets l b vs) (b + j) e ≡ getD vs j e
-  sets-at e l b [] j f h = absurd (not-suc-le-zero h)
-  sets-at e l b (a ∷ vs) zero f h =
-      sets-below e (set l b a) (suc b) vs (b + 0) (omega arith) ∙ ap (λ (x : ℕ). getD (set l b a) x e) (add-zero b) ∙ getD-set-same l b a e (omega arith)
-  sets-at e l b (a ∷ vs) (suc j) f h =
-      ap (λ (x : ℕ). getD (sets (set l b a) (suc b) vs) x e) (omega arith)
-      ∙ sets-at e (set l b a) (suc b) vs j (omega (arith, length-set l b a)) (le-of-suc-le-suc h)
-
-  -- ---- one more store
-
-  -- before the place
-  sets-set-below : (l : List A) (b : ℕ) (vs : List A) (x : ℕ) (v : A) → x < b → set (sets l b vs) x v ≡ sets (set l x v) b vs
-  sets-set-below l b [] x v h = refl
-  sets-set-below l b (a ∷ vs) x v h =
-      sets-set-below (set l b a) (suc b) vs x v (omega arith) ∙ ap (λ (m : List A). sets m (suc b) vs) (set-comm l b x a v (λ q. omega arith))
-
-  -- over one of the elements
-  pub sets-set : (l : List A) (b : ℕ) (vs : List A) (j : ℕ) (v : A) → j < length vs → set (sets l b vs) (b + j) v ≡ sets l b (set vs j v)
-  sets-set l b [] j v h = absurd (not-suc-le-zero h)
-  sets-set l b (a ∷ vs) zero v h =
-      ap (λ (x : ℕ). set (sets (set l b a) (suc b) vs) x v) (add-zero b)
-      ∙ sets-set-below (set l b a) (suc b) vs b v (omega arith) ∙ ap (λ (m : List A). sets m (suc b) vs) (set-set l b a v)
-  sets-set l b (a ∷ vs) (suc j) v h =
-      ap (λ (x : ℕ). set (sets (set l b a) (suc b) vs) x v) (omega arith) ∙ sets-set (set l b a) (suc b) vs j v (le-of-suc-le-suc h)
-
-  -- after the elements of a table
-  sets-tab-suc : (l : List A) (b n : ℕ) (f : ℕ → A) → set (sets l b (tab n f)) (b + n) (f n) ≡ sets l b (tab (suc n) f)
-  unfolding tab
-  sets-tab-suc l b zero f = ap (λ (x : ℕ). set l x (f 0)) (add-zero b)
-  sets-tab-suc l b (suc n) f =
-      ap (λ (x : ℕ). set (sets (set l b (f 0)) (suc b) (tab n (λ i. f (suc i)))) x (f (suc n))) (omega arith)
-      ∙ sets-tab-suc (set l b (f 0)) (suc b) n (λ i. f (suc i))
-
-  pub sets-tab-more : (l xs : List A) (b n : ℕ) (f : ℕ → A) (v : A) → xs ≡ sets l b (tab n f) → v ≡ f n → set xs (b + n) v ≡ sets l b (tab (n + 1) f)
-  sets-tab-more l xs b n f v e h =
-      ap (λ (ys : List A). set ys (b + n) v) e ∙ ap (λ (w : A). set (sets l b (tab n f)) (b + n) w) h
-      ∙ sets-tab-suc l b n f ∙ ap (λ (m : ℕ). sets l b (tab m f)) (sym (add-one n))
-
-  pub sets-none : (l : List A) (b : ℕ) (f : ℕ → A) → l ≡ sets l b (tab 0 f)
-  unfolding tab
-  sets-none l b f = refl
-
-  pub sets-tab-all : (l xs : List A) (b n m : ℕ) (f : ℕ → A) → xs ≡ sets l b (tab n f) → n ≤ m → m ≤ n → xs ≡ sets l b (tab m f)
-  sets-tab-all l xs b n m f e p q = let h : n ≡ m = omega arith in e ∙ ap (λ (x : ℕ). sets l b (tab x f)) h
-
-  -- over all of them
-  pub sets-twice : (l : List A) (b : ℕ) (vs ws : List A) → length vs ≡ length ws → sets (sets l b vs) b ws ≡ sets l b ws
-  sets-twice l b [] [] e = refl
-  sets-twice l b [] (w ∷ ws) e = absurd (omega arith)
-  sets-twice l b (a ∷ vs) [] e = absurd (omega arith)
-  sets-twice l b (a ∷ vs) (w ∷ ws) e =
-      ap (λ (m : List A). sets m (suc b) ws)
-      (sets-set-below (set l b a) (suc b) vs b w (omega arith) ∙ ap (λ (m : List A). sets m (suc b) vs) (set-set l b a w))
-      ∙ sets-twice (set l b w) (suc b) vs ws (suc-inj e)
-
--- ---- the places of an index
 
 module _ (xs ys : List ℕ) (i : ℕ) (f : ℕ → ℕ) (e : ys ≡ storedIn xs i f) where
   pub stored-long : length ys ≡ length xs

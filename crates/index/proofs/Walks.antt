@@ -10,8 +10,9 @@ use Rattle.finite.proofs.Bools.{and-left, and-right}
 use Rattle.finite.proofs.Search.{any-start, any-more}
 use Rattle.finite.proofs.Counting.{count-start, count-hit, count-miss}
 use Rattle.finite.proofs.Tables.{Upto}
+use Rattle.finite.proofs.Collecting.{collect-start, collect-hit, collect-miss}
+use Rattle.finite.proofs.Skipping.{onward, any-skip, count-skip, collect-skip, upto-skip}
 use Rattle.index.specs.First.{firstFrom}
-use Rattle.index.proofs.FiniteExtra.{onward, any-skip, count-skip, collect-skip, collect-start, collect-hit, collect-miss, upto-skip}
 use Rattle.index.proofs.FirstLaws.{First, first-from}
 
 -- ---- from i to j, the first from i on that passes p

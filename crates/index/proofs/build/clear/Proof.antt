@@ -1,22 +1,19 @@
 -- `index::build::clear` meets its contract: after j turns the first j places of index i hold 512. Assumes nothing.
 use Prim.Native.Nat.{_*_, _-_, _≤_}
 use native.Mathlib.Omega.{arith}
-use mathlib.Core.Path.{_≡_, refl}
-use lib.ListN.{length, length-set}
-use lib.Seq.{sets}
-use Rattle.finite.specs.Finite.{tab}
-use Rattle.index.proofs.Parts.{sets-none, sets-tab-more, sets-tab-all}
+use mathlib.Core.Path.{refl}
+use Rattle.finite.proofs.Stores.{Tabled, tabled-start, tabled-more, tabled-end}
 use Rattle.index.proofs.build.clear.Statement.{statement}
 use Rattle.index.proofs.build.clear.Tie as tie
 
 abbrev Inv-loop : tie.InvT-loop
-Inv-loop i xs₀ j₀ xs j = (j ≤ 512) × (length xs ≡ length xs₀) × (xs ≡ sets xs₀ (512 * i) (tab j (λ _. 512)))
+Inv-loop i xs₀ j₀ xs j = (j ≤ 512) × Tabled (λ _. 512) xs₀ (512 * i) j xs
 
 abbrev μ-loop : tie.MeasureT-loop
 μ-loop i xs₀ j₀ xs j = 512 - j
 
 loop-holds : tie.Need-loop-holds Inv-loop μ-loop
-loop-holds c = (omega arith, refl, sets-none _ _ _)
+loop-holds c = (omega arith, tabled-start _ _ _)
 
 mul-xs : tie.Need-mul-xs Inv-loop μ-loop
 mul-xs c = omega arith
@@ -37,13 +34,13 @@ loop-less : tie.Need-loop-less Inv-loop μ-loop
 loop-less c = omega arith
 
 loop-again : tie.Need-loop-again Inv-loop μ-loop
-loop-again c = (omega arith, simp length-set (omega arith), sets-tab-more _ _ _ _ _ _ (c .before .loop .inv .2) refl)
+loop-again c = (omega arith, tabled-more _ _ _ _ _ _ (c .before .loop .inv .1) refl)
 
 same-length : tie.Need-same-length Inv-loop μ-loop
 same-length c = omega arith
 
 returns : tie.Need-returns Inv-loop μ-loop
-returns c = sets-tab-all _ _ _ _ _ _ (c .before .loop .inv .2) (c .before .loop .inv .0) (c .loop-test .left)
+returns c = tabled-end _ _ _ _ 512 _ (c .before .loop .inv .0) (c .loop-test .left) (c .before .loop .inv .1)
 
 pub clear-spec : {M : Type 1} → statement M
 clear-spec =
