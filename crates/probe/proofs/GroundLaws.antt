@@ -8,7 +8,7 @@ use lib.ListN.{take}
 use lib.Seq.{getD-take}
 use Rattle.finite.specs.Finite.{any, tab}
 use Rattle.finite.proofs.Bools.{and-go, and-stop, ne-not, eq-not}
-use Rattle.finite.proofs.Search.{any-same}
+use Rattle.finite.proofs.Search.{any-same, any-front}
 use Rattle.model.specs.Cell.{Cell, cellOf, isBlank, equal}
 use Rattle.model.specs.Scheme.{Column, Scheme, sameColumn}
 use Rattle.model.specs.Database.{Database, has}
@@ -16,7 +16,6 @@ use Rattle.model.specs.Cache.{RowSet, Held}
 use Rattle.model.specs.Probe.{seen, demanded, uniquelySeen, lowest, probe}
 use Rattle.model.specs.Runs.{Pair, one, heldIn, marked}
 use Rattle.state.specs.Meaning.{databaseOf}
-use Rattle.probe.proofs.FiniteExtra.{any-front}
 
 -- ---- ground 1
 
