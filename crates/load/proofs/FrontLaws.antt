@@ -9,7 +9,7 @@ use borrow.Author.Tests.{ltb-true, eqb-true, eq-eqb, leb-true, le-leb, lt-leb}
 use lib.Dec.{eqb, leb}
 use lib.ListN.{getD}
 use Rattle.finite.specs.Finite.{any}
-use Rattle.finite.proofs.Bools.{both, and-left, refute}
+use Rattle.finite.proofs.Bools.{both, and-left, refute, bool-ext}
 use Rattle.finite.proofs.Search.{any-true, any-found, any-refuted}
 use Rattle.model.specs.Scheme.{Scheme}
 use Rattle.model.specs.Database.{Database}
@@ -18,7 +18,6 @@ use Rattle.model.specs.Rounds.{level, demands, reachedFrom, next}
 use Rattle.state.specs.Meaning.{databaseOf}
 use Rattle.load.specs.Raised.{raised}
 use Rattle.load.specs.Queue.{added, Listed, Grown, Front}
-use Rattle.load.proofs.FiniteExtra.{bool-ext}
 use Rattle.load.proofs.QueueLaws.{is-added, grown-level}
 use Rattle.load.proofs.RaisedLaws.{raised-same}
 

@@ -13,12 +13,12 @@ use lib.Seq.{getD-set-same, getD-set-other}
 use Rattle.finite.specs.Finite.{any, count}
 use Rattle.finite.proofs.Bools.{same-number, clash, and-left, and-right, both}
 use Rattle.finite.proofs.Search.{any-suc}
-use Rattle.finite.proofs.Counting.{count-le, count-same}
+use Rattle.finite.proofs.Counting.{count-le, count-same, count-none, count-one}
+use Rattle.finite.proofs.Tables.{ltb-next}
 use Rattle.model.specs.Cache.{RowSet}
 use Rattle.model.specs.Rounds.{level}
 use Rattle.load.specs.Raised.{raised}
 use Rattle.load.specs.Queue.{added, Listed, Grown}
-use Rattle.load.proofs.FiniteExtra.{count-none, count-one, ltb-next}
 use Rattle.load.proofs.RaisedLaws.{raised-same, raised-none, raised-one, raised-again, raised-kept}
 
 -- ---- the rows of P below b

@@ -9,6 +9,7 @@ use lib.Dec.{ltb}
 use lib.ListN.{length, replicate, getD-replicate}
 use Rattle.finite.specs.Finite.{any, tab}
 use Rattle.finite.proofs.Bools.{cond-true, cond-false}
+use Rattle.finite.proofs.Search.{any-front}
 use Rattle.finite.proofs.Tables.{length-tab, tab-at, tab-past, tab-same}
 use Rattle.model.specs.Cell.{cellOf}
 use Rattle.model.specs.Scheme.{Scheme}
@@ -21,7 +22,6 @@ use Rattle.state.specs.Meaning.{databaseOf, pairsOf, pairOf}
 use Rattle.state.specs.Held.{heldAt}
 use Rattle.load.specs.Raised.{raised}
 use Rattle.load.specs.Queue.{added, Listed}
-use Rattle.load.proofs.FiniteExtra.{any-front}
 use Rattle.load.proofs.RaisedLaws.{raised-same}
 use Rattle.load.proofs.QueueLaws.{listed-none}
 

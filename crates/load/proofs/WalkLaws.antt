@@ -10,13 +10,12 @@ use mathlib.Core.List.{List}
 use borrow.Author.Tests.{ltb-true, eqb-true, eq-eqb}
 use lib.Dec.{eqb, ltb}
 use lib.ListN.{length}
-use Rattle.finite.proofs.Bools.{clash, or-cases, or-left}
+use Rattle.finite.proofs.Bools.{clash, or-cases, or-left, bool-ext}
 use Rattle.model.specs.Cache.{RowSet}
 use Rattle.model.specs.Rounds.{level}
 use Rattle.index.specs.First.{firstFrom, Hit}
 use Rattle.index.proofs.FirstLaws.{First, first-from, first-hit}
 use Rattle.load.specs.Queue.{added, Listed, Grown}
-use Rattle.load.proofs.FiniteExtra.{bool-ext}
 use Rattle.load.proofs.QueueLaws.{below, below-all, grown-none, grown-same, grown-again}
 
 below-is : (b : ℕ) (P : RowSet) (x : ℕ) → below b P x ≡ true → (x < b) × (P x ≡ true)

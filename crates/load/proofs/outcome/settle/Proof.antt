@@ -5,10 +5,9 @@ use mathlib.Core.Bool.{cond}
 use mathlib.Core.Path.{refl}
 use borrow.Author.Needs.{needs}
 use lib.ListN.{getD, length}
-use Rattle.finite.proofs.Tables.{Upto, upto-set, upto-start}
+use Rattle.finite.proofs.Tables.{Upto, upto-set, upto-start, upto-stored}
 use Rattle.model.specs.Rounds.{levels, reached}
 use Rattle.model.specs.Runs.{marks}
-use Rattle.load.proofs.FiniteExtra.{upto-stored}
 use Rattle.load.proofs.outcome.settle.Statement.{statement}
 use Rattle.load.proofs.outcome.settle.Tie as tie
 
