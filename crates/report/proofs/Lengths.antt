@@ -8,11 +8,11 @@ use mathlib.Core.List.{List, [], _∷_}
 use lib.ListN.{length, length-append, length-take, take, getD}
 use Rattle.finite.specs.Finite.{collect}
 use Rattle.finite.specs.Writing.{Wrote}
+use Rattle.finite.proofs.Writing.{reach}
 use Rattle.state.specs.declared.design.Design.{Design}
 use Rattle.state.specs.declared.answer.Answer.{Answer}
 use Rattle.state.specs.declared.answer.Answer.the-variants.{Loaded, Held, NoCandidate, Dropped, Ground, Sent, Lists, Refused}
 use Rattle.report.specs.Report.{newline, decimal, spaced, answerText, commandLine, designLine, refusalLine, listLine, listLines}
-use Rattle.report.proofs.FiniteExtra.{reach}
 use Rattle.report.proofs.Decimals.{decimal-short, decimal-short-32}
 use Rattle.report.proofs.Answers.{refusal-line}
 

@@ -1,6 +1,5 @@
--- FiniteExtra: loops that write. Decimals: numbers in decimal, and how many digits they have. Answers: an answer's text by its case.
+-- Decimals: numbers in decimal, and how many digits they have. Answers: an answer's text by its case.
 -- Lengths: how long texts and lines are, and how far a writer gets with them.
-pub mod FiniteExtra
 pub mod Decimals
 pub mod Answers
 pub mod Lengths

@@ -1,8 +1,8 @@
 -- `report::lines::put_design_line` meets its contract: the parts one behind the other. Assumes nothing.
 use native.Mathlib.Omega.{arith}
 use borrow.Author.Needs.{needs}
+use Rattle.finite.proofs.Writing.{behind}
 use Rattle.report.specs.Report.{designLine}
-use Rattle.report.proofs.FiniteExtra.{behind}
 use Rattle.report.proofs.Lengths.{spaced-reach}
 use Rattle.report.proofs.lines.put_design_line.Statement.{statement}
 use Rattle.report.proofs.lines.put_design_line.Tie as tie

@@ -2,8 +2,8 @@
 use Prim.Native.Nat.{_+_}
 use native.Mathlib.Omega.{arith}
 use borrow.Author.Needs.{needs}
+use Rattle.finite.proofs.Writing.{behind}
 use Rattle.report.specs.Report.{listLine}
-use Rattle.report.proofs.FiniteExtra.{behind}
 use Rattle.report.proofs.Lengths.{decimal-reach-32, words-reach}
 use Rattle.report.proofs.lines.put_list_line.Statement.{statement}
 use Rattle.report.proofs.lines.put_list_line.Tie as tie

@@ -6,8 +6,8 @@ use mathlib.Core.Bool.{true}
 use lib.ListN.{length}
 use Rattle.finite.specs.Finite.{collect}
 use Rattle.finite.specs.Writing.{Wrote}
+use Rattle.finite.proofs.Writing.{written-none, written-more, written-end}
 use Rattle.report.specs.Report.{listLine, listLines}
-use Rattle.report.proofs.FiniteExtra.{written-none, written-more, written-end}
 use Rattle.report.proofs.Lengths.{list-line-reach, list-within, list-next}
 use Rattle.report.proofs.lines.put_list_lines.Statement.{statement}
 use Rattle.report.proofs.lines.put_list_lines.Tie as tie

@@ -2,7 +2,7 @@
 use native.Mathlib.Omega.{arith}
 use mathlib.Core.Path.{refl}
 use borrow.Author.Needs.{needs}
-use Rattle.report.proofs.FiniteExtra.{behind, wrote-as}
+use Rattle.finite.proofs.Writing.{behind, wrote-as}
 use Rattle.report.proofs.Answers.{refusal-line}
 use Rattle.report.proofs.Lengths.{answer-reach}
 use Rattle.report.proofs.lines.put_refusal_line.Statement.{statement}

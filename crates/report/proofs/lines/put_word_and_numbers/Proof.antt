@@ -1,7 +1,7 @@
 -- `report::lines::put_word_and_numbers` meets its contract: the word, then the numbers. Assumes nothing.
 use native.Mathlib.Omega.{arith}
 use borrow.Author.Needs.{needs}
-use Rattle.report.proofs.FiniteExtra.{behind}
+use Rattle.finite.proofs.Writing.{behind}
 use Rattle.report.proofs.Lengths.{bytes-reach, spaced-reach}
 use Rattle.report.proofs.lines.put_word_and_numbers.Statement.{statement}
 use Rattle.report.proofs.lines.put_word_and_numbers.Tie as tie

@@ -4,7 +4,7 @@ use native.Mathlib.Omega.{arith}
 use mathlib.Core.Path.{_≡_, refl}
 use lib.ListN.{length, take, length-set}
 use Rattle.finite.specs.Writing.{Wrote}
-use Rattle.report.proofs.FiniteExtra.{copied-more, copied-end}
+use Rattle.finite.proofs.Writing.{copied-more, copied-end}
 use Rattle.report.proofs.text.put_bytes.Statement.{statement}
 use Rattle.report.proofs.text.put_bytes.Tie as tie
 

@@ -2,7 +2,7 @@
 use native.Mathlib.Omega.{arith}
 use mathlib.Core.Path.{refl}
 use borrow.Author.Needs.{needs}
-use Rattle.report.proofs.FiniteExtra.{wrote-as}
+use Rattle.finite.proofs.Writing.{wrote-as}
 use Rattle.report.proofs.Decimals.{at-most-20, kit-decimal}
 use Rattle.report.proofs.text.put_decimal.Statement.{statement}
 use Rattle.report.proofs.text.put_decimal.Tie as tie

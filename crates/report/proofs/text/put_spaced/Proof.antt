@@ -1,6 +1,6 @@
 -- `report::text::put_spaced` meets its contract: a space, then the number. Assumes nothing.
 use borrow.Author.Needs.{needs}
-use Rattle.report.proofs.FiniteExtra.{behind}
+use Rattle.finite.proofs.Writing.{behind}
 use Rattle.report.proofs.text.put_spaced.Statement.{statement}
 use Rattle.report.proofs.text.put_spaced.Tie as tie
 
