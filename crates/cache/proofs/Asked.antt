@@ -13,7 +13,7 @@ use Rattle.state.specs.Held.{heldAt}
 use Rattle.state.specs.Meaning.{columnOf, schemeOf}
 use Rattle.state.specs.Lawful.{lawfulDesign, lawfulHeld}
 use Rattle.state.specs.Step.{State, longEnough, sound}
-use Rattle.lawful.proofs.Arrays.{Sized}
+use Rattle.state.proofs.Arrays.{Sized}
 use Rattle.lawful.proofs.DesignLaws.{column-says, design-says, in-range}
 use Rattle.lawful.proofs.HeldLaws.{held-says, held-filling}
 use Rattle.cache.specs.Places.{Tidy}

@@ -7,6 +7,7 @@ use mathlib.Core.Bool.{true, false, and-eq-true-iff}
 use borrow.Author.Tests.{ltb-true, lt-ltb, leb-true, le-leb, eqb-true, eq-eqb, ne-eqb}
 use lib.Dec.{lit<}
 use Rattle.finite.proofs.Bools.{both, clash, refute}
+use Rattle.finite.proofs.Search.{none-before, not-before}
 use Rattle.model.specs.Cell.{cellOf, isBlank}
 use Rattle.model.specs.Scheme as Model
 use Rattle.model.specs.Scheme.{ColumnOf, Scheme, isColumn, sameColumn, candidate}
@@ -20,10 +21,10 @@ use Rattle.state.specs.Design.{noTable, noColumn, noConstraint, noFilling, cons
 use Rattle.state.specs.Meaning.{columnOf, fillingOf, schemeOf}
 use Rattle.state.specs.Lawful.{tableFits, zeroTable, zeroColumn, sameConstraint, constraintFits, zeroConstraint}
 use Rattle.state.specs.Lawful.{fillingFits, zeroFilling, countsFit, lawfulDesign}
+use Rattle.state.proofs.Arrays.{Sized}
+use Rattle.state.proofs.Places.{in-array, used-at, unused-at, all-places}
 use Rattle.lawful.specs.Parts.{tablesLawful, constraintsLawful, fillingsLawful}
 use Rattle.lawful.specs.LawfulState.{LawfulTable, LawfulConstraint, LawfulFilling, LawfulDesign}
-use Rattle.lawful.proofs.Arrays.{Sized}
-use Rattle.lawful.proofs.Places.{in-array, used-at, unused-at, all-places, none-before, not-before}
 
 -- ---- columns
 

@@ -10,6 +10,7 @@ use lib.Dec.{leb, ltb, lit<}
 use lib.ListN.{length, getD, List·getD-eq-default}
 use Rattle.finite.specs.Finite.{all, tab}
 use Rattle.finite.proofs.Bools.{dec, both, clash, refute}
+use Rattle.finite.proofs.Search.{none-before, not-before}
 use Rattle.finite.proofs.Tables.{length-tab, tab-at, tab-past, tab-of}
 use Rattle.model.specs.Cell.{cellOf, isBlank}
 use Rattle.model.specs.Scheme.{Scheme, candidate}
@@ -22,10 +23,10 @@ use Rattle.state.specs.Design.{fillingAt}
 use Rattle.state.specs.Held.{noValue, heldAt}
 use Rattle.state.specs.Meaning.{schemeOf, fillingOf, pairOf, pairsOf, heldOf}
 use Rattle.state.specs.Lawful.{heldFits, zeroHeld, lawfulHeld, lawfulDesign}
+use Rattle.state.proofs.Places.{in-array, used-at, unused-at, all-places}
 use Rattle.lawful.specs.Parts.{heldLawful}
 use Rattle.lawful.specs.LawfulState.{LawfulPair, LawfulHeld}
 use Rattle.lawful.proofs.DesignLaws.{design-says, low-full}
-use Rattle.lawful.proofs.Places.{in-array, used-at, unused-at, all-places, none-before, not-before}
 
 -- ---- one held value
 

@@ -93,7 +93,7 @@ lawful-says s u e =
     let h = and-eq-true-iff (lawfulHeld (s .design) (s .held)) _ .0 (q .1) in
     record {
       design = design-says (s .design) (p .0);
-      rows = rows-say (s .design) (s .cells) (s .tables) (p .0) u (q .0);
+      rows = rows-say (s .design) (s .cells) (s .tables) u (q .0);
       held = held-says (s .design) (s .held) (p .0) (h .0);
       marks = marks-bits s (h .1);
       smallest = marks-smallest s (h .1);

@@ -18,10 +18,10 @@ use Rattle.model.proofs.CellLaws.{blank-fits, blank-is, is-blank, equal-same, e
 use Rattle.model.proofs.DatabaseLaws.{has-Has, Has-has, has-full}
 use Rattle.state.specs.declared.design.Design.{Design}
 use Rattle.state.specs.Meaning.{schemeOf, databaseOf}
-use Rattle.state.specs.Lawful.{rowFits, repeatsAt, repeats, zeroRow, lawfulRows, lawfulDesign}
+use Rattle.state.specs.Lawful.{rowFits, repeatsAt, repeats, zeroRow, lawfulRows}
 use Rattle.state.proofs.RowLaws.{cell-at}
+use Rattle.state.proofs.Places.{used-at, unused-at, all-places}
 use Rattle.lawful.specs.LawfulState.{LawfulRows}
-use Rattle.lawful.proofs.Places.{used-at, unused-at, all-places}
 
 -- ---- one row of any database
 
@@ -159,9 +159,9 @@ cells-fit rows cells tables u r c =
     (dec (ltb c 8))
 
 -- lawful rows are a lawful database
-pub lawful-database : (d : Design) (cells tables : List ℕ) → lawfulDesign d ≡ true → lawfulRows d cells tables ≡ true → Stored cells →
+pub lawful-database : (d : Design) (cells tables : List ℕ) → lawfulRows d cells tables ≡ true → Stored cells →
     Lawful (schemeOf d) (databaseOf (d .rows) cells tables)
-lawful-database d cells tables _ e u =
+lawful-database d cells tables e u =
     record {
       cells = λ r c l. cells-fit (d .rows) cells tables u r c;
       tables = λ r l. fits-says _ _ r (row-says d cells tables e r l .0) .0;
@@ -169,10 +169,10 @@ lawful-database d cells tables _ e u =
       unique = unique-says d cells tables e;
     }
 
-pub rows-say : (d : Design) (cells tables : List ℕ) → lawfulDesign d ≡ true → Stored cells → lawfulRows d cells tables ≡ true → LawfulRows d cells tables
-rows-say d cells tables f u e =
+pub rows-say : (d : Design) (cells tables : List ℕ) → Stored cells → lawfulRows d cells tables ≡ true → LawfulRows d cells tables
+rows-say d cells tables u e =
     record {
-      database = lawful-database d cells tables f e u;
+      database = lawful-database d cells tables e u;
       memberRest = λ r l h. zero-says d cells tables r (rest-says d cells tables e r l h) .0;
       cellRest = λ r c l b h. zero-says d cells tables r (rest-says d cells tables e r l h) .1 c b;
     }

@@ -1,2 +1,5 @@
--- Laws of the definitions in specs/, for the layers above. RowLaws: the tests of a row.
+-- Laws of the definitions in specs/, for the layers above. RowLaws: the tests of a row. Places: used and unused places of an array.
+-- Arrays: how long the arrays are.
 pub mod RowLaws
+pub mod Places
+pub mod Arrays

@@ -1,13 +1,13 @@
 -- What the tests of a row say of the lent buffers. Assumes nothing.
 use Prim.Native.Nat.{ℕ, _+_, _*_, _≤_, _<_}
 use mathlib.Core.Path.{_≡_, refl, sym, ap, _∙_}
-use mathlib.Core.Bool.{Bool, true, false, not, cond, _&&_}
+use mathlib.Core.Bool.{Bool, false, not, cond, _&&_}
 use mathlib.Core.List.{List}
 use borrow.Author.Tests.{lt-ltb, le-ltb, eq-eqb, ne-eqb}
 use lib.Dec.{eqb, ltb}
 use lib.ListN.{getD}
 use Rattle.finite.proofs.Bools.{and-go, and-stop, ne-not, eq-not}
-use Rattle.model.specs.Cell.{Cell, cellOf, blank, isBlank, equal}
+use Rattle.model.specs.Cell.{cellOf, blank, isBlank, equal}
 use Rattle.model.specs.Scheme as Model
 use Rattle.model.specs.Database.{has}
 use Rattle.state.specs.Meaning.{databaseOf}

@@ -2,7 +2,7 @@
 use mathlib.Core.Path.{sym, _∙_}
 use borrow.Author.Needs.{needs}
 use borrow.Author.Tests.{not-true, not-false}
-use Rattle.lawful.proofs.Arrays.{sized, held-sized}
+use Rattle.state.proofs.Arrays.{sized, held-sized}
 use Rattle.cache.proofs.Asked.{sound-range, sound-backed, sound-marks, sound-tidy}
 use Rattle.cache.proofs.Steps.{drop-5, drop-9, drop-10, left-count, left-filling, drop-load}
 use Rattle.cache.proofs.dropping.drop_lawful.Statement.{statement}

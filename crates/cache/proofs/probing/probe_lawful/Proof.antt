@@ -2,7 +2,7 @@
 use mathlib.Core.Path.{sym, _∙_}
 use borrow.Author.Needs.{needs}
 use borrow.Author.Tests.{not-true, not-false}
-use Rattle.lawful.proofs.Arrays.{sized, held-sized}
+use Rattle.state.proofs.Arrays.{sized, held-sized}
 use Rattle.cache.proofs.Asked.{sound-range, sound-backed, sound-marks, sound-tidy, sound-filling, sound-column}
 use Rattle.cache.proofs.ProbeSteps.{probe-5, probe-9, probe-sent, probe-ground}
 use Rattle.cache.proofs.probing.probe_lawful.Statement.{statement}

@@ -3,7 +3,7 @@ use native.Mathlib.Omega.{arith}
 use mathlib.Core.Path.{sym, _∙_}
 use borrow.Author.Needs.{needs}
 use borrow.Author.Tests.{not-true, not-false}
-use Rattle.lawful.proofs.Arrays.{sized, held-sized}
+use Rattle.state.proofs.Arrays.{sized, held-sized}
 use Rattle.cache.proofs.Asked.{sound-range, sound-backed, sound-marks, sound-fillings, sound-tidy}
 use Rattle.cache.proofs.Steps.{refer-5, refer-9, refer-no-candidate, refer-already, refer-8, refer-load}
 use Rattle.cache.proofs.referring.refer_lawful.Statement.{statement}

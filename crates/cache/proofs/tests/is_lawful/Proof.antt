@@ -4,7 +4,7 @@ use borrow.Author.Needs.{needs}
 use borrow.Author.Tests.{not-true, not-false}
 use Rattle.finite.proofs.Bools.{and-go, and-stop}
 use Rattle.state.specs.Step.{lawful}
-use Rattle.lawful.proofs.Arrays.{sized, held-sized}
+use Rattle.state.proofs.Arrays.{sized, held-sized}
 use Rattle.lawful.proofs.DesignLaws.{in-range}
 use Rattle.lawful.proofs.HeldLaws.{held-count, held-filling}
 use Rattle.cache.proofs.LoadLaws.{agree-is}

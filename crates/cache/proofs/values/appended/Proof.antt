@@ -1,6 +1,6 @@
 -- `cache::values::appended` meets its contract, by the record's law. Assumes nothing.
 use borrow.Author.Needs.{needs}
-use Rattle.lawful.proofs.Arrays.{held-sized}
+use Rattle.state.proofs.Arrays.{held-sized}
 use Rattle.cache.proofs.HeldRecord.{append-is}
 use Rattle.cache.proofs.values.appended.Statement.{statement}
 use Rattle.cache.proofs.values.appended.Tie as tie

@@ -6,7 +6,7 @@ use Rattle.finite.proofs.Tables.{Upto, upto-start, upto-set, upto-end}
 use Rattle.state.specs.Held.{noValue, heldAt}
 use Rattle.cache.specs.Places.{keptAt}
 use Rattle.cache.proofs.HeldRecord.{closed-is}
-use Rattle.lawful.proofs.Arrays.{held-sized}
+use Rattle.state.proofs.Arrays.{held-sized}
 use Rattle.cache.proofs.values.closed.Statement.{statement}
 use Rattle.cache.proofs.values.closed.Tie as tie
 

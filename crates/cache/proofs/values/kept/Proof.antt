@@ -5,7 +5,7 @@ use borrow.Author.Needs.{needs}
 use lib.ListN.{List·getD-eq-default}
 use Rattle.state.specs.Held.{noValue, heldAt}
 use Rattle.cache.proofs.Pairs.{skip-before, skip-behind}
-use Rattle.lawful.proofs.Arrays.{held-sized}
+use Rattle.state.proofs.Arrays.{held-sized}
 use Rattle.cache.proofs.values.kept.Statement.{statement}
 use Rattle.cache.proofs.values.kept.Tie as tie
 

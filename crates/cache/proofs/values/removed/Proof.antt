@@ -2,7 +2,7 @@
 use mathlib.Core.Path.{_∙_}
 use borrow.Author.Needs.{needs}
 use Rattle.cache.proofs.HeldRecord.{without-is, stays-is}
-use Rattle.lawful.proofs.Arrays.{held-sized}
+use Rattle.state.proofs.Arrays.{held-sized}
 use Rattle.cache.proofs.values.removed.Statement.{statement}
 use Rattle.cache.proofs.values.removed.Tie as tie
 

@@ -1,6 +1,6 @@
 -- `lawful::constraints::constraint_lawful` meets its contract. Assumes nothing.
 use borrow.Author.Needs.{needs}
-use Rattle.lawful.proofs.Places.{unused, used}
+use Rattle.state.proofs.Places.{unused, used}
 use Rattle.lawful.proofs.constraints.constraint_lawful.Statement.{statement}
 use Rattle.lawful.proofs.constraints.constraint_lawful.Tie as tie
 

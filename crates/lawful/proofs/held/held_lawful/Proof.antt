@@ -1,6 +1,6 @@
 -- `lawful::held::held_lawful` meets its contract. Assumes nothing.
 use borrow.Author.Needs.{needs}
-use Rattle.lawful.proofs.Places.{unused, used}
+use Rattle.state.proofs.Places.{unused, used}
 use Rattle.lawful.proofs.held.held_lawful.Statement.{statement}
 use Rattle.lawful.proofs.held.held_lawful.Tie as tie
 

@@ -4,7 +4,7 @@ use mathlib.Core.Path.{_∙_, ap, sym}
 use borrow.Author.Needs.{needs}
 use borrow.Author.Tests.{not-false, not-true}
 use Rattle.finite.proofs.Bools.{and-go, and-stop}
-use Rattle.lawful.proofs.Places.{unused, used}
+use Rattle.state.proofs.Places.{unused, used}
 use Rattle.lawful.proofs.rows.row_lawful.Statement.{statement}
 use Rattle.lawful.proofs.rows.row_lawful.Tie as tie
 

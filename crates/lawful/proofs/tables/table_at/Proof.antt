@@ -1,8 +1,8 @@
 -- `lawful::tables::table_at` meets its contract: past the array's eight places `getD` gives the empty table. Assumes nothing.
 use mathlib.Core.Path.{sym}
 use borrow.Author.Needs.{needs}
-use Rattle.lawful.proofs.Arrays.{sized}
-use Rattle.lawful.proofs.Places.{past-end}
+use Rattle.state.proofs.Arrays.{sized}
+use Rattle.state.proofs.Places.{past-end}
 use Rattle.lawful.proofs.tables.table_at.Statement.{statement}
 use Rattle.lawful.proofs.tables.table_at.Tie as tie
 
