@@ -1,12 +1,13 @@
 -- Parts of a script, and its numbers: a u32's four bytes are that u32, and four bytes are those of the u32 that they are read as. Assumes nothing.
-use Prim.Native.Nat.{ℕ, zero, suc, _+_, _*_, _/_, _%_, _-_, _≤_, _<_}
+use Prim.Native.Nat.{ℕ, zero, suc, _+_, _*_, _/_, _%_, _≤_, _<_}
 use native.Mathlib.Nat.{div-div-eq-div-mul, div-add-mod}
+use native.Mathlib.Numerals.{add-one, add-two, add-three}
 use native.Mathlib.Omega.{arith}
-use mathlib.Core.Path.{_≡_, refl, sym, ap, ap₂, subst, _∙_}
+use mathlib.Core.Path.{_≡_, sym, ap, _∙_}
 use mathlib.Core.Bool.{true}
 use mathlib.Core.List.{List, [], _∷_, _++_}
-use lib.ListN.{length, getD, take, drop, length-drop}
-use lib.Seq.{take-add, drop-drop, getD-take, getD-drop, length-take-le}
+use lib.ListN.{length, set, take, drop, length-drop}
+use lib.Seq.{sets, take-add, drop-drop, getD-take, getD-drop, length-take-le}
 use Rattle.finite.specs.Finite.{tab, collect}
 use Rattle.finite.proofs.Tables.{tab-of}
 use Rattle.format.specs.Bytes.{byteAt, u32At, u32Bytes}
@@ -75,3 +76,9 @@ pub u32-written : (s : List ℕ) (i v : ℕ) → v < 4294967296 → byteAt s i �
     → byteAt s (i + 2) ≡ v / 65536 % 256 → byteAt s (i + 3) ≡ v / 16777216 % 256 → u32At s i ≡ v
 unfolding u32At
 u32-written s i v h a b c d = rw (a, b, c, d) (u32-back v h)
+
+-- the four bytes of a number, stored in a row
+pub stored-u32 : (l : List ℕ) (i v : ℕ)
+    → set (set (set (set l i (v % 256)) (i + 1) (v / 256 % 256)) (i + 2) (v / 65536 % 256)) (i + 3) (v / 16777216 % 256) ≡ sets l i (u32Bytes v)
+unfolding u32Bytes
+stored-u32 l i v = rw (add-one i, add-two i, add-three i)

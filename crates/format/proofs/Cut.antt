@@ -1,31 +1,31 @@
 -- A lawful design cut after its first items: what its reader has made of it there. Places past the cut are 0. Assumes nothing.
 use Prim.Native.Nat.{ℕ, _+_, _*_, _-_, _/_, _%_, _≤_, _<_}
-use native.Mathlib.Nat.{div-add-mod, mod-lt}
+use native.Mathlib.Nat.{div-add-mod}
 use native.Mathlib.Omega.{arith}
-use mathlib.Core.Path.{_≡_, refl, sym, ap, ap₂, subst, _∙_}
+use mathlib.Core.Path.{_≡_, sym, ap, ap₂, subst, _∙_}
 use mathlib.Core.Bool.{Bool, true, false, cond, _&&_, and-eq-true-iff}
 use mathlib.Core.List.{List}
 use mathlib.Core.Logic.{_⊎_, ⊎-elim}
 use borrow.Author.Tests.{lt-ltb, le-ltb, ltb-true, ltb-false, eqb-true}
 use lib.Dec.{eqb, ltb}
 use lib.ListN.{length, getD, set, length-set}
-use lib.Seq.{sets, length-sets, getD-set-same, getD-set-other, ext-getD}
+use lib.Seq.{sets, length-sets, getD-set-same, getD-set-other}
 use Rattle.finite.specs.Finite.{tab, all}
-use Rattle.finite.proofs.Bools.{dec, cond-true, cond-false}
+use Rattle.finite.proofs.Bools.{dec, cond-true, cond-false, order}
 use Rattle.finite.proofs.Search.{all-at}
 use Rattle.finite.proofs.Tables.{tab-at, tab-of, tab-same, length-tab}
+use Rattle.finite.proofs.Stores.{sets-below, sets-at, sets-above}
 use Rattle.model.specs.Cell.{cellOf, blank, isBlank}
 use Rattle.state.specs.declared.design.Table.{Table}
 use Rattle.state.specs.declared.design.Column.{Column}
 use Rattle.state.specs.declared.design.Constraint.{Constraint}
 use Rattle.state.specs.declared.design.Filling.{Filling}
 use Rattle.state.specs.declared.design.Design.{Design}
-use Rattle.state.specs.Design.{noTable, noColumn, noConstraint, noFilling, tableAt, constraintAt, fillingAt, emptyDesign}
+use Rattle.state.specs.Design.{noTable, noColumn, noConstraint, noFilling, tableAt, constraintAt, fillingAt}
 use Rattle.state.specs.Meaning.{schemeOf, databaseOf}
-use Rattle.state.specs.Lawful.{usedOr, tableFits, zeroTable, zeroColumn, constraintFits, zeroConstraint, fillingFits, zeroFilling, zeroRow}
-use Rattle.format.specs.Reading.{withTable, withConstraint, withFilling, withRows}
-use Rattle.format.proofs.ListLaws.{getD-sets-before, getD-sets-at, getD-sets-after}
-use Rattle.format.proofs.LawfulLaws.{Parts, RowParts, order, rowTest, unused}
+use Rattle.state.specs.Lawful.{tableFits, zeroTable, zeroColumn, constraintFits, zeroConstraint, fillingFits, zeroFilling, zeroRow}
+use Rattle.state.proofs.Places.{unused-is}
+use Rattle.format.proofs.LawfulLaws.{Parts, RowParts, rowTest}
 
 -- ---- lists cut after k elements: f up to there, then e
 
@@ -66,14 +66,14 @@ cut-eight n f r l =
     let lv : length vs ≡ 8 = length-tab 8 (λ c. f (8 * r + c)) in
     tab-of 0 n (λ i. cond (ltb i (8 * (r + 1))) (f i) 0) (sets xs (8 * r) vs) (length-sets xs (8 * r) vs ∙ lx)
     (λ i h. ⊎-elim (λ (q : ltb i (8 * r) ≡ true). let b = ltb-true i (8 * r) q in
-    getD-sets-before vs xs (8 * r) i 0 b ∙ cut-at 0 n f (8 * r) i h b ∙ sym (cond-true (ltb i (8 * (r + 1))) (f i) 0 (lt-ltb i (8 * (r + 1)) (omega arith))))
+    sets-below 0 xs (8 * r) vs i b ∙ cut-at 0 n f (8 * r) i h b ∙ sym (cond-true (ltb i (8 * (r + 1))) (f i) 0 (lt-ltb i (8 * (r + 1)) (omega arith))))
     (λ (q : ltb i (8 * r) ≡ false). let b = ltb-false i (8 * r) q in
     ⊎-elim (λ (z : ltb i (8 * r + 8) ≡ true). let g = ltb-true i (8 * r + 8) z in
     let j : 8 * r + (i - 8 * r) ≡ i = omega arith in
-    ap (λ (k : ℕ). getD (sets xs (8 * r) vs) k 0) (sym j) ∙ getD-sets-at vs xs (8 * r) (i - 8 * r) 0 (omega arith) (omega arith) ∙
+    ap (λ (k : ℕ). getD (sets xs (8 * r) vs) k 0) (sym j) ∙ sets-at 0 xs (8 * r) vs (i - 8 * r) (omega arith) (omega arith) ∙
     tab-at 0 8 (λ c. f (8 * r + c)) (i - 8 * r) (omega arith) ∙ ap f j ∙ sym (cond-true (ltb i (8 * (r + 1))) (f i) 0 (lt-ltb i (8 * (r + 1)) (omega arith))))
     (λ (z : ltb i (8 * r + 8) ≡ false). let g = ltb-false i (8 * r + 8) z in
-    getD-sets-after vs xs (8 * r) i 0 (omega arith) ∙ tab-at 0 n (λ j. cond (ltb j (8 * r)) (f j) 0) i h ∙ cond-false (ltb i (8 * r)) (f i) 0 q ∙
+    sets-above 0 xs (8 * r) vs i (omega arith) ∙ tab-at 0 n (λ j. cond (ltb j (8 * r)) (f j) 0) i h ∙ cond-false (ltb i (8 * r)) (f i) 0 q ∙
     sym (cond-false (ltb i (8 * (r + 1))) (f i) 0 (le-ltb i (8 * (r + 1)) (omega arith))))
     (dec (ltb i (8 * r + 8)))) (dec (ltb i (8 * r))))
 
@@ -119,19 +119,19 @@ zero-row n cells tables r h =
 
 module _ (d : Design) (p : Parts d) where
   pub unused-table : (i : ℕ) → i < 8 → d .tables ≤ i → tableAt d i ≡ noTable
-  unused-table i l h = zero-table (tableAt d i) (sym (unused i (d .tables) (tableFits (tableAt d i)) (zeroTable (tableAt d i)) h) ∙ p .table i l)
+  unused-table i l h = zero-table (tableAt d i) (sym (unused-is i (d .tables) (tableFits (tableAt d i)) (zeroTable (tableAt d i)) h) ∙ p .table i l)
 
   pub unused-constraint : (i : ℕ) → i < 16 → d .constraints ≤ i → constraintAt d i ≡ noConstraint
   unused-constraint i l h =
-      zero-constraint (constraintAt d i) (sym (unused i (d .constraints) (constraintFits d i (constraintAt d i)) (zeroConstraint (constraintAt d i)) h) ∙ p .constraint i l)
+      zero-constraint (constraintAt d i) (sym (unused-is i (d .constraints) (constraintFits d i (constraintAt d i)) (zeroConstraint (constraintAt d i)) h) ∙ p .constraint i l)
 
   pub unused-filling : (i : ℕ) → i < 8 → d .fillings ≤ i → fillingAt d i ≡ noFilling
-  unused-filling i l h = zero-filling (fillingAt d i) (sym (unused i (d .fillings) (fillingFits d i (fillingAt d i)) (zeroFilling (fillingAt d i)) h) ∙ p .filling i l)
+  unused-filling i l h = zero-filling (fillingAt d i) (sym (unused-is i (d .fillings) (fillingFits d i (fillingAt d i)) (zeroFilling (fillingAt d i)) h) ∙ p .filling i l)
 
 module _ (d : Design) (cells tables : List ℕ) (p : RowParts d cells tables) where
   row-zero : (r : ℕ) → r < 512 → d .rows ≤ r → zeroRow (databaseOf (d .rows) cells tables) r ≡ true
   row-zero r l h =
-      sym (unused r (d .rows) (rowTest (schemeOf d) (databaseOf (d .rows) cells tables) r) (zeroRow (databaseOf (d .rows) cells tables) r) h) ∙ p .row r l
+      sym (unused-is r (d .rows) (rowTest (schemeOf d) (databaseOf (d .rows) cells tables) r) (zeroRow (databaseOf (d .rows) cells tables) r) h) ∙ p .row r l
 
   pub unused-member : (r : ℕ) → r < 512 → d .rows ≤ r → getD tables r 0 ≡ 0
   unused-member r l h = zero-row (d .rows) cells tables r (row-zero r l h) .0

@@ -3,13 +3,12 @@
 use Prim.Native.Nat.{ℕ, _+_, _*_, _≤_, _<_}
 use native.Mathlib.Omega.{arith}
 use mathlib.Core.Path.{_≡_, refl, sym, ap, ap₂, subst, _∙_}
-use mathlib.Core.Bool.{Bool, true, _&&_}
+use mathlib.Core.Bool.{true}
 use mathlib.Core.List.{List}
 use lib.ListN.{length, getD, set}
 use lib.Seq.{sets}
 use Rattle.finite.specs.Finite.{tab}
 use Rattle.finite.proofs.Tables.{tab-same}
-use Rattle.model.specs.Scheme.{Scheme}
 use Rattle.model.specs.Database.{Database}
 use Rattle.state.specs.declared.design.Table.{Table}
 use Rattle.state.specs.declared.design.Constraint.{Constraint}
@@ -17,13 +16,13 @@ use Rattle.state.specs.declared.design.Filling.{Filling}
 use Rattle.state.specs.declared.design.Design.{Design}
 use Rattle.state.specs.Design.{noTable, noConstraint, noFilling, tableAt, constraintAt, fillingAt, emptyDesign}
 use Rattle.state.specs.Meaning.{schemeOf, databaseOf}
-use Rattle.state.specs.Lawful.{usedOr, tableFits, zeroTable, constraintFits, zeroConstraint, fillingFits, zeroFilling, zeroRow}
+use Rattle.state.specs.Lawful.{tableFits, zeroTable, constraintFits, zeroConstraint, fillingFits, zeroFilling, zeroRow}
+use Rattle.state.proofs.Places.{used-is}
 use Rattle.format.specs.Commands.{rowCellAt}
-use Rattle.format.specs.Reading.{Draft, emptyDraft, redesigned, withTable, withConstraint, withFilling, withRows, withRow}
-use Rattle.format.proofs.LawfulLaws.{Parts, RowParts, SameRow, rowTest, used, constraint-fits-same, filling-fits-same, same-row, live-same, row-test-same}
+use Rattle.format.specs.Reading.{Draft, emptyDraft, withTable, withConstraint, withFilling, withRows, withRow}
+use Rattle.format.proofs.LawfulLaws.{Parts, RowParts, SameRow, rowTest, constraint-fits-same, filling-fits-same, same-row, live-same, row-test-same}
 use Rattle.format.proofs.Cut.{cutList, cut-at, cut-none, cut-more, cut-whole, cut-eight, unused-table, unused-constraint, unused-filling, unused-member, unused-cell}
 use Rattle.format.proofs.TakenLaws.{TookTable, TookConstraint, TookFilling, TookRow}
-use Rattle.format.proofs.Reached.{Sizes}
 
 abbrev noCells : List ℕ
 noCells = tab 4096 (λ _. 0)
@@ -137,7 +136,7 @@ module _ (d : Design) (p : Parts d) (k : ℕ) where
         fillings = refl;
         rows = refl;
         room = omega arith;
-        fits = sym (used k (d .tables) (tableFits (tableAt d k)) (zeroTable (tableAt d k)) l) ∙ p .table k (omega arith);
+        fits = sym (used-is k (d .tables) (tableFits (tableAt d k)) (zeroTable (tableAt d k)) l) ∙ p .table k (omega arith);
         is =
             ap (λ (m : List Table). let x : Draft = record { design = record { tables = k + 1; table = m; constraints = 0; constraint = tab 16 (λ _. noConstraint); fillings = 0; filling = tab 8 (λ _. noFilling); rows = 0 }; cells = noCells; tables = noMembers } in x)
             (cut-more noTable 8 (tableAt d) k (omega arith));
@@ -153,7 +152,7 @@ module _ (d : Design) (p : Parts d) (k : ℕ) where
         room = omega arith;
         fits =
             constraint-fits-same (withConstraints d k .design) d refl (λ t. refl) k (constraintAt d k) (λ i g. cut-at noConstraint 16 (constraintAt d) k i (omega arith) g) ∙
-            sym (used k (d .constraints) (constraintFits d k (constraintAt d k)) (zeroConstraint (constraintAt d k)) l) ∙ p .constraint k (omega arith);
+            sym (used-is k (d .constraints) (constraintFits d k (constraintAt d k)) (zeroConstraint (constraintAt d k)) l) ∙ p .constraint k (omega arith);
         is =
             ap (λ (m : List Constraint). let x : Draft = record { design = record { tables = d .tables; table = d .table; constraints = k + 1; constraint = m; fillings = 0; filling = tab 8 (λ _. noFilling); rows = 0 }; cells = noCells; tables = noMembers } in x)
             (cut-more noConstraint 16 (constraintAt d) k (omega arith));
@@ -168,7 +167,7 @@ module _ (d : Design) (p : Parts d) (k : ℕ) where
         room = omega arith;
         fits =
             filling-fits-same (withFillings d k .design) d refl (λ t. refl) k (fillingAt d k) (λ i g. cut-at noFilling 8 (fillingAt d) k i (omega arith) g) ∙
-            sym (used k (d .fillings) (fillingFits d k (fillingAt d k)) (zeroFilling (fillingAt d k)) l) ∙ p .filling k (omega arith);
+            sym (used-is k (d .fillings) (fillingFits d k (fillingAt d k)) (zeroFilling (fillingAt d k)) l) ∙ p .filling k (omega arith);
         is =
             ap (λ (m : List Filling). let x : Draft = record { design = record { tables = d .tables; table = d .table; constraints = d .constraints; constraint = d .constraint; fillings = k + 1; filling = m; rows = 0 }; cells = noCells; tables = noMembers } in x)
             (cut-more noFilling 8 (fillingAt d) k (omega arith));
@@ -195,7 +194,7 @@ module _ (d : Design) (cells tables : List ℕ) (rows : RowParts d cells tables)
       let D : Database = databaseOf (d .rows) cells tables in
       row-test-same (schemeOf d) _ D k (same k (omega arith)) (λ q h. same q (omega arith))
       (λ q h. live-same (k + 1) (d .rows) _ cells _ tables q (omega arith) (omega arith)) ∙
-      sym (used k (d .rows) (rowTest (schemeOf d) D k) (zeroRow D k) l) ∙ rows .row k (omega arith)
+      sym (used-is k (d .rows) (rowTest (schemeOf d) D k) (zeroRow D k) l) ∙ rows .row k (omega arith)
 
   pub next-row : TookRow (withAllRows d cells tables k) (withRow (withAllRows d cells tables k) s i t) (withAllRows d cells tables (k + 1))
   unfolding withAllRows withRows

@@ -1,12 +1,14 @@
 -- A lawful design stays lawful when an item that passes its test is added. Assumes nothing.
 use Prim.Native.Nat.{ℕ, _+_, _*_, _≤_, _<_}
 use native.Mathlib.Omega.{arith}
-use mathlib.Core.Path.{_≡_, refl, sym, ap, subst, _∙_}
+use mathlib.Core.Path.{_≡_, refl, sym, ap, _∙_}
 use mathlib.Core.Bool.{Bool, true}
 use mathlib.Core.Logic.{_⊎_, inl, inr, ⊎-elim}
 use mathlib.Core.List.{List}
 use lib.ListN.{length, getD, set}
 use lib.Seq.{sets, getD-set-same, getD-set-other}
+use Rattle.finite.proofs.Bools.{order}
+use Rattle.finite.proofs.Stores.{sets-below, sets-above}
 use Rattle.model.specs.Scheme.{Scheme}
 use Rattle.model.specs.Database.{Database}
 use Rattle.state.specs.declared.design.Table.{Table}
@@ -16,9 +18,9 @@ use Rattle.state.specs.declared.design.Design.{Design}
 use Rattle.state.specs.Design.{noTable, noConstraint, noFilling, tableAt, constraintAt, fillingAt}
 use Rattle.state.specs.Meaning.{schemeOf, databaseOf}
 use Rattle.state.specs.Lawful.{usedOr, tableFits, zeroTable, constraintFits, zeroConstraint, fillingFits, zeroFilling, zeroRow}
+use Rattle.state.proofs.Places.{one-more, none-used, unused-is}
 use Rattle.format.specs.Reading.{withTable, withConstraint, withFilling, withRows}
-use Rattle.format.proofs.ListLaws.{getD-sets-before, getD-sets-after}
-use Rattle.format.proofs.LawfulLaws.{Parts, RowParts, SameRow, rowTest, order, one-more, none-used, unused, constraint-fits-same, filling-fits-same, same-row, live-same, zero-row-same, row-test-same}
+use Rattle.format.proofs.LawfulLaws.{Parts, RowParts, SameRow, rowTest, constraint-fits-same, filling-fits-same, same-row, live-same, zero-row-same, row-test-same}
 
 -- ---- one more table, before any constraint and filling
 
@@ -133,8 +135,8 @@ module _ (m k n t : ℕ) (cells tables xs : List ℕ) (eight : length xs ≡ 8) 
       apart i j h = ⊎-elim inl (λ (q : (i ≡ j) ⊎ (j < i)). ⊎-elim (λ (e : i ≡ j). absurd (h e)) inr q) (order i j)
 
       around : (c : ℕ) → c < 8 → (r < n) ⊎ (n < r) → getD (sets cells (8 * n) xs) (8 * r + c) 0 ≡ getD cells (8 * r + c) 0
-      around c h (inl l) = getD-sets-before xs cells (8 * n) (8 * r + c) 0 (omega arith)
-      around c h (inr l) = getD-sets-after xs cells (8 * n) (8 * r + c) 0 (omega arith)
+      around c h (inl l) = sets-below 0 cells (8 * n) xs (8 * r + c) (omega arith)
+      around c h (inr l) = sets-above 0 cells (8 * n) xs (8 * r + c) (omega arith)
 
 module _ (d : Design) (t : ℕ) (cells tables xs : List ℕ) (eight : length xs ≡ 8) where
   pub grow-row : RowParts d cells tables
@@ -163,7 +165,7 @@ no-rows d e cells tables z y p =
       row = λ r h.
           let D : Database = databaseOf (d .rows) cells tables in
           let E : Database = databaseOf (e .rows) cells tables in
-          unused r (e .rows) (rowTest (schemeOf e) E r) (zeroRow E r) (omega arith) ∙
+          unused-is r (e .rows) (rowTest (schemeOf e) E r) (zeroRow E r) (omega arith) ∙
           zero-row-same (schemeOf d) E D r (same-row (e .rows) (d .rows) cells cells tables tables r refl (λ c l. refl)) ∙
-          sym (unused r (d .rows) (rowTest (schemeOf d) D r) (zeroRow D r) (omega arith)) ∙ p .row r h;
+          sym (unused-is r (d .rows) (rowTest (schemeOf d) D r) (zeroRow D r) (omega arith)) ∙ p .row r h;
     }

@@ -8,7 +8,8 @@ use lib.ListN.{length, getD, set, take, drop}
 use lib.Seq.{sets, getD-set-same, getD-set-other}
 use Rattle.finite.specs.Finite.{tab, collect}
 use Rattle.finite.proofs.Tables.{tab-at, length-tab}
-use Rattle.finite.proofs.Collecting.{collect-same}
+use Rattle.finite.proofs.Collecting.{collect-same, collect-suc}
+use Rattle.finite.proofs.Stores.{sets-below, sets-at}
 use Rattle.state.specs.declared.design.Table.{Table}
 use Rattle.state.specs.declared.design.Constraint.{Constraint}
 use Rattle.state.specs.declared.design.Filling.{Filling}
@@ -18,7 +19,6 @@ use Rattle.format.specs.Bytes.{byteAt, u32At, u32Bytes}
 use Rattle.format.specs.Commands.{columnAt, rowCellAt}
 use Rattle.format.specs.Reading.{Draft, withTable, withConstraint, withFilling, withRows, withRow}
 use Rattle.format.specs.Writing.{tableBytes, constraintBytes, fillingBytes, cellsBytes, rowBytes, designBytes}
-use Rattle.format.proofs.ListLaws.{collect-suc, getD-sets-before, getD-sets-at}
 use Rattle.format.proofs.BytesLaws.{part-add, part-tab, u32-part, parts-collected}
 
 abbrev pub tablesBytes : Design → List ℕ
@@ -48,7 +48,7 @@ design-items d cells tables = five (tablesBytes d) (constraintsBytes d) (filling
 
 -- f is g up to n, and x stands at n
 grown : (n : ℕ) (f g : ℕ → List ℕ) (x : List ℕ) → ((i : ℕ) → i < n → g i ≡ f i) → g n ≡ x → collect (n + 1) (λ _. true) g ≡ collect n (λ _. true) f ++ x
-grown n f g x h e = collect-suc n g ∙ ap₂ _++_ (collect-same n (λ _. true) (λ _. true) g f (λ i l. refl) (λ i l t. h i l)) e
+grown n f g x h e = collect-suc (λ _. true) g n ∙ ap₂ _++_ (collect-same n (λ _. true) (λ _. true) g f (λ i l. refl) (λ i l t. h i l)) e
 
 nothing : (n : ℕ) (f : ℕ → List ℕ) → n ≡ 0 → collect n (λ _. true) f ≡ []
 unfolding collect
@@ -116,7 +116,7 @@ module _ (p : Draft) (s : List ℕ) (i t : ℕ) (long : 8 * p .design .rows + 8 
   old-row r h =
       ap₂ (λ (x : ℕ) (l : List ℕ). 4 ∷ x ∷ l) (getD-set-other (p .tables) (p .design .rows) r t 0 (λ (e : r ≡ p .design .rows). omega arith))
       (collect-same 8 (λ _. true) (λ _. true) _ _ (λ c l. refl)
-      (λ c l z. ap u32Bytes (getD-sets-before (tab 8 (rowCellAt s i)) (p .cells) (8 * p .design .rows) (8 * r + c) 0 (omega arith))))
+      (λ c l z. ap u32Bytes (sets-below 0 (p .cells) (8 * p .design .rows) (tab 8 (rowCellAt s i)) (8 * r + c) (omega arith))))
 
   new-row : rowBytes new-cells new-tables (p .design .rows) ≡ 4 ∷ t ∷ collect 8 (λ _. true) (λ c. u32Bytes (rowCellAt s i c))
   unfolding rowBytes cellsBytes new-cells new-tables
@@ -124,7 +124,7 @@ module _ (p : Draft) (s : List ℕ) (i t : ℕ) (long : 8 * p .design .rows + 8 
       ap₂ (λ (x : ℕ) (l : List ℕ). 4 ∷ x ∷ l) (getD-set-same (p .tables) (p .design .rows) t 0 room)
       (collect-same 8 (λ _. true) (λ _. true) _ _ (λ c l. refl)
       (λ c l z. ap u32Bytes (let e = length-tab 8 (rowCellAt s i) in
-      getD-sets-at (tab 8 (rowCellAt s i)) (p .cells) (8 * p .design .rows) c 0 (omega arith) (omega arith) ∙ tab-at 0 8 (rowCellAt s i) c l)))
+      sets-at 0 (p .cells) (8 * p .design .rows) (tab 8 (rowCellAt s i)) c (omega arith) (omega arith) ∙ tab-at 0 8 (rowCellAt s i) c l)))
 
   pub more-row : itemsBytes (withRow p s i t .design) (withRow p s i t .cells) (withRow p s i t .tables)
       ≡ itemsBytes (p .design) (p .cells) (p .tables) ++ (4 ∷ t ∷ collect 8 (λ _. true) (λ c. u32Bytes (rowCellAt s i c)))

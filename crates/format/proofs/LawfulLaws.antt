@@ -1,16 +1,13 @@
 -- A lawful design place by place, and what the test of an item looks at: only what stands before the item. Assumes nothing.
-use Prim.Native.Nat.{ℕ, suc, _+_, _*_, _≤_, _<_}
-use native.Mathlib.Nat.{eq-or-lt-of-le}
-use native.Mathlib.Omega.{arith}
+use Prim.Native.Nat.{ℕ, _+_, _*_, _≤_, _<_}
 use mathlib.Core.Path.{_≡_, refl, sym, ap, ap₂, _∙_}
 use mathlib.Core.Bool.{Bool, true, false, not, cond, _&&_, _||_, and-eq-true-iff}
-use mathlib.Core.Logic.{_⊎_, inl, inr, ⊎-elim}
 use mathlib.Core.List.{List}
-use borrow.Author.Tests.{lt-ltb, le-ltb, ltb-true, ltb-false, leb-true, le-leb}
+use borrow.Author.Tests.{lt-ltb, ltb-true, leb-true, le-leb}
 use lib.Dec.{eqb, leb, ltb}
 use lib.ListN.{getD}
 use Rattle.finite.specs.Finite.{any, all}
-use Rattle.finite.proofs.Bools.{dec, both, cond-true, cond-false}
+use Rattle.finite.proofs.Bools.{both, cond-false}
 use Rattle.finite.proofs.Search.{any-same, all-same, all-at, all-true}
 use Rattle.model.specs.Cell.{Cell, cellOf, blank, isBlank, equal}
 use Rattle.model.specs.Scheme as Model
@@ -22,35 +19,6 @@ use Rattle.state.specs.declared.design.Design.{Design}
 use Rattle.state.specs.Design.{tableAt, constraintAt, fillingAt}
 use Rattle.state.specs.Meaning.{columnOf, schemeOf, databaseOf}
 use Rattle.state.specs.Lawful.{usedOr, tableFits, zeroTable, sameConstraint, constraintFits, zeroConstraint, fillingFits, zeroFilling, countsFit, lawfulDesign, rowFits, repeatsAt, repeats, zeroRow, lawfulRows}
-
--- ---- a place that is used, and one that is not
-
-pub order : (i n : ℕ) → (i < n) ⊎ ((i ≡ n) ⊎ (n < i))
-order i n = ⊎-elim (λ (e : ltb i n ≡ true). inl (ltb-true i n e)) (λ (e : ltb i n ≡ false). inr (later (eq-or-lt-of-le (ltb-false i n e)))) (dec (ltb i n))
-  where
-    later : (n ≡ i) ⊎ (n < i) → (i ≡ n) ⊎ (n < i)
-    later (inl e) = inl (sym e)
-    later (inr l) = inr l
-
-pub used : (i n : ℕ) (a b : Bool) → i < n → usedOr i n a b ≡ a
-used i n a b h = cond-true (ltb i n) a b (lt-ltb i n h)
-
-pub unused : (i n : ℕ) (a b : Bool) → n ≤ i → usedOr i n a b ≡ b
-unused i n a b h = cond-false (ltb i n) a b (le-ltb i n h)
-
--- no place is used: what the test of a used place says does not matter
-pub none-used : (i n : ℕ) (a b c : Bool) → n ≡ 0 → usedOr i n a c ≡ true → usedOr i n b c ≡ true
-none-used i n a b c e h = unused i n b c (omega arith) ∙ sym (unused i n a c (omega arith)) ∙ h
-
--- one more place of m is used: the n before it are tested as they were, it passes its test, and those behind it are as they were
-module _ (m n : ℕ) (test test′ empty empty′ : ℕ → Bool) where
-  pub one-more : ((i : ℕ) → i < m → usedOr i n (test i) (empty i) ≡ true) → ((i : ℕ) → i < n → test′ i ≡ test i) → test′ n ≡ true
-      → ((i : ℕ) → n < i → i < m → empty′ i ≡ empty i) → (i : ℕ) → i < m → usedOr i (n + 1) (test′ i) (empty′ i) ≡ true
-  one-more h a b c i l =
-      ⊎-elim (λ (q : i < n). used i (n + 1) (test′ i) (empty′ i) (omega arith) ∙ a i q ∙ sym (used i n (test i) (empty i) q) ∙ h i l)
-      (λ (q : (i ≡ n) ⊎ (n < i)). ⊎-elim (λ (e : i ≡ n). used i (n + 1) (test′ i) (empty′ i) (omega arith) ∙ ap test′ e ∙ b)
-      (λ (k : n < i). unused i (n + 1) (test′ i) (empty′ i) (omega arith) ∙ c i k l ∙ sym (unused i n (test i) (empty i) (omega arith)) ∙ h i l) q)
-      (order i n)
 
 -- ---- a lawful design, place by place
 

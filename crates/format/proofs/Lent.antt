@@ -1,14 +1,14 @@
 -- What the reader leaves in lent buffers, refusal by refusal, and with an accepted design. Assumes nothing.
 use Prim.Native.Nat.{ℕ, suc, _≤_, _<_}
 use native.Mathlib.Omega.{arith}
-use mathlib.Core.Path.{_≡_, refl, sym, ap, ap₂, subst, _∙_}
-use mathlib.Core.Bool.{Bool, true, false, cond, _&&_}
+use mathlib.Core.Path.{_≡_, sym, ap, ap₂, subst, _∙_}
+use mathlib.Core.Bool.{false, _&&_}
 use mathlib.Core.List.{List, _++_}
 use borrow.Author.Tests.{le-leb, lt-leb, lt-ltb, le-ltb}
 use lib.Dec.{leb, ltb}
 use lib.ListN.{length, drop, replicate}
-use Rattle.finite.specs.Finite.{tab}
 use Rattle.finite.proofs.Bools.{both, and-left, and-right, cond-true, cond-false}
+use Rattle.finite.proofs.Tables.{replicate-tab}
 use Rattle.state.specs.Design.{emptyDesign}
 use Rattle.state.specs.Held.{noneHeld}
 use Rattle.state.specs.Step.{lent, longEnough}
@@ -16,7 +16,6 @@ use Rattle.format.specs.declared.verdict.DesignReading.{DesignReading}
 use Rattle.format.specs.declared.verdict.Verdict.the-variants.{Accepted, Refused}
 use Rattle.format.specs.Reading.{Draft, draft, emptyDraft, DesignRead, Read, Leaves, verdictOf, designOf, cellsAfter, tablesAfter, marksAfter, mostBytes, readFrom, readDesign, readInto}
 use Rattle.format.specs.Reading.DesignRead.{accepted, refusedAt}
-use Rattle.format.proofs.ListLaws.{replicate-tab}
 
 -- ---- the arrays that the reading starts from
 

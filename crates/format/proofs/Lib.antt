@@ -1,7 +1,6 @@
--- Laws of the definitions in specs/. CommandLaws: a command's byte, width and operands. ListLaws: lists stored or collected piece by piece.
--- WritingLaws: how long what is written is.
+-- Laws of the definitions in specs/. CommandLaws: a command's byte, width and operands. WritingLaws: how long what is
+-- written is.
 pub mod CommandLaws
-pub mod ListLaws
 pub mod BytesLaws
 pub mod WritingLaws
 pub mod LawfulLaws

@@ -1,21 +1,20 @@
 -- What has been read so far: a lawful design with its rows, written as the script's bytes up to the place reached. So an accepted design is
 -- lawful, and is written as it was read. Assumes nothing.
-use Prim.Native.Nat.{ℕ, zero, suc, _+_, _*_, _≤_, _<_}
+use Prim.Native.Nat.{ℕ, zero, suc, _+_, _*_, _<_}
 use native.Mathlib.Numerals.{add-one}
 use native.Mathlib.Omega.{arith}
 use mathlib.Core.Path.{_≡_, refl, sym, ap, ap₂, subst, _∙_}
-use mathlib.Core.Bool.{Bool, true, false, not, cond}
+use mathlib.Core.Bool.{Bool, true, false, cond}
 use mathlib.Core.List.{List, [], _∷_, _++_}
 use mathlib.Core.Logic.{_⊎_, inl, inr, ⊎-elim}
 use borrow.Author.Tests.{lt-ltb, ltb-true, ltb-false, eq-eqb}
 use lib.Dec.{ltb}
-use lib.ListN.{length, getD, set, take, drop, length-set}
-use lib.Seq.{sets, length-sets, take-add, take-suc}
-use Rattle.finite.specs.Finite.{tab, collect, all, any}
-use Rattle.finite.proofs.Bools.{dec, both, cond-true, cond-false}
+use lib.ListN.{length, getD, take, drop, length-set}
+use lib.Seq.{length-sets, take-add, take-suc}
+use Rattle.finite.specs.Finite.{tab, collect}
+use Rattle.finite.proofs.Bools.{dec, both}
 use Rattle.finite.proofs.Search.{all-true}
 use Rattle.finite.proofs.Tables.{length-tab, tab-at, tab-past}
-use Rattle.state.specs.declared.design.Design.{Design}
 use Rattle.state.specs.declared.design.Table as State-table
 use Rattle.state.specs.declared.design.Constraint as State-constraint
 use Rattle.state.specs.declared.design.Filling as State-filling
@@ -23,14 +22,15 @@ use Rattle.model.specs.Cell.{cellOf, blank, isBlank}
 use Rattle.state.specs.Design.{noTable, noConstraint, noFilling, tableAt, constraintAt, fillingAt, emptyDesign}
 use Rattle.state.specs.Meaning.{schemeOf, databaseOf}
 use Rattle.state.specs.Lawful.{tableFits, zeroTable, zeroColumn, constraintFits, zeroConstraint, fillingFits, zeroFilling, zeroRow, lawfulDesign, lawfulRows}
-use Rattle.format.specs.declared.command.Command.the-variants.{Table, Constraint, Filling, Row}
+use Rattle.state.proofs.Places.{unused-is}
+use Rattle.format.specs.declared.command.Command.the-variants.{Table, Constraint, Filling}
 use Rattle.format.specs.Bytes.{byteAt, u32Bytes}
 use Rattle.format.specs.Commands.{widthOf, commandAt, rowCellAt}
-use Rattle.format.specs.Reading.{Draft, emptyDraft, Taken, taken, redesigned, withTable, withConstraint, withFilling, withRows, withRow, DesignRead, readOn, readFrom, readDesign, mostBytes}
+use Rattle.format.specs.Reading.{Draft, emptyDraft, Taken, taken, withTable, withConstraint, withFilling, withRows, withRow, DesignRead, readOn, readFrom, readDesign, mostBytes}
 use Rattle.format.specs.Reading.Taken.{on, complete, refused}
 use Rattle.format.specs.Reading.DesignRead.{accepted, refusedAt}
 use Rattle.format.specs.Writing.{tableBytes, constraintBytes, fillingBytes, designBytes}
-use Rattle.format.proofs.LawfulLaws.{Parts, RowParts, unused, parts, whole, row-parts, whole-rows}
+use Rattle.format.proofs.LawfulLaws.{Parts, RowParts, whole, whole-rows}
 use Rattle.format.proofs.Growing.{grow-table, grow-constraint, grow-filling, count-rows, grow-row, no-rows}
 use Rattle.format.proofs.Items.{itemsBytes, design-items, more-table, more-constraint, more-filling, more-row, table-part, constraint-part, filling-part, row-part}
 use Rattle.format.proofs.Seen.{Seen, seen-table, seen-constraint, seen-filling, seen-row, seen-end, seen-refused, seen}
@@ -148,9 +148,9 @@ empty-parts =
       constraints = omega arith;
       fillings = omega arith;
       rows = omega arith;
-      table = λ i h. unused i 0 (tableFits (tableAt emptyDesign i)) (zeroTable (tableAt emptyDesign i)) (omega arith) ∙ ap zeroTable (tab-at noTable 8 (λ _. noTable) i h);
-      constraint = λ i h. unused i 0 (constraintFits emptyDesign i (constraintAt emptyDesign i)) (zeroConstraint (constraintAt emptyDesign i)) (omega arith) ∙ ap zeroConstraint (tab-at noConstraint 16 (λ _. noConstraint) i h);
-      filling = λ i h. unused i 0 (fillingFits emptyDesign i (fillingAt emptyDesign i)) (zeroFilling (fillingAt emptyDesign i)) (omega arith) ∙ ap zeroFilling (tab-at noFilling 8 (λ _. noFilling) i h);
+      table = λ i h. unused-is i 0 (tableFits (tableAt emptyDesign i)) (zeroTable (tableAt emptyDesign i)) (omega arith) ∙ ap zeroTable (tab-at noTable 8 (λ _. noTable) i h);
+      constraint = λ i h. unused-is i 0 (constraintFits emptyDesign i (constraintAt emptyDesign i)) (zeroConstraint (constraintAt emptyDesign i)) (omega arith) ∙ ap zeroConstraint (tab-at noConstraint 16 (λ _. noConstraint) i h);
+      filling = λ i h. unused-is i 0 (fillingFits emptyDesign i (fillingAt emptyDesign i)) (zeroFilling (fillingAt emptyDesign i)) (omega arith) ∙ ap zeroFilling (tab-at noFilling 8 (λ _. noFilling) i h);
     }
 
 empty-row : (n r : ℕ) → zeroRow (databaseOf n (tab 4096 (λ _. 0)) (tab 512 (λ _. 0))) r ≡ true
@@ -164,7 +164,7 @@ unfolding emptyDraft emptyDesign itemsBytes collect
 reached-start s =
     record {
       design = empty-parts;
-      rows = record { row = λ r h. unused r 0 _ _ (omega arith) ∙ empty-row 0 r };
+      rows = record { row = λ r h. unused-is r 0 _ _ (omega arith) ∙ empty-row 0 r };
       sizes = record { table = length-tab 8 (λ _. noTable); constraint = length-tab 16 (λ _. noConstraint); filling = length-tab 8 (λ _. noFilling); cells = length-tab 4096 (λ _. 0); tables = length-tab 512 (λ _. 0) };
       bytes = refl;
     }

@@ -5,6 +5,7 @@ use native.Mathlib.Omega.{arith}
 use mathlib.Core.Path.{_≡_, refl, sym, ap, ap₂, _∙_}
 use mathlib.Core.List.{List, [], _∷_, _++_, append-assoc}
 use lib.ListN.{length, getD, length-append}
+use Rattle.finite.proofs.Collecting.{length-pieces}
 use Rattle.state.specs.declared.design.Design.{Design}
 use Rattle.state.specs.Design.{tableAt, constraintAt, fillingAt}
 use Rattle.format.specs.Bytes.{byteAt}
@@ -13,7 +14,6 @@ use Rattle.format.specs.Reading.{Draft, emptyDraft, taken}
 use Rattle.format.specs.Reading.Taken.{on}
 use Rattle.format.specs.Reading.DesignRead.{accepted}
 use Rattle.format.specs.Writing.{tableBytes, constraintBytes, fillingBytes, rowBytes, designBytes}
-use Rattle.format.proofs.ListLaws.{length-collect}
 use Rattle.format.proofs.WritingLaws.{length-table, length-constraint, length-filling, length-row}
 use Rattle.format.proofs.LawfulLaws.{Parts, RowParts}
 use Rattle.format.proofs.Items.{tablesBytes, constraintsBytes, fillingsBytes, rowsBytes}
@@ -62,16 +62,16 @@ pub record Numbers (d : Design) (cells : List ℕ) : Type 0 where
 module _ (d : Design) (cells tables : List ℕ) (p : Parts d) (r : RowParts d cells tables) (z : Sizes (record { design = d; cells = cells; tables = tables })) (n : Numbers d cells)
     (s : List ℕ) (h : Stands s 0 (designBytes d cells tables)) where
   long-tables : length (tablesBytes d) ≡ 3 * d .tables
-  long-tables = length-collect 3 (λ i. tableBytes (tableAt d i)) (λ i. length-table _) (d .tables)
+  long-tables = length-pieces 3 (λ i. tableBytes (tableAt d i)) (λ i. length-table _) (d .tables)
 
   long-constraints : length (constraintsBytes d) ≡ 5 * d .constraints
-  long-constraints = length-collect 5 (λ i. constraintBytes (constraintAt d i)) (λ i. length-constraint _) (d .constraints)
+  long-constraints = length-pieces 5 (λ i. constraintBytes (constraintAt d i)) (λ i. length-constraint _) (d .constraints)
 
   long-fillings : length (fillingsBytes d) ≡ 11 * d .fillings
-  long-fillings = length-collect 11 (λ i. fillingBytes (fillingAt d i)) (λ i. length-filling _) (d .fillings)
+  long-fillings = length-pieces 11 (λ i. fillingBytes (fillingAt d i)) (λ i. length-filling _) (d .fillings)
 
   long-rows : length (rowsBytes d cells tables) ≡ 34 * d .rows
-  long-rows = length-collect 34 (rowBytes cells tables) (length-row cells tables) (d .rows)
+  long-rows = length-pieces 34 (rowBytes cells tables) (length-row cells tables) (d .rows)
 
   stand-tables : Stands s 0 (tablesBytes d)
   unfolding designBytes

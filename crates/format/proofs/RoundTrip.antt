@@ -1,7 +1,7 @@
 -- Reading undoes writing and writing undoes reading. `read-written`: a lawful design with lawful rows, written, reads as itself, whatever follows.
 -- `written-read`: an accepted script, up to the place after its END, is what its design is written as. `accepted-lawful`: what is accepted is
 -- lawful; so a design with rows is lawful if and only if some script reads as it. Assumes nothing.
-use Prim.Native.Nat.{ℕ, suc, _+_, _-_, _≤_, _<_}
+use Prim.Native.Nat.{ℕ, suc, _-_, _≤_}
 use native.Mathlib.Omega.{arith}
 use mathlib.Core.Path.{_≡_, sym, ap, subst, _∙_}
 use mathlib.Core.Bool.{true}

@@ -1,29 +1,25 @@
 -- What a lawful design is written as are bytes. Assumes nothing.
-use Prim.Native.Nat.{ℕ, zero, suc, _+_, _*_, _-_, _^_, _≤_, _<_}
-use native.Mathlib.Nat.{lt-of-lt-of-le, mod-lt}
+use Prim.Native.Nat.{ℕ, zero, suc, _^_, _≤_, _<_}
+use native.Mathlib.Nat.{lt-of-lt-of-le}
 use native.Mathlib.Omega.{arith}
-use mathlib.Core.Path.{_≡_, refl, sym, ap, subst, _∙_}
-use mathlib.Core.Bool.{Bool, true, false, not, cond, _&&_, and-eq-true-iff}
+use mathlib.Core.Path.{_≡_, sym, _∙_}
+use mathlib.Core.Bool.{true, not, _&&_, and-eq-true-iff}
 use mathlib.Core.List.{List, [], _∷_, _++_}
-use mathlib.Core.Logic.{_⊎_, ⊎-elim}
-use borrow.Author.Tests.{ltb-true, ltb-false, leb-true}
+use borrow.Author.Tests.{ltb-true, leb-true}
 use lib.Dec.{leb, ltb}
-use lib.ListN.{length, getD, List·getD-append}
+use lib.ListN.{getD}
 use lib.Pow.{pow-mono}
-use lib.Seq.{getD-append-add}
-use Rattle.finite.specs.Finite.{any, all, collect}
-use Rattle.finite.proofs.Bools.{dec}
-use Rattle.model.specs.Cell.{isBlank}
+use Rattle.finite.specs.Finite.{any, collect}
 use Rattle.model.specs.Scheme.{isColumn, sameColumn}
-use Rattle.state.specs.declared.design.Table.{Table}
 use Rattle.state.specs.declared.design.Column.{Column}
 use Rattle.state.specs.declared.design.Design.{Design}
 use Rattle.state.specs.Design.{tableAt, constraintAt, fillingAt}
 use Rattle.state.specs.Meaning.{columnOf, schemeOf, databaseOf}
-use Rattle.state.specs.Lawful.{usedOr, tableFits, zeroTable, sameConstraint, constraintFits, zeroConstraint, fillingFits, zeroFilling, rowFits, repeats, zeroRow, lawfulDesign, lawfulRows}
-use Rattle.format.specs.Bytes.{byteAt, u32Bytes}
+use Rattle.state.specs.Lawful.{tableFits, zeroTable, sameConstraint, constraintFits, zeroConstraint, fillingFits, zeroFilling, rowFits, repeats, zeroRow, lawfulDesign, lawfulRows}
+use Rattle.state.proofs.Places.{used-is}
+use Rattle.format.specs.Bytes.{u32Bytes}
 use Rattle.format.specs.Writing.{tableBytes, constraintBytes, fillingBytes, cellsBytes, rowBytes, designBytes}
-use Rattle.format.proofs.LawfulLaws.{Parts, RowParts, parts, row-parts, used, rowTest}
+use Rattle.format.proofs.LawfulLaws.{Parts, RowParts, parts, row-parts, rowTest}
 
 -- every element is a byte
 pub record Small (xs : List ℕ) : Type 0 where
@@ -60,7 +56,7 @@ module _ (d : Design) (p : Parts d) where
   unfolding tableFits
   fitting i l =
       let t = tableAt d i in
-      let f : tableFits t ≡ true = sym (used i (d .tables) (tableFits t) (zeroTable t) l) ∙ p .table i (let h = p .tables in omega arith) in
+      let f : tableFits t ≡ true = sym (used-is i (d .tables) (tableFits t) (zeroTable t) l) ∙ p .table i (let h = p .tables in omega arith) in
       let x = and-eq-true-iff (leb 1 (t .columns)) (leb (t .columns) 8 && ltb (t .unique) (2 ^ t .columns)) .0 f in
       let y = and-eq-true-iff (leb (t .columns) 8) (ltb (t .unique) (2 ^ t .columns)) .0 (x .1) in
       (leb-true _ _ (y .0), lt-of-lt-of-le (ltb-true _ _ (y .1)) (pow-mono (leb-true _ _ (y .0))))
@@ -80,7 +76,7 @@ module _ (d : Design) (p : Parts d) where
   unfolding constraintBytes constraintFits
   small-constraint i l =
       let c = constraintAt d i in
-      let f : constraintFits d i c ≡ true = sym (used i (d .constraints) (constraintFits d i c) (zeroConstraint c) l) ∙ p .constraint i (let h = p .constraints in omega arith) in
+      let f : constraintFits d i c ≡ true = sym (used-is i (d .constraints) (constraintFits d i c) (zeroConstraint c) l) ∙ p .constraint i (let h = p .constraints in omega arith) in
       let others = not (any i (λ j. sameConstraint (constraintAt d j) c)) in
       let x = and-eq-true-iff (isColumn (schemeOf d) (columnOf (c .source))) (isColumn (schemeOf d) (columnOf (c .target)) && others) .0 f in
       let y = and-eq-true-iff (isColumn (schemeOf d) (columnOf (c .target))) others .0 (x .1) in
@@ -91,7 +87,7 @@ module _ (d : Design) (p : Parts d) where
   unfolding fillingBytes fillingFits
   small-filling i l =
       let f = fillingAt d i in
-      let h : fillingFits d i f ≡ true = sym (used i (d .fillings) (fillingFits d i f) (zeroFilling f) l) ∙ p .filling i (let h = p .fillings in omega arith) in
+      let h : fillingFits d i f ≡ true = sym (used-is i (d .fillings) (fillingFits d i f) (zeroFilling f) l) ∙ p .filling i (let h = p .fillings in omega arith) in
       let rest = leb 1 (f .low) && (leb (f .low) (f .high) && not (any i (λ j. sameColumn (columnOf (fillingAt d j .column)) (columnOf (f .column))))) in
       let a = naming (f .column) (and-eq-true-iff (isColumn (schemeOf d) (columnOf (f .column))) rest .0 h .0) in
       small-one _ _ (omega arith) (small-one _ _ (omega arith) (small-one _ _ (omega arith) (small-append (u32Bytes (f .low)) (u32Bytes (f .high)) (small-u32 _) (small-u32 _))))
@@ -100,7 +96,7 @@ module _ (d : Design) (p : Parts d) where
   unfolding rowBytes cellsBytes rowFits schemeOf databaseOf
   small-row cells tables q r l =
       let S = schemeOf d in let D = databaseOf (d .rows) cells tables in
-      let t : rowTest S D r ≡ true = sym (used r (d .rows) (rowTest S D r) (zeroRow D r) l) ∙ q .row r (let h = p .rows in omega arith) in
+      let t : rowTest S D r ≡ true = sym (used-is r (d .rows) (rowTest S D r) (zeroRow D r) l) ∙ q .row r (let h = p .rows in omega arith) in
       let f : rowFits S D r ≡ true = and-eq-true-iff (rowFits S D r) (not (repeats S D r)) .0 t .0 in
       let a = ltb-true (getD tables r 0) (d .tables) (and-eq-true-iff (ltb (getD tables r 0) (d .tables)) _ .0 f .0) in
       let e = p .tables in

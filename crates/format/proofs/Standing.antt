@@ -1,14 +1,15 @@
 -- What stands at a place of a script, and the command that is read there. Assumes nothing.
-use Prim.Native.Nat.{ℕ, zero, suc, _+_, _*_, _-_, _/_, _%_, _≤_, _<_}
+use Prim.Native.Nat.{ℕ, zero, suc, _+_, _*_, _≤_, _<_}
 use native.Mathlib.Omega.{arith}
 use mathlib.Core.Path.{_≡_, refl, sym, ap, ap₂, subst, _∙_}
-use mathlib.Core.Bool.{Bool, true}
+use mathlib.Core.Bool.{true}
 use mathlib.Core.List.{List, [], _∷_, _++_, append-nil, append-assoc}
 use mathlib.Core.Logic.{_⊎_, inl, inr}
 use lib.ListN.{length, getD, length-append, List·getD-append}
 use lib.Seq.{getD-append-add}
 use Rattle.finite.specs.Finite.{collect}
 use Rattle.finite.proofs.Search.{below-suc}
+use Rattle.finite.proofs.Collecting.{length-pieces}
 use Rattle.state.specs.declared.design.Table as State-table
 use Rattle.state.specs.declared.design.Constraint as State-constraint
 use Rattle.state.specs.declared.design.Filling as State-filling
@@ -19,8 +20,7 @@ use Rattle.format.specs.Commands.{widthOf, columnAt, operandsAt, command
 use Rattle.format.specs.Writing.{tableBytes, constraintBytes, fillingBytes, cellsBytes, rowBytes}
 use Rattle.format.proofs.CommandLaws.{at-whole, operands-table, operands-constraint, operands-filling, operands-row, operands-end}
 use Rattle.format.proofs.BytesLaws.{u32-written}
-use Rattle.format.proofs.ListLaws.{length-collect}
-use Rattle.format.proofs.WritingLaws.{length-u32, length-table, length-constraint, length-filling, length-row}
+use Rattle.format.proofs.WritingLaws.{length-u32, length-filling, length-row}
 
 -- the bytes x stand in s from place i on
 pub record Stands (s : List ℕ) (i : ℕ) (x : List ℕ) : Type 0 where
@@ -76,7 +76,7 @@ piece f (suc n) k l = go (below-suc l) (piece f n k)
 pub stands-piece : (s : List ℕ) (i w : ℕ) (f : ℕ → List ℕ) → ((j : ℕ) → length (f j) ≡ w) → (n : ℕ) → Stands s i (collect n (λ _. true) f) → (k : ℕ) → k < n → Stands s (i + w * k) (f k)
 stands-piece s i w f even n h k l =
     let x = piece f n k l in
-    stands-part s _ (collect k (λ _. true) f) (f k) (x .0) i (i + w * k) h (x .1) (ap (λ (m : ℕ). i + m) (sym (length-collect w f even k)))
+    stands-part s _ (collect k (λ _. true) f) (f k) (x .0) i (i + w * k) h (x .1) (ap (λ (m : ℕ). i + m) (sym (length-pieces w f even k)))
 
 -- ---- the commands that are read
 

@@ -8,6 +8,8 @@ use mathlib.Core.List.{List, [], _∷_, _++_}
 use lib.ListN.{length, getD, set, length-append}
 use lib.Seq.{sets}
 use Rattle.finite.specs.Finite.{collect}
+use Rattle.finite.proofs.Collecting.{length-pieces}
+use Rattle.finite.proofs.Stores.{sets-then, stored-three, stored-five}
 use Rattle.state.specs.declared.design.Table.{Table}
 use Rattle.state.specs.declared.design.Constraint.{Constraint}
 use Rattle.state.specs.declared.design.Filling.{Filling}
@@ -15,7 +17,6 @@ use Rattle.state.specs.declared.design.Design.{Design}
 use Rattle.state.specs.Design.{tableAt, constraintAt, fillingAt}
 use Rattle.format.specs.Bytes.{u32Bytes}
 use Rattle.format.specs.Writing.{tableBytes, constraintBytes, fillingBytes, cellsBytes, rowBytes, designBytes}
-use Rattle.format.proofs.ListLaws.{length-collect, stored-three, stored-five, sets-then}
 
 pub length-u32 : (v : ℕ) → length (u32Bytes v) ≡ 4
 unfolding u32Bytes
@@ -35,7 +36,7 @@ length-filling f = refl
 
 pub length-cells : (cells : List ℕ) (r : ℕ) → length (cellsBytes cells r) ≡ 32
 unfolding cellsBytes
-length-cells cells r = length-collect 4 _ (λ c. length-u32 _) 8
+length-cells cells r = length-pieces 4 _ (λ c. length-u32 _) 8
 
 pub length-row : (cells tables : List ℕ) (r : ℕ) → length (rowBytes cells tables r) ≡ 34
 unfolding rowBytes
@@ -54,10 +55,10 @@ length-design d cells tables =
       length-append cs (fs ++ (rs ++ (5 ∷ []))),
       length-append fs (rs ++ (5 ∷ [])),
       length-append rs (5 ∷ []),
-      length-collect 3 (λ i. tableBytes (tableAt d i)) (λ i. length-table _) (d .tables),
-      length-collect 5 (λ i. constraintBytes (constraintAt d i)) (λ i. length-constraint _) (d .constraints),
-      length-collect 11 (λ i. fillingBytes (fillingAt d i)) (λ i. length-filling _) (d .fillings),
-      length-collect 34 (rowBytes cells tables) (length-row cells tables) (d .rows),
+      length-pieces 3 (λ i. tableBytes (tableAt d i)) (λ i. length-table _) (d .tables),
+      length-pieces 5 (λ i. constraintBytes (constraintAt d i)) (λ i. length-constraint _) (d .constraints),
+      length-pieces 11 (λ i. fillingBytes (fillingAt d i)) (λ i. length-filling _) (d .fillings),
+      length-pieces 34 (rowBytes cells tables) (length-row cells tables) (d .rows),
     )
 
 -- ---- each command, as it is stored
@@ -105,10 +106,10 @@ module _ (d : Design) (cells tables : List ℕ) (l x y z u : List ℕ) (a b c e 
       let cs = collect (d .constraints) (λ _. true) (λ i. constraintBytes (constraintAt d i)) in
       let fs = collect (d .fillings) (λ _. true) (λ i. fillingBytes (fillingAt d i)) in
       let rs = collect (d .rows) (λ _. true) (rowBytes cells tables) in
-      let lt : length ts ≡ 3 * d .tables = length-collect 3 (λ i. tableBytes (tableAt d i)) (λ i. length-table _) (d .tables) in
-      let lc : length cs ≡ 5 * d .constraints = length-collect 5 (λ i. constraintBytes (constraintAt d i)) (λ i. length-constraint _) (d .constraints) in
-      let lf : length fs ≡ 11 * d .fillings = length-collect 11 (λ i. fillingBytes (fillingAt d i)) (λ i. length-filling _) (d .fillings) in
-      let lr : length rs ≡ 34 * d .rows = length-collect 34 (rowBytes cells tables) (length-row cells tables) (d .rows) in
+      let lt : length ts ≡ 3 * d .tables = length-pieces 3 (λ i. tableBytes (tableAt d i)) (λ i. length-table _) (d .tables) in
+      let lc : length cs ≡ 5 * d .constraints = length-pieces 5 (λ i. constraintBytes (constraintAt d i)) (λ i. length-constraint _) (d .constraints) in
+      let lf : length fs ≡ 11 * d .fillings = length-pieces 11 (λ i. fillingBytes (fillingAt d i)) (λ i. length-filling _) (d .fillings) in
+      let lr : length rs ≡ 34 * d .rows = length-pieces 34 (rowBytes cells tables) (length-row cells tables) (d .rows) in
       five-pieces ts cs fs rs l x y z u a b c e (omega arith) px (omega arith) py (omega arith) pz (omega arith) pu
     where
       five-pieces : (ts cs fs rs l x y z u : List ℕ) (a b c e : ℕ) → a ≡ 0 + length ts → x ≡ sets l 0 ts → b ≡ a + length cs → y ≡ sets x a cs

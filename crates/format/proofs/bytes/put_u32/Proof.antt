@@ -2,7 +2,7 @@
 use native.Mathlib.Omega.{arith}
 use borrow.Author.Needs.{needs}
 use lib.ListN.{length-set}
-use Rattle.format.proofs.ListLaws.{stored-u32}
+use Rattle.format.proofs.BytesLaws.{stored-u32}
 use Rattle.format.proofs.bytes.put_u32.Statement.{statement}
 use Rattle.format.proofs.bytes.put_u32.Tie as tie
 

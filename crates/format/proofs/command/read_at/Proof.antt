@@ -2,7 +2,6 @@
 use native.Mathlib.Omega.{arith}
 use mathlib.Core.Path.{sym, _∙_}
 use borrow.Author.Needs.{needs}
-use Rattle.format.specs.Commands.{widthOf}
 use Rattle.format.proofs.CommandLaws.{at-end, at-unknown, at-short, at-whole}
 use Rattle.format.proofs.command.read_at.Statement.{statement}
 use Rattle.format.proofs.command.read_at.Tie as tie

@@ -1,19 +1,21 @@
 -- `format::reading::copy_cells` meets its contract: what is passed is copied. Assumes nothing.
 use Prim.Native.Nat.{_-_, _≤_}
 use native.Mathlib.Omega.{arith}
+use mathlib.Core.Path.{refl}
 use borrow.Author.Needs.{needs}
-use Rattle.format.proofs.ListLaws.{Copied, copied-start, copied-more, copied-end}
+use lib.ListN.{length, getD}
+use Rattle.finite.proofs.Tables.{Upto, upto-start, upto-set, upto-copied}
 use Rattle.format.proofs.reading.copy_cells.Statement.{statement}
 use Rattle.format.proofs.reading.copy_cells.Tie as tie
 
 abbrev Inv-loop : tie.InvT-loop
-Inv-loop from to₀ i₀ to i = (i ≤ 4096) × Copied from to₀ i to
+Inv-loop from to₀ i₀ to i = (i ≤ 4096) × Upto 0 (length to₀) i (λ r. getD from r 0) (λ r. getD to₀ r 0) to
 
 abbrev μ-loop : tie.MeasureT-loop
 μ-loop from to₀ i₀ to i = 4096 - i
 
 loop-holds : tie.Need-loop-holds Inv-loop μ-loop
-loop-holds c = (omega arith, copied-start _ _)
+loop-holds c = (omega arith, upto-start 0 _ _ _ refl)
 
 mul-to : tie.Need-mul-to Inv-loop μ-loop
 mul-to c = search needs
@@ -34,13 +36,13 @@ loop-less : tie.Need-loop-less Inv-loop μ-loop
 loop-less c = omega arith
 
 loop-again : tie.Need-loop-again Inv-loop μ-loop
-loop-again c = (omega arith, copied-more _ _ _ _ (omega arith) (omega arith) (c .before .before .loop .inv .1))
+loop-again c = (omega arith, upto-set 0 _ _ _ _ _ (c .before .before .loop .inv .1) (omega arith) _ refl)
 
 same-length : tie.Need-same-length Inv-loop μ-loop
 same-length c = omega arith
 
 returns : tie.Need-returns Inv-loop μ-loop
-returns c = copied-end _ _ _ 4096 _ (c .before .before .pre .0) (c .before .loop .inv .0) (c .loop-test .left) (c .before .loop .inv .1)
+returns c = upto-copied 0 4096 _ (c .before .before .args .from .now) (c .before .before .args .to .now) _ (c .before .loop .inv .1) (c .before .loop .inv .0) (c .loop-test .left) (c .before .before .pre .1) (c .before .before .pre .0)
 
 pub copy-cells-spec : {M : Type 1} → statement M
 copy-cells-spec =

@@ -2,21 +2,21 @@
 use Prim.Native.Nat.{_-_, _≤_}
 use native.Mathlib.Omega.{arith}
 use borrow.Author.Needs.{needs}
+use Rattle.finite.proofs.Stores.{Pieces, pieces-start, pieces-more, pieces-end}
 use Rattle.state.specs.Design.{constraintAt}
 use Rattle.format.specs.Writing.{constraintBytes}
-use Rattle.format.proofs.ListLaws.{Stored, stored-start, stored-more, stored-end}
 use Rattle.format.proofs.WritingLaws.{length-constraint}
 use Rattle.format.proofs.writing.put_constraints.Statement.{statement}
 use Rattle.format.proofs.writing.put_constraints.Tie as tie
 
 abbrev Inv-loop : tie.InvT-loop
-Inv-loop out₀ at d n i₀ out i = (i ≤ n) × Stored (λ j. constraintBytes (constraintAt d j)) out₀ at i out
+Inv-loop out₀ at d n i₀ out i = (i ≤ n) × Pieces (λ j. constraintBytes (constraintAt d j)) out₀ at i out
 
 abbrev μ-loop : tie.MeasureT-loop
 μ-loop out₀ at d n i₀ out i = n - i
 
 loop-holds : tie.Need-loop-holds Inv-loop μ-loop
-loop-holds c = (omega arith, stored-start _ _ _)
+loop-holds c = (omega arith, pieces-start _ _ _)
 
 mul-put-constraint : tie.Need-mul-put-constraint Inv-loop μ-loop
 mul-put-constraint c = search needs
@@ -40,7 +40,7 @@ loop-less : tie.Need-loop-less Inv-loop μ-loop
 loop-less c = omega arith
 
 loop-again : tie.Need-loop-again Inv-loop μ-loop
-loop-again c = (omega arith, stored-more 5 _ (λ j. length-constraint _) _ _ _ _ _ (c .before .before .before .before .before .before .loop .inv .1) (c .before .before .put-constraint .ensures))
+loop-again c = (omega arith, pieces-more _ _ _ 5 (λ j. length-constraint _) _ _ _ (c .before .before .before .before .before .before .loop .inv .1) (c .before .before .put-constraint .ensures))
 
 mul-result : tie.Need-mul-result Inv-loop μ-loop
 mul-result c = search needs
@@ -52,7 +52,7 @@ same-length : tie.Need-same-length Inv-loop μ-loop
 same-length c = omega arith
 
 returns : tie.Need-returns Inv-loop μ-loop
-returns c = (omega arith, stored-end _ _ _ _ _ _ (c .before .loop .inv .0) (c .loop-test .left) (c .before .loop .inv .1))
+returns c = (omega arith, pieces-end _ _ _ _ _ _ (c .before .loop .inv .0) (c .loop-test .left) (c .before .loop .inv .1))
 
 pub put-constraints-spec : {M : Type 1} → statement M
 put-constraints-spec =

@@ -2,20 +2,20 @@
 use Prim.Native.Nat.{_-_, _≤_}
 use native.Mathlib.Omega.{arith}
 use borrow.Author.Needs.{needs}
+use Rattle.finite.proofs.Stores.{Pieces, pieces-start, pieces-more, pieces-end}
 use Rattle.format.specs.Writing.{rowBytes}
-use Rattle.format.proofs.ListLaws.{Stored, stored-start, stored-more, stored-end}
 use Rattle.format.proofs.WritingLaws.{length-row}
 use Rattle.format.proofs.writing.put_rows.Statement.{statement}
 use Rattle.format.proofs.writing.put_rows.Tie as tie
 
 abbrev Inv-loop : tie.InvT-loop
-Inv-loop rows cells tables out₀ at i₀ out i = (i ≤ rows) × Stored (rowBytes cells tables) out₀ at i out
+Inv-loop rows cells tables out₀ at i₀ out i = (i ≤ rows) × Pieces (rowBytes cells tables) out₀ at i out
 
 abbrev μ-loop : tie.MeasureT-loop
 μ-loop rows cells tables out₀ at i₀ out i = rows - i
 
 loop-holds : tie.Need-loop-holds Inv-loop μ-loop
-loop-holds c = (omega arith, stored-start _ _ _)
+loop-holds c = (omega arith, pieces-start _ _ _)
 
 mul-put-row : tie.Need-mul-put-row Inv-loop μ-loop
 mul-put-row c = search needs
@@ -33,7 +33,7 @@ loop-less : tie.Need-loop-less Inv-loop μ-loop
 loop-less c = omega arith
 
 loop-again : tie.Need-loop-again Inv-loop μ-loop
-loop-again c = (omega arith, stored-more 34 _ (length-row _ _) _ _ _ _ _ (c .before .before .before .before .before .loop .inv .1) (c .before .before .put-row .ensures))
+loop-again c = (omega arith, pieces-more _ _ _ 34 (length-row _ _) _ _ _ (c .before .before .before .before .before .loop .inv .1) (c .before .before .put-row .ensures))
 
 mul-result : tie.Need-mul-result Inv-loop μ-loop
 mul-result c = search needs
@@ -45,7 +45,7 @@ same-length : tie.Need-same-length Inv-loop μ-loop
 same-length c = omega arith
 
 returns : tie.Need-returns Inv-loop μ-loop
-returns c = (omega arith, stored-end _ _ _ _ _ _ (c .before .loop .inv .0) (c .loop-test .left) (c .before .loop .inv .1))
+returns c = (omega arith, pieces-end _ _ _ _ _ _ (c .before .loop .inv .0) (c .loop-test .left) (c .before .loop .inv .1))
 
 pub put-rows-spec : {M : Type 1} → statement M
 put-rows-spec =
