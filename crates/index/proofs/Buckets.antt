@@ -1,5 +1,5 @@
 -- Which rows are in a bucket: the rows that have a value are all in its bucket, and the tests that tell a row's bucket. Assumes nothing.
-use Prim.Native.Nat.{ℕ, _+_, _*_, _%_, _≤_, _<_}
+use Prim.Native.Nat.{ℕ, _+_, _*_, _/_, _≤_, _<_}
 use native.Mathlib.Nat.{mod-lt}
 use native.Mathlib.Omega.{arith}
 use mathlib.Core.Path.{_≡_, refl, sym, ap, subst, _∙_}
@@ -9,7 +9,7 @@ use borrow.Author.Tests.{lt-ltb, le-ltb, eq-eqb, ne-eqb, eqb-true, not-true}
 use lib.Dec.{eqb, ltb}
 use lib.ListN.{getD}
 use Rattle.finite.proofs.Bools.{both, clash, refute, and-left, and-right, ne-not, eq-not}
-use Rattle.model.specs.Cell.{Cell, isBlank, equal}
+use Rattle.model.specs.Cell.{Cell, cellOf, isBlank, equal}
 use Rattle.model.specs.Scheme as Model
 use Rattle.model.specs.Database.{Database, has}
 use Rattle.model.proofs.CellLaws.{equal-same, equal-full, equal-self}
@@ -19,7 +19,7 @@ use Rattle.index.specs.Index.{hash, keyed, inBucket}
 
 pub hash-below : (a : Cell) → hash a < 512
 unfolding hash
-hash-below a = mod-lt (a .number) (omega arith)
+hash-below a = mod-lt (a .number * 2654435769 / 8388608) (omega arith)
 
 -- ---- in any database: row r, with cell x in column k
 
@@ -95,6 +95,5 @@ module _ (rows : ℕ) (cells tables : List ℕ) (k : Model.Column) (r : ℕ) (l 
   pub keyed-here : r < rows → getD tables r 0 ≡ k .table → (getD cells (8 * r + k .place) 0 ≡ 0 → ⊥) → keyed (databaseOf rows cells tables) k r ≡ true
   keyed-here h t z = keyed-at ∙ both (lt-ltb r rows h) (both (eq-eqb _ _ t) (ne-not _ _ z))
 
-  pub hash-at : hash (databaseOf rows cells tables .cell r (k .place)) ≡ getD cells (8 * r + k .place) 0 % 512
-  unfolding hash
-  hash-at = ap (λ (a : Cell). a .number % 512) (cell-at rows cells tables r (k .place) p)
+  pub hash-at : hash (databaseOf rows cells tables .cell r (k .place)) ≡ hash (cellOf (getD cells (8 * r + k .place) 0))
+  hash-at = ap hash (cell-at rows cells tables r (k .place) p)

@@ -35,14 +35,14 @@ module _ (D : Database) (k : Model.Column) where
   unfolding isBlank
   seek-blank v e = sym (first-none _ 0 (λ r _ _. has-no-blank D k r (cellOf v) (eq-eqb v 0 e)))
 
-  -- a chain's first row
-  module _ (v : Cell) (i : ℕ) (heads : List ℕ) (t : Stored (headAt D k) i heads) where
+  -- the first row of the chain of v's bucket, number h
+  module _ (v : Cell) (h : ℕ) (b : h ≡ hash v) (i : ℕ) (heads : List ℕ) (t : Stored (headAt D k) i heads) where
     abbrev head : ℕ
-    head = getD heads (512 * i + hash v) 0
+    head = getD heads (512 * i + h) 0
 
     head-is : head ≡ firstFrom (inBucket D k (hash v)) 0
     unfolding headAt
-    head-is = t .at (hash v) (hash-below v)
+    head-is = ap (λ (x : ℕ). getD heads (512 * i + x) 0) b ∙ t .at (hash v) (hash-below v)
 
     pub head-hit : Hit (inBucket D k (hash v)) head
     head-hit = first-hit _ 0 head head-is

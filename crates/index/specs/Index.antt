@@ -1,6 +1,6 @@
 -- The index of a column: a bucket for each hash, each a chain of rows in rising order. Several indexes stand in one pair of lists, `heads` and
 -- `links`; index i has the 512 places from 512 * i on in each. Assumes nothing.
-use Prim.Native.Nat.{ℕ, _+_, _*_, _%_, _≤_, _<_}
+use Prim.Native.Nat.{ℕ, _+_, _*_, _/_, _%_, _≤_, _<_}
 use mathlib.Core.Path.{_≡_}
 use mathlib.Core.Bool.{Bool, not, cond, _&&_}
 use mathlib.Core.List.{List}
@@ -17,9 +17,9 @@ use Rattle.index.specs.First.{firstFrom}
 
 -- ---- buckets
 
--- a cell's bucket
+-- a cell's bucket: the nine bits from bit 23 on of its number times 2654435769, the whole part of 2^32 divided by the golden ratio
 unfoldable pub hash : Cell → ℕ
-hash a = a .number % 512
+hash a = a .number * 2654435769 / 8388608 % 512
 
 -- row r is a row of k's table and not blank in column k
 unfoldable pub keyed : Database → Model.Column → ℕ → Bool

@@ -5,6 +5,7 @@ ghost use lib.ListN.{length};
 ghost use Rattle.state.specs.Design.{Backed};
 ghost use Rattle.state.specs.Meaning.{columnOf, databaseOf};
 ghost use Rattle.index.specs.Index.{Added, storedIn, headsWith, linksWith};
+use crate::bucket::bucket;
 use state::Column;
 use state::Design;
 
@@ -42,7 +43,7 @@ fn put(
     if x == 0 {
         return;
     }
-    let h = Design::ROWS * i + x as usize % Design::ROWS;
+    let h = Design::ROWS * i + bucket(x);
     links[Design::ROWS * i + r] = heads[h];
     heads[h] = r as u16;
 }

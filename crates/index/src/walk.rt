@@ -8,6 +8,7 @@ ghost use Rattle.state.specs.Design.{Backed};
 ghost use Rattle.state.specs.Meaning.{columnOf, databaseOf};
 ghost use Rattle.index.specs.First.{firstFrom, Hit};
 ghost use Rattle.index.specs.Index.{Indexes, Stored, hash, inBucket, linkAt};
+use crate::bucket::bucket;
 use state::Column;
 use state::Design;
 
@@ -59,7 +60,7 @@ pub fn first(
     if v == 0 {
         return Design::ROWS;
     }
-    let h = v as usize % Design::ROWS;
+    let h = bucket(v);
     seek(
         rows,
         cells,

@@ -35,10 +35,8 @@ returns-2 c = put-none _ _ _ _ _ _ (keyed-blank _ _ _ _ _ (omega arith) (omega a
 mul-h : tie.Need-mul-h
 mul-h c = search needs
 
-cast-h : tie.Need-cast-h
-cast-h c =
-    let a = c .before .before .before .before .before .before .args in
-    omega (arith, c .before .shared-slice-known2 .given (8 * a .r + a .k .place))
+bucket-requires : tie.Need-bucket-requires
+bucket-requires c κs = search needs
 
 add-h : tie.Need-add-h
 add-h c = search needs
@@ -78,9 +76,10 @@ same-length-2 c = search needs
 
 returns-3 : tie.Need-returns-3
 returns-3 c =
-    let a = c .before .before .before .before .before .before .before .args in
-    put-in _ _ _ _ _ _ (keyed-here _ _ _ _ _ (omega arith) (omega arith) (omega arith) (c .before .before .before .before .if1 .left) (c .before .if2 .left)) _
-    (omega (arith, hash-at (a .rows) (a .cells .now) (a .tables .now) (columnOf (a .k)) (a .r) (omega arith) (omega arith)))
+    let a = c .before .before .before .before .before .before .before .before .before .before .before .before .args in
+    let t = c .before .before .before .before .before .if1 .left in
+    put-in _ _ _ _ _ _ (keyed-here _ _ _ _ _ (omega arith) (omega arith) (omega arith) t (c .before .before .if2 .left)) _
+    (omega (arith, c .before .bucket .ensures, hash-at (a .rows) (a .cells .now) (a .tables .now) (columnOf (a .k)) (a .r) (omega arith) (omega arith)))
 
 pub put-spec : {M : Type 1} → statement M
 put-spec =
@@ -95,7 +94,7 @@ put-spec =
     shared-slice-read-x
     returns-2
     mul-h
-    cast-h
+    bucket-requires
     add-h
     mul-links
     slice-read-links
