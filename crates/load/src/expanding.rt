@@ -8,6 +8,7 @@ ghost use Rattle.state.specs.Meaning.{columnOf, databaseOf, schemeOf};
 ghost use Rattle.load.specs.Source.{sourceValue};
 ghost use Rattle.load.specs.Queue.{Listed, added, Grown};
 ghost use Rattle.load.specs.Built.{Built};
+ghost use Rattle.load.specs.Walked.{AllWalked};
 use crate::places::constraint_at;
 use crate::raising::raise;
 use state::Column;
@@ -28,7 +29,7 @@ pub fn source_value(rows: usize, cells: &[u32], tables: &[u8], k: Column, s: usi
 }
 
 // Gives level `to` and a place in the queue to the rows without a level that row s demands; where the queue ends then.
-// One step for each constraint, and for those of row s's table the walk of the rows that have its value.
+// One step for each constraint, and for those of row s's table the first row that has its value, with a walk if the value is new.
 pub fn expand(
     d: Design,
     cells: &[u32],
@@ -37,6 +38,7 @@ pub fn expand(
     built: &mut [bool; 16],
     heads: &mut [u16],
     links: &mut [u16],
+    walked: &mut [bool; 8192],
     levels: &mut [u16; 512],
     to: u16,
     queue: &mut [u16; 512],
@@ -45,10 +47,13 @@ pub fn expand(
     requires { ⌜ InRange d × Backed (now cells) (now tables) × (s < 512) × (1 < to) × (length (now levels) ≡ 512) ⌝ }
     requires { ⌜ Built (d .rows) (now cells) (now tables) (λ j. constraintAt d j .target) (now built) (now heads) (now links) ⌝ }
     requires { ⌜ Listed (added (now levels)) (now queue) end ⌝ }
+    requires { ⌜ AllWalked (databaseOf (d .rows) (now cells) (now tables)) (λ j. columnOf (constraintAt d j .target)) (now walked) (now levels) ⌝ }
     ensures { λ e. ⌜ Grown to (demands (schemeOf d) (databaseOf (d .rows) (now (cells .entry)) (now (tables .entry))) s)
         (now (levels .entry)) (now (queue .entry)) end (now (levels .exit)) (now (queue .exit)) e ⌝ }
     ensures { λ _. ⌜ Built (d .rows) (now (cells .entry)) (now (tables .entry)) (λ j. constraintAt d j .target)
         (now (built .exit)) (now (heads .exit)) (now (links .exit)) ⌝ }
+    ensures { λ _. ⌜ AllWalked (databaseOf (d .rows) (now (cells .entry)) (now (tables .entry))) (λ j. columnOf (constraintAt d j .target))
+        (now (walked .exit)) (now (levels .exit)) ⌝ }
 {
     let mut e = end;
     for i in 0..d.constraints {
@@ -64,6 +69,7 @@ pub fn expand(
             built,
             heads,
             links,
+            walked,
             levels,
             to,
             queue,

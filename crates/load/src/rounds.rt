@@ -5,9 +5,10 @@ ghost use lib.ListN.{length, getD};
 ghost use Rattle.model.specs.Rounds as Rounds;
 ghost use Rattle.model.specs.Rounds.{next, laterRounds};
 ghost use Rattle.state.specs.Design.{InRange, Backed, constraintAt};
-ghost use Rattle.state.specs.Meaning.{databaseOf, schemeOf};
+ghost use Rattle.state.specs.Meaning.{columnOf, databaseOf, schemeOf};
 ghost use Rattle.load.specs.Queue.{Listed, added, Front};
 ghost use Rattle.load.specs.Built.{Built};
+ghost use Rattle.load.specs.Walked.{AllWalked};
 use crate::expanding::expand;
 use crate::queue::list_added;
 use state::Design;
@@ -20,6 +21,7 @@ pub fn round(
     built: &mut [bool; 16],
     heads: &mut [u16],
     links: &mut [u16],
+    walked: &mut [bool; 8192],
     levels: &mut [u16; 512],
     n: u16,
     queue: &mut [u16; 512],
@@ -28,9 +30,12 @@ pub fn round(
 ) -> usize
     requires { ⌜ InRange d × Backed (now cells) (now tables) × (n < 512) × (length (now levels) ≡ 512) ⌝ }
     requires { ⌜ Built (d .rows) (now cells) (now tables) (λ j. constraintAt d j .target) (now built) (now heads) (now links) ⌝ }
-    requires { ⌜ Listed (added (now levels)) (now queue) end × Front (n + 2) (now levels) (now queue) from end ⌝ }
+    requires { ⌜ Listed (added (now levels)) (now queue) end × Front (n + 2) (now levels) (now queue) from end
+        × AllWalked (databaseOf (d .rows) (now cells) (now tables)) (λ j. columnOf (constraintAt d j .target)) (now walked) (now levels) ⌝ }
     ensures { λ _. ⌜ now (levels .exit) ≡ next (schemeOf d) (databaseOf (d .rows) (now (cells .entry)) (now (tables .entry))) n (now (levels .entry)) ⌝ }
-    ensures { λ e. ⌜ Listed (added (now (levels .exit))) (now (queue .exit)) e × Front (n + 3) (now (levels .exit)) (now (queue .exit)) end e ⌝ }
+    ensures { λ e. ⌜ Listed (added (now (levels .exit))) (now (queue .exit)) e × Front (n + 3) (now (levels .exit)) (now (queue .exit)) end e
+        × AllWalked (databaseOf (d .rows) (now (cells .entry)) (now (tables .entry))) (λ j. columnOf (constraintAt d j .target))
+        (now (walked .exit)) (now (levels .exit)) ⌝ }
     ensures { λ _. ⌜ Built (d .rows) (now (cells .entry)) (now (tables .entry)) (λ j. constraintAt d j .target)
         (now (built .exit)) (now (heads .exit)) (now (links .exit)) ⌝ }
 {
@@ -44,6 +49,7 @@ pub fn round(
             built,
             heads,
             links,
+            walked,
             levels,
             n + 3,
             queue,
@@ -62,13 +68,15 @@ pub fn run(
     built: &mut [bool; 16],
     heads: &mut [u16],
     links: &mut [u16],
+    walked: &mut [bool; 8192],
     levels: &mut [u16; 512],
     queue: &mut [u16; 512],
     end: usize,
 ) -> usize
     requires { ⌜ InRange d × Backed (now cells) (now tables) × (length (now levels) ≡ 512) × ((r : ℕ) → getD (now levels) r 0 ≤ 2) ⌝ }
     requires { ⌜ Built (d .rows) (now cells) (now tables) (λ j. constraintAt d j .target) (now built) (now heads) (now links) ⌝ }
-    requires { ⌜ Listed (added (now levels)) (now queue) end × Front 2 (now levels) (now queue) 0 end ⌝ }
+    requires { ⌜ Listed (added (now levels)) (now queue) end × Front 2 (now levels) (now queue) 0 end
+        × AllWalked (databaseOf (d .rows) (now cells) (now tables)) (λ j. columnOf (constraintAt d j .target)) (now walked) (now levels) ⌝ }
     ensures { λ n. ⌜ (now (levels .exit) ≡ Rounds.levels (schemeOf d) (databaseOf (d .rows) (now (cells .entry)) (now (tables .entry))) (now (levels .entry)) 512)
         × (n ≡ laterRounds (databaseOf (d .rows) (now (cells .entry)) (now (tables .entry))) (now (levels .exit))) ⌝ }
 {
@@ -83,6 +91,7 @@ pub fn run(
             built,
             heads,
             links,
+            walked,
             levels,
             n,
             queue,
@@ -99,9 +108,9 @@ pub fn run(
     n as usize
 }
 
-// The later rounds, in place; how many added a row. One pass over the row numbers; then each row that is added costs one step for each constraint
-// and, for the constraints of its table, the walk of the rows that have its value. A target column is indexed where it is first needed: 512 steps
-// and one for each row. If round 0 added nothing, neither does any other.
+// The later rounds, in place; how many added a row. One pass over the row numbers; then one step for each row that is added and each constraint, and
+// one walk of the rows that have a value for each value and constraint: no row is walked twice for a constraint. A target column is indexed where it
+// is first needed: 512 steps and one for each row. If round 0 added nothing, neither does any other.
 pub fn close(d: Design, cells: &[u32], tables: &[u8], levels: &mut [u16; 512]) -> usize
     requires { ⌜ InRange d × Backed (now cells) (now tables) × (length (now levels) ≡ 512) × ((r : ℕ) → getD (now levels) r 0 ≤ 2) ⌝ }
     ensures { λ n. ⌜ (now (levels .exit) ≡ Rounds.levels (schemeOf d) (databaseOf (d .rows) (now (cells .entry)) (now (tables .entry))) (now (levels .entry)) 512)
@@ -115,6 +124,7 @@ pub fn close(d: Design, cells: &[u32], tables: &[u8], levels: &mut [u16; 512]) -
     let mut built = [false; 16];
     let mut heads = [0u16; 8192];
     let mut links = [0u16; 8192];
+    let mut walked = [false; 8192];
     run(
         d,
         cells,
@@ -122,6 +132,7 @@ pub fn close(d: Design, cells: &[u32], tables: &[u8], levels: &mut [u16; 512]) -
         &mut built,
         &mut heads,
         &mut links,
+        &mut walked,
         levels,
         &mut queue,
         end,

@@ -12,28 +12,24 @@ use Rattle.load.proofs.raising.walk.Statement.{statement}
 use Rattle.load.proofs.raising.walk.Tie as tie
 
 abbrev Inv-loop : tie.InvT-loop
-Inv-loop rows cells tables k i v heads links levels₀ to queue₀ end e₀ r₀ levels queue e r =
+Inv-loop rows cells tables k i v from heads links levels₀ to queue₀ end e₀ r₀ levels queue e r =
     Walking to (has (databaseOf rows cells tables) (columnOf k) (cellOf v)) levels₀ queue₀ end r levels queue e
 
 abbrev μ-loop : tie.MeasureT-loop
-μ-loop rows cells tables k i v heads links levels₀ to queue₀ end e₀ r₀ levels queue e r = 512 - r
-
-first-requires : tie.Need-first-requires Inv-loop μ-loop
-first-requires c κs = let p = c .before .before .before .before .pre in (p .0, (p .1 .0, p .1 .1 .0))
+μ-loop rows cells tables k i v from heads links levels₀ to queue₀ end e₀ r₀ levels queue e r = 512 - r
 
 loop-holds : tie.Need-loop-holds Inv-loop μ-loop
-loop-holds c =
-    walk-start _ _ _ _ _ _ (c .before .before .before .before .before .pre .1 .1 .2) (c .before .before .before .before .before .pre .1 .1 .3) (c .first .ensures)
+loop-holds c = let p = c .before .before .before .before .pre .1 .1 in walk-start _ _ _ _ _ _ (p .2) (p .3) (p .4)
 
 reach-requires : tie.Need-reach-requires Inv-loop μ-loop
 reach-requires c κs =
     let g = c .before .before .before .loop .inv .grown in
-    (c .before .before .loop-test .taken, c .before .before .before .before .before .before .before .before .before .pre .1 .1 .1, g .long, g .queue)
+    (c .before .before .loop-test .taken, c .before .before .before .before .before .before .before .before .pre .1 .1 .1, g .long, g .queue)
 
 after-requires : tie.Need-after-requires Inv-loop μ-loop
 after-requires c κs =
     let c8 = c .before .before .before .before .before .before .before .before in
-    let p = c8 .before .before .pre in
+    let p = c8 .before .pre in
     let t = c .before .before .before .loop-test .taken in
     (p .0, (p .1 .0, (p .1 .1 .0, t, c .before .before .before .before .loop .inv .stands .here t)))
 
@@ -43,7 +39,7 @@ loop-less c = omega (arith, first-after _ _ _ (c .before .before .before .before
 loop-again : tie.Need-loop-again Inv-loop μ-loop
 loop-again c =
     let c8 = c .before .before .before .before .before .before .before .before in
-    let o = c8 .before .before .before .pre .1 .1 .1 in
+    let o = c8 .before .before .pre .1 .1 .1 in
     walk-next _ _ _ _ _ _ _ _ _ (c .before .before .before .before .before .loop .inv) _ _ _ _ (omega arith) (c .before .before .before .before .loop-test .taken)
     (c .before .reach .ensures) (c .after .ensures)
 
@@ -56,7 +52,6 @@ walk-spec =
     (tie.spec
     Inv-loop
     μ-loop
-    first-requires
     loop-holds
     reach-requires
     after-requires

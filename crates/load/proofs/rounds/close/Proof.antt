@@ -7,6 +7,7 @@ use Rattle.state.specs.Meaning.{databaseOf}
 use Rattle.load.proofs.BuiltLaws.{built-none}
 use Rattle.load.proofs.FrontLaws.{front-start, queue-empty}
 use Rattle.load.proofs.RoundsEnd.{running-none}
+use Rattle.load.proofs.WalkedLaws.{walked-none}
 use Rattle.load.proofs.rounds.close.Statement.{statement}
 use Rattle.load.proofs.rounds.close.Tie as tie
 
@@ -27,12 +28,12 @@ slice-aggregate-run-2 c = sym (length-replicate {A = ℕ} 8192 0)
 run-requires : tie.Need-run-requires
 run-requires c κs =
     let c8 = c .before .before .before .before .before .before .before .before in
-    let p = c8 .before .before .before .pre in
-    let u = c .before .before .before .before .before .before .list-added .ensures in (
+    let p = c8 .before .before .before .before .pre in
+    let u = c .before .before .before .before .before .before .before .list-added .ensures in (
       (p .0, p .1, p .2, p .3),
       (
         built-none _ _ _ _ _ _ (length-replicate {A = ℕ} 8192 0) (length-replicate {A = ℕ} 8192 0),
-        (u, front-start _ _ _ u (p .3)),
+        (u, front-start _ _ _ u (p .3), λ j. walked-none _ _ j _),
       ),
     )
 

@@ -6,28 +6,30 @@ use Rattle.model.proofs.QueryLaws.{target}
 use Rattle.model.specs.Rounds.{demands, levels}
 use Rattle.model.specs.Runs.{taken}
 use Rattle.state.specs.Design.{constraintAt}
-use Rattle.state.specs.Meaning.{databaseOf, schemeOf}
+use Rattle.state.specs.Meaning.{columnOf, databaseOf, schemeOf}
 use Rattle.load.specs.Built.{Built}
 use Rattle.load.specs.Queue.{Grown}
+use Rattle.load.specs.Walked.{AllWalked}
 use Rattle.load.proofs.FrontLaws.{asks, asks-here, asks-none, front-next, front-round}
 use Rattle.load.proofs.QueueLaws.{grown-end, grown-start, grown-turn, listed-most}
 use Rattle.load.proofs.rounds.round.Statement.{statement}
 use Rattle.load.proofs.rounds.round.Tie as tie
 
 abbrev Inv-loop : tie.InvT-loop
-Inv-loop d cells tables built₀ heads₀ links₀ levels₀ n queue₀ from end e₀ i₀ built heads links levels queue e i =
+Inv-loop d cells tables built₀ heads₀ links₀ walked₀ levels₀ n queue₀ from end e₀ i₀ built heads links walked levels queue e i =
     (from ≤ i) ×
     (i ≤ end) ×
     Grown (n + 3) (λ r. any i (λ j. asks (demands (schemeOf d) (databaseOf (d .rows) cells tables)) from queue₀ j r)) levels₀ queue₀ end levels queue e ×
-    Built (d .rows) cells tables (λ j. constraintAt d j .target) built heads links
+    Built (d .rows) cells tables (λ j. constraintAt d j .target) built heads links ×
+    AllWalked (databaseOf (d .rows) cells tables) (λ j. columnOf (constraintAt d j .target)) walked levels
 
 abbrev μ-loop : tie.MeasureT-loop
-μ-loop d cells tables built₀ heads₀ links₀ levels₀ n queue₀ from end e₀ i₀ built heads links levels queue e i = end - i
+μ-loop d cells tables built₀ heads₀ links₀ walked₀ levels₀ n queue₀ from end e₀ i₀ built heads links walked levels queue e i = end - i
 
 loop-holds : tie.Need-loop-holds Inv-loop μ-loop
 loop-holds c =
     let p = c .before .before .before .before .pre in
-    (omega arith, p .1 .1 .1 .order, grown-start _ _ _ _ _ _ (p .0 .3) (p .1 .1 .0) (λ r l. asks-none _ _ _ r), p .1 .0)
+    (omega arith, p .1 .1 .1 .order, grown-start _ _ _ _ _ _ (p .0 .3) (p .1 .1 .0) (λ r l. asks-none _ _ _ r), p .1 .0, p .1 .1 .2)
 
 mul-expand : tie.Need-mul-expand Inv-loop μ-loop
 mul-expand c = omega (arith, listed-most _ _ _ (c .before .before .before .before .before .before .pre .1 .1 .0), c .loop-test .taken)
@@ -43,42 +45,44 @@ cast-expand c =
 add-expand : tie.Need-add-expand Inv-loop μ-loop
 add-expand c =
     let c8 = c .before .before .before .before .before .before .before .before in
-    omega (arith, c8 .before .before .before .pre .0 .2)
+    omega (arith, c8 .before .before .before .before .pre .0 .2)
 
 expand-requires : tie.Need-expand-requires Inv-loop μ-loop
 expand-requires c κs =
     let c8 = c .before .before .before .before .before .before .before .before in
-    let p = c8 .before .before .before .before .pre in
-    let g = c .before .before .before .before .before .before .before .loop .inv .2 in
-    let t = c .before .before .before .before .before .before .loop-test .taken in
-    let s = g .queue .row (c .before .before .before .before .before .before .before .loop .i) (omega (arith, t, g .longer)) in (
+    let p = c8 .before .before .before .before .before .pre in
+    let h = c8 .loop in
+    let g = h .inv .2 in
+    let t = c .before .before .before .before .before .before .before .loop-test .taken in
+    let s = g .queue .row (h .i) (omega (arith, t, g .longer)) in (
       (p .0 .0, p .0 .1, s, omega arith, g .long),
-      (c .before .before .before .before .before .before .before .loop .inv .3, g .queue),
+      (h .inv .3, (g .queue, h .inv .4)),
     )
 
 add-i : tie.Need-add-i Inv-loop μ-loop
 add-i c =
     let c8 = c .before .before .before .before .before .before .before .before in
     let c16 = c8 .before .before .before .before .before .before .before .before in
-    omega (arith, listed-most _ _ _ (c16 .before .pre .1 .1 .0), c8 .before .before .before .loop-test .taken)
+    omega (arith, listed-most _ _ _ (c16 .before .before .pre .1 .1 .0), c8 .before .before .before .before .loop-test .taken)
 
 loop-less : tie.Need-loop-less Inv-loop μ-loop
 loop-less c =
     let c8 = c .before .before .before .before .before .before .before .before in
-    omega (arith, c8 .before .before .before .loop-test .taken)
+    omega (arith, c8 .before .before .before .before .loop-test .taken)
 
 loop-again : tie.Need-loop-again Inv-loop μ-loop
 loop-again c =
     let c8 = c .before .before .before .before .before .before .before .before in
     let c16 = c8 .before .before .before .before .before .before .before .before in
-    let h = c8 .before .before .before .before .loop in
+    let h = c8 .before .before .before .before .before .loop in
     let g = h .inv .2 in
-    let t = c8 .before .before .before .loop-test .taken in (
+    let t = c8 .before .before .before .before .loop-test .taken in
+    let e = c .before .before .before .before .expand .ensures in (
       omega (arith, h .inv .0),
       omega (arith, t),
-      grown-turn _ _ _ _ _ _ _ _ _ _ _ _ _ (omega arith) g (c .before .before .before .before .expand .ensures .0)
-          (λ r l. asks-here _ _ (c16 .before .args .queue .now) (h .queue) _ (h .inv .0) (g .kept _ t) r),
-      c .before .before .before .before .expand .ensures .1,
+      grown-turn _ _ _ _ _ _ _ _ _ _ _ _ _ (omega arith) g (e .0) (λ r l. asks-here _ _ (c16 .before .before .args .queue .now) (h .queue) _ (h .inv .0) (g .kept _ t) r),
+      e .1 .0,
+      e .1 .1,
     )
 
 same-length : tie.Need-same-length Inv-loop μ-loop
@@ -93,7 +97,7 @@ returns c =
     let w = c .before .before .before .before .before .before .pre .1 .1 .1 in
     let g = grown-end _ _ _ _ _ _ _ _ _ _ (c .before .loop .inv .1) (c .loop-test .left) (c .before .loop .inv .2) in (
       front-round _ _ _ _ _ _ _ _ _ u w _ (g .levels),
-      ((g .queue, front-next _ _ _ _ _ u w _ (omega arith) _ _ _ _ g), c .before .loop .inv .3),
+      ((g .queue, front-next _ _ _ _ _ u w _ (omega arith) _ _ _ _ g, c .before .loop .inv .4), c .before .loop .inv .3),
     )
 
 pub round-spec : {M : Type 1} → statement M

@@ -15,29 +15,33 @@ use Rattle.state.specs.Meaning.{columnOf, databaseOf, schemeOf}
 use Rattle.state.specs.declared.design.Filling.{Filling}
 use Rattle.load.specs.Built.{Built}
 use Rattle.load.specs.Queue.{Grown}
+use Rattle.load.specs.Walked.{AllWalked}
 use Rattle.load.proofs.BuiltLaws.{built-none, built-standing}
 use Rattle.load.proofs.PlaceLaws.{column-place, filling-below, held-has}
 use Rattle.load.proofs.QueueLaws.{grown-end, grown-start, grown-turn}
 use Rattle.load.proofs.StartLaws.{none-added, start-all}
+use Rattle.load.proofs.WalkedLaws.{still-all, walked-at, walked-none}
 use Rattle.load.proofs.start.start_held.Statement.{statement}
 use Rattle.load.proofs.start.start_held.Tie as tie
 
 abbrev Inv-loop : tie.InvT-loop
-Inv-loop d cells tables held levels₀ queue₀ built₀ heads₀ links₀ end₀ i₀ i-end levels queue built heads links end i =
+Inv-loop d cells tables held levels₀ queue₀ built₀ heads₀ links₀ walked₀ end₀ i₀ i-end levels queue built heads links walked end i =
     (i ≤ held .count) ×
     Grown 2
     (λ r. any i (λ j. has (databaseOf (d .rows) cells tables) (columnOf (fillingAt d (heldAt held j .filling) .column)) (cellOf (heldAt held j .value)) r))
     levels₀ queue₀ end₀ levels queue end ×
-    Built (d .rows) cells tables (λ f. fillingAt d f .column) built heads links
+    Built (d .rows) cells tables (λ f. fillingAt d f .column) built heads links ×
+    AllWalked (databaseOf (d .rows) cells tables) (λ f. columnOf (fillingAt d f .column)) walked levels
 
 abbrev μ-loop : tie.MeasureT-loop
-μ-loop d cells tables held levels₀ queue₀ built₀ heads₀ links₀ end₀ i₀ i-end levels queue built heads links end i = held .count - i
+μ-loop d cells tables held levels₀ queue₀ built₀ heads₀ links₀ walked₀ end₀ i₀ i-end levels queue built heads links walked end i = held .count - i
 
 loop-holds : tie.Need-loop-holds Inv-loop μ-loop
 loop-holds c = (
   omega arith,
   grown-start _ _ _ _ _ 0 (length-replicate {A = ℕ} 512 0) (none-added _ (length-replicate {A = ℕ} 512 0)) (λ r l. any-start _),
   built-none _ _ _ _ _ _ (length-replicate {A = ℕ} 8192 0) (length-replicate {A = ℕ} 8192 0),
+  λ j. walked-none _ _ j _,
 )
 
 held-at-requires : tie.Need-held-at-requires Inv-loop μ-loop
@@ -62,37 +66,42 @@ slice-aggregate-raise-2 c = sym (c .before .before .before .before .before .befo
 raise-requires : tie.Need-raise-requires Inv-loop μ-loop
 raise-requires c κs =
     let c8 = c .before .before .before .before .before .before .before .before in
-    let p = c8 .before .before .before .before .pre in
-    let v = c8 .before .loop .inv in
-    let x = c .before .before .before .before .before .before .before .held-at .ensures in
-    let b = filling-below (c8 .before .before .before .before .args .held) (c8 .before .loop .i) _ (p .3) x in
-    let e = c .before .before .before .before .before .filling-at .ensures in (
+    let c13 = c8 .before .before .before .before .before in
+    let p = c13 .pre in
+    let h = c8 .before .before .loop in
+    let v = h .inv in
+    let b = filling-below (c13 .args .held) (h .i) _ (p .3) (c8 .held-at .ensures) in
+    let e = c .before .before .before .before .before .before .filling-at .ensures in (
       (p .1, p .0 .rows, column-place _ _ (p .0) _ e, omega (arith, b)),
-      (built-standing _ _ _ _ _ _ _ _ _ (ap (λ (f : Filling). f .column) (sym e)) (v .2), (omega arith, v .1 .long, v .1 .queue)),
+      (
+        built-standing _ _ _ _ _ _ _ _ _ (ap (λ (f : Filling). f .column) (sym e)) (v .2),
+        (omega arith, v .1 .long, v .1 .queue, walked-at _ _ _ _ _ _ (ap (λ (f : Filling). columnOf (f .column)) (sym e)) (v .3)),
+      ),
     )
 
 add-i : tie.Need-add-i Inv-loop μ-loop
 add-i c =
     let c8 = c .before .before .before .before .before .before .before .before in
-    omega (arith, c8 .before .before .before .before .before .before .before .pre .2, c8 .before .before .before .loop-test .taken)
+    omega (arith, c8 .before .before .before .before .before .before .before .before .pre .2, c8 .before .before .before .before .loop-test .taken)
 
 loop-less : tie.Need-loop-less Inv-loop μ-loop
 loop-less c =
     let c8 = c .before .before .before .before .before .before .before .before in
-    omega (arith, c8 .before .before .before .loop-test .taken)
+    omega (arith, c8 .before .before .before .before .loop-test .taken)
 
 loop-again : tie.Need-loop-again Inv-loop μ-loop
 loop-again c =
     let c8 = c .before .before .before .before .before .before .before .before in
-    let a = c8 .before .before .before .before .before .before .before .args in
-    let v = c8 .before .before .before .before .loop .inv in
-    let t = c8 .before .before .before .loop-test .taken in
-    let h = c8 .before .before .held-at .ensures in
-    let e = c8 .filling-at .ensures in
+    let a = c8 .before .before .before .before .before .before .before .before .args in
+    let v = c8 .before .before .before .before .before .loop .inv in
+    let t = c8 .before .before .before .before .loop-test .taken in
+    let h = c8 .before .before .before .held-at .ensures in
+    let e = c8 .before .filling-at .ensures in
     let u = c .before .before .raise .ensures in (
       omega (arith, t),
-      grown-turn _ _ _ _ _ _ _ _ _ _ _ _ _ (omega arith) (v .1) (u .0) (λ r l. held-has _ (a .d) (a .held) (c8 .before .before .before .before .loop .i) _ _ h e r),
-      u .1 .still _ (ap (λ (f : Filling). f .column) (sym e)) (v .2),
+      grown-turn _ _ _ _ _ _ _ _ _ _ _ _ _ (omega arith) (v .1) (u .0) (λ r l. held-has _ (a .d) (a .held) (c8 .before .before .before .before .before .loop .i) _ _ h e r),
+      u .1 .0 .still _ (ap (λ (f : Filling). f .column) (sym e)) (v .2),
+      still-all _ _ _ _ _ _ _ _ (ap (λ (f : Filling). columnOf (f .column)) (sym e)) (v .3) (u .1 .1),
     )
 
 returns : tie.Need-returns Inv-loop μ-loop
