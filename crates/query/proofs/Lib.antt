@@ -16,3 +16,6 @@ pub mod OperandLaws
 pub mod Bridge
 pub mod PlanLaws
 pub mod Answering
+pub mod OperandTests
+pub mod QueryCases
+pub mod LawfulQuery

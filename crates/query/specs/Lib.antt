@@ -4,3 +4,4 @@ pub mod Sums
 pub mod Weights
 pub mod Lists
 pub mod Plan
+pub mod Queried

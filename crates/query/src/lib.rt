@@ -3,9 +3,13 @@
 mod arithmetic;
 mod lister;
 mod listing;
+mod operands;
 mod plan;
+mod query;
 mod weights;
 
 pub use listing::list_fitting;
+pub use operands::operands_fit;
 pub use plan::Join;
 pub use plan::Query;
+pub use query::query_lawful;
