@@ -4,12 +4,13 @@ mod arithmetic;
 mod lister;
 mod listing;
 mod operands;
+mod operations;
 mod plan;
-mod query;
 mod weights;
 
 pub use listing::list_fitting;
 pub use operands::operands_fit;
+pub use operations::query;
+pub use operations::query_lawful;
 pub use plan::Join;
 pub use plan::Query;
-pub use query::query_lawful;

@@ -1,13 +1,14 @@
--- `query::query::query_lawful` meets its contract: the causes in their order, then "sent" without a ground, else the lists. Assumes nothing.
+-- `query::operations::query_lawful` meets its contract: the causes in their order, then "sent" without a ground, else the lists. Assumes nothing.
 use native.Mathlib.Omega.{arith}
 use mathlib.Core.Path.{sym, _∙_}
 use borrow.Author.Needs.{needs}
 use borrow.Author.Tests.{not-true, not-false}
 use Rattle.lawful.proofs.Arrays.{sized, held-sized}
-use Rattle.query.proofs.QueryCases.{backed, marks-long, query-misfit}
-use Rattle.query.proofs.LawfulQuery.{sound-range, sound-count, sound-filling, sound-place, query-9, query-no-ground, query-ground}
-use Rattle.query.proofs.query.query_lawful.Statement.{statement}
-use Rattle.query.proofs.query.query_lawful.Tie as tie
+use Rattle.cache.proofs.Asked.{sound-range, sound-backed, sound-marks, sound-tidy, sound-filling}
+use Rattle.query.proofs.QueryCases.{query-misfit}
+use Rattle.query.proofs.LawfulQuery.{sound-place, query-9, query-no-ground, query-ground}
+use Rattle.query.proofs.operations.query_lawful.Statement.{statement}
+use Rattle.query.proofs.operations.query_lawful.Tie as tie
 
 operands-fit-requires : tie.Need-operands-fit-requires
 operands-fit-requires c κs = let s = c .before .before .before .before in sound-range _ (s .pre) (sized (s .args .design) _ (s .good .0))
@@ -22,9 +23,9 @@ ground-requires : tie.Need-ground-requires
 ground-requires c κs =
     let s = c .before .before .before .before .before .before .before .before .before in (
       sound-range _ (s .pre) (sized (s .args .design) _ (s .good .0)),
-      backed _ (s .pre),
-      marks-long _ (s .pre),
-      sound-count _ (s .pre),
+      sound-backed _ (s .pre),
+      sound-marks _ (s .pre),
+      sound-tidy _ (s .pre) .few,
       sound-place _ (s .pre) (s .args .q) (sym (c .before .before .before .before .operands-fit .ensures) ∙ not-false _ (c .before .before .before .if1 .left)),
       sound-filling _ (s .pre) (held-sized (s .args .held) _ (s .good .1 .1 .1 .1 .0)),
     )
@@ -41,8 +42,8 @@ list-fitting-requires c κs =
       sound-range _ (s .pre) (sized (s .args .design) _ (s .good .0)),
       sound-place _ (s .pre) (s .args .q) f,
       f,
-      backed _ (s .pre),
-      marks-long _ (s .pre),
+      sound-backed _ (s .pre),
+      sound-marks _ (s .pre),
     )
 
 same-length : tie.Need-same-length

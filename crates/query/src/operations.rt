@@ -1,4 +1,4 @@
-// The operation QUERY.
+// The operation QUERY: in a state known to be lawful, and for whatever is lent.
 ghost use mathlib.Core.Path.{_≡_};
 ghost use mathlib.Core.Bool.{true};
 ghost use Rattle.state.specs.Meaning.{answerOf};
@@ -8,6 +8,8 @@ ghost use Rattle.query.specs.Queried.{Queried};
 use crate::listing::list_fitting;
 use crate::operands::operands_fit;
 use crate::plan::Query;
+use cache::is_lawful;
+use cache::is_long_enough;
 use probe::ground;
 use state::Answer;
 use state::Design;
@@ -38,4 +40,25 @@ pub fn query_lawful(
         return Answer::Sent;
     }
     list_fitting(design, cells, tables, marks, q, words)
+}
+
+// QUERY. The test for cause 12 (rows × rows × (unique columns and constraints) at most), then the cost of `query_lawful`.
+pub fn query(
+    design: Design,
+    cells: &[u32],
+    tables: &[u8],
+    marks: &[u8],
+    held: Held,
+    q: Query,
+    words: &mut [u32],
+) -> Answer
+    ensures { λ a. ⌜ Queried (lent design (now (cells .entry)) (now (tables .entry)) (now (marks .entry)) held) (queryOf q) (now (words .entry)) (now (words .exit)) (answerOf a) ⌝ }
+{
+    if !is_long_enough(cells, tables, marks) {
+        return Answer::Refused(7);
+    }
+    if !is_lawful(design, cells, tables, marks, held) {
+        return Answer::Refused(12);
+    }
+    query_lawful(design, cells, tables, marks, held, q, words)
 }
