@@ -1,5 +1,6 @@
--- FiniteExtra: laws of collecting and summing from a number on, and of loops that go down. FirstLaws: the first number that passes.
--- Chains: lists of rows, counted and pruned by weights.
+-- FiniteExtra, Hops, Chains, CapLaws: lists of rows, counted and pruned by weights, over any tests. WeightLaws, PartLaws, TableLaws, Weighing: the
+-- tables that elimination leaves. Writing, ListLaws, Walking: what the lister writes from them. OperandLaws, OperandTests, PlanLaws, Bridge, Planned,
+-- Answering: from a query's operands to its lists and their count. QueryCases, LawfulQuery: the operation. MarkedRows, ListTheorems: what is listed.
 pub mod FiniteExtra
 pub mod Hops
 pub mod Chains
@@ -18,4 +19,6 @@ pub mod PlanLaws
 pub mod Answering
 pub mod OperandTests
 pub mod QueryCases
+pub mod MarkedRows
 pub mod LawfulQuery
+pub mod ListTheorems

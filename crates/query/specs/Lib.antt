@@ -1,5 +1,5 @@
 -- Sums: sums below n, and numbers under a cap. Weights: elimination. Lists: what the position step and the row trial write.
--- Plan: a query's operands in the model, and the plan made of them.
+-- Plan: a query's operands in the model, and the plan made of them. Queried: what a query answers and writes.
 pub mod Sums
 pub mod Weights
 pub mod Lists

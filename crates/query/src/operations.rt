@@ -27,7 +27,8 @@ pub fn query_lawful(
     words: &mut [u32],
 ) -> Answer
     requires { ⌜ sound (lent design (now cells) (now tables) (now marks) held) ≡ true ⌝ }
-    ensures { λ a. ⌜ Queried (lent design (now (cells .entry)) (now (tables .entry)) (now (marks .entry)) held) (queryOf q) (now (words .entry)) (now (words .exit)) (answerOf a) ⌝ }
+    ensures { λ a. ⌜ Queried (lent design (now (cells .entry)) (now (tables .entry)) (now (marks .entry)) held)
+        (queryOf q) (now (words .entry)) (now (words .exit)) (answerOf a) ⌝ }
 {
     if !operands_fit(design, q) {
         return Answer::Refused(5);
@@ -52,7 +53,8 @@ pub fn query(
     q: Query,
     words: &mut [u32],
 ) -> Answer
-    ensures { λ a. ⌜ Queried (lent design (now (cells .entry)) (now (tables .entry)) (now (marks .entry)) held) (queryOf q) (now (words .entry)) (now (words .exit)) (answerOf a) ⌝ }
+    ensures { λ a. ⌜ Queried (lent design (now (cells .entry)) (now (tables .entry)) (now (marks .entry)) held)
+        (queryOf q) (now (words .entry)) (now (words .exit)) (answerOf a) ⌝ }
 {
     if !is_long_enough(cells, tables, marks) {
         return Answer::Refused(7);
