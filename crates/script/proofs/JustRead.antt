@@ -1,0 +1,167 @@
+-- The state with which a run begins is sound: an accepted design with its rows is lawful, nothing is held, and no row is cached. Assumes nothing.
+use Prim.Native.Nat.{ℕ, _+_, _*_, _^_, _≤_, _<_}
+use native.Mathlib.Omega.{arith}
+use mathlib.Core.Path.{_≡_, refl, sym, ap, subst, _∙_}
+use mathlib.Core.Bool.{Bool, true, false, cond}
+use mathlib.Core.List.{List, [], _++_}
+use mathlib.Core.Logic.{⊎-elim}
+use borrow.Author.Tests.{ltb-true, ltb-false}
+use lib.Dec.{ltb}
+use lib.ListN.{length, getD, take, drop, length-append, List·getD-append, List·getD-eq-default}
+use lib.Seq.{take-at, drop-at}
+use Rattle.finite.specs.Finite.{tab}
+use Rattle.finite.proofs.Bools.{dec, cond-true, cond-false, clash}
+use Rattle.finite.proofs.Tables.{length-tab, tab-at, tab-same}
+use Rattle.model.specs.Cell.{cellOf}
+use Rattle.model.specs.Scheme.{Scheme}
+use Rattle.model.specs.Database.{Database, Lawful}
+use Rattle.model.specs.Rounds.{reached}
+use Rattle.model.specs.Runs.{Pair, heldIn, marks, Cache, emptyCache}
+use Rattle.model.proofs.Loads.{one-smallest, none-smallest}
+use Rattle.model.proofs.RunLaws.{pairs-smallest}
+use Rattle.model.proofs.Marks.{marks-same}
+use Rattle.state.specs.declared.design.Design.{Design}
+use Rattle.state.specs.declared.held.Held.{Held}
+use Rattle.state.specs.Design.{emptyDesign}
+use Rattle.state.specs.Held.{noneHeld}
+use Rattle.state.specs.Meaning.{schemeOf, databaseOf, pairsOf, heldOf, cacheOf}
+use Rattle.state.specs.Lawful.{lawfulDesign, lawfulRows, lawfulHeld}
+use Rattle.state.specs.Step.{State, lent, scheme, database, cache, longEnough, sound}
+use Rattle.lawful.specs.LawfulState.{LawfulRows}
+use Rattle.lawful.proofs.HeldLaws.{PairsFit, fit-held}
+use Rattle.lawful.proofs.RowsLaws.{Stored, lawful-database, rows-say, rows-if}
+use Rattle.cache.proofs.Fresh.{Fresh}
+use Rattle.cache.proofs.SoundState.{Lengths, long-parts, Parts, from-parts, fresh-lawful}
+use Rattle.format.specs.Reading.{Draft, DesignRead, readDesign, readInto, cellsAfter}
+use Rattle.format.specs.Reading.DesignRead.{accepted, refusedAt}
+use Rattle.format.proofs.Reached.{Sizes}
+use Rattle.format.proofs.Small.{Small}
+use Rattle.format.proofs.RoundTrip.{accepted-lawful}
+use Rattle.script.specs.Runs.{Buffers, readingOf, justRead, rowsOf}
+use Rattle.script.proofs.SameRows.{SameRows, same-back, lawful-same, longer-same}
+
+-- ---- nothing held, no row cached
+
+-- the record that holds nothing, as the record of no pairs
+pub none-held : noneHeld ≡ heldOf []
+unfolding noneHeld heldOf
+none-held = refl
+
+pub none-pairs : pairsOf noneHeld ≡ []
+unfolding pairsOf noneHeld tab
+none-pairs = refl
+
+none-fit : (S : Scheme) → PairsFit S []
+none-fit S = record { few = omega arith; filling = λ i l. absurd (omega arith); value = λ i l. absurd (omega arith); once = λ i j l m. absurd (omega arith) }
+
+none-lawful : (d : Design) → lawfulHeld d noneHeld ≡ true
+none-lawful d = subst (λ (h : Held). lawfulHeld d h ≡ true) (sym none-held) (fit-held d [] (none-fit (schemeOf d)))
+
+-- no row is in the smallest set for no pairs
+pub empty-fresh : (S : Scheme) (D : Database) → Fresh S D (emptyCache D)
+unfolding emptyCache heldIn
+empty-fresh S D = record { reloaded = marks-same D _ _ (λ r l. one-smallest (none-smallest S D) (pairs-smallest S D []) r) }
+
+module _ (rows : ℕ) (cells tables : List ℕ) where
+  -- nothing held and marks that are all 0 are the empty cache
+  none-cache : record { pairs = pairsOf noneHeld; marks = tab 512 (λ _. 0) } ≡ emptyCache (databaseOf rows cells tables)
+  unfolding emptyCache marks databaseOf
+  none-cache = λ i. record { pairs = none-pairs i; marks = tab 512 (λ _. 0) }
+
+  -- also before whatever lies past the marks
+  pub read-cache : (rest : List ℕ) → cacheOf noneHeld (tab 512 (λ _. 0) ++ rest) ≡ emptyCache (databaseOf rows cells tables)
+  read-cache rest = ap (λ (m : List ℕ). record { pairs = pairsOf noneHeld; marks = m }) (take-at (tab 512 (λ _. 0)) rest 512 (length-tab {A = ℕ} 512 (λ _. 0))) ∙ none-cache
+
+  pub read-fresh : (S : Scheme) → Fresh S (databaseOf rows cells tables) (record { pairs = pairsOf noneHeld; marks = tab 512 (λ _. 0) })
+  read-fresh S = subst (Fresh S (databaseOf rows cells tables)) (sym none-cache) (empty-fresh S (databaseOf rows cells tables))
+
+-- ---- an accepted design
+
+-- what lies past the cells read does not matter
+stored-first : (xs ys : List ℕ) → Stored (xs ++ ys) → Stored xs
+stored-first xs ys u i =
+    ⊎-elim (λ (q : ltb i (length xs) ≡ true). subst (λ (n : ℕ). n < 2 ^ 32) (List·getD-append xs ys 0 i (ltb-true i (length xs) q)) (u i))
+    (λ (q : ltb i (length xs) ≡ false). subst (λ (n : ℕ). n < 2 ^ 32) (sym (List·getD-eq-default xs 0 (ltb-false i (length xs) q))) (omega arith))
+    (dec (ltb i (length xs)))
+
+module _ (d : Design) (cells tables more others : List ℕ) (c : length cells ≡ 4096) (t : length tables ≡ 512) where
+  -- rows that are lawful stay so in longer buffers
+  longer-lawful : Stored cells → lawfulDesign d ≡ true → lawfulRows d cells tables ≡ true → lawfulRows d (cells ++ more) (tables ++ others) ≡ true
+  longer-lawful u f e =
+      rows-if
+      (record {
+        database = lawful-same (longer-same (d .rows) cells tables more others c t) (w .database);
+        memberRest = λ r l h. List·getD-append tables others 0 r (omega arith) ∙ w .memberRest r l h;
+        cellRest = λ r k l b h. List·getD-append cells more 0 (8 * r + k) (omega arith) ∙ w .cellRest r k l b h;
+      })
+    where
+      w : LawfulRows d cells tables
+      w = rows-say d cells tables f u e
+
+-- a design is accepted only where the buffers are long enough
+into-parts : (s : List ℕ) (b : Buffers) (p : Draft) (i : ℕ) → readingOf s b ≡ accepted p i →
+    Lengths (lent emptyDesign (b .cells) (b .tables) (b .marks) noneHeld) × (readDesign s ≡ accepted p i)
+unfolding readInto
+into-parts s b p i e =
+    ⊎-elim (λ (q : long ≡ true). (long-parts _ q, sym (cond-true long _ _ q) ∙ e))
+    (λ (q : long ≡ false). absurd (let z : _≡_ {A = ℕ} 0 1 = cc (cond-false long (readDesign s) (refusedAt 7 0) q) in omega arith))
+    (dec long)
+  where
+    long : Bool
+    long = longEnough (lent emptyDesign (b .cells) (b .tables) (b .marks) noneHeld)
+
+-- what is known of a design just read into lent buffers
+pub record Begun (b : Buffers) (p : Draft) (i : ℕ) : Type 0 where
+  pub sizes : Sizes p
+  pub design : lawfulDesign (p .design) ≡ true
+  -- the design's rows are a lawful database, and the state has the same rows
+  pub lawful : Lawful (schemeOf (p .design)) (rowsOf p)
+  pub rows : SameRows (database (justRead (accepted p i) b)) (rowsOf p)
+  pub sound : sound (justRead (accepted p i) b) ≡ true
+  pub cache : cache (justRead (accepted p i) b) ≡ emptyCache (database (justRead (accepted p i) b))
+
+module _ (s : List ℕ) (small : Small s) (b : Buffers) (p : Draft) (i : ℕ) (e : readingOf s b ≡ accepted p i) (u : Stored (cellsAfter (accepted p i) (b .cells))) where
+  pub begun : Begun b p i
+  begun =
+      record {
+        sizes = z;
+        design = w .0;
+        lawful = lawful-database (p .design) (p .cells) (p .tables) (w .0) (w .1) stored;
+        rows = same-back same;
+        sound =
+            from-parts start
+            (record {
+              long = begun-long;
+              design = w .0;
+              rows = longer-lawful (p .design) (p .cells) (p .tables) _ _ (z .cells) (z .tables) stored (w .0) (w .1);
+              held = none-lawful (p .design);
+              marks = fresh-lawful (p .design) (start .cells) (start .tables) noneHeld (tab 512 (λ _. 0)) (drop 512 (b .marks)) (read-fresh (p .design .rows) (start .cells) (start .tables) (scheme start));
+            });
+        cache = read-cache (p .design .rows) (start .cells) (start .tables) (drop 512 (b .marks));
+      }
+    where
+      w : (lawfulDesign (p .design) ≡ true) × (lawfulRows (p .design) (p .cells) (p .tables) ≡ true) × Sizes p
+      w = accepted-lawful s small p i (into-parts s b p i e .1)
+
+      z : Sizes p
+      z = w .2
+
+      start : State
+      start = justRead (accepted p i) b
+
+      stored : Stored (p .cells)
+      stored = stored-first (p .cells) (drop 4096 (b .cells)) u
+
+      same : SameRows (rowsOf p) (database start)
+      same = longer-same (p .design .rows) (p .cells) (p .tables) (drop 4096 (b .cells)) (drop 512 (b .tables)) (z .cells) (z .tables)
+
+      long : Lengths (lent emptyDesign (b .cells) (b .tables) (b .marks) noneHeld)
+      long = into-parts s b p i e .0
+
+      begun-long : Lengths start
+      begun-long =
+          record {
+            cells = omega (arith, length-append (p .cells) (drop 4096 (b .cells)), z .cells);
+            tables = omega (arith, length-append (p .tables) (drop 512 (b .tables)), z .tables);
+            marks = omega (arith, length-append (tab 512 (λ _. 0)) (drop 512 (b .marks)), length-tab {A = ℕ} 512 (λ _. 0));
+          }

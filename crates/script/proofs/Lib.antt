@@ -1,0 +1,11 @@
+-- SameRows: databases with the same rows are lawful alike and have the same smallest row set. JustRead: the state with which a run begins is
+-- sound. Places: the place after a command. StepLaws: what a step of a script does to the cache. RunLaws: what the steps of a whole script leave. WholeRun: demand 3 of a whole run.
+pub mod SameRows
+pub mod JustRead
+pub mod Places
+pub mod StepLaws
+pub mod RunLaws
+pub mod WholeRun
+pub mod StepCode
+pub mod RunCode
+pub mod WritingCases

@@ -1,0 +1,84 @@
+-- Two databases with the same rows under the same numbers: what is lawful, complete or smallest in one is so in the other. Lent buffers give the
+-- same rows, whatever lies past the sizes that a design has. Assumes nothing.
+use Prim.Native.Nat.{ℕ, _+_, _*_, _≤_, _<_}
+use native.Mathlib.Omega.{arith}
+use mathlib.Core.Path.{_≡_, refl, sym, ap, subst, _∙_}
+use mathlib.Core.Bool.{Bool, true, false, cond}
+use mathlib.Core.List.{List, _++_}
+use borrow.Author.Tests.{ltb-true}
+use lib.Dec.{ltb}
+use lib.ListN.{length, getD, List·getD-append}
+use Rattle.model.specs.Cell.{Cell, Fits, cellOf, blank, equal}
+use Rattle.model.specs.Scheme.{Column, Constraint, Scheme}
+use Rattle.model.specs.Database.{Database, Has, Lawful}
+use Rattle.model.specs.Cache.{RowSet, Held, Complete, Holds, Meets, Smallest}
+use Rattle.state.specs.Meaning.{databaseOf}
+
+pub record SameRows (D E : Database) : Type 0 where
+  pub live : (r : ℕ) → D .live r ≡ E .live r
+  pub table : (r : ℕ) → D .live r ≡ true → D .table r ≡ E .table r
+  pub cell : (r c : ℕ) → D .live r ≡ true → D .cell r c ≡ E .cell r c
+
+pub same-back : {D E : Database} → SameRows D E → SameRows E D
+same-back w =
+    record {
+      live = λ r. sym (w .live r);
+      table = λ r l. sym (w .table r (w .live r ∙ l));
+      cell = λ r c l. sym (w .cell r c (w .live r ∙ l));
+    }
+
+pub has-same : {D E : Database} {k : Column} {v : Cell} {r : ℕ} → SameRows D E → Has D k v r → Has E k v r
+has-same {k = k} {v} {r} w h =
+    record {
+      live = sym (w .live r) ∙ h .live;
+      table = sym (w .table r (h .live)) ∙ h .table;
+      value = subst (λ (a : Cell). equal a v ≡ true) (w .cell r (k .place) (h .live)) (h .value);
+    }
+
+holds-same : {D E : Database} (X : RowSet) (j : Constraint) → SameRows D E → Holds D X j → Holds E X j
+unfolding Holds Complete
+holds-same X j w h s v x a r b = h s v x (has-same (same-back w) a) r (has-same (same-back w) b)
+
+meets-same : {S : Scheme} {D E : Database} {H : Held} {X : RowSet} → SameRows D E → Meets S D H X → Meets S E H X
+unfolding Complete
+meets-same {S} {X = X} w m =
+    record {
+      rows = λ r x. sym (w .live r) ∙ m .rows r x;
+      constraints = λ i l. holds-same X (S .constraint i) w (m .constraints i l);
+      values = λ k v e r h. m .values k v e r (has-same (same-back w) h);
+    }
+
+pub smallest-same : {S : Scheme} {D E : Database} {H : Held} {X : RowSet} → SameRows D E → Smallest S D H X → Smallest S E H X
+smallest-same w m = record { meets = meets-same w (m .meets); least = λ Y n. m .least Y (meets-same (same-back w) n) }
+
+pub lawful-same : {S : Scheme} {D E : Database} → SameRows D E → Lawful S D → Lawful S E
+lawful-same {S} {D} {E} w m =
+    record {
+      cells = λ r c l. subst Fits (w .cell r c (there r l)) (m .cells r c (there r l));
+      tables = λ r l. subst (λ (t : ℕ). t < S .tables) (w .table r (there r l)) (m .tables r (there r l));
+      blanks = λ r c l h. sym (w .cell r c (there r l)) ∙ m .blanks r c (there r l) (subst (λ (t : ℕ). S .columns t ≤ c) (sym (w .table r (there r l))) h);
+      unique = λ k v r s u a b. m .unique k v r s u (has-same (same-back w) a) (has-same (same-back w) b);
+    }
+  where
+    there : (r : ℕ) → E .live r ≡ true → D .live r ≡ true
+    there r l = w .live r ∙ l
+
+-- ---- longer buffers
+
+module _ (rows : ℕ) (cells tables more others : List ℕ) (c : length cells ≡ 4096) (t : length tables ≡ 512) where
+  pub longer-same : SameRows (databaseOf rows cells tables) (databaseOf rows (cells ++ more) (tables ++ others))
+  unfolding databaseOf
+  longer-same =
+      record {
+        live = λ r. refl;
+        table = λ r l. let b = below r l in sym (List·getD-append tables others 0 r (omega arith));
+        cell = λ r k l. cell-same r k (below r l) (ltb k 8) (ltb-true k 8);
+      }
+    where
+      below : (r : ℕ) → databaseOf rows cells tables .live r ≡ true → r < 512
+      below r l = databaseOf rows cells tables .finite r l
+
+      cell-same : (r k : ℕ) → r < 512 → (b : Bool) → (b ≡ true → k < 8) →
+          cond b (cellOf (getD cells (8 * r + k) 0)) blank ≡ cond b (cellOf (getD (cells ++ more) (8 * r + k) 0)) blank
+      cell-same r k l true h = let g = h refl in ap cellOf (sym (List·getD-append cells more 0 (8 * r + k) (omega arith)))
+      cell-same r k l false h = refl

@@ -1,0 +1,47 @@
+-- The cases of writing a design out, in the order of causes: 7 for the rows, 12, 7 for the written design, and the bytes stored. Assumes nothing.
+use Prim.Native.Nat.{ℕ, _≤_, _<_}
+use mathlib.Core.Path.{_≡_, refl, sym, ap, _∙_}
+use mathlib.Core.Bool.{true, false, not, cond, and-eq-true-iff}
+use mathlib.Core.List.{List}
+use borrow.Author.Tests.{le-leb, lt-leb}
+use lib.Dec.{leb}
+use lib.ListN.{length}
+use lib.Seq.{sets}
+use Rattle.finite.proofs.Bools.{cond-true, cond-false}
+use Rattle.state.specs.Step.{State, longEnough, lawful, sound}
+use Rattle.script.specs.declared.outcome.Written.{Written}
+use Rattle.script.specs.declared.outcome.Written.the-variants.{Bytes, Refused}
+use Rattle.script.specs.Writing.{bytesOf, writtenAt, storedWith, Writes}
+
+module _ (s : State) (before : List ℕ) where
+  -- a refusal stores nothing
+  refused-writes : (n : ℕ) → writtenAt s (length before) ≡ Refused n → Writes s (Refused n) before before
+  unfolding storedWith
+  refused-writes n e = record { answer = sym e; buffer = ap (λ (w : Written). sets before 0 (storedWith w (bytesOf s))) (sym e) }
+
+  pub short-writes : longEnough s ≡ false → Writes s (Refused 7) before before
+  unfolding writtenAt
+  short-writes e = refused-writes 7 (cond-true (not (longEnough s)) _ _ (ap not e))
+
+  pub unlawful-writes : longEnough s ≡ true → lawful s ≡ false → Writes s (Refused 12) before before
+  unfolding writtenAt
+  unlawful-writes e h = refused-writes 12 (cond-false (not (longEnough s)) _ _ (ap not e) ∙ cond-true (not (lawful s)) _ _ (ap not h))
+
+  -- on a sound state the room decides
+  sound-written : sound s ≡ true → writtenAt s (length before) ≡ cond (not (leb (length (bytesOf s)) (length before))) (Refused 7) (Bytes (length (bytesOf s)))
+  unfolding writtenAt
+  sound-written e =
+      let h = and-eq-true-iff (longEnough s) (lawful s) .0 e in
+      cond-false (not (longEnough s)) _ _ (ap not (h .0)) ∙ cond-false (not (lawful s)) _ _ (ap not (h .1))
+
+  pub cramped-writes : sound s ≡ true → length before < length (bytesOf s) → Writes s (Refused 7) before before
+  cramped-writes e l =
+      refused-writes 7 (sound-written e ∙ cond-true (not (leb (length (bytesOf s)) (length before))) _ _ (ap not (lt-leb _ _ l)))
+
+  pub stored-writes : sound s ≡ true → length (bytesOf s) ≤ length before → (n : ℕ) (after : List ℕ) →
+      n ≡ length (bytesOf s) → after ≡ sets before 0 (bytesOf s) → Writes s (Bytes n) before after
+  unfolding storedWith
+  stored-writes e l n after p q = record { answer = ap Bytes p ∙ sym w; buffer = q ∙ ap (λ (x : Written). sets before 0 (storedWith x (bytesOf s))) (sym w) }
+    where
+      w : writtenAt s (length before) ≡ Bytes (length (bytesOf s))
+      w = sound-written e ∙ cond-false (not (leb (length (bytesOf s)) (length before))) _ _ (ap not (le-leb _ _ l))

@@ -1,0 +1,44 @@
+-- `script::steps::step_lawful` meets its contract. Assumes nothing.
+use borrow.Author.Needs.{needs}
+use Rattle.script.proofs.StepLaws.{step-overlong}
+use Rattle.script.proofs.StepCode.{refusing-soundly, step-is, step-case}
+use Rattle.script.proofs.steps.step_lawful.Statement.{statement}
+use Rattle.script.proofs.steps.step_lawful.Tie as tie
+
+refusing-requires : tie.Need-refusing-requires
+refusing-requires c κs = search needs
+
+returns : tie.Need-returns
+returns c = step-case _ _ _ _ _ _ (step-overlong _ _ _ _ (c .before .before .before .before .before .before .before .pre) (c .before .if1 .taken)) (refusing-soundly _ (c .before .before .before .before .before .before .before .pre) _ _ _ _ _ _ (c .refusing .ensures))
+
+place-after-requires : tie.Need-place-after-requires
+place-after-requires c κs = search needs
+
+command-at-requires : tie.Need-command-at-requires
+command-at-requires c κs = search needs
+
+carry-out-requires : tie.Need-carry-out-requires
+carry-out-requires c κs = search needs
+
+same-length : tie.Need-same-length
+same-length c = search needs
+
+same-length-2 : tie.Need-same-length-2
+same-length-2 c = search needs
+
+returns-2 : tie.Need-returns-2
+returns-2 c =
+    step-is _ (c .before .before .before .before .before .before .before .before .before .before .before .before .before .before .before .pre) _ _ _ (c .before .before .before .before .before .before .before .before .before .if1 .left) _ (c .before .before .before .before .before .before .before .before .place-after .ensures) _ (c .before .before .before .before .before .before .before .command-at .ensures) _ _ _ (c .before .before .before .before .carry-out .ensures)
+
+pub step-lawful-spec : {M : Type 1} → statement M
+step-lawful-spec =
+    tie.close
+    (tie.spec
+    refusing-requires
+    returns
+    place-after-requires
+    command-at-requires
+    carry-out-requires
+    same-length
+    same-length-2
+    returns-2)

@@ -1,0 +1,145 @@
+-- A whole script: the REFERs, DROPs and PROBEs that stand behind its END, found from the bytes alone; the steps one after the other, each on the
+-- state that the one before left; and what a run of all of it gives and leaves (demand 3). Assumes nothing.
+use Prim.Native.Nat.{ℕ, zero, suc, _+_}
+use mathlib.Core.Path.{_≡_}
+use mathlib.Core.Logic.{_↔_}
+use mathlib.Core.Bool.{Bool, true, false, cond}
+use mathlib.Core.List.{List, [], _∷_, _++_}
+use lib.Dec.{leb}
+use lib.ListN.{length, take, drop as past}
+use Rattle.model.specs.Cell.{Cell, cellOf, isBlank}
+use Rattle.model.specs.Scheme.{Column, Scheme, ColumnOf}
+use Rattle.model.specs.Database.{Database}
+use Rattle.model.specs.Cache.{RowSet, Complete, Alike}
+use Rattle.model.specs.Runs.{Pair, Operation, refer, drop, probe, heldFrom, heldIn, marks, marked}
+use Rattle.model.specs.Answers.{Answer, refused, ground}
+use Rattle.model.specs.Demand.{Demand3}
+use Rattle.state.specs.declared.held.Held.{Held}
+use Rattle.state.specs.Held.{noneHeld}
+use Rattle.state.specs.Meaning.{columnOf, schemeOf, databaseOf, heldOf}
+use Rattle.state.specs.Step.{State, lent, sound, answerAt}
+use Rattle.format.specs.declared.command.Command.{Command}
+use Rattle.format.specs.declared.command.Command.the-variants.{Table, Constraint, Filling, Row, End, Refer, Drop, Probe, Query, Unknown, Short}
+use Rattle.format.specs.Bytes.{byteAt}
+use Rattle.format.specs.Commands.{commandAt, widthOf}
+use Rattle.format.specs.Reading.{Draft, DesignRead, readInto, verdictOf, designOf, cellsAfter, tablesAfter, marksAfter}
+use Rattle.format.specs.Reading.DesignRead.{accepted, refusedAt}
+use Rattle.script.specs.declared.outcome.Run.{Run}
+use Rattle.script.specs.Step.{Stepped, stepAt, stateAfterStep}
+
+-- the operations of a run that stand in a script from a command on: c is that command, and `rest` are those behind it. Queries, and commands that
+-- are no operation, change nothing; behind 1 or 2 there is no command
+abbrev pub operationThen : Command → List Operation → List Operation
+operationThen (Refer f v) rest = refer (record { filling = f; value = cellOf v }) ∷ rest
+operationThen (Drop f v) rest = drop (record { filling = f; value = cellOf v }) ∷ rest
+operationThen (Probe k v) rest = probe (columnOf k) (cellOf v) ∷ rest
+operationThen (Query k v n) rest = rest
+operationThen (Table t) rest = rest
+operationThen (Constraint c) rest = rest
+operationThen (Filling f) rest = rest
+operationThen (Row t) rest = rest
+operationThen End rest = rest
+operationThen Unknown rest = []
+operationThen Short rest = []
+
+-- ... from place i on, with n more commands at the most
+unfoldable pub operationsFrom : ℕ → List ℕ → ℕ → List Operation
+operationsFrom zero script i = []
+operationsFrom (suc n) script i = operationThen (commandAt script i) (operationsFrom n script (i + widthOf (byteAt script i)))
+
+-- a command takes at least one byte
+abbrev pub operationsAt : List ℕ → ℕ → List Operation
+operationsAt script i = operationsFrom (length script) script i
+
+-- what a run leaves: the state and the answer words
+pub record Left : Type 0 where
+  pub state : State
+  pub words : List ℕ
+
+-- the steps from place i on, with n more commands at the most
+unfoldable pub leftFrom : ℕ → List ℕ → State → List ℕ → ℕ → Left
+leftFrom zero script s words i = record { state = s; words = words }
+leftFrom (suc n) script s words i =
+    cond (leb (length script) i) (record { state = s; words = words })
+    (let r = stepAt s words script i in
+    cond (r .more) (leftFrom n script (stateAfterStep s r) (r .words) (r .next)) (record { state = stateAfterStep s r; words = r .words }))
+
+-- what the code leaves behind the steps: the held values h, the marks m and the words w
+pub record Leaves (l : Left) (h : Held) (m w : List ℕ) : Type 0 where
+  pub held : h ≡ l .state .held
+  pub marks : m ≡ l .state .marks
+  pub words : w ≡ l .words
+
+-- ---- what a run gives and leaves
+
+-- the buffers that a run is lent
+pub record Buffers : Type 0 where
+  pub cells : List ℕ
+  pub tables : List ℕ
+  pub marks : List ℕ
+  pub words : List ℕ
+
+abbrev pub buffers : List ℕ → List ℕ → List ℕ → List ℕ → Buffers
+buffers cells tables marks words = record { cells = cells; tables = tables; marks = marks; words = words }
+
+-- what the script reads as
+abbrev pub readingOf : List ℕ → Buffers → DesignRead
+readingOf script b = readInto script (b .cells) (b .tables) (b .marks)
+
+-- the state with which a run begins: "an accepted design just read: nothing held, no row cached"
+abbrev pub justRead : DesignRead → Buffers → State
+justRead R b = lent (designOf R) (cellsAfter R (b .cells)) (tablesAfter R (b .tables)) (marksAfter R (b .marks)) noneHeld
+
+-- the backend rows of a design
+abbrev pub rowsOf : Draft → Database
+rowsOf p = databaseOf (p .design .rows) (p .cells) (p .tables)
+
+-- "What a run holds is a list of pairs, found from the design and the operands alone": the script's design p has its END before place i
+abbrev pub heldBy : List ℕ → Draft → ℕ → List Pair
+heldBy script p i = heldFrom (schemeOf (p .design)) [] (operationsAt script i)
+
+-- "its cached rows those with mark 1"
+abbrev pub cachedBy : Buffers → RowSet
+cachedBy b = marked (take 512 (b .marks))
+
+-- DEMAND 3, of the whole list of operations that the script has behind the END of its design p, at place i. The buffers are b before the run and
+-- a after it, and h is the record of held values after it.
+pub record Operated (script : List ℕ) (p : Draft) (i : ℕ) (b a : Buffers) (h : Held) : Type 0 where
+  -- the held values are the run's, in order
+  pub held : h ≡ heldOf (heldBy script p i)
+  -- the first 512 marks are 1 on the cached rows and 0 on all other numbers; what lies past them is untouched
+  pub marks : a .marks ≡ marks (rowsOf p) (cachedBy a) ++ past 512 (b .marks)
+  -- the cached rows are the smallest row set for what is held, and every probe says yes exactly when the value is complete in all databases alike
+  pub demand3 : Demand3 (schemeOf (p .design)) (rowsOf p) (heldBy script p i) (cachedBy a)
+  -- the answer words are those that the steps leave
+  pub words : a .words ≡ leftFrom (length script) script (justRead (accepted p i) b) (b .words) i .words
+  -- what is left can be worked on: neither cause 7 nor 12 applies
+  pub sound : sound (lent (p .design) (a .cells) (a .tables) (a .marks) h) ≡ true
+
+-- a refused design leaves everything as it was, and nothing held
+pub record Untouched (b a : Buffers) (h : Held) : Type 0 where
+  pub held : h ≡ noneHeld
+  pub marks : a .marks ≡ b .marks
+  pub words : a .words ≡ b .words
+
+pub record Ran (script : List ℕ) (b a : Buffers) (r : Run) : Type 0 where
+  pub verdict : r .verdict ≡ verdictOf (readingOf script b)
+  pub design : r .design ≡ designOf (readingOf script b)
+  pub cells : a .cells ≡ cellsAfter (readingOf script b) (b .cells)
+  pub tables : a .tables ≡ tablesAfter (readingOf script b) (b .tables)
+  pub refused : (n i : ℕ) → readingOf script b ≡ refusedAt n i → Untouched b a (r .held)
+  pub accepted : (p : Draft) (i : ℕ) → readingOf script b ≡ accepted p i → Operated script p i b a (r .held)
+
+-- ---- a probe behind a run
+
+-- r is what the run gives, and the probe of the value v in column k changes nothing more
+pub record ProbedAfter (script : List ℕ) (b a : Buffers) (r : Run) (k : Column) (v : Cell) (x : Answer) : Type 0 where
+  pub ran : Ran script b a r
+  -- the design is refused, with its cause
+  pub refused : (n i : ℕ) → readingOf script b ≡ refusedAt n i → x ≡ refused n
+  -- the design is accepted: the probe's answer on the state that the run has left
+  pub answer : (p : Draft) (i : ℕ) → readingOf script b ≡ accepted p i → x ≡ answerAt (lent (p .design) (a .cells) (a .tables) (a .marks) (r .held)) (probe k v)
+  -- DEMAND 3, of the answer itself: a yes exactly when the value is complete in every lawful database from which the same rows would have been cached
+  pub exact : (p : Draft) (i : ℕ) → readingOf script b ≡ accepted p i → ColumnOf (schemeOf (p .design)) k → isBlank v ≡ false →
+      ((g : ℕ) × (x ≡ ground g)) ↔
+      ((E : Database) → Alike (schemeOf (p .design)) (rowsOf p) (heldIn (schemeOf (p .design)) (heldBy script p i)) (cachedBy a) E → Complete E (cachedBy a) k v)

@@ -1,0 +1,34 @@
+-- Writing a lent design out (01, "Causes of refusal": order 7 for the rows, 12, 7 for the written design). Assumes nothing.
+use Prim.Native.Nat.{ℕ}
+use mathlib.Core.Path.{_≡_}
+use mathlib.Core.Bool.{not, cond}
+use mathlib.Core.List.{List, []}
+use lib.Dec.{leb}
+use lib.ListN.{length}
+use lib.Seq.{sets}
+use Rattle.state.specs.Step.{State, longEnough, lawful}
+use Rattle.format.specs.Writing.{designBytes}
+use Rattle.script.specs.declared.outcome.Written.{Written}
+use Rattle.script.specs.declared.outcome.Written.the-variants.{Bytes, Refused}
+
+-- what the design and its rows are written as
+abbrev pub bytesOf : State → List ℕ
+bytesOf s = designBytes (s .design) (s .cells) (s .tables)
+
+-- the answer where a buffer of `room` bytes is lent
+unfoldable pub writtenAt : State → ℕ → Written
+writtenAt s room =
+    cond (not (longEnough s)) (Refused 7)
+    (cond (not (lawful s)) (Refused 12)
+    (cond (not (leb (length (bytesOf s)) room)) (Refused 7)
+    (Bytes (length (bytesOf s)))))
+
+-- the bytes that are stored with an answer: none with a refusal
+unfoldable pub storedWith : Written → List ℕ → List ℕ
+storedWith (Bytes n) bytes = bytes
+storedWith (Refused n) bytes = []
+
+-- the answer w, and the buffer before and after: past what is stored it is untouched
+pub record Writes (s : State) (w : Written) (before after : List ℕ) : Type 0 where
+  pub answer : w ≡ writtenAt s (length before)
+  pub buffer : after ≡ sets before 0 (storedWith (writtenAt s (length before)) (bytesOf s))

@@ -1,0 +1,28 @@
+// What a step of a script, a whole run of one, and writing a design out give back.
+use format::Verdict;
+use state::Answer;
+use state::Design;
+use state::Held;
+
+// What a step gives: the answer, the place of a refusal (0 with any other answer), the place after the command, whether reading goes on, and the
+// values held afterwards.
+pub struct Step {
+    pub answer: Answer,
+    pub place: usize,
+    pub next: usize,
+    pub more: bool,
+    pub held: Held,
+}
+
+// What a run gives: whether the design was accepted, the design (empty where it was not), and the values held afterwards.
+pub struct Run {
+    pub verdict: Verdict,
+    pub design: Design,
+    pub held: Held,
+}
+
+// How many bytes of a design were written; or the cause of a refusal.
+pub enum Written {
+    Bytes(usize),
+    Refused(u8),
+}
