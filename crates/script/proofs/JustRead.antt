@@ -51,7 +51,7 @@ pub none-pairs : pairsOf noneHeld ≡ []
 unfolding pairsOf noneHeld tab
 none-pairs = refl
 
-none-fit : (S : Scheme) → PairsFit S []
+pub none-fit : (S : Scheme) → PairsFit S []
 none-fit S = record { few = omega arith; filling = λ i l. absurd (omega arith); value = λ i l. absurd (omega arith); once = λ i j l m. absurd (omega arith) }
 
 none-lawful : (d : Design) → lawfulHeld d noneHeld ≡ true
@@ -99,7 +99,7 @@ module _ (d : Design) (cells tables more others : List ℕ) (c : length cells �
       w = rows-say d cells tables f u e
 
 -- a design is accepted only where the buffers are long enough
-into-parts : (s : List ℕ) (b : Buffers) (p : Draft) (i : ℕ) → readingOf s b ≡ accepted p i →
+pub into-parts : (s : List ℕ) (b : Buffers) (p : Draft) (i : ℕ) → readingOf s b ≡ accepted p i →
     Lengths (lent emptyDesign (b .cells) (b .tables) (b .marks) noneHeld) × (readDesign s ≡ accepted p i)
 unfolding readInto
 into-parts s b p i e =

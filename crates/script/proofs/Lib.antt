@@ -1,5 +1,7 @@
 -- SameRows: databases with the same rows are lawful alike and have the same smallest row set. JustRead: the state with which a run begins is
--- sound. Places: the place after a command. StepLaws: what a step of a script does to the cache. RunLaws: what the steps of a whole script leave. WholeRun: demand 3 of a whole run.
+-- sound. Places: the place after a command. StepLaws: what a step of a script does to the cache. RunLaws: what the steps of a whole script leave.
+-- WholeRun: demand 3 of a whole run. StepCode, RunCode, RanLaws, WritingCases: from what the parts of the code give to what a step, the loop over a
+-- script, a run and writing give. ProbedLaws: a probe behind a run.
 pub mod SameRows
 pub mod JustRead
 pub mod Places
@@ -8,4 +10,6 @@ pub mod RunLaws
 pub mod WholeRun
 pub mod StepCode
 pub mod RunCode
+pub mod RanLaws
+pub mod ProbedLaws
 pub mod WritingCases

@@ -11,7 +11,7 @@ use lib.ListN.{length, getD, List·getD-append}
 use Rattle.model.specs.Cell.{Cell, Fits, cellOf, blank, equal}
 use Rattle.model.specs.Scheme.{Column, Constraint, Scheme}
 use Rattle.model.specs.Database.{Database, Has, Lawful}
-use Rattle.model.specs.Cache.{RowSet, Held, Complete, Holds, Meets, Smallest}
+use Rattle.model.specs.Cache.{RowSet, Inside, Held, Complete, Holds, Meets, Smallest, Alike}
 use Rattle.state.specs.Meaning.{databaseOf}
 
 pub record SameRows (D E : Database) : Type 0 where
@@ -62,6 +62,15 @@ lawful-same {S} {D} {E} w m =
   where
     there : (r : ℕ) → E .live r ≡ true → D .live r ≡ true
     there r l = w .live r ∙ l
+
+-- the databases that are like one are like the other
+pub alike-same : {S : Scheme} {D E F : Database} {H : Held} {X : RowSet} → SameRows D E → Inside X (D .live) → Alike S D H X F → Alike S E H X F
+alike-same w inside a =
+    record {
+      lawful = a .lawful;
+      keeps = record { live = a .keeps .live; table = λ r x. a .keeps .table r x ∙ w .table r (inside r x); cell = λ r c x. a .keeps .cell r c x ∙ w .cell r c (inside r x) };
+      smallest = a .smallest;
+    }
 
 -- ---- longer buffers
 

@@ -1,4 +1,4 @@
-// What a step of a script, a whole run of one, and writing a design out give back.
+// What a step of a script, a whole run of one, a probe behind a run, and writing a design out give back.
 use format::Verdict;
 use state::Answer;
 use state::Design;
@@ -19,6 +19,12 @@ pub struct Run {
     pub verdict: Verdict,
     pub design: Design,
     pub held: Held,
+}
+
+// What a run gives, and the answer of a probe behind it.
+pub struct ProbedRun {
+    pub run: Run,
+    pub answer: Answer,
 }
 
 // How many bytes of a design were written; or the cause of a refusal.

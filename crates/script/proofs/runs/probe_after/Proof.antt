@@ -1,0 +1,72 @@
+-- `script::runs::probe_after` meets its contract: the run, and a probe of the sound state that it leaves. Assumes nothing.
+use native.Mathlib.Omega.{arith}
+use Rattle.model.specs.Cell.{Fits}
+use Rattle.script.proofs.ProbedLaws.{refused-probed, left-sound, accepted-probed}
+use borrow.Author.Needs.{needs}
+use Rattle.script.proofs.runs.probe_after.Statement.{statement}
+use Rattle.script.proofs.runs.probe_after.Tie as tie
+
+run-requires : tie.Need-run-requires
+run-requires c κs = search needs
+
+enum-known-verdict : tie.Need-enum-known-verdict
+enum-known-verdict c = search needs
+
+same-length : tie.Need-same-length
+same-length c = search needs
+
+same-length-2 : tie.Need-same-length-2
+same-length-2 c = search needs
+
+same-length-3 : tie.Need-same-length-3
+same-length-3 c = search needs
+
+same-length-4 : tie.Need-same-length-4
+same-length-4 c = search needs
+
+returns : tie.Need-returns
+returns c = refused-probed _ _ _ _ (c .before .before .before .before .before .before .before .before .before .before .before .before .before .run .ensures) _ _ (c .before .verdict .given .1) _ _
+
+enum-told : tie.Need-enum-told
+enum-told c = search needs
+
+probe-lawful-requires : tie.Need-probe-lawful-requires
+probe-lawful-requires c κs = left-sound _ _ _ _ (c .before .before .before .before .before .before .before .before .before .before .before .before .before .before .before .run .ensures) _ (c .before .before .before .enum-told .given .1)
+
+same-length-5 : tie.Need-same-length-5
+same-length-5 c = search needs
+
+same-length-6 : tie.Need-same-length-6
+same-length-6 c = search needs
+
+same-length-7 : tie.Need-same-length-7
+same-length-7 c = search needs
+
+same-length-8 : tie.Need-same-length-8
+same-length-8 c = search needs
+
+returns-2 : tie.Need-returns-2
+unfolding Fits
+returns-2 c =
+    accepted-probed _ _ _ _ (c .before .before .before .before .before .before .before .before .before .before .before .before .before .before .before .before .run .ensures) _ (c .before .before .before .before .enum-told .given .1)
+    (record { at = λ j. omega (arith, c .before .before .before .before .before .before .before .before .before .before .before .before .before .before .before .before .before .before .before .before .before .before .before .before .before .shared-slice-known .given j) }) (λ j. omega (arith, c .before .before .before .before .before .before .before .before .before .before .before .before .before .before .slice-known5 .given j)) _ _ (omega (arith, c .before .before .before .before .before .before .before .before .before .before .before .before .before .before .before .before .before .before .before .before .before .before .before .before .before .before .fits)) _
+    (c .probe-lawful .ensures)
+
+pub probe-after-spec : {M : Type 1} → statement M
+probe-after-spec =
+    tie.close
+    (tie.spec
+    run-requires
+    enum-known-verdict
+    same-length
+    same-length-2
+    same-length-3
+    same-length-4
+    returns
+    enum-told
+    probe-lawful-requires
+    same-length-5
+    same-length-6
+    same-length-7
+    same-length-8
+    returns-2)
