@@ -2,6 +2,7 @@
 -- sound. Places: the place after a command. StepLaws: what a step of a script does to the cache. RunLaws: what the steps of a whole script leave.
 -- WholeRun: demand 3 of a whole run. StepCode, RunCode, RanLaws, WritingCases: from what the parts of the code give to what a step, the loop over a
 -- script, a run and writing give. ProbedLaws: a probe behind a run.
+-- Refusals: a refused operation leaves the cache as it was. Theorems: what holds of every step and of every run.
 pub mod SameRows
 pub mod JustRead
 pub mod Places
@@ -13,3 +14,5 @@ pub mod RunCode
 pub mod RanLaws
 pub mod ProbedLaws
 pub mod WritingCases
+pub mod Refusals
+pub mod Theorems

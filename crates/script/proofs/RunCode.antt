@@ -53,4 +53,4 @@ module _ (script : List ℕ) (s : State) (words : List ℕ) (i : ℕ) (l : Left)
         sym (λ x. leftFrom (length script) script (lent (s .design) (s .cells) (s .tables) (d .marks x) (d .held x)) (d .words x) (d .next x))
 
     pub next-place : t .more ≡ true → i < t .next
-    next-place h = omega (arith, step-on s words script i (more-is true h), d .next)
+    next-place h = omega (arith, step-on s words script i (more-is true h) .0, d .next)

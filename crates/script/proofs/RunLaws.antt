@@ -65,7 +65,7 @@ module _ (script : List ℕ) where
       left-past script s words i (suc n) l ∙ sym (left-past script s words i (suc m) l))
       (λ (q : leb (length script) i ≡ false). let l = leb-false (length script) i q in let r = stepAt s words script i in
       left-step script s words i n l ∙
-      then-same n m s r (λ e. let g = step-on s words script i e in left-fuel n m (stateAfterStep s r) (r .words) (r .next) (omega arith) (omega arith)) ∙
+      then-same n m s r (λ e. let g = step-on s words script i e .0 in left-fuel n m (stateAfterStep s r) (r .words) (r .next) (omega arith) (omega arith)) ∙
       sym (left-step script s words i m l))
       (dec (leb (length script) i))
 

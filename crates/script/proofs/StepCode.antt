@@ -7,7 +7,7 @@ use mathlib.Core.List.{List, [], _∷_, _++_}
 use mathlib.Core.Logic.{⊎-elim}
 use denote.Enum.Declared.{tagOf}
 use types.Run.{OneOf}
-use lib.ListN.{length, take-append-drop}
+use lib.ListN.{length}
 use lib.Seq.{sets}
 use Rattle.finite.specs.Finite.{tab}
 use Rattle.model.specs.Scheme as Model
@@ -21,10 +21,8 @@ use Rattle.state.specs.declared.held.Held as Record
 use Rattle.state.specs.Meaning.{answerOf, columnOf}
 use Rattle.state.specs.Step.{State, lent, longEnough, lawful, sound, answerAt, heldAfterAt, marksAfterAt, queryAnswerAt, queryWordsAt}
 use Rattle.state.proofs.answer.Answer.{the-type}
-use Rattle.lawful.proofs.HeldLaws.{held-back}
 use Rattle.cache.specs.declared.outcome.Outcome.{Outcome}
 use Rattle.cache.specs.Stepped.{Stepped as Stepped′, SoundStep}
-use Rattle.cache.proofs.SoundState.{parts, held-after, marks-after}
 use Rattle.query.specs.declared.plan.Join.{Join}
 use Rattle.query.specs.Plan.{joinOf, queryOf}
 use Rattle.format.specs.declared.command.Command.{Command}
@@ -33,7 +31,7 @@ use Rattle.format.specs.Commands.{widthOf, commandAt, positionAt, constraintNum
 use Rattle.format.specs.Reading.{mostBytes}
 use Rattle.script.specs.declared.outcome.Step.{Step}
 use Rattle.script.specs.Step.{Stepped, placeOf, queryAt, refusing, operated, queried, carried, stepAt, Does, DoesSoundly}
-use Rattle.script.proofs.StepLaws.{step-short, step-unlawful, step-carried}
+use Rattle.script.proofs.StepLaws.{same-held, same-marks, step-short, step-unlawful, step-carried}
 
 -- ---- the place of an answer
 
@@ -79,16 +77,13 @@ operated-does s o i j out m w t e words =
 
 -- PROBE changes nothing
 module _ (s : State) (e : sound s ≡ true) (z : length (s .held .values) ≡ 64) (k : Model.Column) (v : Cell) where
-  probe-held : s .held ≡ heldAfterAt s (probe k v)
-  unfolding cacheAfter
-  probe-held = sym (held-after s e (probe k v) ∙ held-back (s .design) (s .held) (parts s e .held) z)
-
-  probe-marks : s .marks ≡ marksAfterAt s (probe k v)
-  unfolding cacheAfter
-  probe-marks = sym (marks-after s e (probe k v) ∙ take-append-drop 512 (s .marks))
-
   pub probe-steps : (a : Answer) → answerOf a ≡ answerAt s (probe k v) → SoundStep s (probe k v) (record { held = s .held; answer = a }) (s .marks)
-  probe-steps a h = record { stepped = record { answer = h; held = probe-held; marks = probe-marks }; sound = e }
+  unfolding cacheAfter
+  probe-steps a h =
+      record {
+        stepped = record { answer = h; held = sym (same-held s e (probe k v) z refl); marks = sym (same-marks s e (probe k v) refl) };
+        sound = e;
+      }
 
 -- ---- QUERY
 

@@ -8,15 +8,15 @@ use mathlib.Core.List.{List, [], _∷_, _++_}
 use mathlib.Core.Logic.{⊎-elim}
 use borrow.Author.Tests.{le-ltb, lt-ltb}
 use lib.Dec.{ltb}
-use lib.ListN.{length, take, drop as past}
+use lib.ListN.{length, take, drop as past, take-append-drop}
 use lib.Seq.{take-at, drop-at}
 use Rattle.finite.proofs.Bools.{clash, cond-true, cond-false}
 use Rattle.model.specs.Runs.{Pair, Operation, Cache, cacheAfter}
 use Rattle.model.proofs.RunLaws.{step-pairs}
 use Rattle.state.specs.declared.held.Held.{Held}
 use Rattle.state.specs.Meaning.{pairsOf, heldOf}
-use Rattle.state.specs.Step.{State, lent, scheme, database, cache, longEnough, lawful, sound, stateAfter}
-use Rattle.lawful.proofs.HeldLaws.{pairs-fit, pairs-back}
+use Rattle.state.specs.Step.{State, lent, scheme, database, cache, longEnough, lawful, sound, stateAfter, heldAfterAt, marksAfterAt}
+use Rattle.lawful.proofs.HeldLaws.{held-back, pairs-fit, pairs-back}
 use Rattle.cache.proofs.Fresh.{step-fresh}
 use Rattle.cache.proofs.PairsFit.{step-fit}
 use Rattle.cache.proofs.SoundState.{parts, lawful-fresh, fresh-long, held-after, marks-after, sound-after}
@@ -62,6 +62,13 @@ module _ (s : State) (e : sound s ≡ true) (o : Operation) where
   -- the marks past 512 are untouched
   pub after-past : past 512 (stateAfter s o .marks) ≡ past 512 (s .marks)
   after-past = ap (past 512) (marks-after s e o) ∙ drop-at (left .marks) (past 512 (s .marks)) 512 long
+
+  -- where the model's cache stays as it was, so do the held values, in a record of 64 places, and the marks
+  pub same-held : length (s .held .values) ≡ 64 → left ≡ cache s → heldAfterAt s o ≡ s .held
+  same-held z h = held-after s e o ∙ ap (λ (c : Cache). heldOf (c .pairs)) h ∙ held-back (s .design) (s .held) (parts s e .held) z
+
+  pub same-marks : left ≡ cache s → marksAfterAt s o ≡ s .marks
+  same-marks h = marks-after s e o ∙ ap (λ (c : Cache). c .marks ++ past 512 (s .marks)) h ∙ take-append-drop 512 (s .marks)
 
   pub after-tidy : Tidy (stateAfter s o)
   after-tidy =
@@ -114,26 +121,30 @@ module _ (s : State) (words script : List ℕ) (i : ℕ) where
   carried-next j Unknown h = clash h refl
   carried-next j Short h = clash h refl
 
-  carried-on : (c : Command) → commandAt script i ≡ c → carried s words script i (i + widthOf (byteAt script i)) c .more ≡ true →
-      i < carried s words script i (i + widthOf (byteAt script i)) c .next
+  -- and inside the script
+  abbrev Moves : Stepped → Type 0
+  Moves r = (i < r .next) × (r .next ≤ length script)
+
+  carried-on : (c : Command) → commandAt script i ≡ c → let r = carried s words script i (i + widthOf (byteAt script i)) c in r .more ≡ true → Moves r
   unfolding carried
   carried-on c e h =
       let j = i + widthOf (byteAt script i) in
       ⊎-elim (λ (x : commandAt script i ≡ Short). clash h (ap (λ (d : Command). carried s words script i j d .more) (sym e ∙ x)))
       (⊎-elim (λ (x : commandAt script i ≡ Unknown). clash h (ap (λ (d : Command). carried s words script i j d .more) (sym e ∙ x)))
-      (λ (w : Whole script i). let n = carried-next j c h in omega (arith, w .some, n)))
+      (λ (w : Whole script i). let n = carried-next j c h in (omega (arith, w .some, n), omega (arith, w .fits, n))))
       (command-kinds script i)
 
-  pub step-on : stepAt s words script i .more ≡ true → i < stepAt s words script i .next
+  pub step-on : stepAt s words script i .more ≡ true → (i < stepAt s words script i .next) × (stepAt s words script i .next ≤ length script)
   unfolding stepAt
   step-on = go (not (longEnough s)) (not (lawful s)) (ltb mostBytes (length script))
     where
       rest : Stepped
       rest = carried s words script i (i + widthOf (byteAt script i)) (commandAt script i)
 
-      go : (a b c : Bool) →
-          cond a (refusing s words 7 0 i false) (cond b (refusing s words 12 0 i false) (cond c (refusing s words 4 0 i false) rest)) .more ≡ true →
-          i < cond a (refusing s words 7 0 i false) (cond b (refusing s words 12 0 i false) (cond c (refusing s words 4 0 i false) rest)) .next
+      step : Bool → Bool → Bool → Stepped
+      step a b c = cond a (refusing s words 7 0 i false) (cond b (refusing s words 12 0 i false) (cond c (refusing s words 4 0 i false) rest))
+
+      go : (a b c : Bool) → step a b c .more ≡ true → Moves (step a b c)
       go true b c h = clash h refl
       go false true c h = clash h refl
       go false false true h = clash h refl
