@@ -19,7 +19,8 @@ pub fn write(
     held: Held,
     out: &mut [u8],
 ) -> Written
-    ensures { λ w. ⌜ Writes (lent design (now (cells .entry)) (now (tables .entry)) (now (marks .entry)) held) w (now (out .entry)) (now (out .exit)) ⌝ }
+    ensures { λ w. ⌜ Writes (lent design (now (cells .entry)) (now (tables .entry)) (now (marks .entry)) held)
+        w (now (out .entry)) (now (out .exit)) ⌝ }
 {
     if !is_long_enough(cells, tables, marks) {
         return Written::Refused(7);

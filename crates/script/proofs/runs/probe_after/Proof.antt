@@ -25,13 +25,18 @@ same-length-4 : tie.Need-same-length-4
 same-length-4 c = search needs
 
 returns : tie.Need-returns
-returns c = refused-probed _ _ _ _ (c .before .before .before .before .before .before .before .before .before .before .before .before .before .run .ensures) _ _ (c .before .verdict .given .1) _ _
+returns c =
+    let r = c .before .before .before .before .before .before .before .before .before .before .before .before .before in
+    refused-probed _ _ _ _ (r .run .ensures) _ _ (c .before .verdict .given .1) _ _
 
 enum-told : tie.Need-enum-told
 enum-told c = search needs
 
 probe-lawful-requires : tie.Need-probe-lawful-requires
-probe-lawful-requires c κs = left-sound _ _ _ _ (c .before .before .before .before .before .before .before .before .before .before .before .before .before .before .before .run .ensures) _ (c .before .before .before .enum-told .given .1)
+probe-lawful-requires c κs =
+    let v = c .before .before .before in
+    let r = v .before .before .before .before .before .before .before .before .before .before .before .before in
+    left-sound _ _ _ _ (r .run .ensures) _ (v .enum-told .given .1)
 
 same-length-5 : tie.Need-same-length-5
 same-length-5 c = search needs
@@ -48,9 +53,12 @@ same-length-8 c = search needs
 returns-2 : tie.Need-returns-2
 unfolding Fits
 returns-2 c =
-    accepted-probed _ _ _ _ (c .before .before .before .before .before .before .before .before .before .before .before .before .before .before .before .before .run .ensures) _ (c .before .before .before .before .enum-told .given .1)
-    (record { at = λ j. omega (arith, c .before .before .before .before .before .before .before .before .before .before .before .before .before .before .before .before .before .before .before .before .before .before .before .before .before .shared-slice-known .given j) }) (λ j. omega (arith, c .before .before .before .before .before .before .before .before .before .before .before .before .before .before .slice-known5 .given j)) _ _ (omega (arith, c .before .before .before .before .before .before .before .before .before .before .before .before .before .before .before .before .before .before .before .before .before .before .before .before .before .before .fits)) _
-    (c .probe-lawful .ensures)
+    let v = c .before .before .before .before in
+    let k = v .before .before .before .before .before .before .before .before .before .before in
+    let r = k .before .before in
+    let b = r .before .before .before .before .before .before .before .before .before in
+    accepted-probed _ _ _ _ (r .run .ensures) _ (v .enum-told .given .1) (record { at = λ j. omega (arith, b .shared-slice-known .given j) })
+    (λ j. omega (arith, k .slice-known5 .given j)) _ _ (omega (arith, b .before .fits)) _ (c .probe-lawful .ensures)
 
 pub probe-after-spec : {M : Type 1} → statement M
 probe-after-spec =

@@ -29,13 +29,19 @@ same-length-3 : tie.Need-same-length-3
 same-length-3 c = search needs
 
 returns : tie.Need-returns
-returns c = refused-ran _ _ _ _ _ _ (c .before .before .before .before .before .before .before .before .before .before .read-design .ensures) _ (c .before .before .none .ensures) _ _ (c .enum-told .given .1)
+returns c =
+    let r = c .before .before .before .before .before .before .before .before .before .before in
+    refused-ran _ _ _ _ _ _ (r .read-design .ensures) _ (c .before .before .none .ensures) _ _ (c .enum-told .given .1)
 
 run-from-requires : tie.Need-run-from-requires
 run-from-requires c κs =
-    let a = c .before .before .before .before .before .before .before .before .before .before .before .before .before .before .before .before .before .before .before .before .before .before .before .before .args in
-    start-sound _ (buffers (now (a .cells)) (now (a .tables)) (now (a .marks)) (now (a .words))) _ _ _ _ (c .before .before .before .before .before .before .before .before .before .before .before .before .before .before .before .read-design .ensures) _ (c .before .before .before .before .before .before .before .none .ensures)
-    (record { at = λ j. omega (arith, c .before .before .before .before .before .before .before .before .before .before .before .before .before .before .before .before .before .before .before .before .before .before .before .shared-slice-known .given j) }) (λ j. omega (arith, c .before .before .before .before .before .before .before .before .before .before .before .before .before .slice-known5 .given j)) _ (c .before .before .before .before .before .verdict .given .1)
+    let v = c .before .before .before .before .before in
+    let k = v .before .before .before .before .before .before .before .before in
+    let r = k .before .before in
+    let b = r .before .before .before .before .before .before .before .before in
+    let a = b .before .args in
+    start-sound _ (buffers (now (a .cells)) (now (a .tables)) (now (a .marks)) (now (a .words))) _ _ _ _ (r .read-design .ensures) _ (v .before .before .none .ensures)
+    (record { at = λ j. omega (arith, b .shared-slice-known .given j) }) (λ j. omega (arith, k .slice-known5 .given j)) _ (v .verdict .given .1)
 
 same-length-4 : tie.Need-same-length-4
 same-length-4 c = search needs
@@ -51,8 +57,12 @@ same-length-7 c = search needs
 
 returns-2 : tie.Need-returns-2
 returns-2 c =
-    accepted-ran _ _ _ _ _ _ (c .before .before .before .before .before .before .before .before .before .before .before .before .before .before .before .before .before .before .before .before .read-design .ensures) _ (c .before .before .before .before .before .before .before .before .before .before .before .before .none .ensures)
-    (record { at = λ j. omega (arith, c .before .before .before .before .before .before .before .before .before .before .before .before .before .before .before .before .before .before .before .before .before .before .before .before .before .before .before .before .shared-slice-known .given j) }) (λ j. omega (arith, c .before .before .before .before .before .before .before .before .before .before .before .before .before .before .before .before .before .before .slice-known5 .given j)) _ (c .before .before .before .before .before .before .before .before .before .before .verdict .given .1) _ _ _
+    let v = c .before .before .before .before .before .before .before .before .before .before in
+    let k = v .before .before .before .before .before .before .before .before in
+    let r = k .before .before in
+    let b = r .before .before .before .before .before .before .before .before in
+    accepted-ran _ _ _ _ _ _ (r .read-design .ensures) _ (v .before .before .none .ensures)
+    (record { at = λ j. omega (arith, b .shared-slice-known .given j) }) (λ j. omega (arith, k .slice-known5 .given j)) _ (v .verdict .given .1) _ _ _
     (c .before .before .before .before .run-from .ensures)
 
 pub run-spec : {M : Type 1} → statement M

@@ -17,7 +17,8 @@ abbrev Inv-loop : tie.InvT-loop
 Inv-loop script at design cells tables marks₀ words₀ i₀ h₀ marks words i h =
     (length marks ≡ length marks₀) × (length words ≡ length words₀) ×
     (sound (lent design cells tables marks h) ≡ true) ×
-    (leftFrom (length script) script (lent design cells tables marks₀ h₀) words₀ i₀ ≡ leftFrom (length script) script (lent design cells tables marks h) words i)
+    (leftFrom (length script) script (lent design cells tables marks₀ h₀) words₀ i₀ ≡
+    leftFrom (length script) script (lent design cells tables marks h) words i)
 
 abbrev μ-loop : tie.MeasureT-loop
 μ-loop script at design cells tables marks₀ words₀ i₀ h₀ marks words i h = length script - i
@@ -29,25 +30,37 @@ step-lawful-requires : tie.Need-step-lawful-requires Inv-loop μ-loop
 step-lawful-requires c κs = c .before .before .before .loop .inv .2
 
 same-length : tie.Need-same-length Inv-loop μ-loop
-same-length c = c .before .before .before .before .before .before .before .step-lawful .kept .1 .1 .1 .1 .1 .0 ∙ c .before .before .before .before .before .before .before .before .before .before .before .loop .inv .0
+same-length c =
+    let t = c .before .before .before .before .before .before .before in
+    t .step-lawful .kept .1 .1 .1 .1 .1 .0 ∙ t .before .before .before .before .loop .inv .0
 
 same-length-2 : tie.Need-same-length-2 Inv-loop μ-loop
-same-length-2 c = c .before .before .before .before .before .before .before .step-lawful .kept .1 .1 .1 .1 .1 .1 .1 .0 ∙ c .before .before .before .before .before .before .before .before .before .before .before .loop .inv .1
+same-length-2 c =
+    let t = c .before .before .before .before .before .before .before in
+    t .step-lawful .kept .1 .1 .1 .1 .1 .1 .1 .0 ∙ t .before .before .before .before .loop .inv .1
 
 returns : tie.Need-returns Inv-loop μ-loop
-returns c = leaves-last _ _ _ _ _ (c .before .before .before .before .before .before .before .before .before .before .before .loop .inv .3) (c .before .before .before .before .before .before .before .before .before .before .loop-test .taken) _ _ _ (c .before .before .before .before .before .before .before .step-lawful .ensures .does) (not-true _ (c .if1 .taken))
+returns c =
+    let t = c .before .before .before .before .before .before .before in
+    let w = t .before .before .before in
+    leaves-last _ _ _ _ _ (w .before .loop .inv .3) (w .loop-test .taken) _ _ _ (t .step-lawful .ensures .does) (not-true _ (c .if1 .taken))
 
 loop-less : tie.Need-loop-less Inv-loop μ-loop
 loop-less c =
-    omega (arith, c .before .before .before .before .before .before .before .before .before .before .loop-test .taken, next-place _ _ _ _ _ (c .before .before .before .before .before .before .before .before .before .before .before .loop .inv .3) (c .before .before .before .before .before .before .before .before .before .before .loop-test .taken) _ _ _ (c .before .before .before .before .before .before .before .step-lawful .ensures .does) (not-false _ (c .if1 .left)))
+    let t = c .before .before .before .before .before .before .before in
+    let w = t .before .before .before in
+    let g = next-place _ _ _ _ _ (w .before .loop .inv .3) (w .loop-test .taken) _ _ _ (t .step-lawful .ensures .does) (not-false _ (c .if1 .left)) in
+    omega (arith, w .loop-test .taken, g)
 
 loop-again : tie.Need-loop-again Inv-loop μ-loop
-loop-again c = (
-  c .before .before .before .before .before .before .before .step-lawful .kept .1 .1 .1 .1 .1 .0 ∙ c .before .before .before .before .before .before .before .before .before .before .before .loop .inv .0,
-  c .before .before .before .before .before .before .before .step-lawful .kept .1 .1 .1 .1 .1 .1 .1 .0 ∙ c .before .before .before .before .before .before .before .before .before .before .before .loop .inv .1,
-  c .before .before .before .before .before .before .before .step-lawful .ensures .sound,
-  left-on _ _ _ _ _ (c .before .before .before .before .before .before .before .before .before .before .before .loop .inv .3) (c .before .before .before .before .before .before .before .before .before .before .loop-test .taken) _ _ _ (c .before .before .before .before .before .before .before .step-lawful .ensures .does) (not-false _ (c .if1 .left)),
-)
+loop-again c =
+    let t = c .before .before .before .before .before .before .before in
+    let w = t .before .before .before in (
+      t .step-lawful .kept .1 .1 .1 .1 .1 .0 ∙ w .before .loop .inv .0,
+      t .step-lawful .kept .1 .1 .1 .1 .1 .1 .1 .0 ∙ w .before .loop .inv .1,
+      t .step-lawful .ensures .sound,
+      left-on _ _ _ _ _ (w .before .loop .inv .3) (w .loop-test .taken) _ _ _ (t .step-lawful .ensures .does) (not-false _ (c .if1 .left)),
+    )
 
 same-length-3 : tie.Need-same-length-3 Inv-loop μ-loop
 same-length-3 c = c .before .loop .inv .0
@@ -59,7 +72,8 @@ returns-2 : tie.Need-returns-2 Inv-loop μ-loop
 returns-2 c =
     let a = c .before .before .before .before .before .before .before .args in
     let l = c .before .loop in
-    leaves-past (now (a .script)) (lent (a .design) (now (a .cells)) (now (a .tables)) (l .marks) (l .h)) (l .words) (l .i) _ (l .inv .3) (c .loop-test .left)
+    let s = lent (a .design) (now (a .cells)) (now (a .tables)) (l .marks) (l .h) in
+    leaves-past (now (a .script)) s (l .words) (l .i) _ (l .inv .3) (c .loop-test .left)
 
 pub run-from-spec : {M : Type 1} → statement M
 run-from-spec =

@@ -29,7 +29,9 @@ enum-known-command-4 : tie.Need-enum-known-command-4
 enum-known-command-4 c = search needs
 
 answer-query-requires : tie.Need-answer-query-requires
-answer-query-requires c κs = (query-fits _ _ _ _ _ (sym (c .before .before .before .before .before .before .before .before .before .before .pre .0) ∙ c .before .before .before .command4 .given .1), c .before .before .before .before .before .before .before .before .before .before .pre .1)
+answer-query-requires c κs =
+    let s = c .before .before .before .before .before .before .before .before .before .before in
+    (query-fits _ _ _ _ _ (sym (s .pre .0) ∙ c .before .before .before .command4 .given .1), s .pre .1)
 
 enum-told : tie.Need-enum-told
 enum-told c = search needs
@@ -105,35 +107,52 @@ same-length-5 c = search needs
 
 returns-4 : tie.Need-returns-4
 unfolding carried
-returns-4 c = in-case _ _ _ _ _ _ _ _ _ _ (c .before .before .before .before .before .before .command4 .given .1) (c .before .before .answer-query .ensures)
+returns-4 c =
+    let m = c .before .before .before .before .before .before in
+    in-case _ _ _ _ _ _ _ _ _ _ (m .command4 .given .1) (c .before .before .answer-query .ensures)
 
 returns-5 : tie.Need-returns-5
 unfolding carried
-returns-5 c = in-case _ _ _ _ _ _ _ _ _ _ (c .before .enum-told .given .1) (refusing-soundly _ (c .before .before .before .before .before .before .before .before .pre .1) _ _ _ _ _ _ (c .refusing .ensures))
+returns-5 c =
+    let s = c .before .before .before .before .before .before .before .before in
+    in-case _ _ _ _ _ _ _ _ _ _ (c .before .enum-told .given .1) (refusing-soundly _ (s .pre .1) _ _ _ _ _ _ (c .refusing .ensures))
 
 returns-6 : tie.Need-returns-6
 unfolding carried
-returns-6 c = in-case _ _ _ _ _ _ _ _ _ _ (c .before .enum-told2 .given .1) (refusing-soundly _ (c .before .before .before .before .before .before .before .before .pre .1) _ _ _ _ _ _ (c .refusing2 .ensures))
+returns-6 c =
+    let s = c .before .before .before .before .before .before .before .before in
+    in-case _ _ _ _ _ _ _ _ _ _ (c .before .enum-told2 .given .1) (refusing-soundly _ (s .pre .1) _ _ _ _ _ _ (c .refusing2 .ensures))
 
 returns-7 : tie.Need-returns-7
 unfolding carried
-returns-7 c = in-case _ _ _ _ _ _ _ _ _ _ (c .before .enum-told3 .given .1) (refusing-soundly _ (c .before .before .before .before .before .before .before .before .pre .1) _ _ _ _ _ _ (c .refusing3 .ensures))
+returns-7 c =
+    let s = c .before .before .before .before .before .before .before .before in
+    in-case _ _ _ _ _ _ _ _ _ _ (c .before .enum-told3 .given .1) (refusing-soundly _ (s .pre .1) _ _ _ _ _ _ (c .refusing3 .ensures))
 
 returns-8 : tie.Need-returns-8
 unfolding carried
-returns-8 c = in-case _ _ _ _ _ _ _ _ _ _ (c .before .enum-told4 .given .1) (refusing-soundly _ (c .before .before .before .before .before .before .before .before .pre .1) _ _ _ _ _ _ (c .refusing4 .ensures))
+returns-8 c =
+    let s = c .before .before .before .before .before .before .before .before in
+    in-case _ _ _ _ _ _ _ _ _ _ (c .before .enum-told4 .given .1) (refusing-soundly _ (s .pre .1) _ _ _ _ _ _ (c .refusing4 .ensures))
 
 returns-9 : tie.Need-returns-9
 unfolding carried
-returns-9 c = in-case _ _ _ _ _ _ _ _ _ _ (c .before .enum-told5 .given .1) (refusing-soundly _ (c .before .before .before .before .before .before .before .before .pre .1) _ _ _ _ _ _ (c .refusing5 .ensures))
+returns-9 c =
+    let s = c .before .before .before .before .before .before .before .before in
+    in-case _ _ _ _ _ _ _ _ _ _ (c .before .enum-told5 .given .1) (refusing-soundly _ (s .pre .1) _ _ _ _ _ _ (c .refusing5 .ensures))
 
 returns-10 : tie.Need-returns-10
 unfolding carried
-returns-10 c = in-case _ _ _ _ _ _ _ _ _ _ (c .before .enum-told6 .given .1) (refusing-soundly _ (c .before .before .before .before .before .before .before .before .pre .1) _ _ _ _ _ _ (c .refusing6 .ensures))
+returns-10 c =
+    let s = c .before .before .before .before .before .before .before .before in
+    in-case _ _ _ _ _ _ _ _ _ _ (c .before .enum-told6 .given .1) (refusing-soundly _ (s .pre .1) _ _ _ _ _ _ (c .refusing6 .ensures))
 
 returns-11 : tie.Need-returns-11
 unfolding carried
-returns-11 c = in-case _ _ _ _ _ _ _ _ _ _ (c .before .before .enum-told7 .given .1) (refusing-soundly _ (c .before .before .before .before .before .before .before .before .before .pre .1) _ _ _ _ _ _ (placed _ _ _ _ _ _ _ (c .refusing7 .ensures) (c .before .lower .ensures)))
+returns-11 c =
+    let s = c .before .before .before .before .before .before .before .before .before in
+    in-case _ _ _ _ _ _ _ _ _ _ (c .before .before .enum-told7 .given .1)
+    (refusing-soundly _ (s .pre .1) _ _ _ _ _ _ (placed _ _ _ _ _ _ _ (c .refusing7 .ensures) (c .before .lower .ensures)))
 
 pub carry-out-spec : {M : Type 1} → statement M
 carry-out-spec =

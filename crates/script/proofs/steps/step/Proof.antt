@@ -32,12 +32,16 @@ same-length-2 : tie.Need-same-length-2
 same-length-2 c = search needs
 
 returns-2 : tie.Need-returns-2
-returns-2 c = unlawful-does _ _ _ _ _ (sym (c .before .before .before .before .before .is-long-enough .ensures _ _) ∙ not-false _ (c .before .before .before .before .if1 .left)) (sym (c .before .before .is-lawful .ensures) ∙ not-true _ (c .before .if2 .taken)) (c .refusing2 .ensures)
+returns-2 c =
+    let l = c .before .before in
+    unlawful-does _ _ _ _ _ (sym (l .before .before .before .is-long-enough .ensures _ _) ∙ not-false _ (l .before .before .if1 .left))
+    (sym (l .is-lawful .ensures) ∙ not-true _ (c .before .if2 .taken)) (c .refusing2 .ensures)
 
 step-lawful-requires : tie.Need-step-lawful-requires
 step-lawful-requires c κs =
-    both (sym (c .before .before .before .before .before .before .is-long-enough .ensures _ _) ∙ not-false _ (c .before .before .before .before .before .if1 .left))
-    (sym (c .before .before .before .is-lawful .ensures) ∙ not-false _ (c .before .before .if2 .left))
+    let l = c .before .before .before in
+    both (sym (l .before .before .before .is-long-enough .ensures _ _) ∙ not-false _ (l .before .before .if1 .left))
+    (sym (l .is-lawful .ensures) ∙ not-false _ (c .before .before .if2 .left))
 
 same-length-3 : tie.Need-same-length-3
 same-length-3 c = search needs

@@ -9,7 +9,9 @@ refusing-requires : tie.Need-refusing-requires
 refusing-requires c κs = search needs
 
 returns : tie.Need-returns
-returns c = step-case _ _ _ _ _ _ (step-overlong _ _ _ _ (c .before .before .before .before .before .before .before .pre) (c .before .if1 .taken)) (refusing-soundly _ (c .before .before .before .before .before .before .before .pre) _ _ _ _ _ _ (c .refusing .ensures))
+returns c =
+    let s = c .before .before .before .before .before .before .before in
+    step-case _ _ _ _ _ _ (step-overlong _ _ _ _ (s .pre) (c .before .if1 .taken)) (refusing-soundly _ (s .pre) _ _ _ _ _ _ (c .refusing .ensures))
 
 place-after-requires : tie.Need-place-after-requires
 place-after-requires c κs = search needs
@@ -28,7 +30,11 @@ same-length-2 c = search needs
 
 returns-2 : tie.Need-returns-2
 returns-2 c =
-    step-is _ (c .before .before .before .before .before .before .before .before .before .before .before .before .before .before .before .pre) _ _ _ (c .before .before .before .before .before .before .before .before .before .if1 .left) _ (c .before .before .before .before .before .before .before .before .place-after .ensures) _ (c .before .before .before .before .before .before .before .command-at .ensures) _ _ _ (c .before .before .before .before .carry-out .ensures)
+    let d = c .before .before .before .before in
+    let p = d .before .before .before .before in
+    let s = p .before .before .before .before .before .before .before in
+    step-is _ (s .pre) _ _ _ (p .before .if1 .left) _ (p .place-after .ensures) _ (d .before .before .before .command-at .ensures) _ _ _
+    (d .carry-out .ensures)
 
 pub step-lawful-spec : {M : Type 1} → statement M
 step-lawful-spec =

@@ -45,10 +45,10 @@ returns-3 c =
 
 write-design-requires : tie.Need-write-design-requires
 write-design-requires c κs =
-    let s = c .before .before .before .before .before .before .before .before .before .before .before in
-    let e =
-    both (sym (c .before .before .before .before .before .before .is-long-enough .ensures (s .args .design) (s .args .held)) ∙ not-false _ (c .before .before .before .before .before .if1 .left))
-    (sym (c .before .before .before .before .is-lawful .ensures) ∙ not-false _ (c .before .before .before .if2 .left)) in (
+    let l = c .before .before .before .before in
+    let s = l .before .before .before .before .before .before .before in
+    let long = sym (l .before .before .is-long-enough .ensures (s .args .design) (s .args .held)) ∙ not-false _ (l .before .if1 .left) in
+    let e = both long (sym (l .is-lawful .ensures) ∙ not-false _ (c .before .before .before .if2 .left)) in (
       sound-range _ e (sized (s .args .design) _ (s .good .0)),
       sound-backed _ e,
       omega (arith, c .before .before .design-length .ensures (now (s .args .cells)) (now (s .args .tables))),
@@ -59,12 +59,13 @@ same-length c = search needs
 
 returns-4 : tie.Need-returns-4
 returns-4 c =
-    let s = c .before .before .before .before .before .before .before .before .before .before .before .before .before .before in
+    let n = c .before .before .before .before .before in
+    let l = n .before .before in
+    let s = l .before .before .before .before .before .before .before in
     stored-writes _ _
-    (both (sym (c .before .before .before .before .before .before .before .before .before .is-long-enough .ensures _ _) ∙ not-false _ (c .before .before .before .before .before .before .before .before .if1 .left))
-    (sym (c .before .before .before .before .before .before .before .is-lawful .ensures) ∙ not-false _ (c .before .before .before .before .before .before .if2 .left)))
-    (omega (arith, c .before .before .before .before .before .design-length .ensures (now (s .args .cells)) (now (s .args .tables)))) _ _
-    (c .before .before .before .before .before .design-length .ensures _ _) (c .before .before .write-design .ensures .1)
+    (both (sym (l .before .before .is-long-enough .ensures _ _) ∙ not-false _ (l .before .if1 .left)) (sym (l .is-lawful .ensures) ∙ not-false _ (n .before .if2 .left)))
+    (omega (arith, n .design-length .ensures (now (s .args .cells)) (now (s .args .tables)))) _ _
+    (n .design-length .ensures _ _) (c .before .before .write-design .ensures .1)
 
 pub write-spec : {M : Type 1} → statement M
 write-spec =

@@ -1,8 +1,8 @@
--- `script::steps::refer_at` meets its contract: what `refer_held` gives, with its place. Assumes nothing.
+-- `script::operations::refer_at` meets its contract: what `refer_held` gives, with its place. Assumes nothing.
 use borrow.Author.Needs.{needs}
 use Rattle.script.proofs.StepCode.{operated-does}
-use Rattle.script.proofs.steps.refer_at.Statement.{statement}
-use Rattle.script.proofs.steps.refer_at.Tie as tie
+use Rattle.script.proofs.operations.refer_at.Statement.{statement}
+use Rattle.script.proofs.operations.refer_at.Tie as tie
 
 refer-held-requires : tie.Need-refer-held-requires
 refer-held-requires c κs = search needs

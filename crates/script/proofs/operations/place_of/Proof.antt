@@ -1,8 +1,8 @@
--- `script::steps::place_of` meets its contract. Assumes nothing.
+-- `script::operations::place_of` meets its contract. Assumes nothing.
 use borrow.Author.Needs.{needs}
 use Rattle.script.proofs.StepCode.{no-refusal}
-use Rattle.script.proofs.steps.place_of.Statement.{statement}
-use Rattle.script.proofs.steps.place_of.Tie as tie
+use Rattle.script.proofs.operations.place_of.Statement.{statement}
+use Rattle.script.proofs.operations.place_of.Tie as tie
 
 enum-told : tie.Need-enum-told
 enum-told c = search needs

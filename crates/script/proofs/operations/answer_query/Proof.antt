@@ -1,8 +1,8 @@
--- `script::steps::answer_query` meets its contract: what `query_lawful` answers and writes, with its place. Assumes nothing.
+-- `script::operations::answer_query` meets its contract: what `query_lawful` answers and writes, with its place. Assumes nothing.
 use borrow.Author.Needs.{needs}
 use Rattle.script.proofs.StepCode.{queried-does}
-use Rattle.script.proofs.steps.answer_query.Statement.{statement}
-use Rattle.script.proofs.steps.answer_query.Tie as tie
+use Rattle.script.proofs.operations.answer_query.Statement.{statement}
+use Rattle.script.proofs.operations.answer_query.Tie as tie
 
 query-at-requires : tie.Need-query-at-requires
 query-at-requires c κs = search needs
@@ -17,7 +17,11 @@ same-length : tie.Need-same-length
 same-length c = search needs
 
 returns : tie.Need-returns
-returns c = queried-does _ (c .before .before .before .before .before .before .before .before .before .before .before .pre .1) _ _ _ _ _ _ _ _ _ (c .before .before .before .before .before .query-at .ensures) _ (c .before .before .before .query-lawful .ensures .answer) (c .before .before .before .query-lawful .ensures .words) _ (c .answering .ensures)
+returns c =
+    let q = c .before .before .before in
+    let s = q .before .before .before .before .before .before .before .before in
+    queried-does _ (s .pre .1) _ _ _ _ _ _ _ _ _ (q .before .before .query-at .ensures) _ (q .query-lawful .ensures .answer)
+    (q .query-lawful .ensures .words) _ (c .answering .ensures)
 
 pub answer-query-spec : {M : Type 1} → statement M
 answer-query-spec =

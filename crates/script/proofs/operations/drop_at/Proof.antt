@@ -1,8 +1,8 @@
--- `script::steps::drop_at` meets its contract: what `drop_held` gives, with its place. Assumes nothing.
+-- `script::operations::drop_at` meets its contract: what `drop_held` gives, with its place. Assumes nothing.
 use borrow.Author.Needs.{needs}
 use Rattle.script.proofs.StepCode.{operated-does}
-use Rattle.script.proofs.steps.drop_at.Statement.{statement}
-use Rattle.script.proofs.steps.drop_at.Tie as tie
+use Rattle.script.proofs.operations.drop_at.Statement.{statement}
+use Rattle.script.proofs.operations.drop_at.Tie as tie
 
 drop-held-requires : tie.Need-drop-held-requires
 drop-held-requires c κs = search needs

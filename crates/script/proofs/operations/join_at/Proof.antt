@@ -1,7 +1,7 @@
--- `script::steps::join_at` meets its contract. Assumes nothing.
+-- `script::operations::join_at` meets its contract. Assumes nothing.
 use borrow.Author.Needs.{needs}
-use Rattle.script.proofs.steps.join_at.Statement.{statement}
-use Rattle.script.proofs.steps.join_at.Tie as tie
+use Rattle.script.proofs.operations.join_at.Statement.{statement}
+use Rattle.script.proofs.operations.join_at.Tie as tie
 
 pair-position-requires : tie.Need-pair-position-requires
 pair-position-requires c κs = search needs
