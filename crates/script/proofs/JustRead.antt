@@ -1,22 +1,20 @@
 -- The state with which a run begins is sound: an accepted design with its rows is lawful, nothing is held, and no row is cached. Assumes nothing.
-use Prim.Native.Nat.{ℕ, _+_, _*_, _^_, _≤_, _<_}
+use Prim.Native.Nat.{ℕ, _+_, _*_, _^_, _<_}
 use native.Mathlib.Omega.{arith}
 use mathlib.Core.Path.{_≡_, refl, sym, ap, subst, _∙_}
-use mathlib.Core.Bool.{Bool, true, false, cond}
+use mathlib.Core.Bool.{Bool, true, false}
 use mathlib.Core.List.{List, [], _++_}
 use mathlib.Core.Logic.{⊎-elim}
 use borrow.Author.Tests.{ltb-true, ltb-false}
 use lib.Dec.{ltb}
-use lib.ListN.{length, getD, take, drop, length-append, List·getD-append, List·getD-eq-default}
-use lib.Seq.{take-at, drop-at}
+use lib.ListN.{length, drop, length-append, List·getD-append, List·getD-eq-default}
+use lib.Seq.{take-at}
 use Rattle.finite.specs.Finite.{tab}
-use Rattle.finite.proofs.Bools.{dec, cond-true, cond-false, clash}
-use Rattle.finite.proofs.Tables.{length-tab, tab-at, tab-same}
-use Rattle.model.specs.Cell.{cellOf}
+use Rattle.finite.proofs.Bools.{dec, cond-true, cond-false}
+use Rattle.finite.proofs.Tables.{length-tab}
 use Rattle.model.specs.Scheme.{Scheme}
 use Rattle.model.specs.Database.{Database, Lawful}
-use Rattle.model.specs.Rounds.{reached}
-use Rattle.model.specs.Runs.{Pair, heldIn, marks, Cache, emptyCache}
+use Rattle.model.specs.Runs.{heldIn, marks, emptyCache}
 use Rattle.model.proofs.Loads.{one-smallest, none-smallest}
 use Rattle.model.proofs.RunLaws.{pairs-smallest}
 use Rattle.model.proofs.Marks.{marks-same}
@@ -31,8 +29,8 @@ use Rattle.lawful.specs.LawfulState.{LawfulRows}
 use Rattle.lawful.proofs.HeldLaws.{PairsFit, fit-held}
 use Rattle.lawful.proofs.RowsLaws.{Stored, lawful-database, rows-say, rows-if}
 use Rattle.cache.proofs.Fresh.{Fresh}
-use Rattle.cache.proofs.SoundState.{Lengths, long-parts, Parts, from-parts, fresh-lawful}
-use Rattle.format.specs.Reading.{Draft, DesignRead, readDesign, readInto, cellsAfter}
+use Rattle.cache.proofs.SoundState.{Lengths, long-parts, from-parts, fresh-lawful}
+use Rattle.format.specs.Reading.{Draft, readDesign, readInto, cellsAfter}
 use Rattle.format.specs.Reading.DesignRead.{accepted, refusedAt}
 use Rattle.format.proofs.Reached.{Sizes}
 use Rattle.format.proofs.Small.{Small}
@@ -52,7 +50,8 @@ unfolding pairsOf noneHeld tab
 none-pairs = refl
 
 pub none-fit : (S : Scheme) → PairsFit S []
-none-fit S = record { few = omega arith; filling = λ i l. absurd (omega arith); value = λ i l. absurd (omega arith); once = λ i j l m. absurd (omega arith) }
+none-fit S =
+    record { few = omega arith; filling = λ i l. absurd (omega arith); value = λ i l. absurd (omega arith); once = λ i j l m. absurd (omega arith) }
 
 none-lawful : (d : Design) → lawfulHeld d noneHeld ≡ true
 none-lawful d = subst (λ (h : Held). lawfulHeld d h ≡ true) (sym none-held) (fit-held d [] (none-fit (schemeOf d)))
@@ -70,7 +69,8 @@ module _ (rows : ℕ) (cells tables : List ℕ) where
 
   -- also before whatever lies past the marks
   pub read-cache : (rest : List ℕ) → cacheOf noneHeld (tab 512 (λ _. 0) ++ rest) ≡ emptyCache (databaseOf rows cells tables)
-  read-cache rest = ap (λ (m : List ℕ). record { pairs = pairsOf noneHeld; marks = m }) (take-at (tab 512 (λ _. 0)) rest 512 (length-tab {A = ℕ} 512 (λ _. 0))) ∙ none-cache
+  read-cache rest =
+      ap (λ (m : List ℕ). record { pairs = pairsOf noneHeld; marks = m }) (take-at (tab 512 (λ _. 0)) rest 512 (length-tab {A = ℕ} 512 (λ _. 0))) ∙ none-cache
 
   pub read-fresh : (S : Scheme) → Fresh S (databaseOf rows cells tables) (record { pairs = pairsOf noneHeld; marks = tab 512 (λ _. 0) })
   read-fresh S = subst (Fresh S (databaseOf rows cells tables)) (sym none-cache) (empty-fresh S (databaseOf rows cells tables))
@@ -120,7 +120,8 @@ pub record Begun (b : Buffers) (p : Draft) (i : ℕ) : Type 0 where
   pub sound : sound (justRead (accepted p i) b) ≡ true
   pub cache : cache (justRead (accepted p i) b) ≡ emptyCache (database (justRead (accepted p i) b))
 
-module _ (s : List ℕ) (small : Small s) (b : Buffers) (p : Draft) (i : ℕ) (e : readingOf s b ≡ accepted p i) (u : Stored (cellsAfter (accepted p i) (b .cells))) where
+module _ (s : List ℕ) (small : Small s) (b : Buffers) (p : Draft) (i : ℕ) (e : readingOf s b ≡ accepted p i)
+    (u : Stored (cellsAfter (accepted p i) (b .cells))) where
   pub begun : Begun b p i
   begun =
       record {
@@ -135,7 +136,9 @@ module _ (s : List ℕ) (small : Small s) (b : Buffers) (p : Draft) (i : ℕ) (e
               design = w .0;
               rows = longer-lawful (p .design) (p .cells) (p .tables) _ _ (z .cells) (z .tables) stored (w .0) (w .1);
               held = none-lawful (p .design);
-              marks = fresh-lawful (p .design) (start .cells) (start .tables) noneHeld (tab 512 (λ _. 0)) (drop 512 (b .marks)) (read-fresh (p .design .rows) (start .cells) (start .tables) (scheme start));
+              marks =
+                  fresh-lawful (p .design) (start .cells) (start .tables) noneHeld (tab 512 (λ _. 0)) (drop 512 (b .marks))
+                  (read-fresh (p .design .rows) (start .cells) (start .tables) (scheme start));
             });
         cache = read-cache (p .design .rows) (start .cells) (start .tables) (drop 512 (b .marks));
       }

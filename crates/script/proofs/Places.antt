@@ -2,7 +2,7 @@
 use Prim.Native.Nat.{ℕ, _+_, _-_, _≤_, _<_}
 use native.Mathlib.Omega.{arith}
 use mathlib.Core.Path.{_≡_, refl, sym, ap, _∙_}
-use mathlib.Core.Bool.{Bool, true, false, not, cond}
+use mathlib.Core.Bool.{Bool, true, false, cond}
 use mathlib.Core.List.{List}
 use mathlib.Core.Logic.{_⊎_, inl, inr, ⊎-elim}
 use borrow.Author.Tests.{leb-true, leb-false, ltb-true, ltb-false}
@@ -73,7 +73,8 @@ query-width : (b : ℕ) (s : List ℕ) (i : ℕ) → isQuery (operandsAt b s i) 
 unfolding operandsAt widthOf isQuery
 query-width b s i = go (eqb b 1) (eqb b 2) (eqb b 3) (eqb b 4) (eqb b 5) (eqb b 16) (eqb b 17) (eqb b 18) (eqb b 19) _ _ _ _ _ _ _ _
   where
-    go : (p q r s t u v w z : Bool) (a : State-table.Table) (c : State-constraint.Constraint) (f : State-filling.Filling) (m n : ℕ) (k : Column) (x y : ℕ) →
+    go : (p q r s t u v w z : Bool) (a : State-table.Table) (c : State-constraint.Constraint) (f : State-filling.Filling)
+        (m n : ℕ) (k : Column) (x y : ℕ) →
         isQuery (cond p (Table a) (cond q (Constraint c) (cond r (Filling f) (cond s (Row m) (cond t End (cond u (Refer m n) (cond v (Drop m n)
         (cond w (Probe k x) (Query k x y))))))))) ≡ true →
         (_≡_ {A = ℕ} (cond p 3 (cond q 5 (cond r 11 (cond s 34 (cond t 1 (cond u 6 (cond v 6 (cond w 7 (cond z 16 0))))))))) 0 → ⊥) →

@@ -1,5 +1,5 @@
 -- A probe behind a run: its answer on the state that the run has left, and that a yes is exact (demand 3). Assumes nothing.
-use Prim.Native.Nat.{ℕ, zero, suc, _≤_}
+use Prim.Native.Nat.{ℕ}
 use native.Mathlib.Nat.{pos-of-ne-zero}
 use native.Mathlib.Omega.{arith}
 use mathlib.Core.Path.{_≡_, refl, sym, ap, subst, _∙_}
@@ -7,11 +7,10 @@ use mathlib.Core.Bool.{Bool, true, false}
 use mathlib.Core.List.{List, [], _∷_}
 use mathlib.Core.Logic.{_↔_, _≢_}
 use borrow.Author.Tests.{lt-ltb}
-use lib.ListN.{length}
 use Rattle.model.specs.Cell.{Cell, Fits, isBlank}
 use Rattle.model.specs.Scheme.{Column, Scheme, ColumnOf}
 use Rattle.model.specs.Database.{Database}
-use Rattle.model.specs.Cache.{Held, Complete, Smallest, Alike}
+use Rattle.model.specs.Cache.{Held, Complete, Alike}
 use Rattle.model.specs.Probe as Probe
 use Rattle.model.specs.Runs.{Pair, Operation, probe, heldFrom, heldIn}
 use Rattle.model.specs.Answers.{Answer, refused, ground, sent, orAnswer, groundOf}
@@ -30,7 +29,7 @@ use Rattle.format.specs.Reading.{Draft, DesignRead, verdictOf, designOf, cellsA
 use Rattle.format.specs.Reading.DesignRead.{accepted, refusedAt}
 use Rattle.format.proofs.Small.{Small}
 use Rattle.script.specs.declared.outcome.Run.{Run}
-use Rattle.script.specs.Runs.{operationsAt, Buffers, readingOf, justRead, rowsOf, heldBy, cachedBy, Operated, Ran, ProbedAfter}
+use Rattle.script.specs.Runs.{operationsAt, Buffers, readingOf, rowsOf, heldBy, cachedBy, Operated, Ran, ProbedAfter}
 use Rattle.script.proofs.SameRows.{SameRows, same-back, smallest-same, lawful-same, alike-same}
 use Rattle.script.proofs.JustRead.{none-fit, Begun, begun}
 
@@ -113,7 +112,8 @@ module _ (script : List ℕ) (b a : Buffers) (r : Run) (ran : Ran script b a r) 
     left-sound = go (readingOf script b) refl
       where
         go : (R : DesignRead) → readingOf script b ≡ R → sound (lent (r .design) (a .cells) (a .tables) (a .marks) (r .held)) ≡ true
-        go (accepted p i) e = ap (λ (d : Design). sound (lent d (a .cells) (a .tables) (a .marks) (r .held))) (design-is p i e) ∙ ran .accepted p i e .sound
+        go (accepted p i) e =
+            ap (λ (d : Design). sound (lent d (a .cells) (a .tables) (a .marks) (r .held))) (design-is p i e) ∙ ran .accepted p i e .sound
         go (refusedAt n i) e = absurd (let z : _≡_ {A = ℕ} 0 1 = cc (ran .verdict ∙ ap verdictOf e) in omega arith)
 
     pub accepted-probed : Small script → Stored (a .cells) → (k : Column) (v : Cell) → Fits v → (x : Answer) →

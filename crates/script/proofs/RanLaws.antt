@@ -26,12 +26,13 @@ use Rattle.script.proofs.WholeRun.{operated}
 accepted-short : (script : List ℕ) (p : Draft) (i : ℕ) → readDesign script ≡ accepted p i → length script ≤ mostBytes
 unfolding readDesign
 accepted-short script p i e =
-    ⊎-elim (λ (q : ltb mostBytes (length script) ≡ true). absurd (let z : _≡_ {A = ℕ} 0 1 = cc (cond-true (ltb mostBytes (length script)) (refusedAt 4 0) _ q) in omega arith))
+    ⊎-elim (λ (q : ltb mostBytes (length script) ≡ true).
+    absurd (let z : _≡_ {A = ℕ} 0 1 = cc (cond-true (ltb mostBytes (length script)) (refusedAt 4 0) _ q) in omega arith))
     (λ (q : ltb mostBytes (length script) ≡ false). ltb-false _ _ q)
     (dec (ltb mostBytes (length script)))
 
-module _ (script : List ℕ) (b : Buffers) (r : DesignReading) (cs ts ms : List ℕ) (read : Reads (readingOf script b) r (b .cells) cs (b .tables) ts (b .marks) ms)
-    (none : Held) (empty : none ≡ noneHeld) where
+module _ (script : List ℕ) (b : Buffers) (r : DesignReading) (cs ts ms : List ℕ)
+    (read : Reads (readingOf script b) r (b .cells) cs (b .tables) ts (b .marks) ms) (none : Held) (empty : none ≡ noneHeld) where
   -- the design is refused
   pub refused-ran : (n place : ℕ) → r .verdict ≡ Refused n place →
       Ran script b (buffers cs ts ms (b .words)) (record { verdict = r .verdict; design = r .design; held = none })
@@ -67,7 +68,8 @@ module _ (script : List ℕ) (b : Buffers) (r : DesignReading) (cs ts ms : List 
     -- the steps leave h, m and w
     module _ (h : Held) (m w : List ℕ) (left : Leaves (leftFrom (length script) script (lent (r .design) cs ts ms none) (b .words) j) h m w) where
       left-is : (p : Draft) (i : ℕ) → readingOf script b ≡ accepted p i →
-          leftFrom (length script) script (lent (r .design) cs ts ms none) (b .words) j ≡ leftFrom (length script) script (justRead (accepted p i) b) (b .words) i
+          leftFrom (length script) script (lent (r .design) cs ts ms none) (b .words) j ≡
+          leftFrom (length script) script (justRead (accepted p i) b) (b .words) i
       left-is p i e =
           let q : j ≡ i = cc (read .verdict ∙ ap verdictOf e) in
           ap₂ (λ (s : State) (k : ℕ). leftFrom (length script) script s (b .words) k) (start-is p i e) q

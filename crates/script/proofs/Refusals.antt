@@ -1,8 +1,8 @@
 -- A refused operation leaves the cache as it was. Assumes nothing.
 use Prim.Native.Nat.{ℕ}
 use native.Mathlib.Omega.{arith}
-use mathlib.Core.Path.{_≡_, refl, sym, ap, _∙_}
-use mathlib.Core.Bool.{Bool, true, false, not, _&&_, and-eq-true-iff}
+use mathlib.Core.Path.{_≡_, refl}
+use mathlib.Core.Bool.{true, false, not, and-eq-true-iff}
 use mathlib.Core.Logic.{⊎-elim}
 use borrow.Author.Tests.{ltb-true, lt-ltb, not-true}
 use lib.Dec.{ltb}
@@ -21,7 +21,8 @@ use Rattle.cache.proofs.SoundState.{parts}
 
 module _ (s : State) (e : sound s ≡ true) (n : ℕ) where
   -- a REFER that is taken loads, and is not refused: a candidate is not blank
-  refer-keeps : (p : Pair) → answer (scheme s) (database s) (cache s) (refer p) ≡ refused n → cacheAfter (scheme s) (database s) (cache s) (refer p) ≡ cache s
+  refer-keeps : (p : Pair) → answer (scheme s) (database s) (cache s) (refer p) ≡ refused n →
+      cacheAfter (scheme s) (database s) (cache s) (refer p) ≡ cache s
   unfolding cacheAfter taken schemeOf
   refer-keeps p h =
       let S = scheme s in
@@ -37,7 +38,8 @@ module _ (s : State) (e : sound s ≡ true) (n : ℕ) where
       (dec (taken S ps p))
 
   -- a DROP of a listed pair drops: it has a filling and is not blank
-  drop-keeps : (p : Pair) → answer (scheme s) (database s) (cache s) (drop p) ≡ refused n → cacheAfter (scheme s) (database s) (cache s) (drop p) ≡ cache s
+  drop-keeps : (p : Pair) → answer (scheme s) (database s) (cache s) (drop p) ≡ refused n →
+      cacheAfter (scheme s) (database s) (cache s) (drop p) ≡ cache s
   unfolding cacheAfter
   drop-keeps p h =
       let S = scheme s in
@@ -49,7 +51,8 @@ module _ (s : State) (e : sound s ≡ true) (n : ℕ) where
       (λ (t : listed p ps ≡ false). cond-false (listed p ps) _ (cache s) t)
       (dec (listed p ps))
 
-  pub refused-keeps : (o : Operation) → answer (scheme s) (database s) (cache s) o ≡ refused n → cacheAfter (scheme s) (database s) (cache s) o ≡ cache s
+  pub refused-keeps : (o : Operation) → answer (scheme s) (database s) (cache s) o ≡ refused n →
+      cacheAfter (scheme s) (database s) (cache s) o ≡ cache s
   unfolding cacheAfter
   refused-keeps (refer p) h = refer-keeps p h
   refused-keeps (drop p) h = drop-keeps p h

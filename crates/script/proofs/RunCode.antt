@@ -1,15 +1,14 @@
 -- The loop over a script's commands, as the code makes it: one turn is one step, and what is left to do is what a run leaves. Assumes nothing.
 use Prim.Native.Nat.{ℕ, suc, _≤_, _<_}
 use native.Mathlib.Omega.{arith}
-use mathlib.Core.Path.{_≡_, refl, sym, ap, _∙_}
+use mathlib.Core.Path.{_≡_, sym, ap, _∙_}
 use mathlib.Core.Bool.{Bool, true, false}
 use mathlib.Core.List.{List}
 use lib.ListN.{length}
 use Rattle.finite.proofs.Bools.{cond-true, cond-false}
-use Rattle.state.specs.declared.held.Held.{Held}
 use Rattle.state.specs.Step.{State, lent}
 use Rattle.script.specs.declared.outcome.Step.{Step}
-use Rattle.script.specs.Step.{Stepped, stepAt, stateAfterStep, Does}
+use Rattle.script.specs.Step.{stepAt, Does}
 use Rattle.script.specs.Runs.{Left, leftFrom, Leaves}
 use Rattle.script.proofs.StepLaws.{step-on}
 use Rattle.script.proofs.RunLaws.{done, leftThen, left-past, left-step, left-fuel}
@@ -35,7 +34,9 @@ module _ (script : List ℕ) (s : State) (words : List ℕ) (i : ℕ) (l : Left)
   module _ (below : i < length script) (t : Step) (m w : List ℕ) (d : Does (stepAt s words script i) t m w) where
     -- a command takes at least one byte, so one turn more is as good
     turn : l ≡ leftThen (length script) script s (stepAt s words script i)
-    turn = rest ∙ left-fuel script (length script) (suc (length script)) s words i (omega arith) (omega arith) ∙ left-step script s words i (length script) below
+    turn =
+        rest ∙ left-fuel script (length script) (suc (length script)) s words i (omega arith) (omega arith) ∙
+        left-step script s words i (length script) below
 
     more-is : (b : Bool) → t .more ≡ b → stepAt s words script i .more ≡ b
     more-is b h = sym (d .more) ∙ h
@@ -44,7 +45,8 @@ module _ (script : List ℕ) (s : State) (words : List ℕ) (i : ℕ) (l : Left)
     pub leaves-last : t .more ≡ false → Leaves l (t .held) m w
     leaves-last h =
         leaves-done l (stateWith s m t) w
-        (turn ∙ cond-false (stepAt s words script i .more) _ _ (more-is false h) ∙ sym (λ x. done (lent (s .design) (s .cells) (s .tables) (d .marks x) (d .held x)) (d .words x)))
+        (turn ∙ cond-false (stepAt s words script i .more) _ _ (more-is false h) ∙
+        sym (λ x. done (lent (s .design) (s .cells) (s .tables) (d .marks x) (d .held x)) (d .words x)))
 
     -- a step after which it goes on
     pub left-on : t .more ≡ true → l ≡ leftFrom (length script) script (stateWith s m t) w (t .next)

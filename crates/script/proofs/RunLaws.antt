@@ -2,9 +2,9 @@
 -- Assumes nothing.
 use Prim.Native.Nat.{ℕ, zero, suc, _+_, _-_, _≤_, _<_}
 use native.Mathlib.Omega.{arith}
-use mathlib.Core.Path.{_≡_, refl, sym, ap, subst, _∙_}
-use mathlib.Core.Bool.{Bool, true, false, cond}
-use mathlib.Core.List.{List, [], _∷_, _++_}
+use mathlib.Core.Path.{_≡_, refl, sym, ap, _∙_}
+use mathlib.Core.Bool.{true, false, cond}
+use mathlib.Core.List.{List, [], _∷_}
 use mathlib.Core.Logic.{⊎-elim}
 use borrow.Author.Tests.{leb-true, leb-false, le-leb, lt-leb}
 use lib.Dec.{leb}
@@ -13,7 +13,7 @@ use Rattle.finite.proofs.Bools.{dec, cond-true, cond-false}
 use Rattle.model.specs.Cell.{cellOf}
 use Rattle.model.specs.Runs.{Operation, refer, drop, probe, Cache, cacheFrom}
 use Rattle.state.specs.Meaning.{columnOf}
-use Rattle.state.specs.Step.{State, lent, scheme, database, cache, stateAfter}
+use Rattle.state.specs.Step.{State, scheme, database, cache, stateAfter}
 use Rattle.format.specs.declared.command.Command.{Command}
 use Rattle.format.specs.declared.command.Command.the-variants.{Table, Constraint, Filling, Row, End, Refer, Drop, Probe, Query, Unknown, Short}
 use Rattle.format.specs.Bytes.{byteAt}
@@ -65,7 +65,8 @@ module _ (script : List ℕ) where
       left-past script s words i (suc n) l ∙ sym (left-past script s words i (suc m) l))
       (λ (q : leb (length script) i ≡ false). let l = leb-false (length script) i q in let r = stepAt s words script i in
       left-step script s words i n l ∙
-      then-same n m s r (λ e. let g = step-on s words script i e .0 in left-fuel n m (stateAfterStep s r) (r .words) (r .next) (omega arith) (omega arith)) ∙
+      then-same n m s r (λ e. let g = step-on s words script i e .0 in
+      left-fuel n m (stateAfterStep s r) (r .words) (r .next) (omega arith) (omega arith)) ∙
       sym (left-step script s words i m l))
       (dec (leb (length script) i))
 
@@ -102,7 +103,8 @@ moved s p q f = rw (p, q) f
 operations-past : (script : List ℕ) (i n : ℕ) → length script ≤ i → operationsFrom n script i ≡ []
 unfolding operationsFrom
 operations-past script i zero l = refl
-operations-past script i (suc n) l = ap (λ (c : Command). operationThen c (operationsFrom n script (i + widthOf (byteAt script i)))) (sym (at-end script i l))
+operations-past script i (suc n) l =
+    ap (λ (c : Command). operationThen c (operationsFrom n script (i + widthOf (byteAt script i)))) (sym (at-end script i l))
 
 module _ (script : List ℕ) (short : length script ≤ mostBytes) where
   -- a command and those behind it
@@ -110,9 +112,12 @@ module _ (script : List ℕ) (short : length script ≤ mostBytes) where
       ((l : State) → Tidy l → (w : List ℕ) → Follows l os (leftFrom n script l w j .state)) →
       (c : Command) → Follows s (operationThen c os) (leftThen n script s (carried s words script i j c) .state)
   unfolding carried operated queried
-  then-follows n s t words i j os h (Refer f v) = first s t (refer (record { filling = f; value = cellOf v })) os _ (h _ (after-tidy s (t .sound) _) words)
-  then-follows n s t words i j os h (Drop f v) = first s t (drop (record { filling = f; value = cellOf v })) os _ (h _ (after-tidy s (t .sound) _) words)
-  then-follows n s t words i j os h (Probe k v) = first s t (probe (columnOf k) (cellOf v)) os _ (h _ (after-tidy s (t .sound) _) words)
+  then-follows n s t words i j os h (Refer f v) =
+      first s t (refer (record { filling = f; value = cellOf v })) os _ (h _ (after-tidy s (t .sound) _) words)
+  then-follows n s t words i j os h (Drop f v) =
+      first s t (drop (record { filling = f; value = cellOf v })) os _ (h _ (after-tidy s (t .sound) _) words)
+  then-follows n s t words i j os h (Probe k v) =
+      first s t (probe (columnOf k) (cellOf v)) os _ (h _ (after-tidy s (t .sound) _) words)
   then-follows n s t words i j os h (Query k v m) = h s t _
   then-follows n s t words i j os h (Table x) = h s t words
   then-follows n s t words i j os h (Constraint x) = h s t words
@@ -123,13 +128,16 @@ module _ (script : List ℕ) (short : length script ≤ mostBytes) where
   then-follows n s t words i j os h Short = stays s t
 
   -- the whole script from place i on: refused operations too
-  pub left-follows : (n : ℕ) (s : State) → Tidy s → (words : List ℕ) (i : ℕ) → Follows s (operationsFrom n script i) (leftFrom n script s words i .state)
+  pub left-follows : (n : ℕ) (s : State) → Tidy s → (words : List ℕ) (i : ℕ) →
+      Follows s (operationsFrom n script i) (leftFrom n script s words i .state)
   unfolding operationsFrom leftFrom
   left-follows zero s t words i = stays s t
   left-follows (suc n) s t words i =
       ⊎-elim (λ (q : leb (length script) i ≡ true). let l = leb-true (length script) i q in
       moved s (operations-past script i (suc n) l) (ap (λ (x : Left). x .state) (left-past script s words i (suc n) l)) (stays s t))
       (λ (q : leb (length script) i ≡ false).
-      moved s refl (ap (λ (x : Left). x .state) (left-step script s words i n (leb-false _ _ q) ∙ ap (leftThen n script s) (step-carried s words script i (t .sound) short)))
-      (then-follows n s t words i (i + widthOf (byteAt script i)) _ (λ l u w. left-follows n l u w (i + widthOf (byteAt script i))) (commandAt script i)))
+      moved s refl (ap (λ (x : Left). x .state) (left-step script s words i n (leb-false _ _ q) ∙
+      ap (leftThen n script s) (step-carried s words script i (t .sound) short)))
+      (then-follows n s t words i (i + widthOf (byteAt script i)) _
+      (λ l u w. left-follows n l u w (i + widthOf (byteAt script i))) (commandAt script i)))
       (dec (leb (length script) i))

@@ -56,7 +56,8 @@ lawful-same {S} {D} {E} w m =
     record {
       cells = λ r c l. subst Fits (w .cell r c (there r l)) (m .cells r c (there r l));
       tables = λ r l. subst (λ (t : ℕ). t < S .tables) (w .table r (there r l)) (m .tables r (there r l));
-      blanks = λ r c l h. sym (w .cell r c (there r l)) ∙ m .blanks r c (there r l) (subst (λ (t : ℕ). S .columns t ≤ c) (sym (w .table r (there r l))) h);
+      blanks = λ r c l h.
+          sym (w .cell r c (there r l)) ∙ m .blanks r c (there r l) (subst (λ (t : ℕ). S .columns t ≤ c) (sym (w .table r (there r l))) h);
       unique = λ k v r s u a b. m .unique k v r s u (has-same (same-back w) a) (has-same (same-back w) b);
     }
   where
@@ -68,7 +69,12 @@ pub alike-same : {S : Scheme} {D E F : Database} {H : Held} {X : RowSet} → Sam
 alike-same w inside a =
     record {
       lawful = a .lawful;
-      keeps = record { live = a .keeps .live; table = λ r x. a .keeps .table r x ∙ w .table r (inside r x); cell = λ r c x. a .keeps .cell r c x ∙ w .cell r c (inside r x) };
+      keeps =
+          record {
+            live = a .keeps .live;
+            table = λ r x. a .keeps .table r x ∙ w .table r (inside r x);
+            cell = λ r c x. a .keeps .cell r c x ∙ w .cell r c (inside r x);
+          };
       smallest = a .smallest;
     }
 

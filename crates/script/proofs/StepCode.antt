@@ -1,9 +1,9 @@
 -- What the parts of a step give, as the code makes them, and how they make up a step. Assumes nothing.
-use Prim.Native.Nat.{ℕ, _+_, _≤_, _<_}
+use Prim.Native.Nat.{ℕ, _+_, _≤_}
 use native.Mathlib.Omega.{arith}
-use mathlib.Core.Path.{_≡_, refl, sym, ap, subst, _∙_}
-use mathlib.Core.Bool.{Bool, true, false, not, cond, and-eq-true-iff}
-use mathlib.Core.List.{List, [], _∷_, _++_}
+use mathlib.Core.Path.{_≡_, refl, sym, ap, _∙_}
+use mathlib.Core.Bool.{Bool, true, false}
+use mathlib.Core.List.{List, [], _∷_}
 use mathlib.Core.Logic.{⊎-elim}
 use denote.Enum.Declared.{tagOf}
 use types.Run.{OneOf}
@@ -19,10 +19,10 @@ use Rattle.state.specs.declared.answer.Answer.{Answer}
 use Rattle.state.specs.declared.answer.Answer.the-variants.{Loaded, Held, NoCandidate, Dropped, Ground, Sent, Lists, Refused}
 use Rattle.state.specs.declared.held.Held as Record
 use Rattle.state.specs.Meaning.{answerOf, columnOf}
-use Rattle.state.specs.Step.{State, lent, longEnough, lawful, sound, answerAt, heldAfterAt, marksAfterAt, queryAnswerAt, queryWordsAt}
+use Rattle.state.specs.Step.{State, longEnough, lawful, sound, answerAt, queryAnswerAt, queryWordsAt}
 use Rattle.state.proofs.answer.Answer.{the-type}
 use Rattle.cache.specs.declared.outcome.Outcome.{Outcome}
-use Rattle.cache.specs.Stepped.{Stepped as Stepped′, SoundStep}
+use Rattle.cache.specs.Stepped.{SoundStep}
 use Rattle.query.specs.declared.plan.Join.{Join}
 use Rattle.query.specs.Plan.{joinOf, queryOf}
 use Rattle.format.specs.declared.command.Command.{Command}
@@ -98,7 +98,8 @@ unfolding queryOf queryAt tab
 query-is script i k v n a b c d p q r s =
     λ x. record { column = columnOf k; value = cellOf v; joins = n; pairs = joinOf (p x) ∷ joinOf (q x) ∷ joinOf (r x) ∷ joinOf (s x) ∷ [] }
 
-pub queried-does : (s : State) → sound s ≡ true → (script words w : List ℕ) (i j : ℕ) (k : Column) (v n : ℕ) (q : Model′.Query) → q ≡ queryAt script i k v n →
+pub queried-does : (s : State) → sound s ≡ true → (script words w : List ℕ) (i j : ℕ) (k : Column) (v n : ℕ) →
+    (q : Model′.Query) → q ≡ queryAt script i k v n →
     (a : Answer) → answerOf a ≡ queryAnswerAt s (length words) q → w ≡ sets words 0 (queryWordsAt s (length words) q) →
     (t : Step) → t ≡ answered a i j (s .held) → DoesSoundly s (queried s words (queryAt script i k v n) i j) t (s .marks) w
 unfolding queried
@@ -168,6 +169,7 @@ pub short-does : (s : State) (words script : List ℕ) (i : ℕ) (t : Step) → 
     Does (stepAt s words script i) t (s .marks) words
 short-does s words script i t h e = rw (step-short s words script i h) (refusing-does s words 7 0 i false t e)
 
-pub unlawful-does : (s : State) (words script : List ℕ) (i : ℕ) (t : Step) → longEnough s ≡ true → lawful s ≡ false → t ≡ refusal 12 0 i false (s .held) →
+pub unlawful-does : (s : State) (words script : List ℕ) (i : ℕ) (t : Step) → longEnough s ≡ true → lawful s ≡ false →
+    t ≡ refusal 12 0 i false (s .held) →
     Does (stepAt s words script i) t (s .marks) words
 unlawful-does s words script i t h l e = rw (step-unlawful s words script i h l) (refusing-does s words 12 0 i false t e)

@@ -3,8 +3,8 @@
 use Prim.Native.Nat.{ℕ, _+_, _≤_, _<_}
 use native.Mathlib.Omega.{arith}
 use mathlib.Core.Path.{_≡_, refl, sym, ap, subst, _∙_}
-use mathlib.Core.Bool.{Bool, true, false, not, cond, _&&_, and-eq-true-iff}
-use mathlib.Core.List.{List, [], _∷_, _++_}
+use mathlib.Core.Bool.{Bool, true, false, not, cond, and-eq-true-iff}
+use mathlib.Core.List.{List, _++_}
 use mathlib.Core.Logic.{⊎-elim}
 use borrow.Author.Tests.{le-ltb, lt-ltb}
 use lib.Dec.{ltb}
@@ -13,9 +13,8 @@ use lib.Seq.{take-at, drop-at}
 use Rattle.finite.proofs.Bools.{clash, cond-true, cond-false}
 use Rattle.model.specs.Runs.{Pair, Operation, Cache, cacheAfter}
 use Rattle.model.proofs.RunLaws.{step-pairs}
-use Rattle.state.specs.declared.held.Held.{Held}
 use Rattle.state.specs.Meaning.{pairsOf, heldOf}
-use Rattle.state.specs.Step.{State, lent, scheme, database, cache, longEnough, lawful, sound, stateAfter, heldAfterAt, marksAfterAt}
+use Rattle.state.specs.Step.{State, scheme, database, cache, longEnough, lawful, sound, stateAfter, heldAfterAt, marksAfterAt}
 use Rattle.lawful.proofs.HeldLaws.{held-back, pairs-fit, pairs-back}
 use Rattle.cache.proofs.Fresh.{step-fresh}
 use Rattle.cache.proofs.PairsFit.{step-fit}
@@ -26,7 +25,7 @@ use Rattle.format.specs.Bytes.{byteAt}
 use Rattle.format.specs.Commands.{commandAt, widthOf}
 use Rattle.format.specs.Reading.{mostBytes}
 use Rattle.format.proofs.ReadingLaws.{Whole}
-use Rattle.script.specs.Step.{Stepped, refusing, operated, queried, carried, stepAt, stateAfterStep}
+use Rattle.script.specs.Step.{Stepped, refusing, operated, queried, carried, stepAt}
 use Rattle.script.proofs.Places.{command-kinds}
 
 -- ---- an operation
@@ -98,7 +97,8 @@ module _ (s : State) (words script : List ℕ) (i : ℕ) where
       cond-true (ltb mostBytes (length script)) _ _ (lt-ltb mostBytes (length script) l)
 
   -- on a sound state, in a script that is not over-long, the command is carried out
-  pub step-carried : sound s ≡ true → length script ≤ mostBytes → stepAt s words script i ≡ carried s words script i (i + widthOf (byteAt script i)) (commandAt script i)
+  pub step-carried : sound s ≡ true → length script ≤ mostBytes →
+      stepAt s words script i ≡ carried s words script i (i + widthOf (byteAt script i)) (commandAt script i)
   unfolding stepAt
   step-carried e l =
       let h = and-eq-true-iff (longEnough s) (lawful s) .0 e in

@@ -13,7 +13,7 @@ use Rattle.finite.proofs.Bools.{dec, both}
 use Rattle.model.specs.Runs.{Operation}
 use Rattle.model.specs.Query.{Query as Model, wordsOf}
 use Rattle.model.specs.Answers.{Answer, refused, fullLists, writtenWith}
-use Rattle.state.specs.Step.{State, scheme, database, longEnough, lawful, sound, answerAt, queryAnswerAt, queryWordsAt}
+use Rattle.state.specs.Step.{State, scheme, database, longEnough, lawful, sound, queryWordsAt}
 use Rattle.cache.proofs.SoundState.{answer-at}
 use Rattle.format.specs.declared.command.Command.{Command}
 use Rattle.format.specs.declared.command.Command.the-variants.{Table, Constraint, Filling, Row, End, Refer, Drop, Probe, Query, Unknown, Short}
@@ -36,11 +36,15 @@ pub record Unchanged (s : State) (w : List ℕ) (R : Stepped) : Type 0 where
 
 -- a record of held values has 64 places, as its type says
 module _ (s : State) (places : length (s .held .values) ≡ 64) (words script : List ℕ) (i n : ℕ) where
-  operated-unchanged : sound s ≡ true → (j : ℕ) (o : Operation) → operated s words o i j .answer ≡ refused n → Unchanged s words (operated s words o i j)
+  operated-unchanged : sound s ≡ true → (j : ℕ) (o : Operation) →
+      operated s words o i j .answer ≡ refused n → Unchanged s words (operated s words o i j)
   unfolding operated
   operated-unchanged e j o h =
       let k = refused-keeps s e n o (sym (answer-at s e o) ∙ h) in
       record { held = same-held s e o places k; marks = same-marks s e o k; words = refl }
+
+  refusing-unchanged : (m place next : ℕ) (more : Bool) → Unchanged s words (refusing s words m place next more)
+  refusing-unchanged m place next more = record { held = refl; marks = refl; words = refl }
 
   -- no words go with a refusal
   queried-unchanged : (j : ℕ) (q : Model) → queried s words q i j .answer ≡ refused n → Unchanged s words (queried s words q i j)
@@ -48,19 +52,20 @@ module _ (s : State) (places : length (s .held .values) ≡ 64) (words script : 
   queried-unchanged j q h =
       record { held = refl; marks = refl; words = ap (λ (a : Answer). sets words 0 (writtenWith a (wordsOf (fullLists (scheme s) (database s) q)))) h }
 
-  carried-unchanged : sound s ≡ true → (j : ℕ) (c : Command) → carried s words script i j c .answer ≡ refused n → Unchanged s words (carried s words script i j c)
+  carried-unchanged : sound s ≡ true → (j : ℕ) (c : Command) →
+      carried s words script i j c .answer ≡ refused n → Unchanged s words (carried s words script i j c)
   unfolding carried
   carried-unchanged e j (Refer f v) h = operated-unchanged e j _ h
   carried-unchanged e j (Drop f v) h = operated-unchanged e j _ h
   carried-unchanged e j (Probe k v) h = operated-unchanged e j _ h
   carried-unchanged e j (Query k v m) h = queried-unchanged j _ h
-  carried-unchanged e j (Table t) h = record { held = refl; marks = refl; words = refl }
-  carried-unchanged e j (Constraint c) h = record { held = refl; marks = refl; words = refl }
-  carried-unchanged e j (Filling f) h = record { held = refl; marks = refl; words = refl }
-  carried-unchanged e j (Row t) h = record { held = refl; marks = refl; words = refl }
-  carried-unchanged e j End h = record { held = refl; marks = refl; words = refl }
-  carried-unchanged e j Unknown h = record { held = refl; marks = refl; words = refl }
-  carried-unchanged e j Short h = record { held = refl; marks = refl; words = refl }
+  carried-unchanged e j (Table t) h = refusing-unchanged 3 i j true
+  carried-unchanged e j (Constraint c) h = refusing-unchanged 3 i j true
+  carried-unchanged e j (Filling f) h = refusing-unchanged 3 i j true
+  carried-unchanged e j (Row t) h = refusing-unchanged 3 i j true
+  carried-unchanged e j End h = refusing-unchanged 3 i j true
+  carried-unchanged e j Unknown h = refusing-unchanged 2 i i false
+  carried-unchanged e j Short h = refusing-unchanged 1 _ i false
 
   -- THEOREM: a refused call leaves the held values, the marks and the answer words as they were
   pub refused-unchanged : stepAt s words script i .answer ≡ refused n → Unchanged s words (stepAt s words script i)
@@ -71,12 +76,13 @@ module _ (s : State) (places : length (s .held .values) ≡ 64) (words script : 
       rest = carried s words script i (i + widthOf (byteAt script i)) (commandAt script i)
 
       step : (a b c : Bool) → Stepped
-      step a b c = cond (not a) (refusing s words 7 0 i false) (cond (not b) (refusing s words 12 0 i false) (cond c (refusing s words 4 0 i false) rest))
+      step a b c =
+          cond (not a) (refusing s words 7 0 i false) (cond (not b) (refusing s words 12 0 i false) (cond c (refusing s words 4 0 i false) rest))
 
       go : (a b c : Bool) → (a ≡ true → b ≡ true → sound s ≡ true) → step a b c .answer ≡ refused n → Unchanged s words (step a b c)
-      go false b c e h = record { held = refl; marks = refl; words = refl }
-      go true false c e h = record { held = refl; marks = refl; words = refl }
-      go true true true e h = record { held = refl; marks = refl; words = refl }
+      go false b c e h = refusing-unchanged 7 0 i false
+      go true false c e h = refusing-unchanged 12 0 i false
+      go true true true e h = refusing-unchanged 4 0 i false
       go true true false e h = carried-unchanged (e refl refl) _ (commandAt script i) h
 
 -- ---- a run ends

@@ -1,33 +1,27 @@
 -- Demand 3 of a whole run: what the steps of a script leave of the state just read is what `Operated` says. Assumes nothing.
-use Prim.Native.Nat.{ℕ, _≤_, _<_}
-use native.Mathlib.Omega.{arith}
-use mathlib.Core.Path.{_≡_, refl, sym, ap, ap₂, subst, _∙_}
+use Prim.Native.Nat.{ℕ, _≤_}
+use mathlib.Core.Path.{_≡_, sym, ap, subst, _∙_}
 use mathlib.Core.Bool.{true}
-use mathlib.Core.List.{List, [], _++_}
+use mathlib.Core.List.{List, _++_}
 use lib.ListN.{length, take, drop as past, take-append-drop}
 use lib.Seq.{drop-at}
 use Rattle.finite.specs.Finite.{tab}
 use Rattle.finite.proofs.Tables.{length-tab}
-use Rattle.model.specs.Scheme.{Scheme}
-use Rattle.model.specs.Database.{Database, Lawful}
 use Rattle.model.specs.Cache.{RowSet, Smallest}
 use Rattle.model.specs.Rounds.{reached}
-use Rattle.model.specs.Runs.{Pair, Operation, heldFrom, heldIn, marks, marked, Cache, emptyCache, reloadLevels, cacheFrom}
-use Rattle.model.specs.Demand.{Demand3}
+use Rattle.model.specs.Runs.{Pair, heldIn, marks, marked, Cache, emptyCache, reloadLevels, cacheFrom}
 use Rattle.model.proofs.Exact.{exact}
 use Rattle.model.proofs.Marks.{marked-marks-is}
 use Rattle.model.proofs.RunLaws.{Sound, empty-sound, run-sound, pairs-smallest}
 use Rattle.model.proofs.Demand3.{run-holds}
 use Rattle.state.specs.declared.held.Held.{Held}
-use Rattle.state.specs.Meaning.{schemeOf, databaseOf, pairsOf, heldOf, cacheOf}
+use Rattle.state.specs.Meaning.{schemeOf, databaseOf, pairsOf, heldOf}
 use Rattle.state.specs.Step.{State, lent, scheme, database, cache, sound}
-use Rattle.lawful.proofs.RowsLaws.{Stored}
-use Rattle.cache.proofs.Fresh.{Fresh}
 use Rattle.cache.proofs.SoundState.{parts, lawful-fresh}
-use Rattle.format.specs.Reading.{Draft, cellsAfter, mostBytes}
+use Rattle.format.specs.Reading.{Draft, mostBytes}
 use Rattle.format.specs.Reading.DesignRead.{accepted}
 use Rattle.script.specs.Runs.{operationsAt, Left, leftFrom, Buffers, justRead, rowsOf, heldBy, cachedBy, Operated}
-use Rattle.script.proofs.SameRows.{SameRows, smallest-same}
+use Rattle.script.proofs.SameRows.{smallest-same}
 use Rattle.script.proofs.JustRead.{Begun, none-held, none-pairs}
 use Rattle.script.proofs.StepLaws.{Tidy}
 use Rattle.script.proofs.RunLaws.{Follows, left-follows}
@@ -108,5 +102,6 @@ module _ (script : List ℕ) (short : length script ≤ mostBytes) (b : Buffers)
 
       least : Smallest (schemeOf (p .design)) (rowsOf p) (heldIn (schemeOf (p .design)) (heldBy script p i)) (cachedBy a)
       least =
-          subst (λ (m : List ℕ). Smallest (schemeOf (p .design)) (rowsOf p) (heldIn (schemeOf (p .design)) (heldBy script p i)) (marked (take 512 m))) (sym em)
+          subst (λ (m : List ℕ). Smallest (schemeOf (p .design)) (rowsOf p) (heldIn (schemeOf (p .design)) (heldBy script p i)) (marked (take 512 m)))
+          (sym em)
           (smallest-same (w .rows) end-smallest)

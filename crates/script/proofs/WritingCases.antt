@@ -1,6 +1,6 @@
 -- The cases of writing a design out, in the order of causes: 7 for the rows, 12, 7 for the written design, and the bytes stored. Assumes nothing.
 use Prim.Native.Nat.{ℕ, _≤_, _<_}
-use mathlib.Core.Path.{_≡_, refl, sym, ap, _∙_}
+use mathlib.Core.Path.{_≡_, sym, ap, _∙_}
 use mathlib.Core.Bool.{true, false, not, cond, and-eq-true-iff}
 use mathlib.Core.List.{List}
 use borrow.Author.Tests.{le-leb, lt-leb}
@@ -28,7 +28,8 @@ module _ (s : State) (before : List ℕ) where
   unlawful-writes e h = refused-writes 12 (cond-false (not (longEnough s)) _ _ (ap not e) ∙ cond-true (not (lawful s)) _ _ (ap not h))
 
   -- on a sound state the room decides
-  sound-written : sound s ≡ true → writtenAt s (length before) ≡ cond (not (leb (length (bytesOf s)) (length before))) (Refused 7) (Bytes (length (bytesOf s)))
+  sound-written : sound s ≡ true →
+      writtenAt s (length before) ≡ cond (not (leb (length (bytesOf s)) (length before))) (Refused 7) (Bytes (length (bytesOf s)))
   unfolding writtenAt
   sound-written e =
       let h = and-eq-true-iff (longEnough s) (lawful s) .0 e in
@@ -41,7 +42,8 @@ module _ (s : State) (before : List ℕ) where
   pub stored-writes : sound s ≡ true → length (bytesOf s) ≤ length before → (n : ℕ) (after : List ℕ) →
       n ≡ length (bytesOf s) → after ≡ sets before 0 (bytesOf s) → Writes s (Bytes n) before after
   unfolding storedWith
-  stored-writes e l n after p q = record { answer = ap Bytes p ∙ sym w; buffer = q ∙ ap (λ (x : Written). sets before 0 (storedWith x (bytesOf s))) (sym w) }
+  stored-writes e l n after p q =
+      record { answer = ap Bytes p ∙ sym w; buffer = q ∙ ap (λ (x : Written). sets before 0 (storedWith x (bytesOf s))) (sym w) }
     where
       w : writtenAt s (length before) ≡ Bytes (length (bytesOf s))
       w = sound-written e ∙ cond-false (not (leb (length (bytesOf s)) (length before))) _ _ (ap not (le-leb _ _ l))

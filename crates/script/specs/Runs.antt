@@ -3,12 +3,12 @@
 use Prim.Native.Nat.{ℕ, zero, suc, _+_}
 use mathlib.Core.Path.{_≡_}
 use mathlib.Core.Logic.{_↔_}
-use mathlib.Core.Bool.{Bool, true, false, cond}
+use mathlib.Core.Bool.{true, false, cond}
 use mathlib.Core.List.{List, [], _∷_, _++_}
 use lib.Dec.{leb}
 use lib.ListN.{length, take, drop as past}
 use Rattle.model.specs.Cell.{Cell, cellOf, isBlank}
-use Rattle.model.specs.Scheme.{Column, Scheme, ColumnOf}
+use Rattle.model.specs.Scheme.{Column, ColumnOf}
 use Rattle.model.specs.Database.{Database}
 use Rattle.model.specs.Cache.{RowSet, Complete, Alike}
 use Rattle.model.specs.Runs.{Pair, Operation, refer, drop, probe, heldFrom, heldIn, marks, marked}
@@ -25,7 +25,7 @@ use Rattle.format.specs.Commands.{commandAt, widthOf}
 use Rattle.format.specs.Reading.{Draft, DesignRead, readInto, verdictOf, designOf, cellsAfter, tablesAfter, marksAfter}
 use Rattle.format.specs.Reading.DesignRead.{accepted, refusedAt}
 use Rattle.script.specs.declared.outcome.Run.{Run}
-use Rattle.script.specs.Step.{Stepped, stepAt, stateAfterStep}
+use Rattle.script.specs.Step.{stepAt, stateAfterStep}
 
 -- the operations of a run that stand in a script from a command on: c is that command, and `rest` are those behind it. Queries, and commands that
 -- are no operation, change nothing; behind 1 or 2 there is no command
@@ -138,8 +138,10 @@ pub record ProbedAfter (script : List ℕ) (b a : Buffers) (r : Run) (k : Column
   -- the design is refused, with its cause
   pub refused : (n i : ℕ) → readingOf script b ≡ refusedAt n i → x ≡ refused n
   -- the design is accepted: the probe's answer on the state that the run has left
-  pub answer : (p : Draft) (i : ℕ) → readingOf script b ≡ accepted p i → x ≡ answerAt (lent (p .design) (a .cells) (a .tables) (a .marks) (r .held)) (probe k v)
+  pub answer : (p : Draft) (i : ℕ) → readingOf script b ≡ accepted p i →
+      x ≡ answerAt (lent (p .design) (a .cells) (a .tables) (a .marks) (r .held)) (probe k v)
   -- DEMAND 3, of the answer itself: a yes exactly when the value is complete in every lawful database from which the same rows would have been cached
   pub exact : (p : Draft) (i : ℕ) → readingOf script b ≡ accepted p i → ColumnOf (schemeOf (p .design)) k → isBlank v ≡ false →
       ((g : ℕ) × (x ≡ ground g)) ↔
-      ((E : Database) → Alike (schemeOf (p .design)) (rowsOf p) (heldIn (schemeOf (p .design)) (heldBy script p i)) (cachedBy a) E → Complete E (cachedBy a) k v)
+      ((E : Database) → Alike (schemeOf (p .design)) (rowsOf p) (heldIn (schemeOf (p .design)) (heldBy script p i)) (cachedBy a) E →
+      Complete E (cachedBy a) k v)

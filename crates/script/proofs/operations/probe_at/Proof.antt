@@ -15,7 +15,8 @@ returns : tie.Need-returns
 returns c =
     let b = c .before .before .before .before .before in
     operated-does _ _ _ _ _ _
-    (probe-steps _ (b .pre) (held-sized (b .args .held) _ (b .good .1 .1 .1 .1 .1 .1 .0)) _ _ _ (c .before .probe-lawful .ensures)) _ (c .answering .ensures)
+    (probe-steps _ (b .pre) (held-sized (b .args .held) _ (b .good .1 .1 .1 .1 .1 .1 .0)) _ _ _ (c .before .probe-lawful .ensures)) _
+    (c .answering .ensures)
 
 pub probe-at-spec : {M : Type 1} → statement M
 probe-at-spec = tie.close (tie.spec probe-lawful-requires answering-requires returns)

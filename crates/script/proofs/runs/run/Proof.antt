@@ -40,7 +40,8 @@ run-from-requires c κs =
     let r = k .before .before in
     let b = r .before .before .before .before .before .before .before .before in
     let a = b .before .args in
-    start-sound _ (buffers (now (a .cells)) (now (a .tables)) (now (a .marks)) (now (a .words))) _ _ _ _ (r .read-design .ensures) _ (v .before .before .none .ensures)
+    start-sound _ (buffers (now (a .cells)) (now (a .tables)) (now (a .marks)) (now (a .words))) _ _ _ _
+    (r .read-design .ensures) _ (v .before .before .none .ensures)
     (record { at = λ j. omega (arith, b .shared-slice-known .given j) }) (λ j. omega (arith, k .slice-known5 .given j)) _ (v .verdict .given .1)
 
 same-length-4 : tie.Need-same-length-4

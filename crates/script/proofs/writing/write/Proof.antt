@@ -63,7 +63,8 @@ returns-4 c =
     let l = n .before .before in
     let s = l .before .before .before .before .before .before .before in
     stored-writes _ _
-    (both (sym (l .before .before .is-long-enough .ensures _ _) ∙ not-false _ (l .before .if1 .left)) (sym (l .is-lawful .ensures) ∙ not-false _ (n .before .if2 .left)))
+    (both (sym (l .before .before .is-long-enough .ensures _ _) ∙ not-false _ (l .before .if1 .left))
+    (sym (l .is-lawful .ensures) ∙ not-false _ (n .before .if2 .left)))
     (omega (arith, n .design-length .ensures (now (s .args .cells)) (now (s .args .tables)))) _ _
     (n .design-length .ensures _ _) (c .before .before .write-design .ensures .1)
 
