@@ -23,6 +23,17 @@ collect-same (suc n) p q f g h k =
     go true e = e refl
     go false e = refl
 
+-- what each number brings in is the same
+pub collect-blocks : {A : Type 0} (n : ℕ) (p q : ℕ → Bool) (f g : ℕ → List A) → ((r : ℕ) → r < n → cond (p r) (f r) [] ≡ cond (q r) (g r) []) → collect n p f ≡ collect n q g
+unfolding collect
+collect-blocks zero p q f g h = refl
+collect-blocks (suc n) p q f g h = ap₂ _++_ (collect-blocks n p q f g (λ r l. h r (omega arith))) (h n (omega arith))
+
+pub collect-none : {A : Type 0} (n : ℕ) (p : ℕ → Bool) (f : ℕ → List A) → ((r : ℕ) → r < n → p r ≡ false) → collect n p f ≡ []
+unfolding collect
+collect-none zero p f h = refl
+collect-none (suc n) p f h = rw (collect-none n p f (λ r l. h r (omega arith)), h n (omega arith))
+
 -- ---- what is collected
 
 chosen : {A : Type 0} {x : A} (b : Bool) (xs : List A) → List·Memᴰ x (cond b xs []) → (b ≡ true) × List·Memᴰ x xs

@@ -1,10 +1,11 @@
 -- Bools: tests and their facts. Search, Counting, Tables, Collecting: the laws of any and all, count, tab, collect. Skipping: loops that pass over
--- numbers at which nothing happens. Writing: into a lent buffer. Stores: what stands where after it.
+-- numbers at which nothing happens. From: the numbers from i on. Writing: into a lent buffer. Stores: what stands where after it.
 pub mod Bools
 pub mod Search
 pub mod Counting
 pub mod Tables
 pub mod Collecting
 pub mod Skipping
+pub mod From
 pub mod Writing
 pub mod Stores

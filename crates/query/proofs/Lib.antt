@@ -1,7 +1,7 @@
--- FiniteExtra, Hops, Chains, CapLaws: lists of rows, counted and pruned by weights, over any tests. WeightLaws, PartLaws, TableLaws, Weighing: the
+-- SumLaws, Hops, Chains, CapLaws: lists of rows, counted and pruned by weights, over any tests. WeightLaws, PartLaws, TableLaws, Weighing: the
 -- tables that elimination leaves. Writing, ListLaws, Walking: what the lister writes from them. OperandLaws, OperandTests, PlanLaws, Bridge, Planned,
 -- Answering: from a query's operands to its lists and their count. QueryCases, LawfulQuery: the operation. MarkedRows, ListTheorems: what is listed.
-pub mod FiniteExtra
+pub mod SumLaws
 pub mod Hops
 pub mod Chains
 pub mod CapLaws
