@@ -3,24 +3,12 @@ ghost use Prim.Native.Nat.{_<_, _≤_};
 ghost use mathlib.Core.List.{[], _∷_, _++_};
 ghost use mathlib.Core.Path.{_≡_};
 ghost use Rattle.model.specs.Runs as Runs;
-ghost use Rattle.model.specs.Runs.{samePair, remove};
-ghost use Rattle.state.specs.Meaning.{pairOf, pairsOf, heldOf};
+ghost use Rattle.model.specs.Runs.{remove};
+ghost use Rattle.state.specs.Meaning.{pairsOf, heldOf};
 ghost use Rattle.cache.specs.Places.{pair, Tidy, placeOf, keptAt, without};
 use state::Held;
 use state::HeldValue;
-
-// Whether the held value is this pair. Constant time.
-fn is_pair(h: HeldValue, filling: u8, value: u32) -> bool
-    ensures { λ b. ⌜ b ≡ samePair (pairOf h) (pair filling value) ⌝ }
-{
-    if h.filling != filling {
-        return false;
-    }
-    if h.value == 0 {
-        return false;
-    }
-    h.value == value
-}
+use state::same_pair;
 
 // The place of the pair; the count where it isn't held. One look at each held value.
 fn place(held: Held, filling: u8, value: u32) -> usize
@@ -29,7 +17,7 @@ fn place(held: Held, filling: u8, value: u32) -> usize
 {
     let n = held.count;
     for i in 0..n {
-        if is_pair(held.values[i], filling, value) {
+        if same_pair(held.values[i], HeldValue { filling, value }) {
             return i;
         }
     }

@@ -6,10 +6,10 @@ ghost use Rattle.state.specs.Design.{constraintAt};
 ghost use Rattle.state.specs.Lawful.{constraintFits, sameConstraint, zeroConstraint};
 ghost use Rattle.lawful.specs.Parts.{constraintLawful, constraintsLawful};
 use crate::tables::is_column;
-use crate::tables::same_column;
 use crate::tables::zero_column;
 use state::Constraint;
 use state::Design;
+use state::same_column;
 
 // Whether the two are one constraint. Constant time.
 fn same_constraint(a: Constraint, b: Constraint) -> bool

@@ -9,25 +9,11 @@ ghost use Rattle.state.specs.Meaning.{columnOf, fillingOf};
 ghost use Rattle.state.specs.Lawful.{fillingFits, zeroFilling};
 ghost use Rattle.lawful.specs.Parts.{fillingLawful, fillingsLawful};
 use crate::tables::is_column;
-use crate::tables::same_column;
 use crate::tables::zero_column;
 use state::Column;
 use state::Design;
 use state::Filling;
-
-// Filling number f, or one that is all 0 where there is no such place. Constant time.
-pub fn filling_at(d: Design, f: usize) -> Filling
-    ensures { λ r. ⌜ r ≡ fillingAt d f ⌝ }
-{
-    if Design::FILLINGS <= f {
-        return Filling {
-            column: Column { table: 0, place: 0 },
-            low: 0,
-            high: 0,
-        };
-    }
-    d.filling[f]
-}
+use state::same_column;
 
 // Whether the value is a candidate of the filling. Constant time.
 pub fn is_candidate(f: Filling, v: u32) -> bool

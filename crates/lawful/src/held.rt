@@ -7,24 +7,12 @@ ghost use Rattle.state.specs.Held.{heldAt};
 ghost use Rattle.state.specs.Meaning.{pairOf};
 ghost use Rattle.state.specs.Lawful.{heldFits, lawfulHeld, zeroHeld};
 ghost use Rattle.lawful.specs.Parts.{heldLawful};
-use crate::fillings::filling_at;
 use crate::fillings::is_candidate;
 use state::Design;
 use state::Held;
 use state::HeldValue;
-
-// Whether the two are one pair. Constant time.
-fn same_pair(a: HeldValue, b: HeldValue) -> bool
-    ensures { λ r. ⌜ r ≡ samePair (pairOf a) (pairOf b) ⌝ }
-{
-    if a.filling != b.filling {
-        return false;
-    }
-    if a.value == 0 {
-        return false;
-    }
-    a.value == b.value
-}
+use state::filling_at;
+use state::same_pair;
 
 // Whether one of the first n held values is v. One look at each.
 fn held_before(held: Held, n: usize, v: HeldValue) -> bool

@@ -10,10 +10,10 @@ ghost use Rattle.state.specs.Meaning.{columnOf, databaseOf, schemeOf};
 ghost use Rattle.state.specs.Lawful.{lawfulRows, repeats, repeatsAt, rowFits, zeroRow};
 ghost use Rattle.lawful.specs.Parts.{blankAt, blankFrom, rowLawful};
 use crate::tables::is_unique;
-use crate::tables::table_at;
 use state::Column;
 use state::Design;
 use state::row_has;
+use state::table_at;
 
 // Whether row r's cell c is one of the first n, or blank. Constant time.
 fn blank_at(cells: &[u32], r: usize, n: u8, c: usize) -> bool

@@ -1,14 +1,14 @@
-// Tables and their columns. A table number past the last place reads as a table without columns.
+// Tables and their columns.
 ghost use mathlib.Core.Path.{_≡_};
 ghost use Prim.Native.Nat.{_<_};
-ghost use Rattle.model.specs.Scheme.{isColumn, sameColumn};
-ghost use Rattle.state.specs.Design.{tableAt};
+ghost use Rattle.model.specs.Scheme.{isColumn};
 ghost use Rattle.state.specs.Meaning.{bit, columnOf, schemeOf};
 ghost use Rattle.state.specs.Lawful.{tableFits, zeroColumn, zeroTable};
 ghost use Rattle.lawful.specs.Parts.{tableLawful, tablesLawful};
 use state::Column;
 use state::Design;
 use state::Table;
+use state::table_at;
 
 // Whether bit i of u is set. Constant time.
 fn has_bit(u: u8, i: u8) -> bool
@@ -18,19 +18,6 @@ fn has_bit(u: u8, i: u8) -> bool
         return false;
     }
     (u >> i) % 2 == 1
-}
-
-// Table number t, or one without columns where there is no such place. Constant time.
-pub fn table_at(d: Design, t: usize) -> Table
-    ensures { λ r. ⌜ r ≡ tableAt d t ⌝ }
-{
-    if Design::TABLES <= t {
-        return Table {
-            columns: 0,
-            unique: 0,
-        };
-    }
-    d.table[t]
 }
 
 // Whether a TABLE command's operands are right: 1 to 8 columns, and no unique bit past them. Constant time.
@@ -66,16 +53,6 @@ pub fn is_unique(d: Design, k: Column) -> bool
     let t = k.table as usize;
     let x = table_at(d, t);
     has_bit(x.unique, k.place)
-}
-
-// Whether the two are one column. Constant time.
-pub fn same_column(j: Column, k: Column) -> bool
-    ensures { λ b. ⌜ b ≡ sameColumn (columnOf j) (columnOf k) ⌝ }
-{
-    if j.table != k.table {
-        return false;
-    }
-    j.place == k.place
 }
 
 // Whether all of a column is 0, as in an unused place. Constant time.

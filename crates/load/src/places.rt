@@ -1,11 +1,10 @@
 // What stands at a place of the design and of the held values.
 ghost use mathlib.Core.Path.{_≡_};
 ghost use Prim.Native.Nat.{_<_};
-ghost use Rattle.state.specs.Design.{constraintAt, fillingAt};
+ghost use Rattle.state.specs.Design.{constraintAt};
 ghost use Rattle.state.specs.Held.{heldAt};
 use state::Constraint;
 use state::Design;
-use state::Filling;
 use state::Held;
 use state::HeldValue;
 
@@ -15,14 +14,6 @@ pub fn constraint_at(d: Design, i: usize) -> Constraint
     ensures { λ j. ⌜ j ≡ constraintAt d i ⌝ }
 {
     d.constraint[i]
-}
-
-// Filling i. Constant time.
-pub fn filling_at(d: Design, i: usize) -> Filling
-    requires { ⌜ i < 8 ⌝ }
-    ensures { λ f. ⌜ f ≡ fillingAt d i ⌝ }
-{
-    d.filling[i]
 }
 
 // Held value i. Constant time.

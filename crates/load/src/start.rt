@@ -11,12 +11,12 @@ ghost use Rattle.model.specs.Runs.{marked, wanted};
 ghost use Rattle.state.specs.Design.{InRange, Backed};
 ghost use Rattle.state.specs.Held.{heldAt};
 ghost use Rattle.state.specs.Meaning.{columnOf, databaseOf, schemeOf, pairsOf};
-use crate::places::filling_at;
 use crate::places::held_at;
 use crate::raising::raise;
 use state::Column;
 use state::Design;
 use state::Held;
+use state::filling_at;
 use state::row_has;
 
 // Row r's level in round 0 of a load of v in column k, where it has this mark. Constant time.

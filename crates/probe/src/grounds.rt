@@ -12,12 +12,12 @@ ghost use Rattle.state.specs.Held.{heldAt};
 ghost use Rattle.state.specs.Meaning.{columnOf, constraintOf, pairsOf, schemeOf, databaseOf};
 use crate::cached::seen;
 use crate::held::is_held;
-use crate::held::same_column;
 use lawful::is_unique;
 use state::Column;
 use state::Constraint;
 use state::Design;
 use state::Held;
+use state::same_column;
 
 // Whether the constraint ends at the column and a cached row has the value in its source column. Rows, if it ends there.
 fn is_demanded_by(

@@ -3,23 +3,13 @@ ghost use Prim.Native.Nat.{ℕ, _<_, _≤_};
 ghost use mathlib.Core.Path.{_≡_};
 ghost use Rattle.model.specs.Cell.{cellOf};
 ghost use Rattle.model.specs.Runs.{one, heldIn};
-ghost use Rattle.model.specs.Scheme.{sameColumn};
 ghost use Rattle.state.specs.Held.{heldAt};
 ghost use Rattle.state.specs.Meaning.{columnOf, schemeOf, pairsOf};
 use state::Column;
 use state::Design;
 use state::Held;
 use state::HeldValue;
-
-// Whether the two are one column. Constant time.
-pub fn same_column(j: Column, k: Column) -> bool
-    ensures { λ b. ⌜ b ≡ sameColumn (columnOf j) (columnOf k) ⌝ }
-{
-    if j.table != k.table {
-        return false;
-    }
-    j.place == k.place
-}
+use state::same_column;
 
 // Whether the held value h is v and its filling's column is k. Constant time.
 fn is_held_by(d: Design, h: HeldValue, k: Column, v: u32) -> bool

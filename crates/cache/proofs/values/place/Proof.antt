@@ -23,20 +23,20 @@ abbrev μ-loop : tie.MeasureT-loop
 loop-holds : tie.Need-loop-holds Inv-loop μ-loop
 loop-holds c = (omega arith, any-start _)
 
-mul-is-pair : tie.Need-mul-is-pair Inv-loop μ-loop
-mul-is-pair c = search needs
+mul-same-pair : tie.Need-mul-same-pair Inv-loop μ-loop
+mul-same-pair c = search needs
 
-element-copy-out-is-pair : tie.Need-element-copy-out-is-pair Inv-loop μ-loop
-element-copy-out-is-pair c = search needs
+element-copy-out-same-pair : tie.Need-element-copy-out-same-pair Inv-loop μ-loop
+element-copy-out-same-pair c = search needs
 
-is-pair-requires : tie.Need-is-pair-requires Inv-loop μ-loop
-is-pair-requires c κs = search needs
+same-pair-requires : tie.Need-same-pair-requires Inv-loop μ-loop
+same-pair-requires c κs = search needs
 
 returns : tie.Need-returns Inv-loop μ-loop
 unfolding pairsOf
 returns c =
     place-found _ _ _ _ (c .before .before .before .loop-test .taken) (any-none _ _ (c .before .before .before .before .loop .inv .1)) (sym
-    (c .before .is-pair .ensures) ∙ c .if1 .taken)
+    (c .before .same-pair .ensures) ∙ c .if1 .taken)
 
 add-i : tie.Need-add-i Inv-loop μ-loop
 add-i c = omega arith
@@ -45,7 +45,7 @@ loop-less : tie.Need-loop-less Inv-loop μ-loop
 loop-less c = omega arith
 
 loop-again : tie.Need-loop-again Inv-loop μ-loop
-loop-again c = (omega arith, any-more _ _ (c .before .before .before .before .loop .inv .1) (sym (c .before .is-pair .ensures) ∙ c .if1 .left))
+loop-again c = (omega arith, any-more _ _ (c .before .before .before .before .loop .inv .1) (sym (c .before .same-pair .ensures) ∙ c .if1 .left))
 
 returns-2 : tie.Need-returns-2 Inv-loop μ-loop
 unfolding pairsOf
@@ -58,9 +58,9 @@ place-spec =
     Inv-loop
     μ-loop
     loop-holds
-    mul-is-pair
-    element-copy-out-is-pair
-    is-pair-requires
+    mul-same-pair
+    element-copy-out-same-pair
+    same-pair-requires
     returns
     add-i
     loop-less

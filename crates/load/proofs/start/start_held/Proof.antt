@@ -1,6 +1,7 @@
 -- `load::start::start_held` meets its contract: a loop of steps to level 2. Assumes nothing.
 use Prim.Native.Nat.{_-_, _≤_, ℕ}
 use native.Mathlib.Omega.{arith}
+use borrow.Author.Needs.{needs}
 use mathlib.Core.Path.{ap, sym}
 use lib.ListN.{length-replicate}
 use Rattle.finite.proofs.Search.{any-start}
@@ -53,9 +54,7 @@ cast-at c =
     omega (arith, filling-below (s .args .held) (c .before .before .before .loop .i) _ (s .pre .3) (c .before .held-at .ensures))
 
 filling-at-requires : tie.Need-filling-at-requires Inv-loop μ-loop
-filling-at-requires c κs =
-    let s = c .before .before .before .before .before .before in
-    filling-below (s .args .held) (c .before .before .before .loop .i) _ (s .pre .3) (c .before .held-at .ensures)
+filling-at-requires c κs = search needs
 
 slice-aggregate-raise : tie.Need-slice-aggregate-raise Inv-loop μ-loop
 slice-aggregate-raise c = sym (c .before .before .before .before .before .before .loop .inv .2 .heads-long)

@@ -1,11 +1,11 @@
--- `lawful::held::same_pair` meets its contract. Assumes nothing.
+-- `state::equality::same_pair` meets its contract. Assumes nothing.
 use mathlib.Core.Path.{refl}
 use borrow.Author.Tests.{eq-eqb, ne-eqb}
 use Rattle.finite.proofs.Bools.{and-go, and-stop, eq-not, ne-not}
 use Rattle.model.specs.Cell.{equal, isBlank}
 use Rattle.model.specs.Runs.{samePair}
-use Rattle.lawful.proofs.held.same_pair.Statement.{statement}
-use Rattle.lawful.proofs.held.same_pair.Tie as tie
+use Rattle.state.proofs.equality.same_pair.Statement.{statement}
+use Rattle.state.proofs.equality.same_pair.Tie as tie
 
 returns : tie.Need-returns
 unfolding samePair

@@ -1,10 +1,10 @@
--- `lawful::tables::table_at` meets its contract: past the array's eight places `getD` gives the empty table. Assumes nothing.
+-- `state::lookup::table_at` meets its contract: past the array's eight places `getD` gives the empty table. Assumes nothing.
 use mathlib.Core.Path.{sym}
 use borrow.Author.Needs.{needs}
 use Rattle.state.proofs.Arrays.{sized}
 use Rattle.state.proofs.Places.{past-end}
-use Rattle.lawful.proofs.tables.table_at.Statement.{statement}
-use Rattle.lawful.proofs.tables.table_at.Tie as tie
+use Rattle.state.proofs.lookup.table_at.Statement.{statement}
+use Rattle.state.proofs.lookup.table_at.Tie as tie
 
 returns : tie.Need-returns
 returns c = let d = c .before .args .t1 in sym (past-end (d .table) _ _ _ (sized d _ (c .before .good .0) .table) (c .if1 .taken))

@@ -1,10 +1,10 @@
--- `lawful::tables::same_column` meets its contract. Assumes nothing.
+-- `state::equality::same_column` meets its contract. Assumes nothing.
 use mathlib.Core.Path.{refl}
 use borrow.Author.Tests.{eq-eqb, ne-eqb}
 use Rattle.finite.proofs.Bools.{and-go, and-stop}
 use Rattle.model.specs.Scheme.{sameColumn}
-use Rattle.lawful.proofs.tables.same_column.Statement.{statement}
-use Rattle.lawful.proofs.tables.same_column.Tie as tie
+use Rattle.state.proofs.equality.same_column.Statement.{statement}
+use Rattle.state.proofs.equality.same_column.Tie as tie
 
 returns : tie.Need-returns
 unfolding sameColumn

@@ -1,10 +1,10 @@
--- `lawful::fillings::filling_at` meets its contract: past the array's eight places `getD` gives the filling that is all 0. Assumes nothing.
+-- `state::lookup::filling_at` meets its contract: past the array's eight places `getD` gives the filling that is all 0. Assumes nothing.
 use mathlib.Core.Path.{sym}
 use borrow.Author.Needs.{needs}
 use Rattle.state.proofs.Arrays.{sized}
 use Rattle.state.proofs.Places.{past-end}
-use Rattle.lawful.proofs.fillings.filling_at.Statement.{statement}
-use Rattle.lawful.proofs.fillings.filling_at.Tie as tie
+use Rattle.state.proofs.lookup.filling_at.Statement.{statement}
+use Rattle.state.proofs.lookup.filling_at.Tie as tie
 
 returns : tie.Need-returns
 returns c = let d = c .before .args .t1 in sym (past-end (d .filling) _ _ _ (sized d _ (c .before .good .0) .filling) (c .if1 .taken))
