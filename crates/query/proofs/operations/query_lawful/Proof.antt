@@ -3,7 +3,7 @@ use native.Mathlib.Omega.{arith}
 use mathlib.Core.Path.{sym, _∙_}
 use borrow.Author.Needs.{needs}
 use borrow.Author.Tests.{not-true, not-false}
-use Rattle.lawful.proofs.Arrays.{sized, held-sized}
+use Rattle.state.proofs.Arrays.{sized, held-sized}
 use Rattle.cache.proofs.Asked.{sound-range, sound-backed, sound-marks, sound-tidy, sound-filling}
 use Rattle.query.proofs.QueryCases.{query-misfit}
 use Rattle.query.proofs.LawfulQuery.{sound-place, query-9, query-no-ground, query-ground}

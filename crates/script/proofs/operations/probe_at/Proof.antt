@@ -1,6 +1,6 @@
 -- `script::operations::probe_at` meets its contract: what `probe_lawful` answers, with its place; nothing changes. Assumes nothing.
 use borrow.Author.Needs.{needs}
-use Rattle.lawful.proofs.Arrays.{held-sized}
+use Rattle.state.proofs.Arrays.{held-sized}
 use Rattle.script.proofs.StepCode.{operated-does, probe-steps}
 use Rattle.script.proofs.operations.probe_at.Statement.{statement}
 use Rattle.script.proofs.operations.probe_at.Tie as tie

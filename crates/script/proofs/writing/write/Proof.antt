@@ -5,7 +5,7 @@ use borrow.Author.Needs.{needs}
 use borrow.Author.Tests.{not-true, not-false}
 use denote.Ref.{now}
 use Rattle.finite.proofs.Bools.{both}
-use Rattle.lawful.proofs.Arrays.{sized}
+use Rattle.state.proofs.Arrays.{sized}
 use Rattle.cache.proofs.Asked.{long-asked, sound-range, sound-backed}
 use Rattle.script.proofs.WritingCases.{short-writes, unlawful-writes, cramped-writes, stored-writes}
 use Rattle.script.proofs.writing.write.Statement.{statement}
