@@ -96,7 +96,7 @@ module _ (d : Design) (cells tables more others : List ℕ) (c : length cells �
       })
     where
       w : LawfulRows d cells tables
-      w = rows-say d cells tables f u e
+      w = rows-say d cells tables u e
 
 -- a design is accepted only where the buffers are long enough
 pub into-parts : (s : List ℕ) (b : Buffers) (p : Draft) (i : ℕ) → readingOf s b ≡ accepted p i →
@@ -127,7 +127,7 @@ module _ (s : List ℕ) (small : Small s) (b : Buffers) (p : Draft) (i : ℕ) (e
       record {
         sizes = z;
         design = w .0;
-        lawful = lawful-database (p .design) (p .cells) (p .tables) (w .0) (w .1) stored;
+        lawful = lawful-database (p .design) (p .cells) (p .tables) (w .1) stored;
         rows = same-back same;
         sound =
             from-parts start
