@@ -9,29 +9,22 @@ use Rattle.state.specs.declared.design.Filling.{Filling}
 use Rattle.state.specs.declared.design.Design.{Design}
 use Rattle.state.specs.declared.held.HeldValue.{HeldValue}
 use Rattle.state.specs.declared.held.Held.{Held}
-use Rattle.state.specs.Design.{InRange, constraintAt, fillingAt}
+use Rattle.state.specs.Design.{InRange, fillingAt}
 use Rattle.state.specs.Held.{heldAt}
 use Rattle.state.specs.Meaning.{columnOf, constraintOf}
 use Rattle.load.specs.Source.{sourceValue}
 use Rattle.load.proofs.SourceLaws.{leads-value}
 
-module _ (d : Design) (i : ℕ) (h : InRange d) where
-  pub source-place : (j : Constraint) → j ≡ constraintAt d i → j .source .place < 8
-  source-place j e = subst (λ (x : Constraint). x .source .place < 8) (sym e) (h .source i)
-
-  pub target-place : (j : Constraint) → j ≡ constraintAt d i → j .target .place < 8
-  target-place j e = subst (λ (x : Constraint). x .target .place < 8) (sym e) (h .target i)
-
-  pub column-place : (f : Filling) → f ≡ fillingAt d i → f .column .place < 8
-  column-place f e = subst (λ (x : Filling). x .column .place < 8) (sym e) (h .column i)
+pub column-place : (d : Design) (i : ℕ) → InRange d → (f : Filling) → f ≡ fillingAt d i → f .column .place < 8
+column-place d i h f e = subst (λ (x : Filling). x .column .place < 8) (sym e) (h .column i)
 
 pub filling-below : (held : Held) (i : ℕ) (v : HeldValue) → ((j : ℕ) → heldAt held j .filling < 8) → v ≡ heldAt held i → v .filling < 8
 filling-below held i v h e = subst (λ (x : HeldValue). x .filling < 8) (sym e) (h i)
 
--- the rows that constraint k demands of row s
-pub leads-of : (D : Database) (j k : Constraint) (s v : ℕ) → v ≡ sourceValue D (columnOf (j .source)) s → j ≡ k → (r : ℕ) →
-    has D (columnOf (j .target)) (cellOf v) r ≡ leads D (constraintOf k) s r
-leads-of D j k s v e q r = leads-value D (constraintOf j) s v e r ∙ ap (λ (x : Constraint). leads D (constraintOf x) s r) q
+-- the rows that constraint j demands of row s
+pub leads-of : (D : Database) (j : Constraint) (s v : ℕ) → v ≡ sourceValue D (columnOf (j .source)) s → (r : ℕ) →
+    has D (columnOf (j .target)) (cellOf v) r ≡ leads D (constraintOf j) s r
+leads-of D j s v e r = leads-value D (constraintOf j) s v e r
 
 -- the rows that have held value i in its filling's column
 pub held-has : (D : Database) (d : Design) (held : Held) (i : ℕ) (v : HeldValue) (f : Filling) → v ≡ heldAt held i → f ≡ fillingAt d (v .filling) → (r : ℕ) →

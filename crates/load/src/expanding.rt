@@ -9,7 +9,6 @@ ghost use Rattle.load.specs.Source.{sourceValue};
 ghost use Rattle.load.specs.Queue.{Listed, added, Grown};
 ghost use Rattle.load.specs.Built.{Built};
 ghost use Rattle.load.specs.Walked.{AllWalked};
-use crate::places::constraint_at;
 use crate::raising::raise;
 use state::Column;
 use state::Design;
@@ -56,8 +55,9 @@ pub fn expand(
         (now (walked .exit)) (now (levels .exit)) ⌝ }
 {
     let mut e = end;
+    let constraint = d.constraint;
     for i in 0..d.constraints {
-        let j = constraint_at(d, i);
+        let j = constraint[i];
         let v = source_value(d.rows, cells, tables, j.source, s);
         e = raise(
             d.rows,

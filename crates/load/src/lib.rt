@@ -6,7 +6,6 @@
 mod expanding;
 mod indexing;
 mod outcome;
-mod places;
 mod queue;
 mod raising;
 mod rounds;

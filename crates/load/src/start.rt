@@ -11,11 +11,11 @@ ghost use Rattle.model.specs.Runs.{marked, wanted};
 ghost use Rattle.state.specs.Design.{InRange, Backed};
 ghost use Rattle.state.specs.Held.{heldAt};
 ghost use Rattle.state.specs.Meaning.{columnOf, databaseOf, schemeOf, pairsOf};
-use crate::places::held_at;
 use crate::raising::raise;
 use state::Column;
 use state::Design;
 use state::Held;
+use state::HeldValue;
 use state::filling_at;
 use state::row_has;
 
@@ -59,6 +59,14 @@ pub fn start_value(
         levels[r] = start_level(rows, cells, tables, marks[r], k, v, r);
     }
     levels
+}
+
+// Held value i. Constant time.
+fn held_at(held: Held, i: usize) -> HeldValue
+    requires { ⌜ i < 64 ⌝ }
+    ensures { λ v. ⌜ v ≡ heldAt held i ⌝ }
+{
+    held.values[i]
 }
 
 // Round 0 of a load of all held values from nothing: the rows that have one of them in its filling's column. An index for each filling that has a
