@@ -13,8 +13,8 @@ use state::Answer;
 use state::Design;
 use state::Held;
 
-// Lets the value go, and the cached rows become the smallest set for the values left. One look at each held value, then one reload: rows for
-// each value left, and rows × (constraints of its table) × rows at most.
+// Lets the value go, and the cached rows become the smallest set for the values left. One look at each held value, then one reload: a
+// step for each row that is reached and each constraint, if the values are spread.
 pub fn drop_lawful(
     design: Design,
     cells: &[u32],

@@ -19,7 +19,7 @@ use state::Column;
 use state::Design;
 use state::Held;
 
-// The levels of a load of all held values from nothing. Rows for each held value, and rows × (constraints of its table) × rows at most.
+// The levels of a load of all held values from nothing. A step for each row that is reached and each constraint, if the values are spread.
 pub fn reloaded(design: Design, cells: &[u32], tables: &[u8], held: Held) -> [u16; 512]
     requires { ⌜ InRange design × Backed (now cells) (now tables) × (held .count ≤ 64) × ((i : ℕ) → heldAt held i .filling < 8) ⌝ }
     ensures { λ l. ⌜ l ≡ heldLevels design (now (cells .entry)) (now (tables .entry)) held ⌝ }
@@ -29,7 +29,7 @@ pub fn reloaded(design: Design, cells: &[u32], tables: &[u8], held: Held) -> [u1
     levels
 }
 
-// Loads one value more and marks the rows. Rows × (constraints of its table) × rows at most, each row that is added being expanded once.
+// Loads one value more and marks the rows. A step for each row that is added and each constraint, if the values are spread.
 pub fn load_value(
     design: Design,
     cells: &[u32],
@@ -55,7 +55,7 @@ pub fn load_value(
 }
 
 // Loads the held values from nothing, marks the rows that they reach, and counts those that were marked and went.
-// Rows for each held value, and rows × (constraints of its table) × rows at most.
+// A step for each row that is reached and each constraint, if the values are spread.
 pub fn reload(design: Design, cells: &[u32], tables: &[u8], marks: &mut [u8], held: Held) -> Answer
     requires { ⌜ InRange design × Backed (now cells) (now tables) × (512 ≤ length (now marks)) × (held .count ≤ 64) × ((i : ℕ) → heldAt held i .filling < 8) ⌝ }
     ensures { λ a. ⌜ (answerOf a ≡ Answers.dropped (goneRows (rowsOf design (now (cells .entry)) (now (tables .entry)))

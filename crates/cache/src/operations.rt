@@ -16,7 +16,7 @@ use state::Answer;
 use state::Design;
 use state::Held;
 
-// REFER. The test for cause 12 (rows × rows × (unique columns and constraints) at most), then one load.
+// REFER. The test for cause 12 (rows × rows × unique columns at most, and a reload), then one load.
 pub fn referred(
     design: Design,
     cells: &[u32],
@@ -40,7 +40,7 @@ pub fn referred(
     refer_held(design, cells, tables, marks, held, filling, value)
 }
 
-// DROP. The test for cause 12 (rows × rows × (unique columns and constraints) at most), then one reload.
+// DROP. The test for cause 12 (rows × rows × unique columns at most, and a reload), then one reload.
 pub fn dropped(
     design: Design,
     cells: &[u32],
@@ -64,7 +64,7 @@ pub fn dropped(
     drop_held(design, cells, tables, marks, held, filling, value)
 }
 
-// PROBE. The test for cause 12 (rows × rows × (unique columns and constraints) at most), then rows for each constraint that ends at the column.
+// PROBE. The test for cause 12 (rows × rows × unique columns at most, and a reload), then rows for each constraint that ends at the column.
 pub fn probed(
     design: Design,
     cells: &[u32],

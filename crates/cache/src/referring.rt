@@ -14,8 +14,8 @@ use state::Answer;
 use state::Design;
 use state::Held;
 
-// Holds the value from now on and loads it, unless it is refused, no candidate, or held already. One look at each held value, then one load: the
-// rows that have the value, and rows × (constraints of its table) × rows at most, each row that is added being expanded once.
+// Holds the value from now on and loads it, unless it is refused, no candidate, or held already. One look at each held value, then one load:
+// a step for each row that is added and each constraint, if the values are spread.
 pub fn refer_lawful(
     design: Design,
     cells: &[u32],

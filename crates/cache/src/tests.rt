@@ -28,7 +28,7 @@ pub fn is_long_enough(cells: &[u32], tables: &[u8], marks: &[u8]) -> bool
 }
 
 // Whether cause 12 does not apply. One look at the design, at each row and its unique columns, at each held value, and one reload of all held
-// values: rows × rows × (unique columns and constraints) at most.
+// values: rows × rows × unique columns at most, and the load.
 pub fn is_lawful(design: Design, cells: &[u32], tables: &[u8], marks: &[u8], held: Held) -> bool
     requires { ⌜ Backed (now cells) (now tables) × (512 ≤ length (now marks)) ⌝ }
     ensures { λ b. ⌜ b ≡ lawful (lent design (now (cells .entry)) (now (tables .entry)) (now (marks .entry)) held) ⌝ }

@@ -43,7 +43,7 @@ pub fn query_lawful(
     list_fitting(design, cells, tables, marks, q, words)
 }
 
-// QUERY. The test for cause 12 (rows × rows × (unique columns and constraints) at most), then the cost of `query_lawful`.
+// QUERY. The test for cause 12 (rows × rows × unique columns at most, and a reload), then the cost of `query_lawful`.
 pub fn query(
     design: Design,
     cells: &[u32],

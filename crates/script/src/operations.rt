@@ -157,7 +157,7 @@ fn query_at(script: &[u8], at: usize, column: Column, value: u32, joins: u8) -> 
     }
 }
 
-// QUERY. The cost is `query_lawful`'s: joins × rows², and for each list its words.
+// QUERY. The cost is `query_lawful`'s: a step for each position and row, if the values are spread, and for each list its words.
 pub fn answer_query(
     script: &[u8],
     at: usize,

@@ -134,7 +134,7 @@ pub fn step_lawful(
     )
 }
 
-// The step at place `at` on whatever is lent: causes 7 and 12 first. The test for cause 12 (rows × rows × (unique columns and constraints) at most),
+// The step at place `at` on whatever is lent: causes 7 and 12 first. The test for cause 12 (rows × rows × unique columns at most, and a reload),
 // then the cost of the command's operation.
 pub fn step(
     script: &[u8],

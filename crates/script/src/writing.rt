@@ -10,7 +10,7 @@ use state::Design;
 use state::Held;
 
 // Writes the design and its rows from the first byte of `out` on: causes 7 (rows), 12 and 7 (written design) first. The test for cause 12 (rows ×
-// rows × (unique columns and constraints) at most), then one step for each table, constraint and filling and eight for each row.
+// rows × unique columns at most, and a reload), then one step for each table, constraint and filling and eight for each row.
 pub fn write(
     design: Design,
     cells: &[u32],
