@@ -1,6 +1,6 @@
 // A command of a script, and the command that stands at a place of the lent bytes: its byte is looked at first, then how many bytes are left.
 ghost use mathlib.Core.Path.{_≡_};
-ghost use Prim.Native.Nat.{ℕ, _+_, _≤_, _<_};
+ghost use Prim.Native.Nat.{_+_, _≤_, _<_};
 ghost use lib.ListN.{length};
 ghost use Rattle.format.specs.Bytes.{byteAt, u32At};
 ghost use Rattle.format.specs.Commands.{widthOf, columnAt, operandsAt, commandAt, rowCellAt, positionAt, constraintNumberAt};

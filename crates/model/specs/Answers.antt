@@ -1,8 +1,8 @@
 -- What the operations answer, and the causes of refusal that an operation itself can have: 5, 9, then 10, 8 or 11 (01, "What the operations do"
 -- and "Causes of refusal"). Assumes nothing.
 use Prim.Native.Nat.{ℕ}
-use mathlib.Core.Bool.{Bool, true, false, not, cond, _&&_}
-use mathlib.Core.List.{List, [], _∷_}
+use mathlib.Core.Bool.{Bool, true, false, not, _&&_}
+use mathlib.Core.List.{List, []}
 use lib.Dec.{eqb, leb, ltb}
 use lib.ListN.{length}
 use Rattle.finite.specs.Finite.{count}
@@ -11,7 +11,7 @@ use Rattle.model.specs.Scheme.{candidate, Scheme, isColumn}
 use Rattle.model.specs.Database.{Database}
 use Rattle.model.specs.Probe
 use Rattle.model.specs.Rounds.{addedRows, laterRounds, reached}
-use Rattle.model.specs.Runs.{Operation, refer, drop, probe, listed, remove, places, heldIn, marked, Cache, referLevels, reloadLevels, cacheAfter}
+use Rattle.model.specs.Runs.{Operation, refer, drop, probe, listed, remove, places, heldIn, marked, Cache, referLevels, reloadLevels}
 use Rattle.model.specs.Query.{Query, joinsOf, operandsFit, fitting, wordsOf}
 
 -- `loaded` rows rounds, `held`, `no candidate`, `dropped` rows, `ground` g, `sent`, `answer` lists, `refused` number
@@ -54,10 +54,6 @@ answer S D c (probe k v) =
     unless (not (isColumn S k)) 5
     (unless (isBlank v) 9
     (groundOf (Probe.probe S D (heldIn S (c .pairs)) (marked (c .marks)) k v)))
-
-unfoldable pub answers : Scheme → Database → Cache → List Operation → List Answer
-answers S D c [] = []
-answers S D c (o ∷ os) = answer S D c o ∷ answers S D (cacheAfter S D c o) os
 
 -- ---- queries
 

@@ -1,5 +1,4 @@
 -- `index::build::put` meets its contract: a row that fails a test is in no bucket. Assumes nothing.
-use Prim.Native.Nat.{_+_, _*_}
 use native.Mathlib.Omega.{arith}
 use borrow.Author.Needs.{needs}
 use Rattle.state.specs.Meaning.{columnOf}
