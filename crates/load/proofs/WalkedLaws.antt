@@ -2,10 +2,11 @@
 use Prim.Native.Nat.{ℕ, _+_, _*_, _≤_, _<_}
 use native.Mathlib.Decide.{decLt}
 use native.Mathlib.Omega.{arith}
-use mathlib.Core.Path.{_≡_, sym, ap, subst, _∙_}
+use mathlib.Core.Path.{_≡_, sym, ap, ap₂, subst, _∙_}
 use mathlib.Core.Logic.{⊎-elim}
 use mathlib.Core.Bool.{Bool, true, false, cond, _&&_, and-eq-true-iff}
 use mathlib.Core.List.{List}
+use borrow.Author.Tests.{eqb-true}
 use lib.Dec.{eqb}
 use lib.ListN.{length, getD, set, replicate, length-replicate, getD-replicate, List·getD-eq-default}
 use lib.Seq.{getD-set-other}
@@ -19,7 +20,7 @@ use Rattle.model.proofs.CellLaws.{equal-same}
 use Rattle.index.specs.First.{firstFrom}
 use Rattle.index.proofs.FirstLaws.{First, first-from}
 use Rattle.load.specs.Queue.{added, Listed, Grown}
-use Rattle.load.specs.Walked.{Walked, AllWalked, StillWalked}
+use Rattle.load.specs.Walked.{Walked, alike}
 use Rattle.load.proofs.RaisedLaws.{raised-at, orElse-kept}
 use Rattle.load.proofs.QueueLaws.{grown-idle, grown-level, grown-none}
 
@@ -40,28 +41,14 @@ grown-reached n P L q end L′ q′ end′ o g s l t =
 
 -- ---- none has been walked
 
-pub walked-none : (D : Database) (k : Column) (i : ℕ) (L : List ℕ) → Walked D k i (replicate 8192 false) L
-walked-none D k i L = record { levels = λ r l t s m h. clash t (off (512 * i + r) (decLt (512 * i + r) 8192)) }
+pub walked-none : (D : Database) (L : List ℕ) → Walked D (replicate 4096 false) L
+walked-none D L = record { levels = λ r p l t s m h. clash t (off (8 * r + p) (decLt (8 * r + p) 4096)) }
   where
-    off : (p : ℕ) → Dec (p < 8192) → getD (replicate 8192 false) p false ≡ false
-    off p (yes b) = getD-replicate 8192 p false false b
-    off p (no b) = List·getD-eq-default (replicate 8192 false) false {n = p} (omega (arith, length-replicate {A = Bool} 8192 false))
+    off : (i : ℕ) → Dec (i < 4096) → getD (replicate 4096 false) i false ≡ false
+    off i (yes b) = getD-replicate 4096 i false false b
+    off i (no b) = List·getD-eq-default (replicate 4096 false) false {n = i} (omega (arith, length-replicate {A = Bool} 4096 false))
 
--- ---- a step that marks nothing
-
-pub still-same : (D : Database) (k : Column) (i : ℕ) (walked : List Bool) (L : List ℕ) → StillWalked D k i walked L walked L
-still-same D k i walked L = record { still = λ j c e w. w }
-
--- all columns, after a step
-pub still-all : (D : Database) (K : ℕ → Column) (k : Column) (i : ℕ) (walked : List Bool) (L : List ℕ) (walked′ : List Bool) (L′ : List ℕ) → K i ≡ k →
-    AllWalked D K walked L → StillWalked D k i walked L walked′ L′ → AllWalked D K walked′ L′
-still-all D K k i walked L walked′ L′ e w t j = t .still j (K j) (λ q. ap K q ∙ e) (w j)
-
--- one column
-pub walked-at : (D : Database) (K : ℕ → Column) (k : Column) (i : ℕ) (walked : List Bool) (L : List ℕ) → K i ≡ k → AllWalked D K walked L → Walked D k i walked L
-walked-at D K k i walked L e w = subst (λ (c : Column). Walked D c i walked L) e (w i)
-
--- ---- the value v, of column k, number i; r is the first row that has it
+-- ---- the value v of column k; r is the first row that has it
 
 module _ (D : Database) (k : Column) (v : Cell) (r : ℕ) (f : r ≡ firstFrom (has D k v) 0) where
   first : First (has D k v) 0 r
@@ -73,38 +60,33 @@ module _ (D : Database) (k : Column) (v : Cell) (r : ℕ) (f : r ≡ firstFrom (
 
   -- row r has it
   module _ (l : r < 512) where
-    cell-is : D .cell r (k .place) ≡ v
-    unfolding has
-    cell-is =
+    -- the rows that are alike row r there are those that have v
+    same-rows : (s : ℕ) → alike D r (k .place) s ≡ has D k v s
+    unfolding alike has
+    same-rows s =
         let a = and-eq-true-iff (D .live r) (eqb (D .table r) (k .table) && equal (D .cell r (k .place)) v) .0 (first .here l) in
         let b = and-eq-true-iff (eqb (D .table r) (k .table)) (equal (D .cell r (k .place)) v) .0 (a .1) in
-        equal-same (D .cell r (k .place)) v (b .1)
+        ap₂ (λ (t : ℕ) (c : Cell). has D (record { table = t; place = k .place }) c s) (eqb-true _ _ (b .0)) (equal-same (D .cell r (k .place)) v (b .1))
 
-    same-rows : (s : ℕ) → has D k (D .cell r (k .place)) s ≡ has D k v s
-    same-rows s = ap (λ (c : Cell). has D k c s) cell-is
+    module _ (p : k .place < 8) (walked : List Bool) (n : ℕ) (L q : List ℕ) (end : ℕ) (w : Walked D walked L) where
+      -- it has been walked: a walk adds nothing
+      pub walk-again : getD walked (8 * r + k .place) false ≡ true → length L ≡ 512 → Listed (added L) q end → Grown n (has D k v) L q end L q end
+      walk-again t e u = grown-none n L q end (has D k v) e u (λ s m h. w .levels r (k .place) p t s m (same-rows s ∙ h))
 
-    -- it has been walked: a walk adds nothing
-    pub walk-again : (i : ℕ) (walked : List Bool) (n : ℕ) (L q : List ℕ) (end : ℕ) → Walked D k i walked L → getD walked (512 * i + r) false ≡ true →
-        length L ≡ 512 → Listed (added L) q end → Grown n (has D k v) L q end L q end
-    walk-again i walked n L q end w t e u = grown-none n L q end (has D k v) e u (λ s m h. w .levels r l t s m (same-rows s ∙ h))
+      -- it is walked now
+      pub walk-marked : (L′ q′ : List ℕ) (end′ : ℕ) → 0 < n → Grown n (has D k v) L q end L′ q′ end′ → Walked D (set walked (8 * r + k .place) true) L′
+      walk-marked L′ q′ end′ o g =
+          record { levels = λ x y b t s m h. ⊎-elim (here x y b s m h) (other x y b t s m h) (same-number (8 * x + y) (8 * r + k .place)) }
+        where
+          here : (x y : ℕ) → y < 8 → (s : ℕ) → s < 512 → alike D x y s ≡ true → 8 * x + y ≡ 8 * r + k .place → 0 < level L′ s
+          here x y b s m h e =
+              let ex : x ≡ r = omega arith in
+              let ey : y ≡ k .place = omega arith in
+              let h′ : alike D r (k .place) s ≡ true = rw (ex, ey) at h in
+              grown-reached n (has D k v) L q end L′ q′ end′ o g s m (sym (same-rows s) ∙ h′)
 
-    -- it has been walked now
-    pub still-marked : (i : ℕ) (walked : List Bool) (n : ℕ) (L q : List ℕ) (end : ℕ) (L′ q′ : List ℕ) (end′ : ℕ) → 0 < n →
-        Grown n (has D k v) L q end L′ q′ end′ → StillWalked D k i walked L (set walked (512 * i + r) true) L′
-    still-marked i walked n L q end L′ q′ end′ o g =
-        record { still = λ j c e w. record { levels = λ s m t x y h. ⊎-elim (here j c e s m x y h) (other j c w s m t x y h) (same-number (512 * j + s) (512 * i + r)) } }
-      where
-        here : (j : ℕ) (c : Column) → (j ≡ i → c ≡ k) → (s : ℕ) → s < 512 → (x : ℕ) → x < 512 → has D c (D .cell s (c .place)) x ≡ true →
-            512 * j + s ≡ 512 * i + r → 0 < level L′ x
-        here j c e s m x y h p =
-            let a : s ≡ r = omega arith in
-            let b : c ≡ k = e (omega arith) in
-            let h₁ : has D k (D .cell s (k .place)) x ≡ true = rw b at h in
-            let h₂ : has D k (D .cell r (k .place)) x ≡ true = rw a at h₁ in
-            grown-reached n (has D k v) L q end L′ q′ end′ o g x y (sym (same-rows x) ∙ h₂)
-
-        other : (j : ℕ) (c : Column) → Walked D c j walked L → (s : ℕ) → s < 512 → getD (set walked (512 * i + r) true) (512 * j + s) false ≡ true →
-            (x : ℕ) → x < 512 → has D c (D .cell s (c .place)) x ≡ true → (512 * j + s ≡ 512 * i + r → ⊥) → 0 < level L′ x
-        other j c w s m t x y h ne =
-            let was = w .levels s m (sym (getD-set-other walked (512 * i + r) (512 * j + s) true false ne) ∙ t) x y h in
-            omega (arith, was, grown-level n (has D k v) L q end L′ q′ end′ g x y was)
+          other : (x y : ℕ) → y < 8 → getD (set walked (8 * r + k .place) true) (8 * x + y) false ≡ true → (s : ℕ) → s < 512 → alike D x y s ≡ true →
+              (8 * x + y ≡ 8 * r + k .place → ⊥) → 0 < level L′ s
+          other x y b t s m h ne =
+              let was = w .levels x y b (sym (getD-set-other walked (8 * r + k .place) (8 * x + y) true false ne) ∙ t) s m h in
+              omega (arith, was, grown-level n (has D k v) L q end L′ q′ end′ g s m was)

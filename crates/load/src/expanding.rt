@@ -8,7 +8,7 @@ ghost use Rattle.state.specs.Meaning.{columnOf, databaseOf, schemeOf};
 ghost use Rattle.load.specs.Source.{sourceValue};
 ghost use Rattle.load.specs.Queue.{Listed, added, Grown};
 ghost use Rattle.load.specs.Built.{Built};
-ghost use Rattle.load.specs.Walked.{AllWalked};
+ghost use Rattle.load.specs.Walked.{Walked};
 use crate::raising::raise;
 use state::Column;
 use state::Design;
@@ -37,7 +37,7 @@ pub fn expand(
     built: &mut [bool; 16],
     heads: &mut [u16],
     links: &mut [u16],
-    walked: &mut [bool; 8192],
+    walked: &mut [bool; 4096],
     levels: &mut [u16; 512],
     to: u16,
     queue: &mut [u16; 512],
@@ -46,13 +46,12 @@ pub fn expand(
     requires { ⌜ InRange d × Backed (now cells) (now tables) × (s < 512) × (1 < to) × (length (now levels) ≡ 512) ⌝ }
     requires { ⌜ Built (d .rows) (now cells) (now tables) (λ j. constraintAt d j .target) (now built) (now heads) (now links) ⌝ }
     requires { ⌜ Listed (added (now levels)) (now queue) end ⌝ }
-    requires { ⌜ AllWalked (databaseOf (d .rows) (now cells) (now tables)) (λ j. columnOf (constraintAt d j .target)) (now walked) (now levels) ⌝ }
+    requires { ⌜ Walked (databaseOf (d .rows) (now cells) (now tables)) (now walked) (now levels) ⌝ }
     ensures { λ e. ⌜ Grown to (demands (schemeOf d) (databaseOf (d .rows) (now (cells .entry)) (now (tables .entry))) s)
         (now (levels .entry)) (now (queue .entry)) end (now (levels .exit)) (now (queue .exit)) e ⌝ }
     ensures { λ _. ⌜ Built (d .rows) (now (cells .entry)) (now (tables .entry)) (λ j. constraintAt d j .target)
         (now (built .exit)) (now (heads .exit)) (now (links .exit)) ⌝ }
-    ensures { λ _. ⌜ AllWalked (databaseOf (d .rows) (now (cells .entry)) (now (tables .entry))) (λ j. columnOf (constraintAt d j .target))
-        (now (walked .exit)) (now (levels .exit)) ⌝ }
+    ensures { λ _. ⌜ Walked (databaseOf (d .rows) (now (cells .entry)) (now (tables .entry))) (now (walked .exit)) (now (levels .exit)) ⌝ }
 {
     let mut e = end;
     let constraint = d.constraint;

@@ -2,7 +2,7 @@
 // The levels are the model's (crates/model/specs/Rounds.antt): 0 a row not reached, 1 a row cached before, 2 + n a row that round n adds.
 // Beside the levels a load keeps a queue of the rows that it has added, and indexes of the columns that it looks into, each made where it is
 // first needed: so a row is looked at once for each constraint of its table, and only the rows that have its value are walked. It also keeps which
-// values it has walked, and walks none again: a load costs one step for each added row and constraint, and one walk for each value and constraint.
+// values it has walked, and walks none again: a load costs one step for each added row and constraint, and one walk for each value and target column.
 mod expanding;
 mod indexing;
 mod outcome;

@@ -10,7 +10,7 @@ ghost use Rattle.index.specs.First.{firstFrom};
 ghost use Rattle.index.specs.Index.{Indexes};
 ghost use Rattle.load.specs.Queue.{Listed, added, Grown};
 ghost use Rattle.load.specs.Built.{Standing, Kept};
-ghost use Rattle.load.specs.Walked.{Walked, StillWalked};
+ghost use Rattle.load.specs.Walked.{Walked};
 use crate::indexing::provide;
 use crate::queue::reach;
 use index::after;
@@ -51,7 +51,8 @@ pub fn walk(
     e
 }
 
-// The same, unless v has been walked before: then its rows have levels. The cost of finding its first row, and the first time the walk.
+// The same, unless v has been walked in column k before: then its rows have levels. `walked` has a place for each cell; that of v is its first row's.
+// The cost of finding that row, and the first time the walk.
 pub fn walk_once(
     rows: usize,
     cells: &[u32],
@@ -61,7 +62,7 @@ pub fn walk_once(
     v: u32,
     heads: &[u16],
     links: &[u16],
-    walked: &mut [bool; 8192],
+    walked: &mut [bool; 4096],
     levels: &mut [u16; 512],
     to: u16,
     queue: &mut [u16; 512],
@@ -69,18 +70,17 @@ pub fn walk_once(
 ) -> usize
     requires { ⌜ Backed (now cells) (now tables) ⌝ }
     requires { ⌜ Indexes rows (now cells) (now tables) k i (now heads) (now links) ⌝ }
-    requires { ⌜ (k .place < 8) × (i < 16) × (1 < to) × (length (now levels) ≡ 512) × Listed (added (now levels)) (now queue) end
-        × Walked (databaseOf rows (now cells) (now tables)) (columnOf k) i (now walked) (now levels) ⌝ }
+    requires { ⌜ (k .place < 8) × (1 < to) × (length (now levels) ≡ 512) × Listed (added (now levels)) (now queue) end
+        × Walked (databaseOf rows (now cells) (now tables)) (now walked) (now levels) ⌝ }
     ensures { λ e. ⌜ Grown to (has (databaseOf rows (now (cells .entry)) (now (tables .entry))) (columnOf k) (cellOf v))
         (now (levels .entry)) (now (queue .entry)) end (now (levels .exit)) (now (queue .exit)) e ⌝ }
-    ensures { λ _. ⌜ StillWalked (databaseOf rows (now (cells .entry)) (now (tables .entry))) (columnOf k) i (now (walked .entry)) (now (levels .entry))
-        (now (walked .exit)) (now (levels .exit)) ⌝ }
+    ensures { λ _. ⌜ Walked (databaseOf rows (now (cells .entry)) (now (tables .entry))) (now (walked .exit)) (now (levels .exit)) ⌝ }
 {
     let r = first(rows, cells, tables, k, i, heads, links, v);
     if Design::ROWS <= r {
         return end;
     }
-    let at = Design::ROWS * i + r;
+    let at = Design::COLUMNS * r + k.place as usize;
     if walked[at] {
         return end;
     }
@@ -114,7 +114,7 @@ pub fn raise(
     built: &mut [bool; 16],
     heads: &mut [u16],
     links: &mut [u16],
-    walked: &mut [bool; 8192],
+    walked: &mut [bool; 4096],
     levels: &mut [u16; 512],
     to: u16,
     queue: &mut [u16; 512],
@@ -123,13 +123,12 @@ pub fn raise(
     requires { ⌜ Backed (now cells) (now tables) × (rows ≤ 512) × (k .place < 8) × (i < 16) ⌝ }
     requires { ⌜ Standing rows (now cells) (now tables) k i (now built) (now heads) (now links) ⌝ }
     requires { ⌜ (1 < to) × (length (now levels) ≡ 512) × Listed (added (now levels)) (now queue) end
-        × Walked (databaseOf rows (now cells) (now tables)) (columnOf k) i (now walked) (now levels) ⌝ }
+        × Walked (databaseOf rows (now cells) (now tables)) (now walked) (now levels) ⌝ }
     ensures { λ e. ⌜ Grown to (has (databaseOf rows (now (cells .entry)) (now (tables .entry))) (columnOf k) (cellOf v))
         (now (levels .entry)) (now (queue .entry)) end (now (levels .exit)) (now (queue .exit)) e ⌝ }
     ensures { λ _. ⌜ Kept rows (now (cells .entry)) (now (tables .entry)) k i (now (built .entry)) (now (heads .entry)) (now (links .entry))
         (now (built .exit)) (now (heads .exit)) (now (links .exit)) ⌝ }
-    ensures { λ _. ⌜ StillWalked (databaseOf rows (now (cells .entry)) (now (tables .entry))) (columnOf k) i (now (walked .entry)) (now (levels .entry))
-        (now (walked .exit)) (now (levels .exit)) ⌝ }
+    ensures { λ _. ⌜ Walked (databaseOf rows (now (cells .entry)) (now (tables .entry))) (now (walked .exit)) (now (levels .exit)) ⌝ }
 {
     if v == 0 {
         return end;

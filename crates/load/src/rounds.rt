@@ -5,10 +5,10 @@ ghost use lib.ListN.{length, getD};
 ghost use Rattle.model.specs.Rounds as Rounds;
 ghost use Rattle.model.specs.Rounds.{next, laterRounds};
 ghost use Rattle.state.specs.Design.{InRange, Backed, constraintAt};
-ghost use Rattle.state.specs.Meaning.{columnOf, databaseOf, schemeOf};
+ghost use Rattle.state.specs.Meaning.{databaseOf, schemeOf};
 ghost use Rattle.load.specs.Queue.{Listed, added, Front};
 ghost use Rattle.load.specs.Built.{Built};
-ghost use Rattle.load.specs.Walked.{AllWalked};
+ghost use Rattle.load.specs.Walked.{Walked};
 use crate::expanding::expand;
 use crate::queue::list_added;
 use state::Design;
@@ -21,7 +21,7 @@ pub fn round(
     built: &mut [bool; 16],
     heads: &mut [u16],
     links: &mut [u16],
-    walked: &mut [bool; 8192],
+    walked: &mut [bool; 4096],
     levels: &mut [u16; 512],
     n: u16,
     queue: &mut [u16; 512],
@@ -31,11 +31,10 @@ pub fn round(
     requires { ⌜ InRange d × Backed (now cells) (now tables) × (n < 512) × (length (now levels) ≡ 512) ⌝ }
     requires { ⌜ Built (d .rows) (now cells) (now tables) (λ j. constraintAt d j .target) (now built) (now heads) (now links) ⌝ }
     requires { ⌜ Listed (added (now levels)) (now queue) end × Front (n + 2) (now levels) (now queue) from end
-        × AllWalked (databaseOf (d .rows) (now cells) (now tables)) (λ j. columnOf (constraintAt d j .target)) (now walked) (now levels) ⌝ }
+        × Walked (databaseOf (d .rows) (now cells) (now tables)) (now walked) (now levels) ⌝ }
     ensures { λ _. ⌜ now (levels .exit) ≡ next (schemeOf d) (databaseOf (d .rows) (now (cells .entry)) (now (tables .entry))) n (now (levels .entry)) ⌝ }
     ensures { λ e. ⌜ Listed (added (now (levels .exit))) (now (queue .exit)) e × Front (n + 3) (now (levels .exit)) (now (queue .exit)) end e
-        × AllWalked (databaseOf (d .rows) (now (cells .entry)) (now (tables .entry))) (λ j. columnOf (constraintAt d j .target))
-        (now (walked .exit)) (now (levels .exit)) ⌝ }
+        × Walked (databaseOf (d .rows) (now (cells .entry)) (now (tables .entry))) (now (walked .exit)) (now (levels .exit)) ⌝ }
     ensures { λ _. ⌜ Built (d .rows) (now (cells .entry)) (now (tables .entry)) (λ j. constraintAt d j .target)
         (now (built .exit)) (now (heads .exit)) (now (links .exit)) ⌝ }
 {
@@ -68,7 +67,7 @@ pub fn run(
     built: &mut [bool; 16],
     heads: &mut [u16],
     links: &mut [u16],
-    walked: &mut [bool; 8192],
+    walked: &mut [bool; 4096],
     levels: &mut [u16; 512],
     queue: &mut [u16; 512],
     end: usize,
@@ -76,7 +75,7 @@ pub fn run(
     requires { ⌜ InRange d × Backed (now cells) (now tables) × (length (now levels) ≡ 512) × ((r : ℕ) → getD (now levels) r 0 ≤ 2) ⌝ }
     requires { ⌜ Built (d .rows) (now cells) (now tables) (λ j. constraintAt d j .target) (now built) (now heads) (now links) ⌝ }
     requires { ⌜ Listed (added (now levels)) (now queue) end × Front 2 (now levels) (now queue) 0 end
-        × AllWalked (databaseOf (d .rows) (now cells) (now tables)) (λ j. columnOf (constraintAt d j .target)) (now walked) (now levels) ⌝ }
+        × Walked (databaseOf (d .rows) (now cells) (now tables)) (now walked) (now levels) ⌝ }
     ensures { λ n. ⌜ (now (levels .exit) ≡ Rounds.levels (schemeOf d) (databaseOf (d .rows) (now (cells .entry)) (now (tables .entry))) (now (levels .entry)) 512)
         × (n ≡ laterRounds (databaseOf (d .rows) (now (cells .entry)) (now (tables .entry))) (now (levels .exit))) ⌝ }
 {
@@ -109,8 +108,8 @@ pub fn run(
 }
 
 // The later rounds, in place; how many added a row. One pass over the row numbers; then one step for each row that is added and each constraint, and
-// one walk of the rows that have a value for each value and constraint: no row is walked twice for a constraint. A target column is indexed where it
-// is first needed: 512 steps and one for each row. If round 0 added nothing, neither does any other.
+// one walk of the rows that have a value for each value and target column: no row is walked twice in a column. A target column is indexed where it is
+// first needed: 512 steps and one for each row. If round 0 added nothing, neither does any other.
 pub fn close(d: Design, cells: &[u32], tables: &[u8], levels: &mut [u16; 512]) -> usize
     requires { ⌜ InRange d × Backed (now cells) (now tables) × (length (now levels) ≡ 512) × ((r : ℕ) → getD (now levels) r 0 ≤ 2) ⌝ }
     ensures { λ n. ⌜ (now (levels .exit) ≡ Rounds.levels (schemeOf d) (databaseOf (d .rows) (now (cells .entry)) (now (tables .entry))) (now (levels .entry)) 512)
@@ -124,7 +123,7 @@ pub fn close(d: Design, cells: &[u32], tables: &[u8], levels: &mut [u16; 512]) -
     let mut built = [false; 16];
     let mut heads = [0u16; 8192];
     let mut links = [0u16; 8192];
-    let mut walked = [false; 8192];
+    let mut walked = [false; 4096];
     run(
         d,
         cells,

@@ -81,7 +81,7 @@ pub fn start_held(d: Design, cells: &[u32], tables: &[u8], held: Held) -> [u16; 
     let mut built = [false; 16];
     let mut heads = [0u16; 8192];
     let mut links = [0u16; 8192];
-    let mut walked = [false; 8192];
+    let mut walked = [false; 4096];
     let mut end: usize = 0;
     for i in 0..held.count {
         let v = held_at(held, i);

@@ -8,15 +8,14 @@ use Rattle.model.proofs.QueryLaws.{target}
 use Rattle.model.specs.Rounds.{demands, leads, levels}
 use Rattle.model.specs.Runs.{taken}
 use Rattle.state.specs.Design.{constraintAt}
-use Rattle.state.specs.Meaning.{columnOf, constraintOf, databaseOf, schemeOf}
+use Rattle.state.specs.Meaning.{constraintOf, databaseOf, schemeOf}
 use Rattle.load.specs.Built.{Built}
 use Rattle.load.specs.Queue.{Grown}
-use Rattle.load.specs.Walked.{AllWalked}
+use Rattle.load.specs.Walked.{Walked}
 use Rattle.load.proofs.BuiltLaws.{built-standing}
 use Rattle.load.proofs.PlaceLaws.{leads-of}
 use Rattle.load.proofs.QueueLaws.{grown-end, grown-start, grown-turn}
 use Rattle.load.proofs.SourceLaws.{source-value}
-use Rattle.load.proofs.WalkedLaws.{still-all}
 use Rattle.load.proofs.expanding.expand.Statement.{statement}
 use Rattle.load.proofs.expanding.expand.Tie as tie
 
@@ -25,7 +24,7 @@ Inv-loop d cells tables s built₀ heads₀ links₀ walked₀ levels₀ to queu
     (i ≤ d .constraints) ×
     Grown to (λ r. any i (λ j. leads (databaseOf (d .rows) cells tables) (constraintOf (constraintAt d j)) s r)) levels₀ queue₀ end levels queue e ×
     Built (d .rows) cells tables (λ j. constraintAt d j .target) built heads links ×
-    AllWalked (databaseOf (d .rows) cells tables) (λ j. columnOf (constraintAt d j .target)) walked levels
+    Walked (databaseOf (d .rows) cells tables) walked levels
 
 abbrev μ-loop : tie.MeasureT-loop
 μ-loop d cells tables s built₀ heads₀ links₀ walked₀ levels₀ to queue₀ end e₀ constraint i₀ i-end built heads links walked levels queue e i = d .constraints - i
@@ -54,7 +53,7 @@ raise-requires c κs =
     let v = h .inv in
     let t = c8 .loop-test .taken in (
       (p .1, p .0 .rows, p .0 .target (h .i), omega (arith, p .0 .constraints, t)),
-      (built-standing _ _ _ _ _ (h .i) _ _ _ refl (v .2), (p .3, v .1 .long, v .1 .queue, v .3 (h .i))),
+      (built-standing _ _ _ _ _ (h .i) _ _ _ refl (v .2), (p .3, v .1 .long, v .1 .queue, v .3)),
     )
 
 add-i : tie.Need-add-i Inv-loop μ-loop
@@ -79,7 +78,7 @@ loop-again c =
       omega (arith, t),
       grown-turn _ _ _ _ _ _ _ _ _ _ _ _ _ (omega (arith, c16 .before .before .before .before .pre .0 .3)) (v .1) (u .0) (λ r l. leads-of _ _ _ _ s r),
       u .1 .0 .still _ refl (v .2),
-      still-all _ _ _ _ _ _ _ _ refl (v .3) (u .1 .1),
+      u .1 .1,
     )
 
 same-length : tie.Need-same-length Inv-loop μ-loop

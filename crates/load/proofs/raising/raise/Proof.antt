@@ -4,14 +4,13 @@ use Rattle.model.specs.Runs.{taken}
 use Rattle.load.proofs.BuiltLaws.{kept-same}
 use Rattle.load.proofs.QueueLaws.{grown-idle}
 use Rattle.load.proofs.SourceLaws.{blank-none}
-use Rattle.load.proofs.WalkedLaws.{still-same}
 use Rattle.load.proofs.raising.raise.Statement.{statement}
 use Rattle.load.proofs.raising.raise.Tie as tie
 
 returns : tie.Need-returns
 returns c =
     let p = c .before .before .before .before .before .pre .1 .1 in
-    (grown-idle _ _ _ _ _ (p .1) (p .2) (λ r l. blank-none _ _ _ (c .if1 .taken) r), (kept-same _ _ _ _ _ _ _ _, still-same _ _ _ _ _))
+    (grown-idle _ _ _ _ _ (p .1) (p .2) (λ r l. blank-none _ _ _ (c .if1 .taken) r), (kept-same _ _ _ _ _ _ _ _, p .3))
 
 provide-requires : tie.Need-provide-requires
 provide-requires c κs = let p = c .before .before .before .before .before .before .before .before .pre in (p .0, p .1 .0)
@@ -22,7 +21,7 @@ walk-once-requires c κs =
     let c16 = c8 .before .before .before .before .before .before .before .before in
     let p = c16 .before .before .pre in
     let a = p .1 .1 in
-    (p .0 .0, (c8 .before .provide .ensures .0, (p .0 .2, p .0 .3, a .0, a .1, a .2, a .3)))
+    (p .0 .0, (c8 .before .provide .ensures .0, (p .0 .2, a .0, a .1, a .2, a .3)))
 
 same-length : tie.Need-same-length
 same-length c = omega (arith, c .before .before .before .before .before .before .before .before .before .before .provide .ensures .1 .heads-same)

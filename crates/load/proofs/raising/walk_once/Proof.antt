@@ -2,7 +2,7 @@
 use native.Mathlib.Omega.{arith}
 use borrow.Author.Needs.{needs}
 use Rattle.model.specs.Runs.{taken}
-use Rattle.load.proofs.WalkedLaws.{still-marked, still-same, walk-again, walk-empty}
+use Rattle.load.proofs.WalkedLaws.{walk-again, walk-empty, walk-marked}
 use Rattle.load.proofs.raising.walk_once.Statement.{statement}
 use Rattle.load.proofs.raising.walk_once.Tie as tie
 
@@ -12,10 +12,13 @@ first-requires c κs = search needs
 returns : tie.Need-returns
 returns c =
     let p = c .before .before .before .before .before .before .pre .1 .1 in
-    (walk-empty _ _ _ _ (c .before .first .ensures) _ _ _ _ (c .if1 .taken) (p .3) (p .4), still-same _ _ _ _ _)
+    (walk-empty _ _ _ _ (c .before .first .ensures) _ _ _ _ (c .if1 .taken) (p .2) (p .3), p .4)
 
 mul-at : tie.Need-mul-at
 mul-at c = search needs
+
+cast-at : tie.Need-cast-at
+cast-at c = search needs
 
 add-at : tie.Need-add-at
 add-at c = search needs
@@ -25,15 +28,17 @@ element-copy-out-if2 c = search needs
 
 returns-2 : tie.Need-returns-2
 returns-2 c =
-    let p = c .before .before .before .before .before .before .before .before .pre .1 .1 in
-    (walk-again _ _ _ _ (c .before .before .before .first .ensures) (c .before .before .if1 .left) _ _ _ _ _ _ (p .5) (c .if2 .taken) (p .3) (p .4), still-same _ _ _ _ _)
+    let c8 = c .before .before .before .before .before .before .before .before in
+    let p = c8 .before .pre .1 .1 in
+    let f = c .before .before .before .before .first .ensures in
+    (walk-again _ _ _ _ f (c .before .before .before .if1 .left) (p .0) _ _ _ _ _ (p .4) (c .if2 .taken) (p .2) (p .3), p .4)
 
 walk-requires : tie.Need-walk-requires
 walk-requires c κs =
     let c8 = c .before .before .before .before .before .before .before .before in
-    let p = c8 .before .before .pre in
+    let p = c8 .before .before .before .pre in
     let a = p .1 .1 in
-    (p .0, (p .1 .0, (a .0, a .2, a .3, a .4, c .before .before .before .before .before .first .ensures)))
+    (p .0, (p .1 .0, (a .0, a .1, a .2, a .3, c .before .before .before .before .before .before .first .ensures)))
 
 element-write-walked : tie.Need-element-write-walked
 element-write-walked c = search needs
@@ -41,9 +46,9 @@ element-write-walked c = search needs
 returns-3 : tie.Need-returns-3
 returns-3 c =
     let c8 = c .before .before .before .before .before .before .before .before in
-    let o = c8 .before .before .before .pre .1 .1 .2 in
-    let f = c .before .before .before .before .before .before .first .ensures in
-    (c .walk .ensures, still-marked _ _ _ _ f (c .before .before .before .before .before .if1 .left) _ _ _ _ _ _ _ _ _ (omega arith) (c .walk .ensures))
+    let p = c8 .before .before .before .before .pre .1 .1 in
+    let f = c .before .before .before .before .before .before .before .first .ensures in
+    (c .walk .ensures, walk-marked _ _ _ _ f (c .before .before .before .before .before .before .if1 .left) (p .0) _ _ _ _ _ (p .4) _ _ _ (omega (arith, p .1)) (c .walk .ensures))
 
 pub walk-once-spec : {M : Type 1} → statement M
 walk-once-spec =
@@ -52,6 +57,7 @@ walk-once-spec =
     first-requires
     returns
     mul-at
+    cast-at
     add-at
     element-copy-out-if2
     returns-2

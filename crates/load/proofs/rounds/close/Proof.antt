@@ -33,7 +33,7 @@ run-requires c κs =
       (p .0, p .1, p .2, p .3),
       (
         built-none _ _ _ _ _ _ (length-replicate {A = ℕ} 8192 0) (length-replicate {A = ℕ} 8192 0),
-        (u, front-start _ _ _ u (p .3), λ j. walked-none _ _ j _),
+        (u, front-start _ _ _ u (p .3), walked-none _ _),
       ),
     )
 

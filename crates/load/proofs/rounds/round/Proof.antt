@@ -6,10 +6,10 @@ use Rattle.model.proofs.QueryLaws.{target}
 use Rattle.model.specs.Rounds.{demands, levels}
 use Rattle.model.specs.Runs.{taken}
 use Rattle.state.specs.Design.{constraintAt}
-use Rattle.state.specs.Meaning.{columnOf, databaseOf, schemeOf}
+use Rattle.state.specs.Meaning.{databaseOf, schemeOf}
 use Rattle.load.specs.Built.{Built}
 use Rattle.load.specs.Queue.{Grown}
-use Rattle.load.specs.Walked.{AllWalked}
+use Rattle.load.specs.Walked.{Walked}
 use Rattle.load.proofs.FrontLaws.{asks, asks-here, asks-none, front-next, front-round}
 use Rattle.load.proofs.QueueLaws.{grown-end, grown-start, grown-turn, listed-most}
 use Rattle.load.proofs.rounds.round.Statement.{statement}
@@ -21,7 +21,7 @@ Inv-loop d cells tables built₀ heads₀ links₀ walked₀ levels₀ n queue�
     (i ≤ end) ×
     Grown (n + 3) (λ r. any i (λ j. asks (demands (schemeOf d) (databaseOf (d .rows) cells tables)) from queue₀ j r)) levels₀ queue₀ end levels queue e ×
     Built (d .rows) cells tables (λ j. constraintAt d j .target) built heads links ×
-    AllWalked (databaseOf (d .rows) cells tables) (λ j. columnOf (constraintAt d j .target)) walked levels
+    Walked (databaseOf (d .rows) cells tables) walked levels
 
 abbrev μ-loop : tie.MeasureT-loop
 μ-loop d cells tables built₀ heads₀ links₀ walked₀ levels₀ n queue₀ from end e₀ i₀ built heads links walked levels queue e i = end - i

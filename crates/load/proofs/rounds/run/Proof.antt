@@ -7,10 +7,10 @@ use Rattle.model.proofs.QueryLaws.{target}
 use Rattle.model.specs.Rounds.{levels}
 use Rattle.model.specs.Runs.{taken}
 use Rattle.state.specs.Design.{constraintAt}
-use Rattle.state.specs.Meaning.{columnOf, databaseOf, schemeOf}
+use Rattle.state.specs.Meaning.{databaseOf, schemeOf}
 use Rattle.load.specs.Built.{Built}
 use Rattle.load.specs.Queue.{Front, Listed, added}
-use Rattle.load.specs.Walked.{AllWalked}
+use Rattle.load.specs.Walked.{Walked}
 use Rattle.load.proofs.FrontLaws.{front-at, front-quiet, front-some}
 use Rattle.load.proofs.RoundsEnd.{Running, running-end, running-next, running-start, running-stop, someAt}
 use Rattle.load.proofs.rounds.run.Statement.{statement}
@@ -24,7 +24,7 @@ Inv-loop d cells tables built₀ heads₀ links₀ walked₀ levels₀ queue₀ 
     Listed (added levels) queue to ×
     Front (n + 2) levels queue from to ×
     Built (d .rows) cells tables (λ j. constraintAt d j .target) built heads links ×
-    AllWalked (databaseOf (d .rows) cells tables) (λ j. columnOf (constraintAt d j .target)) walked levels
+    Walked (databaseOf (d .rows) cells tables) walked levels
 
 abbrev μ-loop : tie.MeasureT-loop
 μ-loop d cells tables built₀ heads₀ links₀ walked₀ levels₀ queue₀ end n₀ from₀ to₀ built heads links walked levels queue n from to = 512 - n

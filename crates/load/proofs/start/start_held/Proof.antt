@@ -16,12 +16,12 @@ use Rattle.state.specs.Meaning.{columnOf, databaseOf, schemeOf}
 use Rattle.state.specs.declared.design.Filling.{Filling}
 use Rattle.load.specs.Built.{Built}
 use Rattle.load.specs.Queue.{Grown}
-use Rattle.load.specs.Walked.{AllWalked}
+use Rattle.load.specs.Walked.{Walked}
 use Rattle.load.proofs.BuiltLaws.{built-none, built-standing}
 use Rattle.load.proofs.PlaceLaws.{column-place, filling-below, held-has}
 use Rattle.load.proofs.QueueLaws.{grown-end, grown-start, grown-turn}
 use Rattle.load.proofs.StartLaws.{none-added, start-all}
-use Rattle.load.proofs.WalkedLaws.{still-all, walked-at, walked-none}
+use Rattle.load.proofs.WalkedLaws.{walked-none}
 use Rattle.load.proofs.start.start_held.Statement.{statement}
 use Rattle.load.proofs.start.start_held.Tie as tie
 
@@ -32,7 +32,7 @@ Inv-loop d cells tables held levels₀ queue₀ built₀ heads₀ links₀ walke
     (λ r. any i (λ j. has (databaseOf (d .rows) cells tables) (columnOf (fillingAt d (heldAt held j .filling) .column)) (cellOf (heldAt held j .value)) r))
     levels₀ queue₀ end₀ levels queue end ×
     Built (d .rows) cells tables (λ f. fillingAt d f .column) built heads links ×
-    AllWalked (databaseOf (d .rows) cells tables) (λ f. columnOf (fillingAt d f .column)) walked levels
+    Walked (databaseOf (d .rows) cells tables) walked levels
 
 abbrev μ-loop : tie.MeasureT-loop
 μ-loop d cells tables held levels₀ queue₀ built₀ heads₀ links₀ walked₀ end₀ i₀ i-end levels queue built heads links walked end i = held .count - i
@@ -42,7 +42,7 @@ loop-holds c = (
   omega arith,
   grown-start _ _ _ _ _ 0 (length-replicate {A = ℕ} 512 0) (none-added _ (length-replicate {A = ℕ} 512 0)) (λ r l. any-start _),
   built-none _ _ _ _ _ _ (length-replicate {A = ℕ} 8192 0) (length-replicate {A = ℕ} 8192 0),
-  λ j. walked-none _ _ j _,
+  walked-none _ _,
 )
 
 held-at-requires : tie.Need-held-at-requires Inv-loop μ-loop
@@ -74,7 +74,7 @@ raise-requires c κs =
       (p .1, p .0 .rows, column-place _ _ (p .0) _ e, omega (arith, b)),
       (
         built-standing _ _ _ _ _ _ _ _ _ (ap (λ (f : Filling). f .column) (sym e)) (v .2),
-        (omega arith, v .1 .long, v .1 .queue, walked-at _ _ _ _ _ _ (ap (λ (f : Filling). columnOf (f .column)) (sym e)) (v .3)),
+        (omega arith, v .1 .long, v .1 .queue, v .3),
       ),
     )
 
@@ -100,7 +100,7 @@ loop-again c =
       omega (arith, t),
       grown-turn _ _ _ _ _ _ _ _ _ _ _ _ _ (omega arith) (v .1) (u .0) (λ r l. held-has _ (a .d) (a .held) (c8 .before .before .before .before .before .loop .i) _ _ h e r),
       u .1 .0 .still _ (ap (λ (f : Filling). f .column) (sym e)) (v .2),
-      still-all _ _ _ _ _ _ _ _ (ap (λ (f : Filling). columnOf (f .column)) (sym e)) (v .3) (u .1 .1),
+      u .1 .1,
     )
 
 returns : tie.Need-returns Inv-loop μ-loop
