@@ -28,7 +28,7 @@ pub fn source_value(rows: usize, cells: &[u32], tables: &[u8], k: Column, s: usi
 }
 
 // Gives level `to` and a place in the queue to the rows without a level that row s demands; where the queue ends then.
-// One step for each constraint, and for those of row s's table the first row that has its value, with a walk if the value is new.
+// One step for each constraint; for those of row s's table this finds the first row that has its value, and walks the rows if the value is new.
 pub fn expand(
     d: Design,
     cells: &[u32],
@@ -54,6 +54,7 @@ pub fn expand(
     ensures { λ _. ⌜ Walked (databaseOf (d .rows) (now (cells .entry)) (now (tables .entry))) (now (walked .exit)) (now (levels .exit)) ⌝ }
 {
     let mut e = end;
+    // read from here, so that the compiler copies 64 bytes for a row and not the whole design
     let constraint = d.constraint;
     for i in 0..d.constraints {
         let j = constraint[i];
