@@ -13,6 +13,8 @@ pub mod clock;
 pub mod contestant;
 pub mod measure;
 pub mod process;
+#[cfg(feature = "proved")]
+pub mod proved;
 pub mod second;
 #[cfg(feature = "sqlite")]
 pub mod sqlite;
@@ -24,6 +26,8 @@ use contestant::Contestant;
 /// The implementations that take part. Ratios are to the first of them.
 pub fn contestants() -> Vec<Box<dyn Contestant>> {
     vec![
+        #[cfg(feature = "proved")]
+        Box::new(proved::ProvedDesk),
         Box::new(second::SecondImplementation),
         #[cfg(feature = "sqlite")]
         Box::new(sqlite::Sqlite),

@@ -38,6 +38,7 @@ pub fn growing(rows: usize) -> Vec<Work> {
         drops(rows),
         lists(rows),
         dead_ends(rows),
+        crowd(rows),
     ]
 }
 
@@ -170,6 +171,35 @@ fn dead_ends(rows: usize) -> Work {
         design,
         before: vec![refer(0, 1)],
         timed: vec![query(column(0, 0), 1, &joins)],
+    }
+}
+
+/// The slowest operation that was found: one table whose rows all have the same
+/// value in all columns, each linked to others, so that every row demands every
+/// row 16 times over. While a value is held that keeps all rows, another one is
+/// loaded and dropped.
+fn crowd(rows: usize) -> Work {
+    let mut design = Design {
+        tables: vec![table(8, 0)],
+        fillings: vec![filling(column(0, 0)), filling(column(0, 1))],
+        ..Design::default()
+    };
+    for source in 0..8 {
+        for step in [0, 1] {
+            let target = (source + step) % 8;
+            design
+                .constraints
+                .push(constraint(column(0, source), column(0, target)));
+        }
+    }
+    for _ in 0..rows {
+        design.add_row(0, &[1; 8]);
+    }
+    Work {
+        name: "load and drop in a crowd",
+        design,
+        before: vec![refer(0, 1)],
+        timed: vec![refer(1, 1), drop(1, 1)],
     }
 }
 

@@ -1,0 +1,69 @@
+-- `desk::reporting::report_step` meets its contract: the step's lines, and what is left behind them. Assumes nothing.
+use native.Mathlib.Omega.{arith}
+use mathlib.Core.Path.{refl}
+use borrow.Author.Needs.{needs}
+use Rattle.report.proofs.Lengths.{command-line-reach}
+use Rattle.desk.proofs.TextLaws.{code-fits, lists-at, room-for, lists-reach, step-printed, step-next}
+use Rattle.desk.proofs.reporting.report_step.Statement.{statement}
+use Rattle.desk.proofs.reporting.report_step.Tie as tie
+
+step-lawful-requires : tie.Need-step-lawful-requires
+step-lawful-requires c κs = search needs
+
+put-command-line-requires : tie.Need-put-command-line-requires
+put-command-line-requires c κs = search needs
+
+positions-at-requires : tie.Need-positions-at-requires
+positions-at-requires c κs = search needs
+
+put-lists-requires : tie.Need-put-lists-requires
+put-lists-requires c κs =
+    let start = c .before .before .before .before .before .before .before .before .before .before .before .before .before .before .before .before .before .before .before .before .before in
+    let step = c .before .before .before .before .before .before .before .before .before .before .before .step-lawful .ensures in
+    let line = command-line-reach _ _ _ _ _ _ _ (c .before .before .before .before .before .put-command-line .ensures) in
+    let places = c .before .before .positions-at .ensures in (
+      omega (arith, places),
+      λ n e. room-for n _ _ _ _ _ _ _ places (code-fits _ _ _ (start .args .from) (start .pre .1 .0) (start .pre .1 .1) _ _ _ (step .does) n e) (omega (arith, c .before .before .before .before .before .before .before .before .words .given)) (start .pre .1 .3) line (omega (arith, start .pre .1 .4, c .before .before .before .before .out .given)),
+    )
+
+goes-on-requires : tie.Need-goes-on-requires
+goes-on-requires c κs = search needs
+
+add-t28 : tie.Need-add-t28
+add-t28 c = let start = c .before .before .before .before .before .before .before .before .before .before .before .before .before .before .before .before .before .before .before .before .before .before .before .before .before .before .before in omega (arith, start .pre .1 .1, start .pre .1 .2)
+
+same-length : tie.Need-same-length
+same-length c = search needs
+
+same-length-2 : tie.Need-same-length-2
+same-length-2 c = search needs
+
+same-length-3 : tie.Need-same-length-3
+same-length-3 c = search needs
+
+returns : tie.Need-returns
+returns c =
+    let start = c .before .before .before .before .before .before .before .before .before .before .before .before .before .before .before .before .before .before .before .before .before .before .before .before .before .before .before in
+    let step = c .before .before .before .before .before .before .before .before .before .before .before .before .before .before .before .before .before .step-lawful .ensures in
+    let line = c .before .before .before .before .before .before .before .before .before .before .before .put-command-line .ensures in
+    let lists = lists-at _ _ _ _ (c .before .before .before .before .before .before .before .before .positions-at .ensures) (c .before .before .before .before .before .put-lists .ensures) in
+    let fits = code-fits _ _ _ (start .args .from) (start .pre .1 .0) (start .pre .1 .1) _ _ _ (step .does) in (
+      step-printed _ _ _ (start .args .from) (start .pre .1 .0) (start .pre .1 .1) _ _ _ (step .does) _ refl refl (c .before .goes-on .ensures) refl _ _ _ _ line lists (step .sound),
+      (omega (arith, command-line-reach _ _ _ _ _ _ _ line, lists-reach _ _ _ _ _ _ _ (λ k. c .before .before .before .before .before .before .before .before .before .before .before .before .before .slice-known5 .given k .fits) (omega arith) (λ n e. omega (arith, fits n e, start .pre .1 .3)) lists),
+      λ e. step-next _ _ _ (start .args .from) (start .pre .1 .0) (start .pre .1 .1) _ _ _ (step .does) _ (c .before .goes-on .ensures) e (start .pre .1 .2)),
+    )
+
+pub report-step-spec : {M : Type 1} → statement M
+report-step-spec =
+    tie.close
+    (tie.spec
+    step-lawful-requires
+    put-command-line-requires
+    positions-at-requires
+    put-lists-requires
+    goes-on-requires
+    add-t28
+    same-length
+    same-length-2
+    same-length-3
+    returns)

@@ -1,0 +1,2 @@
+-- Printed: what the desk prints for a script.
+pub mod Printed

@@ -1,0 +1,126 @@
+// Steps of a script and their lines, part by part of the report: each part is written into a lent buffer, and with what is still to be printed it is
+// the report (specs/Printed.antt).
+ghost use Prim.Native.Nat.{ℕ, _+_, _*_, _≤_, _<_};
+ghost use mathlib.Core.Path.{_≡_};
+ghost use mathlib.Core.Bool.{true, _&&_};
+ghost use lib.Dec.{ltb};
+ghost use lib.ListN.{length};
+ghost use Rattle.finite.specs.Writing.{Wrote};
+ghost use Rattle.state.specs.declared.answer.Answer.the-variants as Answers;
+ghost use Rattle.state.specs.Step.{lent, sound};
+ghost use Rattle.desk.specs.Printed.{listsText, positionsAt, Printed};
+use report::put_command_line;
+use report::put_list_lines;
+use script::step_lawful;
+use state::Answer;
+use state::Design;
+use state::Held;
+
+// How far the desk has come: the place of the next command and its number, whether there is one, the held values, and where the buffer's text ends.
+pub struct Progress {
+    pub at: usize,
+    pub number: usize,
+    pub more: bool,
+    pub held: Held,
+    pub end: usize,
+}
+
+// How many positions the QUERY at a place has; 1 past the script's end. Constant time.
+fn positions_at(script: &[u8], at: usize) -> usize
+    requires { ⌜ at < length (now script) ⌝ }
+    ensures { λ p. ⌜ p ≡ positionsAt (now (script .entry)) at ⌝ }
+{
+    if script.len() <= at + 7 {
+        return 1;
+    }
+    script[at + 7] as usize + 1
+}
+
+// Writes the lists that go with an answer, p row numbers to a line. At most 11 bytes for each number.
+fn put_lists(out: &mut [u8], at: usize, answer: Answer, words: &[u32], p: usize) -> usize
+    requires { ⌜ (1 ≤ p) × ((n : ℕ) → answer ≡ Answers.Lists n → (n * p ≤ length (now words)) × (at + 11 * (n * p) + 9 ≤ length (now out))) ⌝ }
+    ensures { λ z. ⌜ Wrote (now (out .entry)) (now (out .exit)) at z (listsText answer (now (words .entry)) p) ⌝ }
+{
+    let Answer::Lists(n) = answer else {
+        return at;
+    };
+    put_list_lines(out, at, words, n, p)
+}
+
+// Whether a command follows. Constant time.
+fn goes_on(script: &[u8], more: bool, next: usize) -> bool
+    ensures { λ b. ⌜ b ≡ (more && ltb next (length (now (script .entry)))) ⌝ }
+{
+    if !more {
+        return false;
+    }
+    next < script.len()
+}
+
+// One step, and its lines: at most 71 bytes, and 11 for each of 4,096 words; there must be 9 more. The cost of the operation, and of its lines.
+fn report_step(
+    script: &[u8],
+    from: Progress,
+    design: Design,
+    cells: &[u32],
+    tables: &[u8],
+    marks: &mut [u8],
+    words: &mut [u32],
+    out: &mut [u8],
+) -> Progress
+    requires { ⌜ sound (lent design (now cells) (now tables) (now marks) (from .held)) ≡ true ⌝ }
+    requires { ⌜ (from .more ≡ true) × (from .at < length (now script)) × (from .number ≤ from .at) × (length (now words) ≤ 4096) × (from .end + 45136 ≤ length (now out)) ⌝ }
+    ensures { λ q. ⌜ Printed (now (script .entry)) (lent design (now (cells .entry)) (now (tables .entry)) (now (marks .entry)) (from .held)) (now (words .entry)) from
+        (now (out .entry)) (now (out .exit)) (now (marks .exit)) (now (words .exit)) q ⌝ }
+    ensures { λ q. ⌜ (q .end ≤ from .end + 45127) × (q .more ≡ true → (from .at < q .at) × (q .at < length (now (script .entry))) × (q .number ≤ q .at)) ⌝ }
+{
+    let at = from.at;
+    let held = from.held;
+    let step = step_lawful(script, at, design, cells, tables, marks, held, words);
+    let answer = step.answer;
+    let z = put_command_line(out, from.end, from.number, answer, step.place);
+    let p = positions_at(script, at);
+    let end = put_lists(out, z, answer, words, p);
+    let kept = step.held;
+    let more = goes_on(script, step.more, step.next);
+    Progress {
+        at: step.next,
+        number: from.number + 1,
+        more,
+        held: kept,
+        end,
+    }
+}
+
+// A buffer is full where a step's lines might not fit behind its text.
+const FULL: usize = 65536;
+
+// Steps and their lines until there is no command left or the buffer is full. The cost of the operations, and of the text.
+pub fn fill(
+    script: &[u8],
+    from: Progress,
+    design: Design,
+    cells: &[u32],
+    tables: &[u8],
+    marks: &mut [u8],
+    words: &mut [u32],
+    out: &mut [u8],
+) -> Progress
+    requires { ⌜ sound (lent design (now cells) (now tables) (now marks) (from .held)) ≡ true ⌝ }
+    requires { ⌜ (from .more ≡ true → (from .at < length (now script)) × (from .number ≤ from .at)) × (length (now words) ≤ 4096) × (from .end ≤ 65536) × (length (now out) ≡ 131072) ⌝ }
+    ensures { λ q. ⌜ Printed (now (script .entry)) (lent design (now (cells .entry)) (now (tables .entry)) (now (marks .entry)) (from .held)) (now (words .entry)) from
+        (now (out .entry)) (now (out .exit)) (now (marks .exit)) (now (words .exit)) q ⌝ }
+    ensures { λ q. ⌜ (q .end ≤ 131072) × (q .more ≡ true → (from .at < q .at) × (q .at < length (now (script .entry))) × (q .number ≤ q .at)) ⌝ }
+{
+    let mut p = from;
+    loop {
+        if !p.more {
+            return p;
+        }
+        if FULL < p.end {
+            return p;
+        }
+        let q = report_step(script, p, design, cells, tables, marks, words, out);
+        p = q;
+    }
+}
