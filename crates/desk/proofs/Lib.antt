@@ -1,3 +1,5 @@
--- ListsFit: the lists of an answer fit the words that are lent. TextLaws: the report part by part, and how far a part reaches.
+-- ListsFit: the lists of an answer fit the words that are lent. TextLaws: the report part by part, and how far a part reaches. Started: a design just
+-- read is a sound state.
 pub mod ListsFit
 pub mod TextLaws
+pub mod Started

@@ -57,8 +57,8 @@ returns-2 c =
       (
         omega (arith, j .inv .3),
         λ e.
-        let further = ⊎-elim (λ h. h) (λ h. absurd (omega (arith, h .1, c .if2 .taken))) (j .inv .2 e) in
-        (further, j .inv .1 e .0, j .inv .1 e .1),
+            let further = ⊎-elim (λ h. h) (λ h. absurd (omega (arith, h .1, c .if2 .taken))) (j .inv .2 e) in
+            (further, j .inv .1 e .0, j .inv .1 e .1),
       ),
     )
 

@@ -49,8 +49,10 @@ returns c =
     let lists = lists-at _ _ _ _ (c .before .before .before .before .before .before .before .before .positions-at .ensures) (c .before .before .before .before .before .put-lists .ensures) in
     let fits = code-fits _ _ _ (start .args .from) (start .pre .1 .0) (start .pre .1 .1) _ _ _ (step .does) in (
       step-printed _ _ _ (start .args .from) (start .pre .1 .0) (start .pre .1 .1) _ _ _ (step .does) _ refl refl (c .before .goes-on .ensures) refl _ _ _ _ line lists (step .sound),
-      (omega (arith, command-line-reach _ _ _ _ _ _ _ line, lists-reach _ _ _ _ _ _ _ (λ k. c .before .before .before .before .before .before .before .before .before .before .before .before .before .slice-known5 .given k .fits) (omega arith) (λ n e. omega (arith, fits n e, start .pre .1 .3)) lists),
-      λ e. step-next _ _ _ (start .args .from) (start .pre .1 .0) (start .pre .1 .1) _ _ _ (step .does) _ (c .before .goes-on .ensures) e (start .pre .1 .2)),
+      (
+        omega (arith, command-line-reach _ _ _ _ _ _ _ line, lists-reach _ _ _ _ _ _ _ (λ k. c .before .before .before .before .before .before .before .before .before .before .before .before .before .slice-known5 .given k .fits) (omega arith) (λ n e. omega (arith, fits n e, start .pre .1 .3)) lists),
+        λ e. step-next _ _ _ (start .args .from) (start .pre .1 .0) (start .pre .1 .1) _ _ _ (step .does) _ (c .before .goes-on .ensures) e (start .pre .1 .2),
+      ),
     )
 
 pub report-step-spec : {M : Type 1} → statement M
