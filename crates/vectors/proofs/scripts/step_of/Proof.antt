@@ -1,0 +1,73 @@
+-- `vectors::scripts::step_of` is safe, and ends. Assumes nothing.
+use Prim.Native.Nat.{_-_}
+use native.Mathlib.Omega.{arith}
+use mathlib.Core.Path.{_≡_, refl}
+use borrow.Author.Needs.{needs}
+use lib.ListN.{length}
+use Rattle.vectors.proofs.scripts.step_of.Statement.{statement}
+use Rattle.vectors.proofs.scripts.step_of.Tie as tie
+
+abbrev Inv-loop : tie.InvT-loop
+Inv-loop script at design cells tables marks₀ number words₀ t₀ i₀ marks words t i = (length marks ≡ length marks₀) × (length words ≡ length words₀)
+
+abbrev μ-loop : tie.MeasureT-loop
+μ-loop script at design cells tables marks₀ number words₀ t₀ i₀ marks words t i = 65537 - i
+
+none-requires : tie.Need-none-requires Inv-loop μ-loop
+none-requires c κs = search needs
+
+step-requires : tie.Need-step-requires Inv-loop μ-loop
+step-requires c κs = search needs
+
+loop-holds : tie.Need-loop-holds Inv-loop μ-loop
+loop-holds c = (refl, refl)
+
+same-length : tie.Need-same-length Inv-loop μ-loop
+same-length c = omega arith
+
+same-length-2 : tie.Need-same-length-2 Inv-loop μ-loop
+same-length-2 c = omega arith
+
+returns : tie.Need-returns Inv-loop μ-loop
+returns c = tt
+
+add-i : tie.Need-add-i Inv-loop μ-loop
+add-i c = omega arith
+
+step-requires-2 : tie.Need-step-requires-2 Inv-loop μ-loop
+step-requires-2 c κs = search needs
+
+loop-less : tie.Need-loop-less Inv-loop μ-loop
+loop-less c = omega arith
+
+loop-again : tie.Need-loop-again Inv-loop μ-loop
+loop-again c = (omega arith, omega arith)
+
+same-length-3 : tie.Need-same-length-3 Inv-loop μ-loop
+same-length-3 c = omega arith
+
+same-length-4 : tie.Need-same-length-4 Inv-loop μ-loop
+same-length-4 c = omega arith
+
+returns-2 : tie.Need-returns-2 Inv-loop μ-loop
+returns-2 c = tt
+
+pub step-of-spec : {M : Type 1} → statement M
+step-of-spec =
+    tie.close
+    (tie.spec
+    Inv-loop
+    μ-loop
+    none-requires
+    step-requires
+    loop-holds
+    same-length
+    same-length-2
+    returns
+    add-i
+    step-requires-2
+    loop-less
+    loop-again
+    same-length-3
+    same-length-4
+    returns-2)

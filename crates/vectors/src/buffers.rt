@@ -1,0 +1,169 @@
+// Lent buffers of several lengths, each filled with 9: one place too short, just long enough, and longer.
+use crate::lent::Causes;
+use crate::lent::State;
+use crate::lent::operated;
+use cache::referred;
+use format::Verdict;
+use format::read_design;
+use state::Design;
+use state::Held;
+
+// The cause of a refusal, 0 for none; and whether what had to stay untouched did.
+pub struct Outcome {
+    pub cause: u8,
+    pub is_left: bool,
+}
+
+// Whether all cells from an index on are 9. One step for each.
+pub fn are_cells_left(cells: &[u32], from: usize) -> bool {
+    let mut i = from;
+    while i < cells.len() {
+        if cells[i] != 9 {
+            return false;
+        }
+        i += 1;
+    }
+    true
+}
+
+pub fn are_bytes_left(bytes: &[u8], from: usize) -> bool {
+    let mut i = from;
+    while i < bytes.len() {
+        if bytes[i] != 9 {
+            return false;
+        }
+        i += 1;
+    }
+    true
+}
+
+// Everything past what an accepted design stores; or everything.
+fn are_left(cause: u8, cells: &[u32], tables: &[u8], marks: &[u8]) -> bool {
+    if cause != 0 {
+        return are_cells_left(cells, 0) && are_bytes_left(tables, 0) && are_bytes_left(marks, 0);
+    }
+    are_cells_left(cells, 4096) && are_bytes_left(tables, 512) && are_bytes_left(marks, 512)
+}
+
+fn read_into(script: &[u8], cells: &mut [u32], tables: &mut [u8], marks: &mut [u8]) -> Outcome {
+    let r = read_design(script, cells, tables, marks);
+    let v = r.verdict;
+    let mut cause = 0;
+    if let Verdict::Refused(n, _) = v {
+        cause = n;
+    }
+    Outcome {
+        cause,
+        is_left: are_left(cause, cells, tables, marks),
+    }
+}
+
+// Reads a design into buffers: 0 one cell, 1 one row table, 2 one mark too few; 3 longer; else just long enough.
+pub fn reading(script: &[u8], kind: usize) -> Outcome {
+    let mut cells = [9u32; 4096];
+    let mut tables = [9u8; 512];
+    let mut marks = [9u8; 512];
+    match kind {
+        0 => {
+            let mut few = [9u32; 4095];
+            read_into(script, &mut few, &mut tables, &mut marks)
+        }
+        1 => {
+            let mut few = [9u8; 511];
+            read_into(script, &mut cells, &mut few, &mut marks)
+        }
+        2 => {
+            let mut few = [9u8; 511];
+            read_into(script, &mut cells, &mut tables, &mut few)
+        }
+        3 => longer(script),
+        _ => read_into(script, &mut cells, &mut tables, &mut marks),
+    }
+}
+
+fn longer(script: &[u8]) -> Outcome {
+    let mut cells = [9u32; 4100];
+    let mut tables = [9u8; 514];
+    let mut marks = [9u8; 514];
+    read_into(script, &mut cells, &mut tables, &mut marks)
+}
+
+// The causes of the six operations, and whether everything that had to stay untouched did.
+pub struct Tried {
+    pub causes: Causes,
+    pub is_left: bool,
+}
+
+// The six operations on buffers of 9s, of which one is too short: they leave everything.
+fn try_short(s: State, cells: &[u32], tables: &[u8], marks: &mut [u8]) -> Tried {
+    let mut words = [9u32; 8];
+    let mut out = [9u8; 512];
+    let d = s.design;
+    let h = s.held;
+    let causes = operated(d, cells, tables, marks, h, &mut words, &mut out);
+    let is_left = are_bytes_left(marks, 0) && are_cells_left(&words, 0) && are_bytes_left(&out, 0);
+    Tried {
+        causes,
+        is_left: is_left && causes.is_held,
+    }
+}
+
+// A design, and what is held.
+struct Loaded {
+    design: Design,
+    held: Held,
+}
+
+// The script's design, with REFER 0 3.
+fn load_3(script: &[u8], cells: &mut [u32], tables: &mut [u8], marks: &mut [u8]) -> Loaded {
+    let r = read_design(script, cells, tables, marks);
+    let design = r.design;
+    let none = Held::none();
+    let o = referred(design, cells, tables, marks, none, 0, 3);
+    let held = o.held;
+    Loaded { design, held }
+}
+
+// The six operations on a lawful state: past the sizes they leave everything.
+fn try_long(l: Loaded, cells: &[u32], tables: &[u8], marks: &mut [u8]) -> Tried {
+    let mut words = [9u32; 8];
+    let mut out = [9u8; 512];
+    let d = l.design;
+    let h = l.held;
+    let causes = operated(d, cells, tables, marks, h, &mut words, &mut out);
+    Tried {
+        causes,
+        is_left: are_left(0, cells, tables, marks),
+    }
+}
+
+// The same with longer buffers lent.
+fn try_longer(script: &[u8]) -> Tried {
+    let mut cells = [9u32; 4100];
+    let mut tables = [9u8; 514];
+    let mut marks = [9u8; 514];
+    let l = load_3(script, &mut cells, &mut tables, &mut marks);
+    try_long(l, &cells, &tables, &mut marks)
+}
+
+// One place too short, and unlawful besides: 0 the cells, 1 the row tables, 2 the marks; else longer buffers.
+pub fn operations(script: &[u8], s: State, kind: usize) -> Tried {
+    let cells = [9u32; 4096];
+    let tables = [9u8; 512];
+    let mut marks = [9u8; 512];
+    match kind {
+        0 => {
+            let few = [9u32; 4095];
+            try_short(s, &few, &tables, &mut marks)
+        }
+        1 => {
+            let few = [9u8; 511];
+            try_short(s, &cells, &few, &mut marks)
+        }
+        2 => {
+            let mut few = [9u8; 511];
+            try_short(s, &cells, &tables, &mut few)
+        }
+        _ => try_longer(script),
+    }
+}

@@ -1,0 +1,318 @@
+// A lent state, changed in one place or two, and the operations of the library that take whatever is lent.
+use crate::scripts::step_of;
+use cache::dropped;
+use cache::probed;
+use cache::referred;
+use format::Verdict;
+use format::read_design;
+use query::Join;
+use query::Query;
+use script::Written;
+use script::step;
+use script::write;
+use state::Answer;
+use state::Column;
+use state::Constraint;
+use state::Design;
+use state::Filling;
+use state::Held;
+use state::HeldValue;
+use state::Table;
+
+// Everything that a caller lends an operation.
+pub struct State {
+    pub design: Design,
+    pub cells: [u32; 4096],
+    pub tables: [u8; 512],
+    pub marks: [u8; 512],
+    pub held: Held,
+}
+
+// The state that a script leaves behind its command with this number; the empty one if its design is refused. The cost of the operations.
+pub fn state_after(script: &[u8], number: usize) -> State {
+    let mut cells = [0u32; 4096];
+    let mut tables = [0u8; 512];
+    let mut marks = [0u8; 512];
+    let mut words = [0u32; 8];
+    let reading = read_design(script, &mut cells, &mut tables, &mut marks);
+    let design = reading.design;
+    let verdict = reading.verdict;
+    let mut held = Held::none();
+    if let Verdict::Accepted(at) = verdict {
+        let t = step_of(
+            script,
+            at,
+            design,
+            &cells,
+            &tables,
+            &mut marks,
+            number,
+            &mut words,
+        );
+        let kept = t.held;
+        held = kept;
+    }
+    State {
+        design,
+        cells,
+        tables,
+        marks,
+        held,
+    }
+}
+
+// ---- changes: what is changed, where, and to what. Constant time.
+
+fn low_byte(v: usize) -> u8 {
+    (v % 256) as u8
+}
+
+fn low_word(v: usize) -> u32 {
+    (v % 4294967296) as u32
+}
+
+fn with_counts(mut d: Design, kind: usize, v: usize) -> Design {
+    match kind {
+        5 => d.tables = v,
+        6 => d.constraints = v,
+        7 => d.fillings = v,
+        _ => d.rows = v,
+    }
+    d
+}
+
+fn with_item(mut d: Design, kind: usize, v: usize) -> Design {
+    match kind {
+        9 => {
+            d.table[0] = Table {
+                columns: low_byte(v),
+                unique: 0,
+            };
+        }
+        10 => {
+            d.table[7] = Table {
+                columns: low_byte(v),
+                unique: 0,
+            };
+        }
+        11 => {
+            let source = Column { table: 0, place: 0 };
+            let target = Column {
+                table: low_byte(v),
+                place: 1,
+            };
+            d.constraint[1] = Constraint { source, target };
+        }
+        _ => {
+            let column = Column { table: 0, place: 1 };
+            d.filling[0] = Filling {
+                column,
+                low: low_word(v),
+                high: 99,
+            };
+        }
+    }
+    d
+}
+
+fn with_held(mut h: Held, kind: usize, i: usize, v: usize) -> Held {
+    if kind == 3 {
+        h.count = v;
+        return h;
+    }
+    if i < Held::PLACES {
+        h.values[i] = HeldValue {
+            filling: low_byte(v / 1000),
+            value: low_word(v % 1000),
+        };
+    }
+    h
+}
+
+fn with_row(mut s: State, kind: usize, i: usize, v: usize) -> State {
+    if kind == 0 {
+        if i < Design::CELLS {
+            s.cells[i] = low_word(v);
+        }
+        return s;
+    }
+    if i < Design::ROWS {
+        if kind == 1 {
+            s.tables[i] = low_byte(v);
+        } else {
+            s.marks[i] = low_byte(v);
+        }
+    }
+    s
+}
+
+// Kinds: 0 a cell, 1 a row table, 2 a mark, 3 how many are held, 4 a held pair (1,000 × filling + value), 5 to 8 how many tables, constraints,
+// fillings and rows, 9 the columns of table 0, 10 those of table 7, 11 the target table of constraint 1, then from 0.0, 12 low of filling 0; any
+// other, nothing.
+pub fn changed(mut s: State, kind: usize, i: usize, v: usize) -> State {
+    if kind < 3 {
+        return with_row(s, kind, i, v);
+    }
+    if kind < 5 {
+        let h = s.held;
+        s.held = with_held(h, kind, i, v);
+        return s;
+    }
+    if 12 < kind {
+        return s;
+    }
+    let d = s.design;
+    if kind < 9 {
+        s.design = with_counts(d, kind, v);
+    } else {
+        s.design = with_item(d, kind, v);
+    }
+    s
+}
+
+// ---- operations, which a lawful state allows
+
+// The causes of refusal of the six operations, 0 for none; and whether the held values that they gave back were the ones that they were lent.
+pub struct Causes {
+    pub is_held: bool,
+    pub refer: u8,
+    pub drop: u8,
+    pub probe: u8,
+    pub query: u8,
+    pub step: u8,
+    pub write: u8,
+}
+
+fn cause_of(answer: Answer) -> u8 {
+    let Answer::Refused(cause) = answer else {
+        return 0;
+    };
+    cause
+}
+
+fn cause_of_writing(w: Written) -> u8 {
+    let Written::Refused(cause) = w else {
+        return 0;
+    };
+    cause
+}
+
+// Row 0's own value in column 1 of table 0, without joins.
+fn plain_query() -> Query {
+    let none = Join {
+        position: 0,
+        constraint: 0,
+    };
+    Query {
+        column: Column { table: 0, place: 1 },
+        value: 3,
+        joins: 0,
+        pairs: [none; 4],
+    }
+}
+
+// Whether two records of held values are the same. One step for each place.
+fn same_held(a: Held, b: Held) -> bool {
+    if a.count != b.count {
+        return false;
+    }
+    let mut i = 0;
+    while i < Held::PLACES {
+        let x = a.values[i];
+        let y = b.values[i];
+        if x.filling != y.filling {
+            return false;
+        }
+        if x.value != y.value {
+            return false;
+        }
+        i += 1;
+    }
+    true
+}
+
+// A step's cause, and whether it gave back the held values.
+struct Stepped {
+    cause: u8,
+    is_held: bool,
+}
+
+fn step_4(design: Design, cells: &[u32], tables: &[u8], marks: &mut [u8], held: Held) -> Stepped {
+    let mut words = [0u32; 8];
+    let script = b"\x10\x00\x04\x00\x00\x00";
+    let t = step(script, 0, design, cells, tables, marks, held, &mut words);
+    let answer = t.answer;
+    let kept = t.held;
+    Stepped {
+        cause: cause_of(answer),
+        is_held: same_held(held, kept),
+    }
+}
+
+fn query_3(
+    design: Design,
+    cells: &[u32],
+    tables: &[u8],
+    marks: &[u8],
+    held: Held,
+    words: &mut [u32],
+) -> u8 {
+    let q = plain_query();
+    cause_of(query::query(design, cells, tables, marks, held, q, words))
+}
+
+fn write_out(
+    design: Design,
+    cells: &[u32],
+    tables: &[u8],
+    marks: &[u8],
+    held: Held,
+    out: &mut [u8],
+) -> u8 {
+    cause_of_writing(write(design, cells, tables, marks, held, out))
+}
+
+// Drops 3 and refers to it again, so that the state is as before where it is lawful.
+fn drop_and_refer(
+    design: Design,
+    cells: &[u32],
+    tables: &[u8],
+    marks: &mut [u8],
+    held: Held,
+) -> Causes {
+    let o = dropped(design, cells, tables, marks, held, 0, 3);
+    let a = o.answer;
+    let kept = o.held;
+    let p = referred(design, cells, tables, marks, kept, 0, 3);
+    let b = p.answer;
+    let last = p.held;
+    Causes {
+        is_held: same_held(held, last),
+        refer: cause_of(b),
+        drop: cause_of(a),
+        probe: 0,
+        query: 0,
+        step: 0,
+        write: 0,
+    }
+}
+
+// All six on one state, the step last: it is the only one that leaves a lawful state changed.
+pub fn operated(
+    design: Design,
+    cells: &[u32],
+    tables: &[u8],
+    marks: &mut [u8],
+    held: Held,
+    words: &mut [u32],
+    out: &mut [u8],
+) -> Causes {
+    let mut c = drop_and_refer(design, cells, tables, marks, held);
+    c.probe = cause_of(probed(design, cells, tables, marks, held, 0, 1, 3));
+    c.query = query_3(design, cells, tables, marks, held, words);
+    c.write = write_out(design, cells, tables, marks, held, out);
+    let t = step_4(design, cells, tables, marks, held);
+    c.step = t.cause;
+    c.is_held = c.is_held && t.is_held;
+    c
+}

@@ -1,0 +1,97 @@
+// Scripts run command by command: the line that the desk prints for one of their commands, or for a refused design.
+use format::Verdict;
+use format::read_design;
+use report::put_command_line;
+use report::put_refusal_line;
+use script::Step;
+use script::step;
+use state::Design;
+use state::Held;
+
+// A line, with how many bytes it has without its end.
+pub struct Line {
+    pub bytes: [u8; 128],
+    pub length: usize,
+}
+
+// A line of so many bytes, the last of which ends it. Constant time.
+fn line_of(bytes: [u8; 128], n: usize) -> Line {
+    if n == 0 {
+        return Line { bytes, length: 0 };
+    }
+    Line {
+        bytes,
+        length: n - 1,
+    }
+}
+
+// More commands than a script can have.
+const MOST_COMMANDS: usize = 65537;
+
+// The step of the command with this number behind the END, whatever was answered before it. The cost of the operations, and of the test for cause
+// 12 before each.
+pub fn step_of(
+    script: &[u8],
+    at: usize,
+    design: Design,
+    cells: &[u32],
+    tables: &[u8],
+    marks: &mut [u8],
+    number: usize,
+    words: &mut [u32],
+) -> Step {
+    let none = Held::none();
+    let mut t = step(script, at, design, cells, tables, marks, none, words);
+    let mut i: usize = 0;
+    while i < MOST_COMMANDS {
+        if number <= i {
+            return t;
+        }
+        i += 1;
+        let held = t.held;
+        let next = step(script, t.next, design, cells, tables, marks, held, words);
+        t = next;
+    }
+    t
+}
+
+// A command's line.
+fn command_line(number: usize, t: Step) -> Line {
+    let mut bytes = [0u8; 128];
+    let answer = t.answer;
+    let n = put_command_line(&mut bytes, 0, number, answer, t.place);
+    line_of(bytes, n)
+}
+
+// A refused design's line.
+fn refusal_line(cause: u8, place: usize) -> Line {
+    let mut bytes = [0u8; 128];
+    let n = put_refusal_line(&mut bytes, 0, cause, place);
+    line_of(bytes, n)
+}
+
+// The line of the command with this number, with these words lent.
+pub fn line_at(script: &[u8], number: usize, words: &mut [u32]) -> Line {
+    let mut cells = [0u32; 4096];
+    let mut tables = [0u8; 512];
+    let mut marks = [0u8; 512];
+    let reading = read_design(script, &mut cells, &mut tables, &mut marks);
+    let design = reading.design;
+    let verdict = reading.verdict;
+    match verdict {
+        Verdict::Accepted(at) => {
+            let t = step_of(
+                script,
+                at,
+                design,
+                &cells,
+                &tables,
+                &mut marks,
+                number,
+                words,
+            );
+            command_line(number, t)
+        }
+        Verdict::Refused(cause, place) => refusal_line(cause, place),
+    }
+}
