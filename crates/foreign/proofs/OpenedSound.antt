@@ -1,0 +1,142 @@
+-- What opening leaves with number 0 is ready for a step: the words stand for the design just read and for no held values, and that state is sound.
+-- Assumes nothing.
+use Prim.Native.Nat.{ℕ, zero, suc, _+_, _<_}
+use native.Mathlib.Omega.{arith}
+use mathlib.Core.Path.{_≡_, refl, sym, ap, subst, _∙_}
+use mathlib.Core.Bool.{Bool, true, false, not, cond, _&&_}
+use mathlib.Core.List.{List, []}
+use borrow.Author.Tests.{lt-ltb, ltb-true}
+use lib.Dec.{leb, ltb}
+use lib.ListN.{length}
+use lib.Seq.{sets, length-sets}
+use Rattle.finite.specs.Finite.{tab}
+use Rattle.finite.proofs.Tables.{length-tab}
+use Rattle.state.specs.Held.{noneHeld, noValue}
+use Rattle.state.specs.Step.{State, lent, sound, longEnough}
+use Rattle.state.specs.Design.{emptyDesign}
+use Rattle.state.specs.Meaning.{schemeOf, databaseOf}
+use Rattle.state.specs.Lawful.{tableFits, constraintFits, fillingFits, rowFits, repeats}
+use Rattle.lawful.proofs.RowsLaws.{Stored}
+use Rattle.cache.proofs.SoundState.{parts}
+use Rattle.format.specs.declared.command.Command as Commands
+use Rattle.format.specs.declared.command.Command.the-variants as C
+use Rattle.format.specs.Bytes.{byteAt}
+use Rattle.format.specs.Commands.{commandAt, widthOf}
+use Rattle.format.specs.Reading.{Draft, emptyDraft, DesignRead, Taken, unless, afterTables, afterConstraints, afterFillings, withRow, rowTaken, taken, readOn, readFrom, readDesign, readInto, mostBytes, cellsAfter, tablesAfter, marksAfter}
+use Rattle.format.specs.Reading.Taken.{on, complete, refused}
+use Rattle.format.specs.Reading.DesignRead.{accepted, refusedAt}
+use Rattle.format.proofs.Small.{Small}
+use Rattle.script.specs.Runs.{buffers, justRead}
+use Rattle.script.proofs.JustRead.{Begun, begun}
+use Rattle.foreign.specs.Words.{designLength, heldLength, designWords, heldWords, designFrom, heldFrom}
+use Rattle.foreign.specs.Calls.{opening, numberOf, designAfter, heldAfter, Opened, stateFrom, Ready}
+use Rattle.foreign.proofs.WordLaws.{design-stored, held-stored}
+use Rattle.foreign.proofs.Narrow.{narrow-design, narrow-held}
+use Rattle.foreign.proofs.Opening.{enough}
+
+-- ---- no cause has number 0
+
+abbrev causeTaken : Taken → Bool
+causeTaken (on p) = true
+causeTaken complete = true
+causeTaken (refused n) = ltb 0 n
+
+abbrev causeRead : DesignRead → Bool
+causeRead (accepted p i) = true
+causeRead (refusedAt n i) = ltb 0 n
+
+cause : (n : ℕ) → 0 < n → ltb 0 n ≡ true
+cause n l = lt-ltb 0 n l
+
+unless-caused : (b : Bool) (n : ℕ) (t : Taken) → 0 < n → causeTaken t ≡ true → causeTaken (unless b n t) ≡ true
+unless-caused true n t l h = cause n l
+unless-caused false n t l h = h
+
+taken-caused : (p : Draft) (s : List ℕ) (i : ℕ) (c : Commands.Command) → causeTaken (taken p s i c) ≡ true
+unfolding taken rowTaken
+taken-caused p s i (C.Table t) =
+    unless-caused (afterTables (p .design)) 3 _ (omega arith) (unless-caused (leb 8 (p .design .tables)) 4 _ (omega arith)
+    (unless-caused (not (tableFits t)) 5 _ (omega arith) refl))
+taken-caused p s i (C.Constraint c) =
+    unless-caused (afterConstraints (p .design)) 3 _ (omega arith) (unless-caused (leb 16 (p .design .constraints)) 4 _ (omega arith)
+    (unless-caused (not (constraintFits (p .design) (p .design .constraints) c)) 5 _ (omega arith) refl))
+taken-caused p s i (C.Filling f) =
+    unless-caused (afterFillings (p .design)) 3 _ (omega arith) (unless-caused (leb 8 (p .design .fillings)) 4 _ (omega arith)
+    (unless-caused (not (fillingFits (p .design) (p .design .fillings) f)) 5 _ (omega arith) refl))
+taken-caused p s i (C.Row t) =
+    let q = withRow p s i t in let r = p .design .rows in
+    let S = schemeOf (q .design) in let D = databaseOf (q .design .rows) (q .cells) (q .tables) in
+    unless-caused (leb 512 r) 4 _ (omega arith) (unless-caused (not (rowFits S D r)) 5 _ (omega arith) (unless-caused (repeats S D r) 6 _ (omega arith) refl))
+taken-caused p s i C.End = refl
+taken-caused p s i (C.Refer f v) = cause 3 (omega arith)
+taken-caused p s i (C.Drop f v) = cause 3 (omega arith)
+taken-caused p s i (C.Probe k v) = cause 3 (omega arith)
+taken-caused p s i (C.Query k v n) = cause 3 (omega arith)
+taken-caused p s i C.Unknown = cause 2 (omega arith)
+taken-caused p s i C.Short = cause 1 (omega arith)
+
+on-caused : (go : Draft → ℕ → DesignRead) → ((q : Draft) (j : ℕ) → causeRead (go q j) ≡ true) → (p : Draft) (i w : ℕ) (t : Taken) → causeTaken t ≡ true →
+    causeRead (readOn go p i w t) ≡ true
+on-caused go g p i w (on q) h = g q (i + w)
+on-caused go g p i w complete h = refl
+on-caused go g p i w (refused n) h = h
+
+from-caused : (n : ℕ) (s : List ℕ) (p : Draft) (i : ℕ) → causeRead (readFrom n s p i) ≡ true
+unfolding readFrom
+from-caused zero s p i = cause 1 (omega arith)
+from-caused (suc n) s p i = on-caused (readFrom n s) (from-caused n s) p i (widthOf (byteAt s i)) (taken p s i (commandAt s i)) (taken-caused p s i (commandAt s i))
+
+cond-caused : (b : Bool) (v w : DesignRead) → causeRead v ≡ true → causeRead w ≡ true → causeRead (cond b v w) ≡ true
+cond-caused true v w h k = h
+cond-caused false v w h k = k
+
+opening-caused : (script cs ts ms ds hs : List ℕ) → causeRead (opening script cs ts ms ds hs) ≡ true
+unfolding opening readInto readDesign
+opening-caused script cs ts ms ds hs =
+    let whole = readFrom (suc (length script)) script emptyDraft 0 in
+    let read = cond (ltb mostBytes (length script)) (refusedAt 4 0) whole in
+    let long = longEnough (lent emptyDesign cs ts ms noneHeld) in
+    let four = cause 4 (omega arith) in
+    let seven = cause 7 (omega arith) in
+    cond-caused (leb designLength (length ds) && leb heldLength (length hs)) (cond long read (refusedAt 7 0)) (refusedAt 7 0)
+    (cond-caused long read (refusedAt 7 0) (cond-caused (ltb mostBytes (length script)) (refusedAt 4 0) whole four (from-caused (suc (length script)) script emptyDraft 0)) seven)
+    seven
+
+-- ---- what is left with number 0
+
+none-long : length (noneHeld .values) ≡ 64
+unfolding noneHeld
+none-long = length-tab 64 (λ _. noValue)
+
+module _ (script cs ts ms ds hs : List ℕ) (n : ℕ) (cs′ ts′ ms′ ds′ hs′ : List ℕ)
+    (o : Opened (opening script cs ts ms ds hs) n cs cs′ ts ts′ ms ms′ ds ds′ hs hs′) where
+  -- THEOREM: the buffers that `wurzsige_open` leaves with number 0 meet what `wurzsige_step` requires. That the script is of bytes and the cells
+  -- are u32 their types say.
+  pub opened-sound : Small script → Stored cs′ → n ≡ 0 → Ready ds′ cs′ ts′ ms′ hs′
+  opened-sound small stored e = go (opening script cs ts ms ds hs) refl
+    where
+      go : (w : DesignRead) → opening script cs ts ms ds hs ≡ w → Ready ds′ cs′ ts′ ms′ hs′
+      go (refusedAt c i) q =
+          let l : 0 < c = ltb-true 0 c (sym (ap causeRead q) ∙ opening-caused script cs ts ms ds hs) in
+          let k : c ≡ 0 = sym (ap numberOf q) ∙ sym (o .number) ∙ e in
+          absurd (omega (arith, l, k))
+      go (accepted p i) q =
+          let w = enough script cs ts ms ds hs p i q in
+          let cells : cs′ ≡ cellsAfter (accepted p i) cs = o .cells ∙ ap (λ (v : DesignRead). cellsAfter v cs) q in
+          let tables : ts′ ≡ tablesAfter (accepted p i) ts = o .tables ∙ ap (λ (v : DesignRead). tablesAfter v ts) q in
+          let marks : ms′ ≡ marksAfter (accepted p i) ms = o .marks ∙ ap (λ (v : DesignRead). marksAfter v ms) q in
+          let design : ds′ ≡ sets ds 0 (designWords (p .design)) = o .design ∙ ap (λ (v : DesignRead). designAfter v ds) q in
+          let held : hs′ ≡ sets hs 0 (heldWords noneHeld) = o .held ∙ ap (λ (v : DesignRead). heldAfter v hs) q in
+          let b : Begun (buffers cs ts ms []) p i = begun script small (buffers cs ts ms []) p i (w .2) (subst Stored cells stored) in
+          let z = b .sizes in
+          let d : designFrom ds′ ≡ p .design =
+          ap designFrom design ∙
+          design-stored (p .design) (record { table = z .table; constraint = z .constraint; filling = z .filling }) (narrow-design (p .design) (b .design)) ds (w .0) in
+          let h : heldFrom hs′ ≡ noneHeld =
+          ap heldFrom held ∙ held-stored noneHeld none-long (narrow-held (p .design) noneHeld (b .design) (parts _ (b .sound) .held)) hs (w .1) in
+          let s : stateFrom ds′ cs′ ts′ ms′ hs′ ≡ justRead (accepted p i) (buffers cs ts ms []) = λ x. lent (d x) (cells x) (tables x) (marks x) (h x) in
+          record {
+            design = omega (arith, w .0, ap length design, length-sets ds 0 (designWords (p .design)));
+            held = omega (arith, w .1, ap length held, length-sets hs 0 (heldWords noneHeld));
+            sound = ap sound s ∙ b .sound;
+          }

@@ -1,0 +1,17 @@
+-- `foreign::from_words::held_from` meets its contract: part by part. Assumes nothing.
+use Rattle.foreign.proofs.WordLaws.{held-is}
+use borrow.Author.Needs.{needs}
+use Rattle.foreign.proofs.from_words.held_from.Statement.{statement}
+use Rattle.foreign.proofs.from_words.held_from.Tie as tie
+
+count-at-requires : tie.Need-count-at-requires
+count-at-requires c κs = search needs
+
+values-from-requires : tie.Need-values-from-requires
+values-from-requires c κs = search needs
+
+returns : tie.Need-returns
+returns c = held-is _ _ _ (c .before .count-at .ensures) (c .values-from .ensures)
+
+pub held-from-spec : {M : Type 1} → statement M
+held-from-spec = tie.close (tie.spec count-at-requires values-from-requires returns)

@@ -1,0 +1,50 @@
+-- `foreign::wurzsige_step` meets its contract: the step on the state that the words stand for. Assumes nothing.
+use native.Mathlib.Omega.{arith}
+use Rattle.foreign.proofs.Stepping.{ready-sound, kept-few, answer-fits, step-took}
+use borrow.Author.Needs.{needs}
+use Rattle.foreign.proofs.wurzsige_step.Statement.{statement}
+use Rattle.foreign.proofs.wurzsige_step.Tie as tie
+use Rattle.script.proofs.step_lawful.Reads as step-lawful-reads
+
+design-from-requires : tie.Need-design-from-requires
+design-from-requires c κs = search needs
+
+held-from-requires : tie.Need-held-from-requires
+held-from-requires c κs = search needs
+
+step-lawful-requires : tie.Need-step-lawful-requires
+step-lawful-requires c κs = ready-sound _ _ _ _ _ _ _ (c .before .before .before .before .design-from .ensures) (c .before .before .held-from .ensures) (c .before .before .before .before .before .before .before .before .before .before .before .before .pre)
+
+put-held-requires : tie.Need-put-held-requires
+put-held-requires c κs = (omega (arith, c .before .before .before .before .before .before .before .before .before .before .before .before .before .before .before .before .before .before .before .pre .held), kept-few _ _ _ _ _ _ _ (c .before .before .before .before .before .before .before .before .before .before .before .design-from .ensures) (c .before .before .before .before .before .before .before .before .before .held-from .ensures) _ _ _ _ _ _ (c .before .before .before .before .before .before .step-lawful .ensures))
+
+code-of-requires : tie.Need-code-of-requires
+code-of-requires c κs = answer-fits _ _ _ _ _ _ _ (c .before .before .before .before .before .before .before .before .before .before .before .before .before .before .design-from .ensures) (c .before .before .before .before .before .before .before .before .before .before .before .before .held-from .ensures) _ _ _ _ _ _ (c .before .before .before .before .before .before .before .before .before .step-lawful .ensures)
+
+same-length : tie.Need-same-length
+same-length c = search needs
+
+same-length-2 : tie.Need-same-length-2
+same-length-2 c = search needs
+
+same-length-3 : tie.Need-same-length-3
+same-length-3 c = search needs
+
+returns : tie.Need-returns
+returns c =
+    step-took _ _ _ _ _ _ _ (c .before .before .before .before .before .before .before .before .before .before .before .before .before .before .before .design-from .ensures) (c .before .before .before .before .before .before .before .before .before .before .before .before .before .held-from .ensures) _ _ _ _ _ _ (c .before .before .before .before .before .before .before .before .before .before .step-lawful .ensures) (c .before .before .before .before .before .before .before .before .before .before .before .before .before .before .before .before .before .before .before .before .before .before .before .pre) _
+    (c .before .before .before .put-held .ensures .0) (c .before .before .before .put-held .ensures .1) _ (c .code-of .ensures)
+
+pub wurzsige-step-spec : {M : Type 1} → statement M
+wurzsige-step-spec =
+    tie.close
+    (tie.spec
+    design-from-requires
+    held-from-requires
+    step-lawful-requires
+    put-held-requires
+    code-of-requires
+    same-length
+    same-length-2
+    same-length-3
+    returns)

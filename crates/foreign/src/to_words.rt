@@ -1,0 +1,124 @@
+// A design and held values stored as their u32 words (specs/Words.antt), from the first word on.
+ghost use Prim.Native.Nat.{_+_, _≤_};
+ghost use mathlib.Core.Path.{_≡_};
+ghost use lib.ListN.{length};
+ghost use lib.Seq.{sets};
+ghost use Rattle.foreign.specs.Words.{tableWords, constraintWords, fillingWords, valueWords, countsWords, tablesWords, constraintsWords, fillingsWords, valuesWords, designWords, heldWords};
+use state::Constraint;
+use state::Design;
+use state::Filling;
+use state::Held;
+use state::HeldValue;
+use state::Table;
+
+// One place each, from word `at` on. Constant time.
+fn put_table(words: &mut [u32], at: usize, t: Table)
+    requires { ⌜ at + 2 ≤ length (now words) ⌝ }
+    ensures { λ _. ⌜ now (words .exit) ≡ sets (now (words .entry)) at (tableWords t) ⌝ }
+{
+    words[at] = t.columns as u32;
+    words[at + 1] = t.unique as u32;
+}
+
+fn put_constraint(words: &mut [u32], at: usize, c: Constraint)
+    requires { ⌜ at + 4 ≤ length (now words) ⌝ }
+    ensures { λ _. ⌜ now (words .exit) ≡ sets (now (words .entry)) at (constraintWords c) ⌝ }
+{
+    let s = c.source;
+    let t = c.target;
+    words[at] = s.table as u32;
+    words[at + 1] = s.place as u32;
+    words[at + 2] = t.table as u32;
+    words[at + 3] = t.place as u32;
+}
+
+fn put_filling(words: &mut [u32], at: usize, f: Filling)
+    requires { ⌜ at + 4 ≤ length (now words) ⌝ }
+    ensures { λ _. ⌜ now (words .exit) ≡ sets (now (words .entry)) at (fillingWords f) ⌝ }
+{
+    let k = f.column;
+    words[at] = k.table as u32;
+    words[at + 1] = k.place as u32;
+    words[at + 2] = f.low;
+    words[at + 3] = f.high;
+}
+
+fn put_value(words: &mut [u32], at: usize, v: HeldValue)
+    requires { ⌜ at + 2 ≤ length (now words) ⌝ }
+    ensures { λ _. ⌜ now (words .exit) ≡ sets (now (words .entry)) at (valueWords v) ⌝ }
+{
+    words[at] = v.filling as u32;
+    words[at + 1] = v.value;
+}
+
+// The four counts of a design. Constant time.
+fn put_counts(d: Design, words: &mut [u32])
+    requires { ⌜ (4 ≤ length (now words)) × (d .tables ≤ 8) × (d .constraints ≤ 16) × (d .fillings ≤ 8) × (d .rows ≤ 512) ⌝ }
+    ensures { λ _. ⌜ now (words .exit) ≡ sets (now (words .entry)) 0 (countsWords d) ⌝ }
+{
+    words[0] = d.tables as u32;
+    words[1] = d.constraints as u32;
+    words[2] = d.fillings as u32;
+    words[3] = d.rows as u32;
+}
+
+// All places of an array. One step for each.
+fn put_tables(ts: [Table; 8], words: &mut [u32])
+    requires { ⌜ 116 ≤ length (now words) ⌝ }
+    ensures { λ _. ⌜ now (words .exit) ≡ sets (now (words .entry)) 4 (tablesWords ts) ⌝ }
+{
+    for i in 0..8usize {
+        put_table(words, 4 + 2 * i, ts[i]);
+    }
+}
+
+fn put_constraints(cs: [Constraint; 16], words: &mut [u32])
+    requires { ⌜ 116 ≤ length (now words) ⌝ }
+    ensures { λ _. ⌜ now (words .exit) ≡ sets (now (words .entry)) 20 (constraintsWords cs) ⌝ }
+{
+    for i in 0..16usize {
+        put_constraint(words, 20 + 4 * i, cs[i]);
+    }
+}
+
+fn put_fillings(fs: [Filling; 8], words: &mut [u32])
+    requires { ⌜ 116 ≤ length (now words) ⌝ }
+    ensures { λ _. ⌜ now (words .exit) ≡ sets (now (words .entry)) 84 (fillingsWords fs) ⌝ }
+{
+    for i in 0..8usize {
+        put_filling(words, 84 + 4 * i, fs[i]);
+    }
+}
+
+fn put_values(vs: [HeldValue; 64], words: &mut [u32])
+    requires { ⌜ 129 ≤ length (now words) ⌝ }
+    ensures { λ _. ⌜ now (words .exit) ≡ sets (now (words .entry)) 1 (valuesWords vs) ⌝ }
+{
+    for i in 0..64usize {
+        put_value(words, 1 + 2 * i, vs[i]);
+    }
+}
+
+// The design as the first 116 words. One step for each of its 32 places.
+pub fn put_design(d: Design, words: &mut [u32])
+    requires { ⌜ (116 ≤ length (now words)) × (d .tables ≤ 8) × (d .constraints ≤ 16) × (d .fillings ≤ 8) × (d .rows ≤ 512) ⌝ }
+    ensures { λ _. ⌜ now (words .exit) ≡ sets (now (words .entry)) 0 (designWords d) ⌝ }
+{
+    put_counts(d, words);
+    let table = d.table;
+    put_tables(table, words);
+    let constraint = d.constraint;
+    put_constraints(constraint, words);
+    let filling = d.filling;
+    put_fillings(filling, words);
+}
+
+// The held values as the first 129 words; their array has 64 places, as its type says. One step for each place.
+pub fn put_held(h: Held, words: &mut [u32])
+    requires { ⌜ (129 ≤ length (now words)) × (h .count ≤ 64) ⌝ }
+    ensures { λ _. ⌜ (now (words .exit) ≡ sets (now (words .entry)) 0 (heldWords h)) × (length (h .values) ≡ 64) ⌝ }
+{
+    words[0] = h.count as u32;
+    let values = h.values;
+    put_values(values, words);
+}
