@@ -77,6 +77,15 @@ fn queries_have_all_lists_or_none() {
 }
 
 #[test]
+fn a_crowd_is_kept_whole() {
+    for rows in SIZES {
+        let answers = answers(&work(rows, "load and drop in a crowd"));
+        let loaded = format!("loaded {rows} 0");
+        assert_eq!(answers, [loaded.as_str(), "loaded 0 0", "dropped 0"]);
+    }
+}
+
+#[test]
 fn the_full_script_is_full_and_lawful() {
     let works = work::all();
     let full = works.last().expect("works");
@@ -120,8 +129,9 @@ impl OpenDesk for Sender {
 #[test]
 fn a_contestant_that_does_something_else_is_found() {
     let mut contestants = contestants();
+    let first = contestants[0].name();
     contestants.push(Box::new(Sender));
     let found = check(&contestants, &work(SIZES[0], "load of a chain"));
-    let expected = "load of a chain: sender and second implementation differ";
-    assert_eq!(found, Err(expected.into()));
+    let expected = format!("load of a chain: sender and {first} differ");
+    assert_eq!(found, Err(expected));
 }
