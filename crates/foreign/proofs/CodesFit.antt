@@ -1,9 +1,9 @@
--- The number of a step's answer fits a u64: a load, a drop and a probe count rows and grounds, and a query has at most 512 rows for each of its
--- five positions. Assumes nothing.
-use Prim.Native.Nat.{ℕ, zero, suc, _+_, _*_, _≤_, _<_, min}
+-- The number of a step's answer fits a u64, and the answer can be read off it: a load, a drop and a probe count rows and grounds, and a query has at
+-- most 512 rows for each of its five positions. Assumes nothing.
+use Prim.Native.Nat.{ℕ, zero, suc, _+_, _*_, _/_, _%_, _≤_, _<_, min}
 use native.Mathlib.Nat.{zero-mul, suc-mul}
 use native.Mathlib.Omega.{arith}
-use mathlib.Core.Path.{_≡_, refl, sym, ap, subst, _∙_}
+use mathlib.Core.Path.{_≡_, refl, sym, ap, ap₂, subst, _∙_}
 use mathlib.Core.Bool.{Bool, true, false, not, cond, _&&_, and-eq-true-iff}
 use mathlib.Core.List.{List, [], _∷_, _++_}
 use borrow.Author.Tests.{leb-true, not-false}
@@ -19,7 +19,8 @@ use Rattle.model.specs.Probe as Probe
 use Rattle.model.specs.Rounds.{addedRows, laterRounds}
 use Rattle.model.specs.Runs.{Operation, refer, drop, probe, listed, places, heldIn, marked, Cache}
 use Rattle.model.specs.Query.{Query, Join, joinsOf, operandsFit, mostJoins, wordsOf, extend, fitting}
-use Rattle.model.specs.Answers.{Answer, loaded, held, noCandidate, dropped, ground, sent, lists, refused, unless, orAnswer, answer, fullLists, queryGround, queryAnswer}
+use Rattle.model.specs.Answers.{Answer, loaded, held, noCandidate, dropped, ground, sent, lists, refused, unless, orAnswer, answer, fullLists}
+use Rattle.model.specs.Answers.{queryGround, queryAnswer}
 use Rattle.state.specs.Meaning.{databaseOf}
 use Rattle.state.specs.Step.{State, scheme, database, cache, longEnough, lawful, answerAt, queryAnswerAt}
 use Rattle.format.specs.declared.command.Command as Commands
@@ -28,16 +29,22 @@ use Rattle.format.specs.Bytes.{byteAt}
 use Rattle.format.specs.Commands.{commandAt, widthOf}
 use Rattle.format.specs.Reading.{mostBytes}
 use Rattle.script.specs.Step.{Stepped, refusing, operated, queried, carried, stepAt}
-use Rattle.foreign.specs.Codes.{codeOf, codes}
+use Rattle.foreign.specs.Codes.{codeOf, codes, answerOfKind, answerIn}
 
-abbrev Fits : Answer → Type 0
-Fits a = codeOf a < codes
+-- the number fits, and tells the answer
+pub record Fits (a : Answer) : Type 0 where
+  pub number : codeOf a < codes
+  pub told : answerIn (codeOf a) ≡ a
+
+-- a number whose kind and rest are known stands for that answer
+told-by : (n k m : ℕ) (a : Answer) → n % 16 ≡ k → n / 16 ≡ m → answerOfKind k m ≡ a → answerIn n ≡ a
+told-by n k m a p q e = ap₂ answerOfKind p q ∙ e
 
 -- ---- causes, and answers in their order
 
 refused-fits : (n : ℕ) → n < 256 → Fits (refused n)
 unfolding codeOf
-refused-fits n l = omega arith
+refused-fits n l = record { number = omega arith; told = told-by (8 + 16 * n) 8 n (refused n) (omega arith) (omega arith) refl }
 
 unless-fits : (b : Bool) (n : ℕ) (a : Answer) → n < 256 → (b ≡ false → Fits a) → Fits (unless b n a)
 unless-fits true n a l h = refused-fits n l
@@ -93,32 +100,47 @@ joins-few S q h =
 
 -- ---- operations
 
+-- the rows of a load and its later rounds
+low : (m n : ℕ) → m ≤ 512 → (m + 1024 * n) % 1024 ≡ m
+low m n l = omega arith
+
+high : (m n : ℕ) → m ≤ 512 → (m + 1024 * n) / 1024 ≡ n
+high m n l = omega arith
+
 loaded-fits : (m n : ℕ) → m ≤ 512 → n ≤ 512 → Fits (loaded m n)
 unfolding codeOf
-loaded-fits m n a b = omega arith
+loaded-fits m n a b =
+    record {
+      number = omega arith;
+      told = told-by (1 + 16 * m + 16384 * n) 1 (m + 1024 * n) (loaded m n) (omega arith) (omega arith) (ap₂ loaded (low m n a) (high m n a));
+    }
 
 dropped-fits : (n : ℕ) → n ≤ 512 → Fits (dropped n)
 unfolding codeOf
-dropped-fits n a = omega arith
+dropped-fits n a = record { number = omega arith; told = told-by (4 + 16 * n) 4 n (dropped n) (omega arith) (omega arith) refl }
 
-ground-fits : (a b c : Bool) → Fits (ground (Probe.lowest a b c))
+ground-fits : (n : ℕ) → n ≤ 3 → Fits (ground n)
 unfolding codeOf
-ground-fits true b c = omega arith
-ground-fits false true c = omega arith
-ground-fits false false true = omega arith
-ground-fits false false false = omega arith
+ground-fits n a = record { number = omega arith; told = told-by (5 + 16 * n) 5 n (ground n) (omega arith) (omega arith) refl }
+
+lowest-le : (a b c : Bool) → Probe.lowest a b c ≤ 3
+lowest-le true b c = omega arith
+lowest-le false true c = omega arith
+lowest-le false false true = omega arith
+lowest-le false false false = omega arith
 
 probe-fits : (S : Scheme) (D : Database) (H : Held) (X : RowSet) (k : Column) (v : Cell) → Fits (ground (Probe.probe S D H X k v))
 unfolding Probe.probe
-probe-fits S D H X k v = ground-fits (H k v) (Probe.demanded S D X k v) (Probe.uniquelySeen S D X k v)
+probe-fits S D H X k v = ground-fits _ (lowest-le (H k v) (Probe.demanded S D X k v) (Probe.uniquelySeen S D X k v))
 
 lists-fits : (n : ℕ) → n ≤ 35184372088832 → Fits (lists n)
 unfolding codeOf
-lists-fits n a = omega arith
+lists-fits n a = record { number = omega arith; told = told-by (7 + 16 * n) 7 n (lists n) (omega arith) (omega arith) refl }
 
 plain-fits : Fits held × Fits noCandidate × Fits sent
 unfolding codeOf
-plain-fits = (omega arith, omega arith, omega arith)
+plain-fits =
+    (record { number = omega arith; told = refl }, record { number = omega arith; told = refl }, record { number = omega arith; told = refl })
 
 module _ (S : Scheme) (D : Database) (c : Cache) (size : D .size ≡ 512) where
   counted : (p : ℕ → Bool) → count (D .size) p ≤ 512
@@ -139,7 +161,8 @@ module _ (S : Scheme) (D : Database) (c : Cache) (size : D .size ≡ 512) where
   answer-fits (probe k v) =
       let g = Probe.probe S D (heldIn S (c .pairs)) (marked (c .marks)) k v in
       unless-fits (not (isColumn S k)) 5 _ (omega arith)
-      (λ _. unless-fits (isBlank v) 9 _ (omega arith) (λ _. or-fits (ltb 0 g) (ground g) sent (probe-fits S D (heldIn S (c .pairs)) (marked (c .marks)) k v) (plain-fits .2)))
+      (λ _. unless-fits (isBlank v) 9 _ (omega arith)
+      (λ _. or-fits (ltb 0 g) (ground g) sent (probe-fits S D (heldIn S (c .pairs)) (marked (c .marks)) k v) (plain-fits .2)))
 
   few-lists : (q : Query) → operandsFit S q ≡ true → length (fullLists S D q) ≤ 35184372088832
   unfolding fullLists
@@ -154,7 +177,8 @@ module _ (S : Scheme) (D : Database) (c : Cache) (size : D .size ≡ 512) where
       unless-fits (not (operandsFit S q)) 5 _ (omega arith)
       (λ e. unless-fits (isBlank (q .value)) 9 _ (omega arith)
       (λ _. or-fits (eqb (queryGround S D c q) 0) sent _ (plain-fits .2)
-      (unless-fits (not (leb (length (wordsOf (fullLists S D q))) room)) 11 _ (omega arith) (λ _. lists-fits _ (few-lists q (not-false (operandsFit S q) e))))))
+      (unless-fits (not (leb (length (wordsOf (fullLists S D q))) room)) 11 _ (omega arith)
+      (λ _. lists-fits _ (few-lists q (not-false (operandsFit S q) e))))))
 
 -- ---- a step
 
@@ -190,7 +214,7 @@ module _ (s : State) where
     carried-fits j C.Unknown = refused-fits 2 (omega arith)
     carried-fits j C.Short = refused-fits 1 (omega arith)
 
-    pub step-fits : codeOf (stepAt s words script i .answer) < codes
+    pub step-fits : Fits (stepAt s words script i .answer)
     unfolding stepAt
     step-fits = go (not (longEnough s)) (not (lawful s)) (ltb mostBytes (length script))
       where

@@ -30,7 +30,8 @@ use Rattle.foreign.proofs.WordLaws.{NarrowTable, NarrowColumn, NarrowDe
 in-places : {A : Type 0} (f : ℕ → A) (e : A) (n m : ℕ) (P : A → Type 0) → ((i : ℕ) → i < m → P (f i)) → ((i : ℕ) → i < n → m ≤ i → f i ≡ e) → P e →
     (i : ℕ) → i < n → P (f i)
 in-places f e n m P used rest none i l =
-    ⊎-elim (λ (b : ltb i m ≡ true). used i (ltb-true i m b)) (λ (b : ltb i m ≡ false). subst P (sym (rest i l (ltb-false i m b))) none) (dec (ltb i m))
+    ⊎-elim (λ (b : ltb i m ≡ true). used i (ltb-true i m b))
+    (λ (b : ltb i m ≡ false). subst P (sym (rest i l (ltb-false i m b))) none) (dec (ltb i m))
 
 narrow-table : (t : Table) → LawfulTable t → NarrowTable t
 narrow-table t w = (omega (arith, w .most), lt-of-lt-of-le (w .bits) (pow-mono (w .most)))
@@ -43,7 +44,8 @@ pub narrow-design : (d : Design) → lawfulDesign d ≡ true → NarrowDesign d
 narrow-design d e =
     let w = design-says d e in
     record {
-      table = in-places (tableAt d) noTable 8 (d .tables) NarrowTable (λ i l. narrow-table _ (w .table i l)) (w .tableRest) (omega arith, omega arith);
+      table =
+          in-places (tableAt d) noTable 8 (d .tables) NarrowTable (λ i l. narrow-table _ (w .table i l)) (w .tableRest) (omega arith, omega arith);
       source =
           in-places (constraintAt d) noConstraint 16 (d .constraints) (λ (c : Constraint). NarrowColumn (c .source))
           (λ i l. narrow-column d w _ (w .constraint i l .source)) (w .constraintRest) (omega arith, omega arith);
@@ -58,4 +60,5 @@ narrow-design d e =
 pub narrow-held : (d : Design) (h : Held) → lawfulDesign d ≡ true → lawfulHeld d h ≡ true → (i : ℕ) → i < 64 → heldAt h i .filling < 256
 narrow-held d h e f =
     let w = held-says d h e f in let v = design-says d e in
-    in-places (heldAt h) noValue 64 (h .count) (λ (x : HeldValue). x .filling < 256) (λ i l. omega (arith, w .pair i l .filling, v .fillings)) (w .rest) (omega arith)
+    in-places (heldAt h) noValue 64 (h .count) (λ (x : HeldValue). x .filling < 256)
+    (λ i l. omega (arith, w .pair i l .filling, v .fillings)) (w .rest) (omega arith)

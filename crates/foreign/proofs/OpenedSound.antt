@@ -22,7 +22,8 @@ use Rattle.format.specs.declared.command.Command as Commands
 use Rattle.format.specs.declared.command.Command.the-variants as C
 use Rattle.format.specs.Bytes.{byteAt}
 use Rattle.format.specs.Commands.{commandAt, widthOf}
-use Rattle.format.specs.Reading.{Draft, emptyDraft, DesignRead, Taken, unless, afterTables, afterConstraints, afterFillings, withRow, rowTaken, taken, readOn, readFrom, readDesign, readInto, mostBytes, cellsAfter, tablesAfter, marksAfter}
+use Rattle.format.specs.Reading.{Draft, emptyDraft, DesignRead, Taken, unless, afterTables, afterConstraints, afterFillings, withRow, rowTaken}
+use Rattle.format.specs.Reading.{taken, readOn, readFrom, readDesign, readInto, mostBytes, cellsAfter, tablesAfter, marksAfter}
 use Rattle.format.specs.Reading.Taken.{on, complete, refused}
 use Rattle.format.specs.Reading.DesignRead.{accepted, refusedAt}
 use Rattle.format.proofs.Small.{Small}
@@ -66,7 +67,8 @@ taken-caused p s i (C.Filling f) =
 taken-caused p s i (C.Row t) =
     let q = withRow p s i t in let r = p .design .rows in
     let S = schemeOf (q .design) in let D = databaseOf (q .design .rows) (q .cells) (q .tables) in
-    unless-caused (leb 512 r) 4 _ (omega arith) (unless-caused (not (rowFits S D r)) 5 _ (omega arith) (unless-caused (repeats S D r) 6 _ (omega arith) refl))
+    unless-caused (leb 512 r) 4 _ (omega arith)
+    (unless-caused (not (rowFits S D r)) 5 _ (omega arith) (unless-caused (repeats S D r) 6 _ (omega arith) refl))
 taken-caused p s i C.End = refl
 taken-caused p s i (C.Refer f v) = cause 3 (omega arith)
 taken-caused p s i (C.Drop f v) = cause 3 (omega arith)
@@ -75,8 +77,8 @@ taken-caused p s i (C.Query k v n) = cause 3 (omega arith)
 taken-caused p s i C.Unknown = cause 2 (omega arith)
 taken-caused p s i C.Short = cause 1 (omega arith)
 
-on-caused : (go : Draft → ℕ → DesignRead) → ((q : Draft) (j : ℕ) → causeRead (go q j) ≡ true) → (p : Draft) (i w : ℕ) (t : Taken) → causeTaken t ≡ true →
-    causeRead (readOn go p i w t) ≡ true
+on-caused : (go : Draft → ℕ → DesignRead) → ((q : Draft) (j : ℕ) → causeRead (go q j) ≡ true) → (p : Draft) (i w : ℕ) (t : Taken) →
+    causeTaken t ≡ true → causeRead (readOn go p i w t) ≡ true
 on-caused go g p i w (on q) h = g q (i + w)
 on-caused go g p i w complete h = refl
 on-caused go g p i w (refused n) h = h
@@ -84,7 +86,8 @@ on-caused go g p i w (refused n) h = h
 from-caused : (n : ℕ) (s : List ℕ) (p : Draft) (i : ℕ) → causeRead (readFrom n s p i) ≡ true
 unfolding readFrom
 from-caused zero s p i = cause 1 (omega arith)
-from-caused (suc n) s p i = on-caused (readFrom n s) (from-caused n s) p i (widthOf (byteAt s i)) (taken p s i (commandAt s i)) (taken-caused p s i (commandAt s i))
+from-caused (suc n) s p i =
+    on-caused (readFrom n s) (from-caused n s) p i (widthOf (byteAt s i)) (taken p s i (commandAt s i)) (taken-caused p s i (commandAt s i))
 
 cond-caused : (b : Bool) (v w : DesignRead) → causeRead v ≡ true → causeRead w ≡ true → causeRead (cond b v w) ≡ true
 cond-caused true v w h k = h
@@ -99,7 +102,8 @@ opening-caused script cs ts ms ds hs =
     let four = cause 4 (omega arith) in
     let seven = cause 7 (omega arith) in
     cond-caused (leb designLength (length ds) && leb heldLength (length hs)) (cond long read (refusedAt 7 0)) (refusedAt 7 0)
-    (cond-caused long read (refusedAt 7 0) (cond-caused (ltb mostBytes (length script)) (refusedAt 4 0) whole four (from-caused (suc (length script)) script emptyDraft 0)) seven)
+    (cond-caused long read (refusedAt 7 0)
+    (cond-caused (ltb mostBytes (length script)) (refusedAt 4 0) whole four (from-caused (suc (length script)) script emptyDraft 0)) seven)
     seven
 
 -- ---- what is left with number 0
@@ -131,10 +135,12 @@ module _ (script cs ts ms ds hs : List ℕ) (n : ℕ) (cs′ ts′ ms′ ds′ h
           let z = b .sizes in
           let d : designFrom ds′ ≡ p .design =
           ap designFrom design ∙
-          design-stored (p .design) (record { table = z .table; constraint = z .constraint; filling = z .filling }) (narrow-design (p .design) (b .design)) ds (w .0) in
+          design-stored (p .design) (record { table = z .table; constraint = z .constraint; filling = z .filling })
+          (narrow-design (p .design) (b .design)) ds (w .0) in
           let h : heldFrom hs′ ≡ noneHeld =
           ap heldFrom held ∙ held-stored noneHeld none-long (narrow-held (p .design) noneHeld (b .design) (parts _ (b .sound) .held)) hs (w .1) in
-          let s : stateFrom ds′ cs′ ts′ ms′ hs′ ≡ justRead (accepted p i) (buffers cs ts ms []) = λ x. lent (d x) (cells x) (tables x) (marks x) (h x) in
+          let s : stateFrom ds′ cs′ ts′ ms′ hs′ ≡ justRead (accepted p i) (buffers cs ts ms []) =
+          λ x. lent (d x) (cells x) (tables x) (marks x) (h x) in
           record {
             design = omega (arith, w .0, ap length design, length-sets ds 0 (designWords (p .design)));
             held = omega (arith, w .1, ap length held, length-sets hs 0 (heldWords noneHeld));

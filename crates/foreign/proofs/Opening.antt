@@ -70,8 +70,8 @@ module _ (script cs ts ms ds hs : List ℕ) where
     unfolding opening
     opens = cond-true long (readInto script cs ts ms) (refusedAt 7 0) (both (le-leb _ _ a) (le-leb _ _ b))
 
-    leaves : (w : DesignRead) → readInto script cs ts ms ≡ w → (n : ℕ) (ds′ hs′ : List ℕ) → n ≡ numberOf w → ds′ ≡ designAfter w ds → hs′ ≡ heldAfter w hs →
-        Opened (opening script cs ts ms ds hs) n cs cs′ ts ts′ ms ms′ ds ds′ hs hs′
+    leaves : (w : DesignRead) → readInto script cs ts ms ≡ w → (n : ℕ) (ds′ hs′ : List ℕ) → n ≡ numberOf w →
+        ds′ ≡ designAfter w ds → hs′ ≡ heldAfter w hs → Opened (opening script cs ts ms ds hs) n cs cs′ ts ts′ ms ms′ ds ds′ hs hs′
     leaves w e n ds′ hs′ x y z =
         let o = opens ∙ e in
         record {
@@ -103,11 +103,12 @@ module _ (script cs ts ms ds hs : List ℕ) where
           go (refusedAt c i) e = absurd (let z : _≡_ {A = ℕ} 0 1 = cc (read .verdict ∙ ap verdictOf e) in omega arith)
 
 -- the counts of an accepted design are a lawful design's
-pub accepted-lawful : (script cs ts ms : List ℕ) (r : DesignReading) (cs′ ts′ ms′ : List ℕ) → Leaves (readInto script cs ts ms) r cs cs′ ts ts′ ms ms′ →
-    (j : ℕ) → r .verdict ≡ Accepted j → Small script → Stored cs′ → LawfulDesign (r .design)
+pub accepted-lawful : (script cs ts ms : List ℕ) (r : DesignReading) (cs′ ts′ ms′ : List ℕ) →
+    Leaves (readInto script cs ts ms) r cs cs′ ts ts′ ms ms′ → (j : ℕ) → r .verdict ≡ Accepted j → Small script → Stored cs′ → LawfulDesign (r .design)
 accepted-lawful script cs ts ms r cs′ ts′ ms′ read j v small stored =
     design-says (r .design)
-    (parts (lent (r .design) cs′ ts′ ms′ noneHeld) (start-sound script (buffers cs ts ms []) r cs′ ts′ ms′ read noneHeld refl small stored j v) .design)
+    (parts (lent (r .design) cs′ ts′ ms′ noneHeld)
+    (start-sound script (buffers cs ts ms []) r cs′ ts′ ms′ read noneHeld refl small stored j v) .design)
 
 -- nothing is held
 pub none-few : (none : Held) → none ≡ noneHeld → none .count ≤ 64

@@ -37,7 +37,7 @@ module _ (ds cs ts ms hs : List ℕ) (d : Design) (h : Held) (dis : d ≡ design
     kept-few = held-count d (t .held) (parts (lent d cs ts ms′ (t .held)) (does .sound) .held)
 
     pub answer-fits : codeOf (answerOf (t .answer)) < codes
-    answer-fits = subst (λ a. codeOf a < codes) (sym (does .does .answer)) (step-fits (lent d cs ts ms h) words script i)
+    answer-fits = subst (λ a. codeOf a < codes) (sym (does .does .answer)) (step-fits (lent d cs ts ms h) words script i .number)
 
     pub step-took : Ready ds cs ts ms hs → (hs′ : List ℕ) → hs′ ≡ sets hs 0 (heldWords (t .held)) → length (t .held .values) ≡ 64 →
         (n : ℕ) → n ≡ codeOf (answerOf (t .answer)) → Took (stepAt (stateFrom ds cs ts ms hs) words script i) n ds cs ts ms′ ws′ hs hs′

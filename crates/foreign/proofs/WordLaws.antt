@@ -23,7 +23,9 @@ use Rattle.state.specs.Design.{noTable, noConstraint, noFilling, tableAt, const
 use Rattle.state.specs.Held.{noValue, heldAt}
 use Rattle.state.proofs.Arrays.{Sized}
 use Rattle.format.proofs.Standing.{Stands, stands-first, stands-part, stands-at, stands-here, stands-piece}
-use Rattle.foreign.specs.Words.{tableWords, constraintWords, fillingWords, valueWords, countsWords, tablesWords, constraintsWords, fillingsWords, valuesWords, designWords, heldWords, wordAt, byteOf, tableFrom, columnFrom, constraintFrom, fillingFrom, valueFrom, tablesFrom, constraintsFrom, fillingsFrom, valuesFrom, designFrom, heldFrom}
+use Rattle.foreign.specs.Words.{tableWords, constraintWords, fillingWords, valueWords, countsWords, tablesWords, constraintsWords}
+use Rattle.foreign.specs.Words.{fillingsWords, valuesWords, designWords, heldWords, wordAt, byteOf, tableFrom, columnFrom, constraintFrom}
+use Rattle.foreign.specs.Words.{fillingFrom, valueFrom, tablesFrom, constraintsFrom, fillingsFrom, valuesFrom, designFrom, heldFrom}
 
 -- ---- how long they are
 
@@ -96,7 +98,8 @@ stored-four : (l : List ℕ) (i w x y z : ℕ) → set (set (set (set l i w) (i 
 stored-four l i w x y z = rw (add-one i, add-two i, add-three i)
 
 pub stored-constraint : (l : List ℕ) (i : ℕ) (c : Constraint) →
-    set (set (set (set l i (c .source .table)) (i + 1) (c .source .place)) (i + 2) (c .target .table)) (i + 3) (c .target .place) ≡ sets l i (constraintWords c)
+    set (set (set (set l i (c .source .table)) (i + 1) (c .source .place)) (i + 2) (c .target .table)) (i + 3) (c .target .place) ≡
+    sets l i (constraintWords c)
 unfolding constraintWords
 stored-constraint l i c = stored-four l i _ _ _ _
 
@@ -105,7 +108,8 @@ pub stored-filling : (l : List ℕ) (i : ℕ) (f : Filling) →
 unfolding fillingWords
 stored-filling l i f = stored-four l i _ _ _ _
 
-pub stored-counts : (l : List ℕ) (d : Design) → set (set (set (set l 0 (d .tables)) 1 (d .constraints)) 2 (d .fillings)) 3 (d .rows) ≡ sets l 0 (countsWords d)
+pub stored-counts : (l : List ℕ) (d : Design) →
+    set (set (set (set l 0 (d .tables)) 1 (d .constraints)) 2 (d .fillings)) 3 (d .rows) ≡ sets l 0 (countsWords d)
 unfolding countsWords
 stored-counts l d = refl
 

@@ -2,7 +2,8 @@
 ghost use Prim.Native.Nat.{_+_, _≤_, _<_};
 ghost use mathlib.Core.Path.{_≡_};
 ghost use lib.ListN.{length};
-ghost use Rattle.foreign.specs.Words.{wordAt, byteOf, tableFrom, columnFrom, constraintFrom, fillingFrom, valueFrom, tablesFrom, constraintsFrom, fillingsFrom, valuesFrom, designFrom, heldFrom};
+ghost use Rattle.foreign.specs.Words.{wordAt, byteOf, tableFrom, columnFrom, constraintFrom, fillingFrom, valueFrom, tablesFrom};
+ghost use Rattle.foreign.specs.Words.{constraintsFrom, fillingsFrom, valuesFrom, designFrom, heldFrom};
 use state::Column;
 use state::Constraint;
 use state::Design;

@@ -4,8 +4,6 @@ use Rattle.foreign.proofs.Opening.{few-design, few-held, opened-refused
 use borrow.Author.Needs.{needs}
 use Rattle.foreign.proofs.wurzsige_open.Statement.{statement}
 use Rattle.foreign.proofs.wurzsige_open.Tie as tie
-use Rattle.format.proofs.read_design.Reads as read-design-reads
-use Rattle.state.proofs.held.Held.none.Reads as none-reads
 
 returns : tie.Need-returns
 returns c = few-design _ _ _ _ _ _ (c .if1 .taken)
@@ -29,23 +27,34 @@ same-length-3 : tie.Need-same-length-3
 same-length-3 c = search needs
 
 returns-3 : tie.Need-returns-3
-returns-3 c = opened-refused _ _ _ _ _ _ (c .before .before .before .before .before .before .before .before .before .before .before .before .before .before .if1 .left) (c .before .before .before .before .before .before .before .before .before .before .before .before .before .if2 .left) _ _ _ _ (c .before .before .before .before .before .before .before .before .before .read-design .ensures) _ _ (c .before .verdict .given .1)
+returns-3 c =
+    let r = c .before .before .before .before .before .before .before .before .before in
+    let i = r .before .before .before .before in
+    opened-refused _ _ _ _ _ _ (i .before .if1 .left) (i .if2 .left) _ _ _ _ (r .read-design .ensures) _ _ (c .before .verdict .given .1)
 
 enum-told : tie.Need-enum-told
 enum-told c = search needs
 
 put-design-requires : tie.Need-put-design-requires
 put-design-requires c κs =
-    let r = c .before .before .before .before .before .before .before .before .before .before in
-    let w = accepted-lawful _ _ _ _ _ _ _ _ (r .read-design .ensures) _ (c .before .before .enum-told .given .1)
-    (record { at = λ j. omega (arith, c .before .before .before .before .before .before .before .before .before .before .before .before .before .before .before .before .before .before .before .before .before .shared-slice-known .given j) }) (λ j. omega (arith, c .before .before .before .before .before .before .before .before .slice-known6 .given j)) in
-    (omega (arith, c .before .before .before .before .before .before .before .before .before .before .before .before .before .before .before .if1 .left), w .tables, w .constraints, w .fillings, w .rows)
+    let e = c .before .before in
+    let k = e .before .before .before .before .before .before in
+    let r = k .before .before in
+    let i = r .before .before .before .before in
+    let b = i .before .before .before .before .before .before .before in
+    let w = accepted-lawful _ _ _ _ _ _ _ _ (r .read-design .ensures) _ (e .enum-told .given .1)
+    (record { at = λ j. omega (arith, b .shared-slice-known .given j) }) (λ j. omega (arith, k .slice-known6 .given j)) in
+    (omega (arith, i .before .if1 .left), w .tables, w .constraints, w .fillings, w .rows)
 
 none-requires : tie.Need-none-requires
 none-requires c κs = search needs
 
 put-held-requires : tie.Need-put-held-requires
-put-held-requires c κs = (omega (arith, c .before .before .before .before .before .before .before .before .before .before .before .before .before .before .before .before .before .before .before .if2 .left), none-few _ (c .before .none .ensures))
+put-held-requires c κs =
+    let n = c .before in
+    let r = n .before .before .before .before .before .before .before .before .before .before .before .before .before .before in
+    let i = r .before .before .before .before in
+    (omega (arith, i .if2 .left), none-few _ (n .none .ensures))
 
 same-length-4 : tie.Need-same-length-4
 same-length-4 c = search needs
@@ -64,9 +73,14 @@ same-length-8 c = search needs
 
 returns-4 : tie.Need-returns-4
 returns-4 c =
-    let r = c .before .before .before .before .before .before .before .before .before .before .before .before .before .before .before .before .before .before in
-    opened-accepted _ _ _ _ _ _ (c .before .before .before .before .before .before .before .before .before .before .before .before .before .before .before .before .before .before .before .before .before .before .before .if1 .left) (c .before .before .before .before .before .before .before .before .before .before .before .before .before .before .before .before .before .before .before .before .before .before .if2 .left) _ _ _ _ (r .read-design .ensures) _ (c .before .before .before .before .before .before .before .before .before .before .enum-told .given .1) _ _ _
-    (c .before .before .before .before .none .ensures) (c .before .before .before .before .before .before .before .put-design .ensures) (c .before .before .put-held .ensures .0)
+    let h = c .before .before in
+    let n = h .before .before in
+    let d = n .before .before .before in
+    let e = d .before .before .before in
+    let r = e .before .before .before .before .before .before .before .before in
+    let i = r .before .before .before .before in
+    opened-accepted _ _ _ _ _ _ (i .before .if1 .left) (i .if2 .left) _ _ _ _ (r .read-design .ensures) _ (e .enum-told .given .1) _ _ _
+    (n .none .ensures) (d .put-design .ensures) (h .put-held .ensures .0)
 
 pub wurzsige-open-spec : {M : Type 1} → statement M
 wurzsige-open-spec =

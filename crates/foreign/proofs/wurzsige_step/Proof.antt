@@ -4,7 +4,6 @@ use Rattle.foreign.proofs.Stepping.{ready-sound, kept-few, answer-fits,
 use borrow.Author.Needs.{needs}
 use Rattle.foreign.proofs.wurzsige_step.Statement.{statement}
 use Rattle.foreign.proofs.wurzsige_step.Tie as tie
-use Rattle.script.proofs.step_lawful.Reads as step-lawful-reads
 
 design-from-requires : tie.Need-design-from-requires
 design-from-requires c κs = search needs
@@ -13,13 +12,26 @@ held-from-requires : tie.Need-held-from-requires
 held-from-requires c κs = search needs
 
 step-lawful-requires : tie.Need-step-lawful-requires
-step-lawful-requires c κs = ready-sound _ _ _ _ _ _ _ (c .before .before .before .before .design-from .ensures) (c .before .before .held-from .ensures) (c .before .before .before .before .before .before .before .before .before .before .before .before .pre)
+step-lawful-requires c κs =
+    let h = c .before .before in
+    let d = h .before .before in
+    ready-sound _ _ _ _ _ _ _ (d .design-from .ensures) (h .held-from .ensures)
+    (d .before .before .before .before .before .before .before .before .pre)
 
 put-held-requires : tie.Need-put-held-requires
-put-held-requires c κs = (omega (arith, c .before .before .before .before .before .before .before .before .before .before .before .before .before .before .before .before .before .before .before .pre .held), kept-few _ _ _ _ _ _ _ (c .before .before .before .before .before .before .before .before .before .before .before .design-from .ensures) (c .before .before .before .before .before .before .before .before .before .held-from .ensures) _ _ _ _ _ _ (c .before .before .before .before .before .before .step-lawful .ensures))
+put-held-requires c κs =
+    let s = c .before .before .before .before .before .before in
+    let h = s .before .before .before in
+    let d = h .before .before in
+    let start = d .before .before .before .before .before .before .before .before in
+    (omega (arith, start .pre .held), kept-few _ _ _ _ _ _ _ (d .design-from .ensures) (h .held-from .ensures) _ _ _ _ _ _ (s .step-lawful .ensures))
 
 code-of-requires : tie.Need-code-of-requires
-code-of-requires c κs = answer-fits _ _ _ _ _ _ _ (c .before .before .before .before .before .before .before .before .before .before .before .before .before .before .design-from .ensures) (c .before .before .before .before .before .before .before .before .before .before .before .before .held-from .ensures) _ _ _ _ _ _ (c .before .before .before .before .before .before .before .before .before .step-lawful .ensures)
+code-of-requires c κs =
+    let s = c .before .before .before .before .before .before .before .before .before in
+    let h = s .before .before .before in
+    let d = h .before .before in
+    answer-fits _ _ _ _ _ _ _ (d .design-from .ensures) (h .held-from .ensures) _ _ _ _ _ _ (s .step-lawful .ensures)
 
 same-length : tie.Need-same-length
 same-length c = search needs
@@ -32,8 +44,13 @@ same-length-3 c = search needs
 
 returns : tie.Need-returns
 returns c =
-    step-took _ _ _ _ _ _ _ (c .before .before .before .before .before .before .before .before .before .before .before .before .before .before .before .design-from .ensures) (c .before .before .before .before .before .before .before .before .before .before .before .before .before .held-from .ensures) _ _ _ _ _ _ (c .before .before .before .before .before .before .before .before .before .before .step-lawful .ensures) (c .before .before .before .before .before .before .before .before .before .before .before .before .before .before .before .before .before .before .before .before .before .before .before .pre) _
-    (c .before .before .before .put-held .ensures .0) (c .before .before .before .put-held .ensures .1) _ (c .code-of .ensures)
+    let k = c .before .before .before in
+    let s = k .before .before .before .before .before .before .before in
+    let h = s .before .before .before in
+    let d = h .before .before in
+    step-took _ _ _ _ _ _ _ (d .design-from .ensures) (h .held-from .ensures) _ _ _ _ _ _ (s .step-lawful .ensures)
+    (d .before .before .before .before .before .before .before .before .pre) _
+    (k .put-held .ensures .0) (k .put-held .ensures .1) _ (c .code-of .ensures)
 
 pub wurzsige-step-spec : {M : Type 1} → statement M
 wurzsige-step-spec =

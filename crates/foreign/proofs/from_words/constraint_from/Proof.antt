@@ -19,7 +19,9 @@ column-from-requires-2 c κs = search needs
 
 returns : tie.Need-returns
 unfolding constraintFrom
-returns c = ap₂ (λ (x y : Column). let r : Constraint = record { source = x; target = y } in r) (c .before .column-from .ensures) (c .column-from2 .ensures)
+returns c =
+    ap₂ (λ (x y : Column). let r : Constraint = record { source = x; target = y } in r)
+    (c .before .column-from .ensures) (c .column-from2 .ensures)
 
 pub constraint-from-spec : {M : Type 1} → statement M
 constraint-from-spec =

@@ -41,7 +41,9 @@ loop-less : tie.Need-loop-less Inv-loop μ-loop
 loop-less c = omega arith
 
 loop-again : tie.Need-loop-again Inv-loop μ-loop
-loop-again c = (omega arith, upto-set noConstraint 16 _ _ _ _ (c .before .before .loop .inv .1) (c .before .loop-test .taken) _ (c .constraint-from .ensures))
+loop-again c =
+    let t = c .before in
+    (omega arith, upto-set noConstraint 16 _ _ _ _ (t .before .loop .inv .1) (t .loop-test .taken) _ (c .constraint-from .ensures))
 
 returns : tie.Need-returns Inv-loop μ-loop
 returns c = upto-end noConstraint 16 _ _ _ _ (c .before .loop .inv .1) (c .before .loop .inv .0) (c .loop-test .left)

@@ -26,7 +26,11 @@ count-at-requires-4 : tie.Need-count-at-requires-4
 count-at-requires-4 c κs = search needs
 
 returns : tie.Need-returns
-returns c = design-is _ _ _ _ _ _ _ _ (c .before .before .before .before .before .before .count-at .ensures) (c .before .before .before .before .before .tables-from .ensures) (c .before .before .before .before .count-at2 .ensures) (c .before .before .before .constraints-from .ensures) (c .before .before .count-at3 .ensures) (c .before .fillings-from .ensures) (c .count-at4 .ensures)
+returns c =
+    let k = c .before .before .before in
+    let t = k .before .before in
+    design-is _ _ _ _ _ _ _ _ (t .before .count-at .ensures) (t .tables-from .ensures) (k .before .count-at2 .ensures) (k .constraints-from .ensures)
+    (c .before .before .count-at3 .ensures) (c .before .fillings-from .ensures) (c .count-at4 .ensures)
 
 pub design-from-spec : {M : Type 1} → statement M
 design-from-spec =

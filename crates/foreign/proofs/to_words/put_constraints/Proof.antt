@@ -41,7 +41,9 @@ loop-less : tie.Need-loop-less Inv-loop μ-loop
 loop-less c = omega arith
 
 loop-again : tie.Need-loop-again Inv-loop μ-loop
-loop-again c = (omega arith, pieces-more _ _ _ 4 (λ j. length-constraint _) _ _ _ (c .before .before .before .before .before .before .loop .inv .1) (c .before .before .put-constraint .ensures))
+loop-again c =
+    let p = c .before .before in
+    (omega arith, pieces-more _ _ _ 4 (λ j. length-constraint _) _ _ _ (p .before .before .before .before .loop .inv .1) (p .put-constraint .ensures))
 
 same-length : tie.Need-same-length Inv-loop μ-loop
 same-length c = omega arith

@@ -20,7 +20,13 @@ same-length : tie.Need-same-length
 same-length c = search needs
 
 returns : tie.Need-returns
-returns c = stored-design (c .before .before .before .before .before .before .before .before .before .before .before .before .before .before .before .before .before .before .before .before .args .d) _ _ _ _ _ (c .before .before .before .before .before .before .before .before .before .before .before .before .before .before .before .before .before .put-counts .ensures) (c .before .before .before .before .before .before .before .before .before .before .before .before .put-tables .ensures) (c .before .before .before .before .before .before .before .put-constraints .ensures) (c .before .before .put-fillings .ensures)
+returns c =
+    let f = c .before .before in
+    let k = f .before .before .before .before .before in
+    let t = k .before .before .before .before .before in
+    let n = t .before .before .before .before .before in
+    stored-design (n .before .before .before .args .d) _ _ _ _ _
+    (n .put-counts .ensures) (t .put-tables .ensures) (k .put-constraints .ensures) (f .put-fillings .ensures)
 
 pub put-design-spec : {M : Type 1} → statement M
 put-design-spec =

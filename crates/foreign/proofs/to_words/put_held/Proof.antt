@@ -17,10 +17,16 @@ put-values-requires : tie.Need-put-values-requires
 put-values-requires c κs = search needs
 
 same-length : tie.Need-same-length
-same-length c = c .before .before .put-values .kept .1 .0 ∙ length-set (c .before .before .before .before .before .before .before .args .words .now) 0 (c .before .before .before .before .before .before .before .args .h .count)
+same-length c =
+    let p = c .before .before in
+    let start = p .before .before .before .before .before in
+    p .put-values .kept .1 .0 ∙ length-set (start .args .words .now) 0 (start .args .h .count)
 
 returns : tie.Need-returns
-returns c = (stored-held (c .before .before .before .before .before .before .before .args .h) _ _ (c .before .before .put-values .ensures), held-sized (c .before .before .before .before .before .before .before .args .h) _ (c .before .before .before .before .before .before .before .good .0))
+returns c =
+    let p = c .before .before in
+    let start = p .before .before .before .before .before in
+    (stored-held (start .args .h) _ _ (p .put-values .ensures), held-sized (start .args .h) _ (start .good .0))
 
 pub put-held-spec : {M : Type 1} → statement M
 put-held-spec =
