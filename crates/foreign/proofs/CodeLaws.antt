@@ -2,7 +2,7 @@
 use Prim.Native.Nat.{ℕ, _+_, _*_, _<_}
 use mathlib.Core.Path.{_≡_, sym, ap, subst}
 use Rattle.state.specs.declared.answer.Answer.{Answer}
-use Rattle.state.specs.declared.answer.Answer.the-variants.{Loaded, Held, NoCandidate, Dropped, Ground, Sent, Lists, Refused}
+use Rattle.state.specs.declared.answer.Answer.the-variants.{Loaded, Dropped, Lists}
 use Rattle.state.specs.Meaning.{answerOf}
 use Rattle.foreign.specs.Codes.{codeOf, codes}
 

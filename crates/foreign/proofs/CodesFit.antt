@@ -1,14 +1,14 @@
 -- The number of a step's answer fits a u64, and the answer can be read off it: a load, a drop and a probe count rows and grounds, and a query has at
 -- most 512 rows for each of its five positions. Assumes nothing.
-use Prim.Native.Nat.{ℕ, zero, suc, _+_, _*_, _/_, _%_, _≤_, _<_, min}
-use native.Mathlib.Nat.{zero-mul, suc-mul}
+use Prim.Native.Nat.{ℕ, zero, suc, _+_, _*_, _/_, _%_, _≤_, _<_}
+use native.Mathlib.Nat.{suc-mul}
 use native.Mathlib.Omega.{arith}
-use mathlib.Core.Path.{_≡_, refl, sym, ap, ap₂, subst, _∙_}
-use mathlib.Core.Bool.{Bool, true, false, not, cond, _&&_, and-eq-true-iff}
+use mathlib.Core.Path.{_≡_, refl, ap₂, subst, _∙_}
+use mathlib.Core.Bool.{Bool, true, false, not, cond, and-eq-true-iff}
 use mathlib.Core.List.{List, [], _∷_, _++_}
 use borrow.Author.Tests.{leb-true, not-false}
 use lib.Dec.{eqb, leb, ltb}
-use lib.ListN.{length, take, length-take, length-append}
+use lib.ListN.{length, length-take, length-append}
 use Rattle.finite.specs.Finite.{collect, count}
 use Rattle.finite.proofs.Counting.{count-le}
 use Rattle.model.specs.Cell.{Cell, isBlank}

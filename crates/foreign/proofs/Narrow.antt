@@ -1,5 +1,5 @@
 -- A lawful design and lawful held values keep to bytes where their words do. Assumes nothing.
-use Prim.Native.Nat.{ℕ, _^_, _≤_, _<_}
+use Prim.Native.Nat.{ℕ, _≤_, _<_}
 use native.Mathlib.Nat.{lt-of-lt-of-le}
 use native.Mathlib.Omega.{arith}
 use mathlib.Core.Path.{_≡_, sym, subst}
@@ -21,7 +21,7 @@ use Rattle.state.specs.Design.{noTable, noConstraint, noFilling, tableAt, const
 use Rattle.state.specs.Held.{noValue, heldAt}
 use Rattle.state.specs.Meaning.{columnOf, schemeOf}
 use Rattle.state.specs.Lawful.{lawfulDesign, lawfulHeld}
-use Rattle.lawful.specs.LawfulState.{LawfulTable, LawfulDesign, LawfulHeld}
+use Rattle.lawful.specs.LawfulState.{LawfulTable, LawfulDesign}
 use Rattle.lawful.proofs.DesignLaws.{design-says}
 use Rattle.lawful.proofs.HeldLaws.{held-says}
 use Rattle.foreign.proofs.WordLaws.{NarrowTable, NarrowColumn, NarrowDesign}

@@ -9,10 +9,9 @@ use borrow.Author.Tests.{lt-ltb, ltb-true}
 use lib.Dec.{leb, ltb}
 use lib.ListN.{length}
 use lib.Seq.{sets, length-sets}
-use Rattle.finite.specs.Finite.{tab}
 use Rattle.finite.proofs.Tables.{length-tab}
 use Rattle.state.specs.Held.{noneHeld, noValue}
-use Rattle.state.specs.Step.{State, lent, sound, longEnough}
+use Rattle.state.specs.Step.{lent, sound, longEnough}
 use Rattle.state.specs.Design.{emptyDesign}
 use Rattle.state.specs.Meaning.{schemeOf, databaseOf}
 use Rattle.state.specs.Lawful.{tableFits, constraintFits, fillingFits, rowFits, repeats}

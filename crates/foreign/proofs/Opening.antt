@@ -2,7 +2,7 @@
 use Prim.Native.Nat.{ℕ, _≤_, _<_}
 use native.Mathlib.Omega.{arith}
 use mathlib.Core.Path.{_≡_, refl, sym, ap, _∙_}
-use mathlib.Core.Bool.{Bool, true, false, cond, _&&_, and-eq-true-iff}
+use mathlib.Core.Bool.{Bool, true, false, _&&_, and-eq-true-iff}
 use mathlib.Core.List.{List, []}
 use mathlib.Core.Logic.{⊎-elim}
 use borrow.Author.Tests.{le-leb, lt-leb, leb-true}
@@ -13,7 +13,7 @@ use Rattle.finite.proofs.Bools.{dec, both, and-left, and-right, cond-true, cond
 use Rattle.state.specs.declared.held.Held.{Held}
 use Rattle.state.specs.declared.design.Design.{Design}
 use Rattle.state.specs.Held.{noneHeld}
-use Rattle.state.specs.Step.{lent, sound}
+use Rattle.state.specs.Step.{lent}
 use Rattle.lawful.specs.LawfulState.{LawfulDesign}
 use Rattle.lawful.proofs.DesignLaws.{design-says}
 use Rattle.lawful.proofs.RowsLaws.{Stored}

@@ -7,7 +7,6 @@ use mathlib.Core.Bool.{true}
 use mathlib.Core.List.{List}
 use lib.ListN.{length}
 use lib.Seq.{sets, length-sets}
-use Rattle.state.specs.declared.answer.Answer.{Answer}
 use Rattle.state.specs.declared.design.Design.{Design}
 use Rattle.state.specs.declared.held.Held.{Held}
 use Rattle.state.specs.Meaning.{answerOf}
@@ -16,7 +15,7 @@ use Rattle.lawful.proofs.HeldLaws.{held-count}
 use Rattle.cache.proofs.SoundState.{parts}
 use Rattle.script.specs.declared.outcome.Step.{Step}
 use Rattle.script.specs.Step.{Stepped, stepAt, DoesSoundly}
-use Rattle.foreign.specs.Words.{designLength, heldLength, heldWords, designFrom, heldFrom}
+use Rattle.foreign.specs.Words.{heldWords, designFrom, heldFrom}
 use Rattle.foreign.specs.Codes.{codeOf, codes}
 use Rattle.foreign.specs.Calls.{stateFrom, Ready, Took}
 use Rattle.foreign.proofs.WordLaws.{held-stored}

@@ -3,7 +3,7 @@
 use Prim.Native.Nat.{ℕ, _+_, _*_, _%_, _≤_, _<_}
 use native.Mathlib.Numerals.{add-one, add-two, add-three}
 use native.Mathlib.Omega.{arith}
-use mathlib.Core.Path.{_≡_, refl, sym, ap, ap₂, subst, _∙_}
+use mathlib.Core.Path.{_≡_, refl, sym, ap, ap₂, _∙_}
 use mathlib.Core.Bool.{true}
 use mathlib.Core.List.{List, [], _∷_, _++_, append-nil}
 use lib.ListN.{length, getD, set, drop, length-append}
@@ -22,7 +22,7 @@ use Rattle.state.specs.declared.held.Held.{Held}
 use Rattle.state.specs.Design.{noTable, noConstraint, noFilling, tableAt, constraintAt, fillingAt}
 use Rattle.state.specs.Held.{noValue, heldAt}
 use Rattle.state.proofs.Arrays.{Sized}
-use Rattle.format.proofs.Standing.{Stands, stands-first, stands-part, stands-at, stands-here, stands-piece}
+use Rattle.format.proofs.Standing.{Stands, stands-first, stands-part, stands-at, stands-piece}
 use Rattle.foreign.specs.Words.{tableWords, constraintWords, fillingWords, valueWords, countsWords, tablesWords, constraintsWords}
 use Rattle.foreign.specs.Words.{fillingsWords, valuesWords, designWords, heldWords, wordAt, byteOf, tableFrom, columnFrom, constraintFrom}
 use Rattle.foreign.specs.Words.{fillingFrom, valueFrom, tablesFrom, constraintsFrom, fillingsFrom, valuesFrom, designFrom, heldFrom}

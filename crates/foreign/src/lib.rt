@@ -1,8 +1,6 @@
 // The desk for programs in C or Rust, which lend it all of its memory: reading a design, and one step of a script. A design and the held values
 // are structs in Rattle, so they go across as lists of u32 words (specs/Words.antt), and an answer as one number (specs/Codes.antt).
-ghost use Rattle.state.specs.Step.{lent};
 ghost use Rattle.script.specs.Step.{stepAt};
-ghost use Rattle.foreign.specs.Words.{designFrom, heldFrom};
 ghost use Rattle.foreign.specs.Calls.{opening, Opened, stateFrom, Ready, Took};
 
 mod codes;

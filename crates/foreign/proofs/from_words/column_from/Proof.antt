@@ -1,6 +1,6 @@
 -- `foreign::from_words::column_from` meets its contract: field by field. Assumes nothing.
 use Prim.Native.Nat.{ℕ}
-use mathlib.Core.Path.{ap, ap₂}
+use mathlib.Core.Path.{ap₂}
 use Rattle.state.specs.declared.design.Column.{Column}
 use Rattle.foreign.specs.Words.{columnFrom}
 use borrow.Author.Needs.{needs}

@@ -1,6 +1,5 @@
 -- `foreign::from_words::constraint_from` meets its contract: field by field. Assumes nothing.
-use Prim.Native.Nat.{ℕ}
-use mathlib.Core.Path.{ap, ap₂}
+use mathlib.Core.Path.{ap₂}
 use Rattle.state.specs.declared.design.Column.{Column}
 use Rattle.state.specs.declared.design.Constraint.{Constraint}
 use Rattle.foreign.specs.Words.{constraintFrom}
