@@ -1,15 +1,13 @@
 -- The lists that a step answers with have as many words as its QUERY has positions, each, and together no more than are lent. Assumes nothing.
-use Prim.Native.Nat.{ℕ, zero, suc, _+_, _-_, _*_, _≤_, _<_, min}
-use native.Mathlib.Nat.{mul-comm}
+use Prim.Native.Nat.{ℕ, suc, _+_, _-_, _*_, _≤_, min}
 use native.Mathlib.Omega.{arith}
 use mathlib.Core.Path.{_≡_, refl, sym, ap, subst, _∙_}
-use mathlib.Core.Bool.{Bool, true, false, not, cond, _&&_, and-eq-true-iff}
-use mathlib.Core.List.{List, [], _∷_}
+use mathlib.Core.Bool.{Bool, true, false, not, cond, and-eq-true-iff}
+use mathlib.Core.List.{List}
 use borrow.Author.Tests.{leb-true, not-false}
 use lib.Dec.{eqb, leb, ltb}
-use lib.ListN.{length, take, length-take}
-use Rattle.finite.specs.Finite.{tab}
-use Rattle.finite.proofs.Bools.{dec, clash, cond-true, cond-false}
+use lib.ListN.{length, length-take}
+use Rattle.finite.proofs.Bools.{clash}
 use Rattle.finite.proofs.Tables.{length-tab}
 use Rattle.model.specs.Cell.{isBlank}
 use Rattle.model.specs.Scheme.{Scheme, isColumn, candidate}
@@ -17,14 +15,14 @@ use Rattle.model.specs.Database.{Database}
 use Rattle.model.specs.Probe
 use Rattle.model.specs.Runs.{Operation, refer, drop, probe, listed, places, heldIn, marked, Cache}
 use Rattle.model.specs.Query as Q
-use Rattle.model.specs.Query.{joinsOf, operandsFit, wordsOf, joinsFit, unused, mostJoins}
-use Rattle.model.specs.Answers.{Answer, loaded, held, noCandidate, dropped, ground, sent, lists, refused, unless, orAnswer, groundOf, answer, fullLists, queryGround, queryAnswer}
+use Rattle.model.specs.Query.{joinsOf, operandsFit, wordsOf, mostJoins}
+use Rattle.model.specs.Answers.{Answer, loaded, held, noCandidate, dropped, ground, sent, lists, refused, unless, orAnswer, answer, fullLists, queryGround, queryAnswer}
 use Rattle.model.proofs.ListLaws.{fitting-words}
 use Rattle.state.specs.declared.design.Table as State-table
 use Rattle.state.specs.declared.design.Constraint as State-constraint
 use Rattle.state.specs.declared.design.Filling as State-filling
 use Rattle.state.specs.declared.design.Column.{Column}
-use Rattle.state.specs.Step.{State, scheme, database, cache, longEnough, lawful, guarded, answerAt, queryAnswerAt}
+use Rattle.state.specs.Step.{State, scheme, database, cache, longEnough, lawful, answerAt, queryAnswerAt}
 use Rattle.format.specs.declared.command.Command.{Command}
 use Rattle.format.specs.declared.command.Command.the-variants.{Table, Constraint, Filling, Row, End, Refer, Drop, Probe, Query, Unknown, Short}
 use Rattle.format.specs.Bytes.{byteAt}

@@ -1,6 +1,5 @@
 -- The report part by part: a step's lines and what follows them, any number of turns that is enough, and how far a part reaches. Assumes nothing.
 use Prim.Native.Nat.{ℕ, zero, suc, _+_, _-_, _*_, _^_, _≤_, _<_}
-use native.Mathlib.Nat.{mul-le-mul-left}
 use native.Mathlib.Omega.{arith}
 use mathlib.Core.Path.{_≡_, refl, sym, ap, subst, _∙_}
 use mathlib.Core.Bool.{Bool, true, false, cond, _&&_}
@@ -8,22 +7,21 @@ use mathlib.Core.List.{List, [], _∷_, _++_, append-assoc}
 use mathlib.Core.Logic.{⊎-elim}
 use denote.Enum.Declared.{tagOf}
 use types.Run.{OneOf}
-use borrow.Author.Tests.{leb-true, leb-false, le-leb, lt-leb, ltb-true, ltb-false, lt-ltb, le-ltb}
+use borrow.Author.Tests.{leb-true, leb-false, le-leb, lt-leb, ltb-true, ltb-false}
 use lib.Dec.{leb, ltb}
 use lib.ListN.{length, getD}
 use Rattle.finite.specs.Writing.{Wrote}
 use Rattle.finite.proofs.Bools.{dec, clash, cond-true, cond-false}
 use Rattle.finite.proofs.Writing.{wrote-none, wrote-then}
-use Rattle.model.specs.Answers as Model
 use Rattle.state.specs.declared.answer.Answer.{Answer}
 use Rattle.state.specs.declared.answer.Answer.the-variants.{Loaded, Held, NoCandidate, Dropped, Ground, Sent, Lists, Refused}
 use Rattle.state.proofs.answer.Answer.{the-type}
 use Rattle.state.specs.Meaning.{answerOf}
 use Rattle.state.specs.Step.{State, lent, sound}
 use Rattle.report.specs.Report.{commandLine, listLines}
-use Rattle.report.proofs.Lengths.{command-line-reach, list-lines-reach}
+use Rattle.report.proofs.Lengths.{list-lines-reach}
 use Rattle.script.specs.declared.outcome.Step.{Step}
-use Rattle.script.specs.Step.{Stepped, stepAt, stateAfterStep, Does, DoesSoundly}
+use Rattle.script.specs.Step.{Stepped, stepAt, stateAfterStep, Does}
 use Rattle.script.proofs.StepLaws.{step-on}
 use Rattle.desk.specs.declared.reporting.Progress.{Progress}
 use Rattle.desk.specs.Printed.{codeOf, listsText, positionsAt, stepText, textFrom, textAt, restOf, stateWith, Printed}

@@ -1,9 +1,9 @@
 -- What the desk prints for a script (01, "The desk program's report"). Assumes nothing.
-use Prim.Native.Nat.{ℕ, zero, suc, _+_, _≤_, _<_}
+use Prim.Native.Nat.{ℕ, zero, suc, _+_}
 use mathlib.Core.Path.{_≡_}
-use mathlib.Core.Bool.{Bool, true, false, cond, _&&_}
+use mathlib.Core.Bool.{true, cond}
 use mathlib.Core.List.{List, [], _++_}
-use lib.Dec.{leb, ltb}
+use lib.Dec.{leb}
 use lib.ListN.{length}
 use Rattle.finite.specs.Writing.{Wrote}
 use Rattle.model.specs.Answers as Model
@@ -15,7 +15,7 @@ use Rattle.format.specs.Reading.{DesignRead}
 use Rattle.format.specs.Reading.DesignRead.{accepted, refusedAt}
 use Rattle.report.specs.Report.{commandLine, designLine, refusalLine, listLines}
 use Rattle.script.specs.Step.{Stepped, stepAt, stateAfterStep}
-use Rattle.script.specs.Runs.{Buffers, readingOf, justRead}
+use Rattle.script.specs.Runs.{Buffers, justRead}
 use Rattle.desk.specs.declared.reporting.Progress.{Progress}
 
 -- an answer of the model as the code has it: `answerOf` backwards
