@@ -22,6 +22,3 @@ pub use probing::probe_lawful;
 pub use referring::refer_lawful;
 pub use tests::is_lawful;
 pub use tests::is_long_enough;
-pub use values::appended;
-pub use values::listed;
-pub use values::removed;

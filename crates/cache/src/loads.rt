@@ -20,7 +20,7 @@ use state::Design;
 use state::Held;
 
 // The levels of a load of all held values from nothing. A step for each row that is reached and each constraint, if the values are spread.
-pub fn reloaded(design: Design, cells: &[u32], tables: &[u8], held: Held) -> [u16; 512]
+pub(crate) fn reloaded(design: Design, cells: &[u32], tables: &[u8], held: Held) -> [u16; 512]
     requires { ⌜ InRange design × Backed (now cells) (now tables) × (held .count ≤ 64) × ((i : ℕ) → heldAt held i .filling < 8) ⌝ }
     ensures { λ l. ⌜ l ≡ heldLevels design (now (cells .entry)) (now (tables .entry)) held ⌝ }
 {
@@ -30,7 +30,7 @@ pub fn reloaded(design: Design, cells: &[u32], tables: &[u8], held: Held) -> [u1
 }
 
 // Loads one value more and marks the rows. A step for each row that is added and each constraint, if the values are spread.
-pub fn load_value(
+pub(crate) fn load_value(
     design: Design,
     cells: &[u32],
     tables: &[u8],
@@ -56,7 +56,13 @@ pub fn load_value(
 
 // Loads the held values from nothing, marks the rows that they reach, and counts those that were marked and went.
 // A step for each row that is reached and each constraint, if the values are spread.
-pub fn reload(design: Design, cells: &[u32], tables: &[u8], marks: &mut [u8], held: Held) -> Answer
+pub(crate) fn reload(
+    design: Design,
+    cells: &[u32],
+    tables: &[u8],
+    marks: &mut [u8],
+    held: Held,
+) -> Answer
     requires { ⌜ InRange design × Backed (now cells) (now tables) × (512 ≤ length (now marks)) × (held .count ≤ 64) × ((i : ℕ) → heldAt held i .filling < 8) ⌝ }
     ensures { λ a. ⌜ (answerOf a ≡ Answers.dropped (goneRows (rowsOf design (now (cells .entry)) (now (tables .entry)))
         (heldLevels design (now (cells .entry)) (now (tables .entry)) held) (now (marks .entry))))

@@ -25,7 +25,7 @@ fn place(held: Held, filling: u8, value: u32) -> usize
 }
 
 // Whether the pair is held. One look at each held value.
-pub fn listed(held: Held, filling: u8, value: u32) -> bool
+pub(crate) fn listed(held: Held, filling: u8, value: u32) -> bool
     requires { ⌜ held .count ≤ 64 ⌝ }
     ensures { λ b. ⌜ b ≡ Runs.listed (pair filling value) (pairsOf held) ⌝ }
 {
@@ -33,7 +33,7 @@ pub fn listed(held: Held, filling: u8, value: u32) -> bool
 }
 
 // The record with the pair at the end. Constant time, and a copy of the record.
-pub fn appended(held: Held, filling: u8, value: u32) -> Held
+pub(crate) fn appended(held: Held, filling: u8, value: u32) -> Held
     requires { ⌜ Tidy held × (held .count < 64) ⌝ }
     ensures { λ h. ⌜ h ≡ heldOf (pairsOf held ++ (pair filling value ∷ [])) ⌝ }
 {
@@ -83,7 +83,7 @@ fn closed(held: Held, gap: usize) -> Held
 }
 
 // The record without the pair: the gap closes. One look at each held value and one pass over the 64 places.
-pub fn removed(held: Held, filling: u8, value: u32) -> Held
+pub(crate) fn removed(held: Held, filling: u8, value: u32) -> Held
     requires { ⌜ Tidy held ⌝ }
     ensures { λ h. ⌜ h ≡ heldOf (remove (pair filling value) (pairsOf held)) ⌝ }
 {

@@ -96,7 +96,7 @@ fn report_step(
 const FULL: usize = 65536;
 
 // Steps and their lines until there is no command left or the buffer is full. The cost of the operations, and of the text.
-pub fn fill(
+pub(crate) fn fill(
     script: &[u8],
     from: Progress,
     design: Design,

@@ -6,7 +6,7 @@ ghost use Rattle.foreign.specs.Codes.{codeOf, codes};
 use state::Answer;
 
 // Its kind from 1 to 8, then what goes with it. Constant time.
-pub fn code_of(answer: Answer) -> u64
+pub(crate) fn code_of(answer: Answer) -> u64
     requires { ⌜ codeOf (answerOf answer) < codes ⌝ }
     ensures { λ r. ⌜ r ≡ codeOf (answerOf answer) ⌝ }
 {

@@ -139,7 +139,7 @@ fn values_from(words: &[u32]) -> [HeldValue; 64]
 }
 
 // The design that the first 116 words stand for. One step for each of its 32 places.
-pub fn design_from(words: &[u32]) -> Design
+pub(crate) fn design_from(words: &[u32]) -> Design
     requires { ⌜ 116 ≤ length (now words) ⌝ }
     ensures { λ d. ⌜ d ≡ designFrom (now (words .entry)) ⌝ }
 {
@@ -162,7 +162,7 @@ pub fn design_from(words: &[u32]) -> Design
 }
 
 // The held values that the first 129 words stand for. One step for each of their 64 places.
-pub fn held_from(words: &[u32]) -> Held
+pub(crate) fn held_from(words: &[u32]) -> Held
     requires { ⌜ 129 ≤ length (now words) ⌝ }
     ensures { λ h. ⌜ h ≡ heldFrom (now (words .entry)) ⌝ }
 {

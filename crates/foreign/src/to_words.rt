@@ -101,7 +101,7 @@ fn put_values(vs: [HeldValue; 64], words: &mut [u32])
 }
 
 // The design as the first 116 words. One step for each of its 32 places.
-pub fn put_design(d: Design, words: &mut [u32])
+pub(crate) fn put_design(d: Design, words: &mut [u32])
     requires { ⌜ (116 ≤ length (now words)) × (d .tables ≤ 8) × (d .constraints ≤ 16) × (d .fillings ≤ 8) × (d .rows ≤ 512) ⌝ }
     ensures { λ _. ⌜ now (words .exit) ≡ sets (now (words .entry)) 0 (designWords d) ⌝ }
 {
@@ -115,7 +115,7 @@ pub fn put_design(d: Design, words: &mut [u32])
 }
 
 // The held values as the first 129 words; their array has 64 places, as its type says. One step for each place.
-pub fn put_held(h: Held, words: &mut [u32])
+pub(crate) fn put_held(h: Held, words: &mut [u32])
     requires { ⌜ (129 ≤ length (now words)) × (h .count ≤ 64) ⌝ }
     ensures { λ _. ⌜ (now (words .exit) ≡ sets (now (words .entry)) 0 (heldWords h)) × (length (h .values) ≡ 64) ⌝ }
 {

@@ -13,7 +13,7 @@ fn wide(b: u8) -> u32
 }
 
 // The u32 whose bytes begin at place i. Constant time.
-pub fn u32_at(script: &[u8], i: usize) -> u32
+pub(crate) fn u32_at(script: &[u8], i: usize) -> u32
     requires { ⌜ i + 4 ≤ length (now script) ⌝ }
     ensures { λ r. ⌜ r ≡ u32At (now (script .entry)) i ⌝ }
 {
@@ -25,7 +25,7 @@ pub fn u32_at(script: &[u8], i: usize) -> u32
 }
 
 // Stores the four bytes of v from place `at` on. Constant time.
-pub fn put_u32(out: &mut [u8], at: usize, v: u32)
+pub(crate) fn put_u32(out: &mut [u8], at: usize, v: u32)
     requires { ⌜ at + 4 ≤ length (now out) ⌝ }
     ensures { λ _. ⌜ now (out .exit) ≡ sets (now (out .entry)) at (u32Bytes v) ⌝ }
 {

@@ -133,7 +133,7 @@ fn operation_operands(b: u8, script: &[u8], i: usize) -> Command
 }
 
 // The command at a place.
-pub fn read_at(script: &[u8], at: usize) -> Command
+pub(crate) fn read_at(script: &[u8], at: usize) -> Command
     ensures { λ r. ⌜ r ≡ commandAt (now (script .entry)) at ⌝ }
 {
     if script.len() <= at {
@@ -154,7 +154,7 @@ pub fn read_at(script: &[u8], at: usize) -> Command
 }
 
 // Cell c of the ROW at place `at`.
-pub fn row_cell(script: &[u8], at: usize, c: usize) -> u32
+pub(crate) fn row_cell(script: &[u8], at: usize, c: usize) -> u32
     requires { ⌜ (c < 8) × (at + 34 ≤ length (now script)) ⌝ }
     ensures { λ r. ⌜ r ≡ rowCellAt (now (script .entry)) at c ⌝ }
 {

@@ -6,12 +6,9 @@ mod reading;
 mod verdict;
 mod writing;
 
-pub use bytes::put_u32;
-pub use bytes::u32_at;
 pub use command::Command;
 pub use command::pair_constraint;
 pub use command::pair_position;
-pub use command::row_cell;
 pub use command::width_of;
 pub use reader::ScriptReader;
 pub use reader::command_at;

@@ -11,21 +11,21 @@ pub struct ScriptReader<'a> {
 }
 
 // The reader at the start. Constant time, as everything in this file.
-pub fn new<'a>(bytes: &'a [u8]) -> ScriptReader<'a>
+pub(crate) fn new<'a>(bytes: &'a [u8]) -> ScriptReader<'a>
     ensures { λ r. ⌜ (r .bytes ≡ bytes .entry) × (r .at ≡ 0) ⌝ }
 {
     ScriptReader { bytes, at: 0 }
 }
 
 // The reader at another place.
-pub fn moved<'a>(r: ScriptReader<'a>, at: usize) -> ScriptReader<'a>
+pub(crate) fn moved<'a>(r: ScriptReader<'a>, at: usize) -> ScriptReader<'a>
     ensures { λ q. ⌜ (q .bytes ≡ r .entry .bytes) × (q .at ≡ at) ⌝ }
 {
     ScriptReader { bytes: r.bytes, at }
 }
 
 // The command at the place reached.
-pub fn next<'a>(r: ScriptReader<'a>) -> Command
+pub(crate) fn next<'a>(r: ScriptReader<'a>) -> Command
     ensures { λ c. ⌜ c ≡ commandAt (now (r .entry .bytes)) (r .entry .at) ⌝ }
 {
     read_at(r.bytes, r.at)

@@ -13,7 +13,7 @@ const MULTIPLIER: u64 = 2654435769;
 const SHARE: u64 = 8388608;
 
 // The number of the bucket that value v is in. Constant time.
-pub fn bucket(v: u32) -> usize
+pub(crate) fn bucket(v: u32) -> usize
     ensures { λ h. ⌜ (h ≡ hash (cellOf v)) × (h < 512) ⌝ }
 {
     (v as u64 * MULTIPLIER / SHARE) as usize % Design::ROWS

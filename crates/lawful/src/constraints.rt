@@ -70,7 +70,7 @@ fn constraint_lawful(d: Design, i: usize) -> bool
 }
 
 // Whether all places of the constraints are lawful. Half the constraints squared.
-pub fn constraints_lawful(d: Design) -> bool
+pub(crate) fn constraints_lawful(d: Design) -> bool
     ensures { λ b. ⌜ b ≡ constraintsLawful d ⌝ }
 {
     for i in 0..Design::CONSTRAINTS {

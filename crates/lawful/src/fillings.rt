@@ -88,7 +88,7 @@ fn filling_lawful(d: Design, i: usize) -> bool
 }
 
 // Whether all places of the fillings are lawful. Half the fillings squared.
-pub fn fillings_lawful(d: Design) -> bool
+pub(crate) fn fillings_lawful(d: Design) -> bool
     ensures { λ b. ⌜ b ≡ fillingsLawful d ⌝ }
 {
     for i in 0..Design::FILLINGS {

@@ -56,7 +56,7 @@ pub fn is_unique(d: Design, k: Column) -> bool
 }
 
 // Whether all of a column is 0, as in an unused place. Constant time.
-pub fn zero_column(k: Column) -> bool
+pub(crate) fn zero_column(k: Column) -> bool
     ensures { λ b. ⌜ b ≡ zeroColumn k ⌝ }
 {
     if k.table != 0 {
@@ -87,7 +87,7 @@ fn table_lawful(d: Design, i: usize) -> bool
 }
 
 // Whether all places of the tables are lawful. One look at each of the 8 places.
-pub fn tables_lawful(d: Design) -> bool
+pub(crate) fn tables_lawful(d: Design) -> bool
     ensures { λ b. ⌜ b ≡ tablesLawful d ⌝ }
 {
     for i in 0..Design::TABLES {

@@ -14,7 +14,7 @@ use state::Column;
 use state::Design;
 
 // The value of row s in column k; 0, as for a blank, if it is no row of k's table. Constant time.
-pub fn source_value(rows: usize, cells: &[u32], tables: &[u8], k: Column, s: usize) -> u32
+pub(crate) fn source_value(rows: usize, cells: &[u32], tables: &[u8], k: Column, s: usize) -> u32
     requires { ⌜ (s < 512) × (k .place < 8) × Backed (now cells) (now tables) ⌝ }
     ensures { λ v. ⌜ v ≡ sourceValue (databaseOf rows (now (cells .entry)) (now (tables .entry))) (columnOf k) s ⌝ }
 {
@@ -29,7 +29,7 @@ pub fn source_value(rows: usize, cells: &[u32], tables: &[u8], k: Column, s: usi
 
 // Gives level `to` and a place in the queue to the rows without a level that row s demands; where the queue ends then.
 // One step for each constraint; for those of row s's table this finds the first row that has its value, and walks the rows if the value is new.
-pub fn expand(
+pub(crate) fn expand(
     d: Design,
     cells: &[u32],
     tables: &[u8],

@@ -7,7 +7,7 @@ use index::add;
 use state::Column;
 
 // Makes index i the index of column k, unless it stands. 512 steps and one for each row, or constant time.
-pub fn provide(
+pub(crate) fn provide(
     rows: usize,
     cells: &[u32],
     tables: &[u8],

@@ -10,7 +10,7 @@ ghost use Rattle.model.specs.Rounds.{level, reached};
 ghost use Rattle.model.specs.Runs.{marked};
 
 // The mark of a row of this level: 1 if it is reached. Constant time.
-pub fn settled_mark(l: u16) -> u8
+pub(crate) fn settled_mark(l: u16) -> u8
     ensures { λ m. ⌜ m ≡ cond (ltb 0 l) 1 0 ⌝ }
 {
     if 0 < l { 1 } else { 0 }
@@ -41,7 +41,7 @@ pub fn rows_added(levels: &[u16; 512]) -> usize
 }
 
 // Whether a row with this mark and this level goes: it is cached and not reached. Constant time.
-pub fn is_gone(mark: u8, l: u16) -> bool
+pub(crate) fn is_gone(mark: u8, l: u16) -> bool
     ensures { λ b. ⌜ b ≡ eqb mark 1 && not (ltb 0 l) ⌝ }
 {
     if mark != 1 {

@@ -7,7 +7,7 @@ ghost use Rattle.load.specs.Queue.{Listed, added, Grown};
 use state::Design;
 
 // The rows that have been added, in the order of their numbers; how many they are. One pass over the row numbers.
-pub fn list_added(levels: &[u16; 512], queue: &mut [u16; 512]) -> usize
+pub(crate) fn list_added(levels: &[u16; 512], queue: &mut [u16; 512]) -> usize
     requires { ⌜ (length (now levels) ≡ 512) × (length (now queue) ≡ 512) ⌝ }
     ensures { λ end. ⌜ Listed (added (now (levels .entry))) (now (queue .exit)) end ⌝ }
 {
@@ -22,7 +22,7 @@ pub fn list_added(levels: &[u16; 512], queue: &mut [u16; 512]) -> usize
 }
 
 // Gives row r level `to` and the queue's next place, if it has no level; where the queue ends then. Constant time.
-pub fn reach(
+pub(crate) fn reach(
     r: usize,
     levels: &mut [u16; 512],
     to: u16,

@@ -20,7 +20,7 @@ use state::Design;
 
 // Gives level `to` and a place in the queue to the rows without a level that have v in column k, by the column's index, number i; where the queue
 // ends then. `from` is the first row that has v. One step for each row of v's bucket: the rows that have v, if the values are spread.
-pub fn walk(
+pub(crate) fn walk(
     rows: usize,
     cells: &[u32],
     tables: &[u8],
@@ -53,7 +53,7 @@ pub fn walk(
 
 // The same, unless v has been walked in column k before: then its rows have levels. `walked` has a place for each cell; that of v is its first row's.
 // The cost of finding that row, and the first time the walk.
-pub fn walk_once(
+pub(crate) fn walk_once(
     rows: usize,
     cells: &[u32],
     tables: &[u8],
@@ -104,7 +104,7 @@ pub fn walk_once(
 }
 
 // The same, with the index made first, unless it stands. Constant time for a blank; else as above, and for a new index 512 steps and one for each row.
-pub fn raise(
+pub(crate) fn raise(
     rows: usize,
     cells: &[u32],
     tables: &[u8],

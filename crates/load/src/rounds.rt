@@ -14,7 +14,7 @@ use crate::queue::list_added;
 use state::Design;
 
 // Round n + 1: expands the rows of round n, which stand in the queue from `from` on; where the queue ends then. The cost is that of expanding them.
-pub fn round(
+pub(crate) fn round(
     d: Design,
     cells: &[u32],
     tables: &[u8],
@@ -60,7 +60,7 @@ pub fn round(
 
 // The later rounds, until one adds nothing; how many added a row. Round 0 has added the rows that stand in the queue. The cost is that of
 // expanding each row that is added once.
-pub fn run(
+pub(crate) fn run(
     d: Design,
     cells: &[u32],
     tables: &[u8],

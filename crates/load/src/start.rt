@@ -20,7 +20,7 @@ use state::filling_at;
 use state::row_has;
 
 // Row r's level in round 0 of a load of v in column k, where it has this mark. Constant time.
-pub fn start_level(
+pub(crate) fn start_level(
     rows: usize,
     cells: &[u32],
     tables: &[u8],

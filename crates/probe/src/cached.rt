@@ -33,7 +33,14 @@ fn cached_has(
 }
 
 // Whether a cached row has the value in the column. One look at each of the 512 row numbers.
-pub fn seen(rows: usize, cells: &[u32], tables: &[u8], marks: &[u8], k: Column, v: u32) -> bool
+pub(crate) fn seen(
+    rows: usize,
+    cells: &[u32],
+    tables: &[u8],
+    marks: &[u8],
+    k: Column,
+    v: u32,
+) -> bool
     requires { ⌜ (k .place < 8) × Backed (now cells) (now tables) × (512 ≤ length (now marks)) ⌝ }
     ensures { λ b. ⌜ b ≡ Probe.seen (databaseOf rows (now (cells .entry)) (now (tables .entry))) (marked (now (marks .entry))) (columnOf k) (cellOf v) ⌝ }
 {

@@ -29,7 +29,7 @@ fn is_held_by(d: Design, h: HeldValue, k: Column, v: u32) -> bool
 }
 
 // Whether a filling of the column holds the value. One look at each held value.
-pub fn is_held(d: Design, held: Held, k: Column, v: u32) -> bool
+pub(crate) fn is_held(d: Design, held: Held, k: Column, v: u32) -> bool
     requires { ⌜ (held .count ≤ 64) × ((i : ℕ) → heldAt held i .filling < 8) ⌝ }
     ensures { λ b. ⌜ b ≡ heldIn (schemeOf d) (pairsOf held) (columnOf k) (cellOf v) ⌝ }
 {

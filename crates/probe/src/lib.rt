@@ -3,5 +3,4 @@ mod cached;
 mod grounds;
 mod held;
 
-pub use cached::seen;
 pub use grounds::ground;

@@ -9,7 +9,6 @@ mod plan;
 mod weights;
 
 pub use listing::list_fitting;
-pub use operands::operands_fit;
 pub use operations::query;
 pub use operations::query_lawful;
 pub use plan::Join;

@@ -6,7 +6,7 @@ ghost use Rattle.finite.specs.Writing.{Wrote};
 ghost use Rattle.report.specs.Report.{decimal, spaced};
 
 // Writes the first n bytes of a text.
-pub fn put_bytes(out: &mut [u8], at: usize, text: &[u8], n: usize) -> usize
+pub(crate) fn put_bytes(out: &mut [u8], at: usize, text: &[u8], n: usize) -> usize
     requires { ⌜ (n ≤ length (now text)) × (at + n ≤ length (now out)) ⌝ }
     ensures { λ z. ⌜ Wrote (now (out .entry)) (now (out .exit)) at z (take n (now (text .entry))) ⌝ }
 {
@@ -19,7 +19,7 @@ pub fn put_bytes(out: &mut [u8], at: usize, text: &[u8], n: usize) -> usize
 }
 
 // Writes one byte.
-pub fn put_byte(out: &mut [u8], at: usize, b: u8) -> usize
+pub(crate) fn put_byte(out: &mut [u8], at: usize, b: u8) -> usize
     requires { ⌜ at + 1 ≤ length (now out) ⌝ }
     ensures { λ z. ⌜ Wrote (now (out .entry)) (now (out .exit)) at z (b ∷ []) ⌝ }
 {
@@ -28,7 +28,7 @@ pub fn put_byte(out: &mut [u8], at: usize, b: u8) -> usize
 }
 
 // Writes a number in decimal: at most 20 bytes.
-pub fn put_decimal(out: &mut [u8], at: usize, n: u64) -> usize
+pub(crate) fn put_decimal(out: &mut [u8], at: usize, n: u64) -> usize
     requires { ⌜ at + 20 ≤ length (now out) ⌝ }
     ensures { λ z. ⌜ Wrote (now (out .entry)) (now (out .exit)) at z (decimal n) ⌝ }
 {
@@ -38,7 +38,7 @@ pub fn put_decimal(out: &mut [u8], at: usize, n: u64) -> usize
 }
 
 // Writes a space and a number: at most 21 bytes.
-pub fn put_spaced(out: &mut [u8], at: usize, n: u64) -> usize
+pub(crate) fn put_spaced(out: &mut [u8], at: usize, n: u64) -> usize
     requires { ⌜ at + 21 ≤ length (now out) ⌝ }
     ensures { λ z. ⌜ Wrote (now (out .entry)) (now (out .exit)) at z (spaced n) ⌝ }
 {

@@ -51,7 +51,7 @@ fn answering(answer: Answer, at: usize, next: usize, held: Held) -> Step
 }
 
 // REFER. The cost is `refer_held`'s: one load.
-pub fn refer_at(
+pub(crate) fn refer_at(
     at: usize,
     next: usize,
     design: Design,
@@ -75,7 +75,7 @@ pub fn refer_at(
 }
 
 // DROP. The cost is `drop_held`'s: one reload.
-pub fn drop_at(
+pub(crate) fn drop_at(
     at: usize,
     next: usize,
     design: Design,
@@ -99,7 +99,7 @@ pub fn drop_at(
 }
 
 // PROBE. The cost is `probe_lawful`'s: rows for each constraint that ends at the column.
-pub fn probe_at(
+pub(crate) fn probe_at(
     at: usize,
     next: usize,
     design: Design,
@@ -158,7 +158,7 @@ fn query_at(script: &[u8], at: usize, column: Column, value: u32, joins: u8) -> 
 }
 
 // QUERY. The cost is `query_lawful`'s: a step for each position and row, if the values are spread, and for each list its words.
-pub fn answer_query(
+pub(crate) fn answer_query(
     script: &[u8],
     at: usize,
     next: usize,

@@ -15,7 +15,7 @@ pub struct Outcome {
 }
 
 // Whether all cells from an index on are 9. One step for each.
-pub fn are_cells_left(cells: &[u32], from: usize) -> bool {
+pub(crate) fn are_cells_left(cells: &[u32], from: usize) -> bool {
     let mut i = from;
     while i < cells.len() {
         if cells[i] != 9 {
@@ -26,7 +26,7 @@ pub fn are_cells_left(cells: &[u32], from: usize) -> bool {
     true
 }
 
-pub fn are_bytes_left(bytes: &[u8], from: usize) -> bool {
+pub(crate) fn are_bytes_left(bytes: &[u8], from: usize) -> bool {
     let mut i = from;
     while i < bytes.len() {
         if bytes[i] != 9 {
@@ -59,7 +59,7 @@ fn read_into(script: &[u8], cells: &mut [u32], tables: &mut [u8], marks: &mut [u
 }
 
 // Reads a design into buffers: 0 one cell, 1 one row table, 2 one mark too few; 3 longer; else just long enough.
-pub fn reading(script: &[u8], kind: usize) -> Outcome {
+pub(crate) fn reading(script: &[u8], kind: usize) -> Outcome {
     let mut cells = [9u32; 4096];
     let mut tables = [9u8; 512];
     let mut marks = [9u8; 512];
@@ -147,7 +147,7 @@ fn try_longer(script: &[u8]) -> Tried {
 }
 
 // One place too short, and unlawful besides: 0 the cells, 1 the row tables, 2 the marks; else longer buffers.
-pub fn operations(script: &[u8], s: State, kind: usize) -> Tried {
+pub(crate) fn operations(script: &[u8], s: State, kind: usize) -> Tried {
     let cells = [9u32; 4096];
     let tables = [9u8; 512];
     let mut marks = [9u8; 512];

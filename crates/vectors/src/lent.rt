@@ -29,7 +29,7 @@ pub struct State {
 }
 
 // The state that a script leaves behind its command with this number; the empty one if its design is refused. The cost of the operations.
-pub fn state_after(script: &[u8], number: usize) -> State {
+pub(crate) fn state_after(script: &[u8], number: usize) -> State {
     let mut cells = [0u32; 4096];
     let mut tables = [0u8; 512];
     let mut marks = [0u8; 512];
@@ -149,7 +149,7 @@ fn with_row(mut s: State, kind: usize, i: usize, v: usize) -> State {
 // Kinds: 0 a cell, 1 a row table, 2 a mark, 3 how many are held, 4 a held pair (1,000 × filling + value), 5 to 8 how many tables, constraints,
 // fillings and rows, 9 the columns of table 0, 10 those of table 7, 11 the target table of constraint 1, then from 0.0, 12 low of filling 0; any
 // other, nothing.
-pub fn changed(mut s: State, kind: usize, i: usize, v: usize) -> State {
+pub(crate) fn changed(mut s: State, kind: usize, i: usize, v: usize) -> State {
     if kind < 3 {
         return with_row(s, kind, i, v);
     }
@@ -298,7 +298,7 @@ fn drop_and_refer(
 }
 
 // All six on one state, the step last: it is the only one that leaves a lawful state changed.
-pub fn operated(
+pub(crate) fn operated(
     design: Design,
     cells: &[u32],
     tables: &[u8],

@@ -30,7 +30,7 @@ const MOST_COMMANDS: usize = 65537;
 
 // The step of the command with this number behind the END, whatever was answered before it. The cost of the operations, and of the test for cause
 // 12 before each.
-pub fn step_of(
+pub(crate) fn step_of(
     script: &[u8],
     at: usize,
     design: Design,
@@ -71,7 +71,7 @@ fn refusal_line(cause: u8, place: usize) -> Line {
 }
 
 // The line of the command with this number, with these words lent.
-pub fn line_at(script: &[u8], number: usize, words: &mut [u32]) -> Line {
+pub(crate) fn line_at(script: &[u8], number: usize, words: &mut [u32]) -> Line {
     let mut cells = [0u32; 4096];
     let mut tables = [0u8; 512];
     let mut marks = [0u8; 512];

@@ -1,17 +1,17 @@
 // Reading the list of vectors: lines, fields, numbers and bytes. Every function is total: past an end there are zeros, and nothing is written.
 
 // The byte at an index; 0 past the end. Constant time.
-pub fn byte_at(text: &[u8], i: usize) -> u8 {
+pub(crate) fn byte_at(text: &[u8], i: usize) -> u8 {
     if i < text.len() { text[i] } else { 0 }
 }
 
 // The index behind i, but not behind `to`. Constant time.
-pub fn after(i: usize, to: usize) -> usize {
+pub(crate) fn after(i: usize, to: usize) -> usize {
     if i < to { i + 1 } else { to }
 }
 
 // Where a byte stands next, from an index on and before `to`; else `to`. One step for each byte.
-pub fn find(text: &[u8], from: usize, to: usize, byte: u8) -> usize {
+pub(crate) fn find(text: &[u8], from: usize, to: usize, byte: u8) -> usize {
     let mut i = from;
     while i < to {
         if byte_at(text, i) == byte {
@@ -23,7 +23,7 @@ pub fn find(text: &[u8], from: usize, to: usize, byte: u8) -> usize {
 }
 
 // Writes a byte, if it has room, and gives the index behind it. Constant time.
-pub fn put(bytes: &mut [u8], at: usize, b: u8) -> usize {
+pub(crate) fn put(bytes: &mut [u8], at: usize, b: u8) -> usize {
     if at < bytes.len() {
         bytes[at] = b;
         return at + 1;
@@ -61,7 +61,7 @@ fn put_digit(bytes: &mut [u8], b: Begun, d: u8) -> Begun {
 }
 
 // Writes the bytes that two digits each stand for. One step for each byte of the text.
-pub fn put_hex(text: &[u8], from: usize, to: usize, bytes: &mut [u8], at: usize) -> usize {
+pub(crate) fn put_hex(text: &[u8], from: usize, to: usize, bytes: &mut [u8], at: usize) -> usize {
     let mut b = Begun { at, high: 16 };
     let mut i = from;
     while i < to {
@@ -79,7 +79,7 @@ pub struct Number {
 }
 
 // The number that stands at an index, spaces before it passed over; 0 where there is none. One step for each byte.
-pub fn number_at(text: &[u8], from: usize, to: usize) -> Number {
+pub(crate) fn number_at(text: &[u8], from: usize, to: usize) -> Number {
     let mut value = 0;
     let mut is_begun = false;
     let mut i = from;
@@ -97,7 +97,7 @@ pub fn number_at(text: &[u8], from: usize, to: usize) -> Number {
 }
 
 // Whether the bytes from `from` to `to` of a text are the first n of another. One step for each byte.
-pub fn is_part(text: &[u8], from: usize, to: usize, other: &[u8], n: usize) -> bool {
+pub(crate) fn is_part(text: &[u8], from: usize, to: usize, other: &[u8], n: usize) -> bool {
     let mut i = from;
     let mut j = 0;
     while i < to {

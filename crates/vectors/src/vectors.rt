@@ -31,7 +31,7 @@ pub struct Fields {
     pub end: usize,
 }
 
-pub fn fields_of(text: &[u8], from: usize, to: usize) -> Fields {
+pub(crate) fn fields_of(text: &[u8], from: usize, to: usize) -> Fields {
     let name = after(from, to);
     let bar = find(text, name, to, b'|');
     let expected = after(bar, to);
@@ -240,7 +240,7 @@ fn end_of_expected(text: &[u8], f: Fields) -> usize {
 }
 
 // A vector: prints what was expected and what was got.
-pub fn vector(
+pub(crate) fn vector(
     text: &[u8],
     kind: u8,
     f: Fields,
@@ -261,7 +261,7 @@ pub fn vector(
 }
 
 // The last line.
-pub fn say_tally(t: Tally) {
+pub(crate) fn say_tally(t: Tally) {
     io::print_decimal(1, t.vectors);
     say(b" vectors, ");
     io::print_decimal(1, t.wrong);
