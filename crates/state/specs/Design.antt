@@ -52,6 +52,9 @@ pub record InRange (d : Design) : Type 0 where
   pub source : (i : ℕ) → constraintAt d i .source .place < 8
   pub target : (i : ℕ) → constraintAt d i .target .place < 8
   pub column : (f : ℕ) → fillingAt d f .column .place < 8
+  pub source-table : (i : ℕ) → constraintAt d i .source .table < 8
+  pub target-table : (i : ℕ) → constraintAt d i .target .table < 8
+  pub column-table : (f : ℕ) → fillingAt d f .column .table < 8
 
 -- what inner functions ask of the buffers that hold the rows
 pub record Backed (cells tables : List ℕ) : Type 0 where

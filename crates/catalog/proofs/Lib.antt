@@ -1,0 +1,15 @@
+-- FirstLaws: the laws of `firstFrom`. Searching: halving falling keys, and moving elements. ListedLaws: a column's values while rows are put in.
+-- Found: what is found at a value's place. Rows: the tests of a row. PutLaws: one row and all rows put in. ColumnLaws: one column after the other.
+-- LinkLaws: the next row of a cell. DemandLaws: the first rows that constraints demand. Entries: what stands where, for those who walk the catalog.
+pub mod FirstLaws
+pub mod Searching
+pub mod ListedLaws
+pub mod Found
+pub mod Rows
+pub mod PutLaws
+pub mod ColumnLaws
+pub mod LinkLaws
+pub mod DemandLaws
+pub mod Entries
+pub mod Walks
+pub mod CatalogLaws

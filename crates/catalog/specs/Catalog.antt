@@ -1,0 +1,68 @@
+-- The catalog of a design's rows, derived from them once: for each cell the next row that has the same cell in the same table's column, for each
+-- constraint and row the first row that the constraint demands of it, and for each column its values in falling order with the first row of each.
+-- Assumes nothing.
+use Prim.Native.Nat.{ℕ, _+_, _*_, _/_, _%_, _≤_, _<_}
+use mathlib.Core.Path.{_≡_}
+use mathlib.Core.Bool.{true, cond}
+use mathlib.Core.List.{List}
+use lib.Dec.{ltb}
+use lib.ListN.{length, getD}
+use Rattle.finite.specs.Finite.{tab}
+use Rattle.model.specs.Cell.{cellOf}
+use Rattle.model.specs.Scheme as Model
+use Rattle.model.specs.Scheme.{Scheme}
+use Rattle.model.specs.Database.{Database, has}
+use Rattle.model.specs.Rounds.{leads}
+use Rattle.state.specs.declared.design.Design.{Design}
+use Rattle.state.specs.Meaning.{databaseOf, schemeOf}
+use Rattle.catalog.specs.First.{firstFrom}
+
+-- row r's column c
+abbrev pub columnAt : Database → ℕ → ℕ → Model.Column
+columnAt D r c = record { table = D .table r; place = c }
+
+-- the next row after r that has r's cell c in the same column; 512 if there is none, or r is no row or blank there
+unfoldable pub nextOf : Database → ℕ → ℕ → ℕ
+nextOf D r c = cond (has D (columnAt D r c) (D .cell r c) r) (firstFrom (has D (columnAt D r c) (D .cell r c)) (r + 1)) 512
+
+-- the first row that constraint i demands of row s; 512 if there is none
+unfoldable pub demandedFirst : Scheme → Database → ℕ → ℕ → ℕ
+demandedFirst S D i s = cond (ltb i (S .constraints)) (firstFrom (leads D (S .constraint i) s) 0) 512
+
+abbrev pub nexts : Database → List ℕ
+nexts D = tab 4096 (λ x. nextOf D (x / 8) (x % 8))
+
+abbrev pub firsts : Scheme → Database → List ℕ
+firsts S D = tab 8192 (λ x. demandedFirst S D (x / 512) (x % 512))
+
+-- the keys fall from place `from` to place `to`
+abbrev pub Falls : ℕ → ℕ → List ℕ → Type 0
+Falls from to keys = (i j : ℕ) → from ≤ i → i < j → j < to → getD keys j 0 < getD keys i 0
+
+-- the values that the rows from r on have in column k stand in `keys` from place `from` to place `to`, falling, none blank, and `heads` has the
+-- first of these rows for each
+pub record Listed (D : Database) (k : Model.Column) (r from to : ℕ) (keys heads : List ℕ) : Type 0 where
+  pub order : from ≤ to
+  pub bound : to ≤ 4096
+  pub falls : Falls from to keys
+  pub value : (i : ℕ) → from ≤ i → i < to → 0 < getD keys i 0
+  pub head : (i : ℕ) → from ≤ i → i < to → getD heads i 0 ≡ firstFrom (has D k (cellOf (getD keys i 0))) r
+  pub there : (s : ℕ) → r ≤ s → has D k (D .cell s (k .place)) s ≡ true
+      → (i : ℕ) × (from ≤ i) × (i < to) × (getD keys i 0 ≡ D .cell s (k .place) .number)
+
+-- the same of all rows
+abbrev pub Lists : Database → Model.Column → ℕ → ℕ → List ℕ → List ℕ → Type 0
+Lists D k from to keys heads = Listed D k 0 from to keys heads
+
+-- all 64 columns, column c of table t between places 8 * t + c and 8 * t + c + 1 of `starts`
+pub record Directory (D : Database) (keys heads starts : List ℕ) : Type 0 where
+  pub keys-long : length keys ≡ 4096
+  pub heads-long : length heads ≡ 4096
+  pub starts-long : length starts ≡ 65
+  pub column : (t c : ℕ) → t < 8 → c < 8 → Lists D (record { table = t; place = c }) (getD starts (8 * t + c) 0) (getD starts (8 * t + c + 1) 0) keys heads
+
+-- the catalog of a design with lent rows, whatever they are
+pub record Catalogued (d : Design) (cells tables next first keys heads starts : List ℕ) : Type 0 where
+  pub next-is : next ≡ nexts (databaseOf (d .rows) cells tables)
+  pub first-is : first ≡ firsts (schemeOf d) (databaseOf (d .rows) cells tables)
+  pub directory : Directory (databaseOf (d .rows) cells tables) keys heads starts

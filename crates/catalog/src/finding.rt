@@ -1,0 +1,69 @@
+// Finding a value in the directory.
+ghost use mathlib.Core.Path.{_≡_};
+ghost use mathlib.Core.Bool.{_&&_};
+ghost use Prim.Native.Nat.{_≤_, _<_};
+ghost use lib.Dec.{eqb, ltb};
+ghost use lib.ListN.{getD};
+ghost use Rattle.model.specs.Cell.{cellOf};
+ghost use Rattle.model.specs.Database.{Database, has};
+ghost use Rattle.state.specs.Meaning.{columnOf};
+ghost use Rattle.catalog.specs.First.{firstFrom};
+ghost use Rattle.catalog.specs.Catalog.{Falls, Directory};
+ghost use Rattle.catalog.specs.Listing.{Searched};
+use state::Column;
+use state::Design;
+
+// Where x stands or belongs among the falling keys from place `from` to place `to`. A step for each halving: at most 13.
+pub(crate) fn seat(keys: &[u32; 4096], from: usize, to: usize, x: u32) -> usize
+    requires { ⌜ to ≤ 4096 ⌝ }
+    ensures { λ a. ⌜ (from ≤ to → Falls from to (now (keys .entry)) → Searched from to x a a (now (keys .entry))) ⌝ }
+{
+    let mut a = from;
+    let mut e = to;
+    while a < e {
+        let k = (a + e) / 2;
+        if x < keys[k] {
+            a = k + 1;
+        } else {
+            e = k;
+        }
+    }
+    a
+}
+
+// Whether x stands at place a, of the places before `to`. Constant time.
+pub(crate) fn stands(keys: &[u32; 4096], to: usize, a: usize, x: u32) -> bool
+    requires { ⌜ to ≤ 4096 ⌝ }
+    ensures { λ b. ⌜ b ≡ ltb a to && eqb (getD (now (keys .entry)) a 0) x ⌝ }
+{
+    if to <= a {
+        return false;
+    }
+    keys[a] == x
+}
+
+// A u16 as a usize.
+fn wide(x: u16) -> usize
+    ensures { λ r. ⌜ r ≡ x ⌝ }
+{
+    x as usize
+}
+
+// The first row that has the value v in column k, in any database whose directory this is; 512 if none has, as for a blank. A step for each halving
+// of the column's values: at most 10.
+pub fn find(keys: &[u32; 4096], heads: &[u16; 4096], starts: &[u16; 65], k: Column, v: u32) -> usize
+    requires { ⌜ (k .table < 8) × (k .place < 8) ⌝ }
+    ensures { λ r. ⌜ ((D : Database) → Directory D (now (keys .entry)) (now (heads .entry)) (now (starts .entry))
+        → r ≡ firstFrom (has D (columnOf k) (cellOf v)) 0) ⌝ }
+{
+    let i = 8 * k.table as usize + k.place as usize;
+    let to = wide(starts[i + 1]);
+    if Design::CELLS < to {
+        return Design::ROWS;
+    }
+    let a = seat(keys, wide(starts[i]), to, v);
+    if stands(keys, to, a, v) {
+        return wide(heads[a]);
+    }
+    Design::ROWS
+}

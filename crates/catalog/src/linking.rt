@@ -1,0 +1,48 @@
+// The next rows of all cells.
+ghost use mathlib.Core.Path.{_≡_};
+ghost use Prim.Native.Nat.{_/_, _%_, _<_};
+ghost use lib.ListN.{length, getD};
+ghost use Rattle.state.specs.Design.{Backed};
+ghost use Rattle.state.specs.Meaning.{databaseOf};
+ghost use Rattle.catalog.specs.Catalog.{nextOf, nexts};
+ghost use Rattle.catalog.specs.Columns.{Linked};
+use crate::scanning::scan;
+use state::Column;
+use state::Design;
+
+// The next row of cell number x, where it is known for the rows of the first 8 tables. Constant time for those.
+fn settled(rows: usize, cells: &[u32], tables: &[u8], x: usize, known: u16) -> u16
+    requires { ⌜ (x < 4096) × Backed (now cells) (now tables) ⌝ }
+    ensures { λ n. ⌜ ((x / 8 < rows → getD (now (tables .entry)) (x / 8) 0 < 8
+        → known ≡ nextOf (databaseOf rows (now (cells .entry)) (now (tables .entry))) (x / 8) (x % 8))
+        → n ≡ nextOf (databaseOf rows (now (cells .entry)) (now (tables .entry))) (x / 8) (x % 8)) ⌝ }
+{
+    let r = x / 8;
+    if rows <= r {
+        return 512;
+    }
+    let t = tables[r];
+    if t < 8 {
+        return known;
+    }
+    let v = cells[x];
+    if v == 0 {
+        return 512;
+    }
+    let k = Column {
+        table: t,
+        place: (x % 8) as u8,
+    };
+    scan(rows, cells, tables, k, v, r + 1) as u16
+}
+
+// Sets the next rows of the cells that are in no column of the directory. One step for each cell.
+pub(crate) fn settle(rows: usize, cells: &[u32], tables: &[u8], next: &mut [u16; 4096])
+    requires { ⌜ Backed (now cells) (now tables) × (length (now next) ≡ 4096) ⌝ }
+    requires { ⌜ Linked (databaseOf rows (now cells) (now tables)) rows 64 (now next) ⌝ }
+    ensures { λ _. ⌜ now (next .exit) ≡ nexts (databaseOf rows (now (cells .entry)) (now (tables .entry))) ⌝ }
+{
+    for x in 0..Design::CELLS {
+        next[x] = settled(rows, cells, tables, x, next[x]);
+    }
+}

@@ -1,0 +1,32 @@
+// Building the catalog.
+ghost use Rattle.state.specs.Design.{InRange, Backed};
+ghost use Rattle.catalog.specs.Catalog.{Catalogued};
+use crate::columns::add_columns;
+use crate::firsts::make_firsts;
+use crate::linking::settle;
+use state::Design;
+
+// Makes the catalog of the design's rows, whatever stood in the arrays. One turn for each column and row, one step for each cell, and a search for
+// each constraint and row.
+pub fn build(
+    d: Design,
+    cells: &[u32],
+    tables: &[u8],
+    next: &mut [u16; 4096],
+    first: &mut [u16; 8192],
+    keys: &mut [u32; 4096],
+    heads: &mut [u16; 4096],
+    starts: &mut [u16; 65],
+)
+    requires { ⌜ InRange d × Backed (now cells) (now tables) ⌝ }
+    ensures { λ _. ⌜ Catalogued d (now (cells .entry)) (now (tables .entry)) (now (next .exit)) (now (first .exit)) (now (keys .exit))
+        (now (heads .exit)) (now (starts .exit)) ⌝ }
+{
+    *next = [512; 4096];
+    *keys = [0; 4096];
+    *heads = [512; 4096];
+    *starts = [0; 65];
+    add_columns(d.rows, cells, tables, keys, heads, starts, next);
+    settle(d.rows, cells, tables, next);
+    make_firsts(d, cells, tables, keys, heads, starts, first);
+}

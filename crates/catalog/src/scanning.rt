@@ -1,0 +1,33 @@
+// Finding a value row by row: for rows and columns of tables that no design has.
+ghost use mathlib.Core.Path.{_≡_};
+ghost use Prim.Native.Nat.{_≤_, _<_};
+ghost use Rattle.model.specs.Cell.{cellOf};
+ghost use Rattle.model.specs.Database.{has};
+ghost use Rattle.state.specs.Design.{Backed};
+ghost use Rattle.state.specs.Meaning.{columnOf, databaseOf};
+ghost use Rattle.catalog.specs.First.{firstFrom};
+use state::Column;
+use state::Design;
+use state::row_has;
+
+// The first row from `from` on that has the value v in column k; 512 if none has. One step for each row.
+pub(crate) fn scan(
+    rows: usize,
+    cells: &[u32],
+    tables: &[u8],
+    k: Column,
+    v: u32,
+    from: usize,
+) -> usize
+    requires { ⌜ (from ≤ 512) × (k .place < 8) × Backed (now cells) (now tables) ⌝ }
+    ensures { λ s. ⌜ (s ≡ firstFrom (has (databaseOf rows (now (cells .entry)) (now (tables .entry))) (columnOf k) (cellOf v)) from) × (s ≤ 512) ⌝ }
+{
+    let mut r = from;
+    while r < Design::ROWS {
+        if row_has(rows, cells, tables, k, v, r) {
+            return r;
+        }
+        r += 1;
+    }
+    r
+}
