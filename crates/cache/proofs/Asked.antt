@@ -24,6 +24,11 @@ pub column-below : (d : Design) → lawfulDesign d ≡ true → (k : Column) →
 unfolding schemeOf
 column-below d w k e = let c = column-says (schemeOf d) (columnOf k) e in omega (arith, c .place, design-says d w .table (k .table) (c .table) .most)
 
+-- and its table too
+pub table-below : (d : Design) → lawfulDesign d ≡ true → (k : Column) → isColumn (schemeOf d) (columnOf k) ≡ true → k .table < 8
+unfolding schemeOf
+table-below d w k e = omega (arith, column-says (schemeOf d) (columnOf k) e .table, design-says d w .tables)
+
 -- a lawful record
 pub lawful-tidy : (d : Design) (h : Held) → lawfulDesign d ≡ true → lawfulHeld d h ≡ true → Tidy h
 lawful-tidy d h w e = let l = held-says d h w e in record { few = l .count; unused = λ i m k. l .rest i k m }
@@ -49,6 +54,9 @@ module _ (s : State) (e : sound s ≡ true) where
 
   pub sound-column : (k : Column) → isColumn (schemeOf (s .design)) (columnOf k) ≡ true → k .place < 8
   sound-column = column-below (s .design) (parts s e .design)
+
+  pub sound-table : (k : Column) → isColumn (schemeOf (s .design)) (columnOf k) ≡ true → k .table < 8
+  sound-table = table-below (s .design) (parts s e .design)
 
 -- buffers that are long enough
 pub long-asked : (s : State) → longEnough s ≡ true → Backed (s .cells) (s .tables) × (512 ≤ length (s .marks))

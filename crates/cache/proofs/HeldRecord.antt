@@ -4,15 +4,17 @@ use Prim.Native.Nat.{ℕ, _+_, _-_, _≤_, _<_}
 use native.Mathlib.Decide.{decLt}
 use native.Mathlib.Nat.{eq-or-lt-of-le}
 use native.Mathlib.Omega.{arith}
-use mathlib.Core.Path.{_≡_, sym, ap, ap₂, _∙_}
+use mathlib.Core.Path.{_≡_, refl, sym, ap, ap₂, _∙_}
 use mathlib.Core.Logic.{⊎-elim}
+use mathlib.Core.Bool.{Bool, true, false, cond}
 use mathlib.Core.List.{List, [], _∷_, _++_}
+use borrow.Author.Tests.{le-ltb}
 use lib.Dec.{ltb}
 use lib.ListN.{length, getD, set, length-set, List·getD-eq-default}
 use lib.Seq.{getD-set-same, getD-set-other}
 use Rattle.finite.specs.Finite.{tab}
-use Rattle.finite.proofs.Bools.{same-number}
-use Rattle.finite.proofs.Tables.{length-tab, tab-at, tab-of}
+use Rattle.finite.proofs.Bools.{same-number, cond-false}
+use Rattle.finite.proofs.Tables.{length-tab, tab-at, tab-of, Upto, upto-set, upto-end}
 use Rattle.model.specs.Runs.{Pair, listed, remove}
 use Rattle.state.specs.declared.held.HeldValue.{HeldValue}
 use Rattle.state.specs.declared.held.Held.{Held}
@@ -20,7 +22,7 @@ use Rattle.state.specs.Held.{noValue, heldAt}
 use Rattle.state.specs.Meaning.{pairOf, pairsOf, heldOf}
 use Rattle.lawful.proofs.HeldLaws.{pairAt}
 use Rattle.cache.specs.Places.{Tidy, placeOf, keptAt, without}
-use Rattle.cache.proofs.Pairs.{noPair, listed-place, end-length, end-before, end-last, end-past, skip, remove-none, remove-length, remove-at}
+use Rattle.cache.proofs.Pairs.{noPair, listed-place, end-length, end-before, end-last, end-past, skip, skip-behind, remove-none, remove-length, remove-at}
 
 -- the value that stands for a pair
 abbrev pub valueOf : Pair → HeldValue
@@ -93,6 +95,28 @@ module _ (h : Held) (t : Tidy h) (room : h .count < 64) (l : length (h .values) 
       (h .count) v ∙ l) ends
 
 -- ---- one fewer
+
+-- the values behind the gap move up by one place, in place: those before place i have, and those from there on have not
+module _ (h : Held) (gap : ℕ) where
+  pub shift-start : length (h .values) ≡ 64 → Upto noValue 64 gap (keptAt h gap) (heldAt h) (h .values)
+  shift-start l = record { long = l; at = λ r k. go r (ltb r gap) }
+    where
+      go : (r : ℕ) (b : Bool) → heldAt h r ≡ cond b (heldAt h (cond b r (r + 1))) (heldAt h r)
+      go r true = refl
+      go r false = refl
+
+  module _ (i : ℕ) (values : List HeldValue) (u : Upto noValue 64 i (keptAt h gap) (heldAt h) values) (o : gap ≤ i) where
+    pub shift-next : i + 1 < 64 → (v : HeldValue) → v ≡ getD values (i + 1) noValue → Upto noValue 64 (i + 1) (keptAt h gap) (heldAt h) (set values i v)
+    shift-next l v e =
+        upto-set noValue 64 i _ _ values u (omega arith) v
+        (e ∙ u .at (i + 1) l ∙ cond-false _ (keptAt h gap (i + 1)) (heldAt h (i + 1)) (le-ltb (i + 1) i (omega arith)) ∙ sym (ap (heldAt h) (skip-behind gap i o)))
+
+    pub shift-end : length (h .values) ≡ 64 → (n : ℕ) → (n ≡ i) × (i ≡ 63) → set values n noValue ≡ tab 64 (keptAt h gap)
+    shift-end l n z =
+        ap (λ (m : ℕ). set values m noValue) (z .0) ∙
+        upto-end noValue 64 (i + 1) _ _ _
+        (upto-set noValue 64 i _ _ values u (omega (arith, z .1)) noValue
+        (sym (ap (heldAt h) (skip-behind gap i o) ∙ List·getD-eq-default (h .values) noValue (omega (arith, z .1))))) (omega (arith, z .1)) (omega (arith, z .1))
 
 pub closed-is : (h : Held) (gap : ℕ) (values : List HeldValue) → values ≡ tab 64 (keptAt h gap) →
     _≡_ {A = Held} (record { count = h .count - 1; values = values }) (without h gap)

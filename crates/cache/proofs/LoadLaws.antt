@@ -1,16 +1,22 @@
 -- What the load's functions give over lent rows, in the words of specs/Loads.antt. Assumes nothing.
-use Prim.Native.Nat.{ℕ, _≤_}
-use mathlib.Core.Path.{_≡_, sym, ap, ap₂, subst, _∙_}
-use mathlib.Core.Bool.{false, not, cond, _&&_}
+use Prim.Native.Nat.{ℕ, zero, suc, _+_, _-_, _≤_, _<_}
+use native.Mathlib.Omega.{arith}
+use mathlib.Core.Path.{_≡_, refl, ap, ap₂, _∙_}
+use mathlib.Core.Bool.{Bool, true, false, not, cond, _&&_}
 use mathlib.Core.List.{List, _++_}
-use lib.Dec.{eqb, ltb}
+use lib.Dec.{eqb}
 use lib.ListN.{length, getD, drop}
 use Rattle.finite.specs.Finite.{all, count, tab}
+use Rattle.finite.proofs.Bools.{clash}
+use Rattle.finite.proofs.Search.{all-same}
+use Rattle.finite.proofs.Counting.{count-le, count-same}
+use Rattle.finite.proofs.Tables.{tab-same}
 use Rattle.model.specs.Answers as Answers
-use Rattle.model.specs.Cache.{RowSet}
+use Rattle.model.specs.Cache.{RowSet, Inside}
 use Rattle.model.specs.Cell.{cellOf}
-use Rattle.model.specs.Database.{has}
-use Rattle.model.specs.Rounds.{level, reached, start, levels, load, addedRows, laterRounds}
+use Rattle.model.specs.Scheme.{Scheme}
+use Rattle.model.specs.Database.{Database, has}
+use Rattle.model.specs.Rounds.{reached, load, addedRows, laterRounds}
 use Rattle.model.specs.Runs.{wanted, marks, marked, reloadLevels}
 use Rattle.model.proofs.RoundsLaws.{levels-length}
 use Rattle.state.specs.declared.design.Column.{Column}
@@ -18,62 +24,89 @@ use Rattle.state.specs.declared.design.Design.{Design}
 use Rattle.state.specs.declared.held.Held.{Held}
 use Rattle.state.specs.Meaning.{columnOf, schemeOf, databaseOf, pairsOf}
 use Rattle.state.specs.Lawful.{lawfulMarks}
-use Rattle.load.proofs.StartLaws.{length-start, start-low, load-is}
+use Rattle.load.specs.Ended.{Covers, Within, Reaches}
+use Rattle.load.proofs.EndedLaws.{load-covered}
 use Rattle.cache.specs.Loads.{rowsOf, valueLevels, heldLevels, settled, goneRows}
 
+-- ---- counting
+
+-- those that pass p and not q, where all that pass q pass p
+count-rest : (n : ℕ) (p q : ℕ → Bool) → ((i : ℕ) → q i ≡ true → p i ≡ true) → count n q + count n (λ i. p i && not (q i)) ≡ count n p
+unfolding count
+count-rest zero p q h = refl
+count-rest (suc n) p q h = go (p n) (q n) (h n) (count-rest n p q h)
+  where
+    go : (a b : Bool) → (b ≡ true → a ≡ true) → count n q + count n (λ i. p i && not (q i)) ≡ count n p →
+        count n q + cond b 1 0 + (count n (λ i. p i && not (q i)) + cond (a && not b) 1 0) ≡ count n p + cond a 1 0
+    go true true g e = omega (arith, e)
+    go true false g e = omega (arith, e)
+    go false true g e = clash (g refl) refl
+    go false false g e = omega (arith, e)
+
+-- ---- what a load may add
+
+-- the rows that it may add are as many as they are
+pub within-count : {S : Scheme} {D : Database} {seed X : RowSet} {n : ℕ} → n ≡ count 512 X → Covers S D seed X → Within S D seed n
+within-count {X} e c = record { set = X; covers = c; few = omega arith }
+
+-- all row numbers are 512
+pub within-all : (S : Scheme) (D : Database) (seed : RowSet) → Within S D seed 512
+within-all S D seed =
+    record { set = λ _. true; covers = record { closed = λ s r x y. refl; seeds = λ r e. refl }; few = count-le 512 (λ _. true) }
+
 module _ (d : Design) (cells tables : List ℕ) where
-  -- ---- round 0 and the later rounds
-
-  module _ (old seed : RowSet) (L : List ℕ) (e : L ≡ start (rowsOf d cells tables) old seed) where
-    pub started-long : length L ≡ 512
-    unfolding databaseOf
-    started-long = ap length e ∙ length-start (rowsOf d cells tables) old seed
-
-    pub started-low : (r : ℕ) → getD L r 0 ≤ 2
-    started-low r = subst (λ (K : List ℕ). getD K r 0 ≤ 2) (sym e) (start-low (rowsOf d cells tables) old seed r)
-
-    pub closed-is : (K : List ℕ) → K ≡ levels (schemeOf d) (rowsOf d cells tables) L 512 → K ≡ load (schemeOf d) (rowsOf d cells tables) old seed
-    closed-is K f = f ∙ ap (λ (J : List ℕ). levels (schemeOf d) (rowsOf d cells tables) J 512) e ∙ load-is (schemeOf d) (d .rows) cells tables old seed
-
-    pub closed-long : (K : List ℕ) → K ≡ levels (schemeOf d) (rowsOf d cells tables) L 512 → length K ≡ 512
-    unfolding databaseOf
-    closed-long K f =
-        ap length f ∙ ap (λ (J : List ℕ). length (levels (schemeOf d) (rowsOf d cells tables) J 512)) e ∙
-        levels-length (schemeOf d) (rowsOf d cells tables) old seed 512
-
-  -- ---- what is read off the levels K of a load, which are L
-
-  module _ (K L : List ℕ) (e : K ≡ L) where
-    added-is : (n : ℕ) → n ≡ count 512 (λ r. ltb 1 (level K r)) → n ≡ addedRows (rowsOf d cells tables) L
-    unfolding addedRows databaseOf
-    added-is n f = f ∙ ap (λ (J : List ℕ). count 512 (λ r. ltb 1 (level J r))) e
-
-    pub loaded-is : (rows rounds : ℕ) → rows ≡ count 512 (λ r. ltb 1 (level K r)) → rounds ≡ laterRounds (rowsOf d cells tables) K →
-        Answers.loaded rows rounds ≡ Answers.loaded (addedRows (rowsOf d cells tables) L) (laterRounds (rowsOf d cells tables) L)
-    loaded-is rows rounds f g = ap₂ Answers.loaded (added-is rows f) (g ∙ ap (laterRounds (rowsOf d cells tables)) e)
-
-    pub dropped-is : (m : List ℕ) (n : ℕ) → n ≡ count 512 (λ r. marked m r && not (reached K r)) →
-        Answers.dropped n ≡ Answers.dropped (goneRows (rowsOf d cells tables) L m)
-    unfolding goneRows databaseOf
-    dropped-is m n f = ap Answers.dropped (f ∙ ap (λ (J : List ℕ). count 512 (λ r. marked m r && not (reached J r))) e)
-
-    pub settled-is : (m new : List ℕ) → new ≡ tab 512 (λ r. cond (reached K r) 1 0) ++ drop 512 m → new ≡ settled (rowsOf d cells tables) L m
-    unfolding settled marks databaseOf
-    settled-is m new f = f ∙ ap (λ (J : List ℕ). tab 512 (λ r. cond (reached J r) 1 0) ++ drop 512 m) e
-
-  pub agree-is : (h : Held) (m K : List ℕ) → K ≡ heldLevels d cells tables h → all 512 (λ r. eqb (getD m r 0) (cond
-      (reached K r) 1 0)) ≡ lawfulMarks d cells tables h m
-  unfolding lawfulMarks heldLevels
-  agree-is h m K e = ap (λ (J : List ℕ). all 512 (λ r. eqb (getD m r 0) (cond (reached J r) 1 0))) e
-
-  -- ---- the two loads
+  -- ---- a load of one value more
 
   pub value-is : (m : List ℕ) (k : Column) (v : ℕ) (K : List ℕ) →
       K ≡ load (schemeOf d) (rowsOf d cells tables) (marked m) (has (rowsOf d cells tables) (columnOf k) (cellOf v)) → K ≡ valueLevels d cells tables m k v
   unfolding valueLevels
   value-is m k v K e = e
 
-  pub reload-is : (h : Held) (K : List ℕ) →
-      K ≡ load (schemeOf d) (rowsOf d cells tables) (λ _. false) (wanted (schemeOf d) (rowsOf d cells tables) (pairsOf h)) → K ≡ heldLevels d cells tables h
-  unfolding heldLevels reloadLevels
-  reload-is h K e = e
+  pub value-long : (m : List ℕ) (k : Column) (v : ℕ) (K : List ℕ) →
+      K ≡ load (schemeOf d) (rowsOf d cells tables) (marked m) (has (rowsOf d cells tables) (columnOf k) (cellOf v)) → length K ≡ 512
+  unfolding load databaseOf
+  value-long m k v K e = ap length e ∙ levels-length (schemeOf d) (rowsOf d cells tables) _ _ 512
+
+  pub loaded-is : (K L : List ℕ) (rows rounds : ℕ) → K ≡ L → rows ≡ addedRows (rowsOf d cells tables) K → rounds ≡ laterRounds (rowsOf d cells tables) K →
+      Answers.loaded rows rounds ≡ Answers.loaded (addedRows (rowsOf d cells tables) L) (laterRounds (rowsOf d cells tables) L)
+  loaded-is K L rows rounds e f g =
+      ap₂ Answers.loaded (f ∙ ap (addedRows (rowsOf d cells tables)) e) (g ∙ ap (laterRounds (rowsOf d cells tables)) e)
+
+  -- ---- what is read off levels K that reach the rows that the levels L do
+
+  module _ (K L : List ℕ) (same : (r : ℕ) → r < 512 → reached K r ≡ reached L r) where
+    pub settled-is : (m new : List ℕ) → new ≡ tab 512 (λ r. cond (reached K r) 1 0) ++ drop 512 m → new ≡ settled (rowsOf d cells tables) L m
+    unfolding settled marks databaseOf
+    settled-is m new f = f ∙ ap (λ (xs : List ℕ). xs ++ drop 512 m) (tab-same 512 _ _ (λ r l. ap (λ (b : Bool). cond b 1 0) (same r l)))
+
+    gone-is : (m : List ℕ) → Inside (reached L) (marked m) → count 512 (reached K) + goneRows (rowsOf d cells tables) L m ≡ count 512 (marked m)
+    unfolding goneRows databaseOf
+    gone-is m i =
+        ap (λ (n : ℕ). n + count 512 (λ r. marked m r && not (reached L r))) (count-same 512 (reached K) (reached L) same) ∙
+        count-rest 512 (marked m) (reached L) i
+
+  -- ---- the load of all held values
+
+  module _ (h : Held) (K : List ℕ) (rows : ℕ) (u : Reaches K (reloadLevels (schemeOf d) (rowsOf d cells tables) (pairsOf h)) rows) where
+    pub held-same : (r : ℕ) → r < 512 → reached K r ≡ reached (heldLevels d cells tables h) r
+    unfolding heldLevels
+    held-same = u .same
+
+    pub agree-is : (m : List ℕ) → all 512 (λ r. eqb (getD m r 0) (cond (reached K r) 1 0)) ≡ lawfulMarks d cells tables h m
+    unfolding lawfulMarks
+    agree-is m = all-same 512 _ _ (λ r l. ap (λ (b : Bool). eqb (getD m r 0) (cond b 1 0)) (u .same r l))
+
+    module _ (m : List ℕ) (cached : ℕ) (e : cached ≡ count 512 (marked m)) (c : Covers (schemeOf d) (rowsOf d cells tables) (wanted (schemeOf d)
+        (rowsOf d cells tables) (pairsOf h)) (marked m)) where
+      all-marked : Inside (reached (heldLevels d cells tables h)) (marked m)
+      unfolding heldLevels reloadLevels
+      all-marked = load-covered (schemeOf d) (rowsOf d cells tables) _ (marked m) c
+
+      gone : count 512 (reached K) + goneRows (rowsOf d cells tables) (heldLevels d cells tables h) m ≡ count 512 (marked m)
+      gone = gone-is K _ held-same m all-marked
+
+      pub rows-fewer : rows ≤ cached
+      rows-fewer = omega (arith, gone, u .size)
+
+      pub dropped-is : Answers.dropped (cached - rows) ≡ Answers.dropped (goneRows (rowsOf d cells tables) (heldLevels d cells tables h) m)
+      dropped-is = ap Answers.dropped (omega (arith, gone, u .size))

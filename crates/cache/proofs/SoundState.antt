@@ -1,14 +1,14 @@
 -- Sound states: what `sound` says in parts, and that an operation leaves a sound state. Assumes nothing.
 use Prim.Native.Nat.{ℕ, _+_, _≤_}
 use native.Mathlib.Omega.{arith}
-use mathlib.Core.Path.{_≡_, ap, ap₂, _∙_}
-use mathlib.Core.Bool.{Bool, true, not, and-eq-true-iff}
+use mathlib.Core.Path.{_≡_, sym, ap, ap₂, _∙_}
+use mathlib.Core.Bool.{Bool, true, false, not, and-eq-true-iff}
 use mathlib.Core.List.{List, _++_}
 use borrow.Author.Tests.{le-leb, leb-true, eq-eqb, eqb-true}
 use lib.Dec.{leb}
 use lib.ListN.{length, getD, take, drop as past, length-append, List·getD-append}
 use lib.Seq.{getD-take, length-take-le}
-use Rattle.finite.proofs.Bools.{both, cond-true}
+use Rattle.finite.proofs.Bools.{both, and-left, and-right, cond-true}
 use Rattle.finite.proofs.Search.{all-at, all-true}
 use Rattle.finite.proofs.Tables.{tab-at, tab-of}
 use Rattle.model.specs.Answers.{unless, answer}
@@ -59,6 +59,11 @@ unfolding longEnough lawful
 from-parts s p =
     both (both (le-leb _ _ (p .long .cells)) (both (le-leb _ _ (p .long .tables)) (le-leb _ _ (p .long .marks))))
     (both (p .design) (both (p .rows) (both (p .held) (p .marks))))
+
+-- a part that is not lawful, whatever those before it are
+pub held-unlawful : (s : State) → lawfulHeld (s .design) (s .held) ≡ false → false ≡ lawful s
+unfolding lawful
+held-unlawful s e = sym (and-right (lawfulDesign (s .design)) _ (and-right (lawfulRows (s .design) (s .cells) (s .tables)) _ (and-left (lawfulHeld (s .design) (s .held)) _ e)))
 
 -- ---- the marks
 

@@ -1,7 +1,7 @@
 -- From the tests of the code to what an operation on a sound state answers and leaves. Assumes nothing.
 use Prim.Native.Nat.{ℕ, _≤_, _<_}
 use native.Mathlib.Omega.{arith}
-use mathlib.Core.Path.{_≡_, refl, sym, ap, ap₂, _∙_}
+use mathlib.Core.Path.{_≡_, refl, sym, ap, ap₂, subst, _∙_}
 use mathlib.Core.Bool.{Bool, true, false, not, _&&_}
 use mathlib.Core.List.{List, [], _∷_, _++_}
 use borrow.Author.Tests.{lt-ltb, le-ltb, eq-eqb, ne-eqb}
@@ -14,7 +14,7 @@ use Rattle.finite.proofs.Tables.{length-tab}
 use Rattle.model.specs.Cell.{cellOf, isBlank}
 use Rattle.model.specs.Scheme.{candidate}
 use Rattle.model.specs.Rounds.{reached, addedRows, laterRounds}
-use Rattle.model.specs.Runs.{Operation, refer, drop, listed, remove, places, marks, marked, Cache, referLevels, reloadLevels}
+use Rattle.model.specs.Runs.{Pair, Operation, refer, drop, listed, remove, wanted, places, marks, marked, Cache, referLevels, reloadLevels}
 use Rattle.model.specs.Answers as Answers
 use Rattle.model.specs.Answers.{answer, unless, loaded, dropped}
 use Rattle.model.proofs.RoundsLaws.{load-same}
@@ -29,10 +29,12 @@ use Rattle.state.specs.Step.{State, scheme, database, cache, longEnough, lawful
 use Rattle.lawful.proofs.DesignLaws.{low-full}
 use Rattle.lawful.proofs.HeldLaws.{PairsFit, held-count, held-filling, held-back, pairs-fit, pairs-back, fit-held}
 use Rattle.probe.proofs.GroundLaws.{marked-front}
+use Rattle.load.specs.Ended.{Covers}
 use Rattle.cache.specs.Places.{pair}
 use Rattle.cache.specs.Loads.{rowsOf, valueLevels, heldLevels, settled, goneRows}
 use Rattle.cache.specs.Stepped.{Stepped, SoundStep}
 use Rattle.cache.proofs.Answering.{Leaves, refer-nowhere, refer-blank, refer-none, refer-held, refer-full, refer-loads, refer-leaves, drop-nowhere, drop-blank, drop-none, drop-drops, drop-leaves}
+use Rattle.cache.proofs.Covered.{sound-covers}
 use Rattle.cache.proofs.HeldRecord.{pairs-length}
 use Rattle.cache.proofs.PairsFit.{fit-fewer, listed-fits, listed-full}
 use Rattle.cache.proofs.SoundState.{parts, after, answer-at, held-after, marks-after, sound-after}
@@ -179,15 +181,18 @@ module _ (s : State) (e : sound s ≡ true) where
           left-lawful : lawfulHeld (s .design) h ≡ true
           left-lawful = rw q (fit-held (s .design) (remove (pair filling value) (pairsOf (s .held))) left-fit)
 
-          left-long : length (h .values) ≡ 64
-          unfolding heldOf
-          left-long = ap (λ (k : Held). length (k .values)) q ∙ length-tab 64 _
-
           pub left-count : h .count ≤ 64
           left-count = held-count (s .design) h left-lawful
 
           pub left-filling : (i : ℕ) → heldAt h i .filling < 8
-          left-filling = held-filling (s .design) h (parts s e .design) left-lawful left-long
+          unfolding heldOf
+          left-filling = held-filling (s .design) h (parts s e .design) left-lawful (ap (λ (g : Held). length (g .values)) q ∙ length-tab 64 _)
+
+          -- the cached rows have what it wants
+          pub left-covers : Covers (scheme s) (database s) (wanted (scheme s) (database s) (pairsOf h)) (marked (s .marks))
+          left-covers =
+              subst (λ (ps : List Pair). Covers (scheme s) (database s) (wanted (scheme s) (database s) ps) (marked (s .marks)))
+              (sym (ap pairsOf q ∙ pairs-back _ (left-fit .few))) (sound-covers s e (pair filling value))
 
           -- a load of what it holds is the reload of the pairs that are left
           reload-same : heldLevels (s .design) (s .cells) (s .tables) h ≡ reloadLevels (scheme s) (database s) (remove (pair filling value) (pairsOf (s .held)))

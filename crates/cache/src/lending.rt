@@ -4,6 +4,7 @@ ghost use mathlib.Core.Bool.{true};
 ghost use mathlib.Core.Path.{_≡_};
 ghost use Rattle.model.specs.Runs as Runs;
 ghost use Rattle.state.specs.Step.{lent, sound};
+ghost use Rattle.catalog.specs.Catalog.{Catalogued};
 ghost use Rattle.cache.specs.Places.{pair};
 ghost use Rattle.cache.specs.Stepped.{SoundStep};
 use crate::dropping::drop_lawful;
@@ -18,17 +19,36 @@ pub fn refer(
     design: Design,
     cells: &[u32],
     tables: &[u8],
+    next: &[u16; 4096],
+    first: &[u16; 8192],
+    keys: &[u32; 4096],
+    heads: &[u16; 4096],
+    starts: &[u16; 65],
     marks: &mut [u8],
     held: &mut Held,
     filling: u8,
     value: u32,
 ) -> Answer
-    requires { ⌜ sound (lent design (now cells) (now tables) (now marks) (now held)) ≡ true ⌝ }
+    requires { ⌜ (sound (lent design (now cells) (now tables) (now marks) (now held)) ≡ true)
+        × Catalogued design (now cells) (now tables) (now next) (now first) (now keys) (now heads) (now starts) ⌝ }
     ensures { λ a. ⌜ SoundStep (lent design (now (cells .entry)) (now (tables .entry)) (now (marks .entry)) (now (held .entry)))
         (Runs.refer (pair filling value)) (record { held = now (held .exit); answer = a }) (now (marks .exit)) ⌝ }
 {
     let h = *held;
-    let o = refer_lawful(design, cells, tables, marks, h, filling, value);
+    let o = refer_lawful(
+        design,
+        cells,
+        tables,
+        next,
+        first,
+        keys,
+        heads,
+        starts,
+        marks,
+        h,
+        filling,
+        value,
+    );
     *held = o.held;
     o.answer
 }
@@ -38,17 +58,36 @@ pub fn drop(
     design: Design,
     cells: &[u32],
     tables: &[u8],
+    next: &[u16; 4096],
+    first: &[u16; 8192],
+    keys: &[u32; 4096],
+    heads: &[u16; 4096],
+    starts: &[u16; 65],
     marks: &mut [u8],
     held: &mut Held,
     filling: u8,
     value: u32,
 ) -> Answer
-    requires { ⌜ sound (lent design (now cells) (now tables) (now marks) (now held)) ≡ true ⌝ }
+    requires { ⌜ (sound (lent design (now cells) (now tables) (now marks) (now held)) ≡ true)
+        × Catalogued design (now cells) (now tables) (now next) (now first) (now keys) (now heads) (now starts) ⌝ }
     ensures { λ a. ⌜ SoundStep (lent design (now (cells .entry)) (now (tables .entry)) (now (marks .entry)) (now (held .entry)))
         (Runs.drop (pair filling value)) (record { held = now (held .exit); answer = a }) (now (marks .exit)) ⌝ }
 {
     let h = *held;
-    let o = drop_lawful(design, cells, tables, marks, h, filling, value);
+    let o = drop_lawful(
+        design,
+        cells,
+        tables,
+        next,
+        first,
+        keys,
+        heads,
+        starts,
+        marks,
+        h,
+        filling,
+        value,
+    );
     *held = o.held;
     o.answer
 }
@@ -58,17 +97,36 @@ pub fn refer_held(
     design: Design,
     cells: &[u32],
     tables: &[u8],
+    next: &[u16; 4096],
+    first: &[u16; 8192],
+    keys: &[u32; 4096],
+    heads: &[u16; 4096],
+    starts: &[u16; 65],
     marks: &mut [u8],
     held: Held,
     filling: u8,
     value: u32,
 ) -> Outcome
-    requires { ⌜ sound (lent design (now cells) (now tables) (now marks) held) ≡ true ⌝ }
+    requires { ⌜ (sound (lent design (now cells) (now tables) (now marks) held) ≡ true)
+        × Catalogued design (now cells) (now tables) (now next) (now first) (now keys) (now heads) (now starts) ⌝ }
     ensures { λ o. ⌜ SoundStep (lent design (now (cells .entry)) (now (tables .entry)) (now (marks .entry)) held)
         (Runs.refer (pair filling value)) o (now (marks .exit)) ⌝ }
 {
     let mut h = held;
-    let a = refer(design, cells, tables, marks, &mut h, filling, value);
+    let a = refer(
+        design,
+        cells,
+        tables,
+        next,
+        first,
+        keys,
+        heads,
+        starts,
+        marks,
+        &mut h,
+        filling,
+        value,
+    );
     Outcome { held: h, answer: a }
 }
 
@@ -77,16 +135,35 @@ pub fn drop_held(
     design: Design,
     cells: &[u32],
     tables: &[u8],
+    next: &[u16; 4096],
+    first: &[u16; 8192],
+    keys: &[u32; 4096],
+    heads: &[u16; 4096],
+    starts: &[u16; 65],
     marks: &mut [u8],
     held: Held,
     filling: u8,
     value: u32,
 ) -> Outcome
-    requires { ⌜ sound (lent design (now cells) (now tables) (now marks) held) ≡ true ⌝ }
+    requires { ⌜ (sound (lent design (now cells) (now tables) (now marks) held) ≡ true)
+        × Catalogued design (now cells) (now tables) (now next) (now first) (now keys) (now heads) (now starts) ⌝ }
     ensures { λ o. ⌜ SoundStep (lent design (now (cells .entry)) (now (tables .entry)) (now (marks .entry)) held)
         (Runs.drop (pair filling value)) o (now (marks .exit)) ⌝ }
 {
     let mut h = held;
-    let a = drop(design, cells, tables, marks, &mut h, filling, value);
+    let a = drop(
+        design,
+        cells,
+        tables,
+        next,
+        first,
+        keys,
+        heads,
+        starts,
+        marks,
+        &mut h,
+        filling,
+        value,
+    );
     Outcome { held: h, answer: a }
 }

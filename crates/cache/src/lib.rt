@@ -1,4 +1,5 @@
 // The operations REFER, DROP and PROBE for whatever is lent, and the test for cause 12.
+mod distinct;
 mod dropping;
 mod lending;
 mod loads;
@@ -21,4 +22,5 @@ pub use outcome::Outcome;
 pub use probing::probe_lawful;
 pub use referring::refer_lawful;
 pub use tests::is_lawful;
+pub use tests::is_lawful_catalog;
 pub use tests::is_long_enough;

@@ -1,44 +1,42 @@
-// Loads on lent rows: of one value more, and of all held values from nothing.
+// Loads on lent rows, by their catalog, and the marks that they leave: of one value more, and of all held values from nothing.
 ghost use Prim.Native.Nat.{ℕ, _<_, _≤_};
 ghost use mathlib.Core.Path.{_≡_};
 ghost use lib.ListN.{length};
 ghost use Rattle.model.specs.Answers as Answers;
 ghost use Rattle.model.specs.Rounds.{addedRows, laterRounds};
-ghost use Rattle.state.specs.Design.{InRange, Backed};
+ghost use Rattle.model.specs.Runs.{marked, wanted};
+ghost use Rattle.state.specs.Design.{InRange};
 ghost use Rattle.state.specs.Held.{heldAt};
-ghost use Rattle.state.specs.Meaning.{answerOf};
+ghost use Rattle.state.specs.Meaning.{answerOf, schemeOf, pairsOf};
+ghost use Rattle.catalog.specs.Catalog.{Catalogued};
+ghost use Rattle.load.specs.Ended.{Covers};
 ghost use Rattle.cache.specs.Loads.{rowsOf, valueLevels, heldLevels, settled, goneRows};
-use load::close;
-use load::rows_added;
-use load::rows_gone;
+use load::load_held;
+use load::load_value;
+use load::rows_marked;
 use load::settle;
-use load::start_held;
-use load::start_value;
 use state::Answer;
 use state::Column;
 use state::Design;
 use state::Held;
 
-// The levels of a load of all held values from nothing. A step for each row that is reached and each constraint, if the values are spread.
-pub(crate) fn reloaded(design: Design, cells: &[u32], tables: &[u8], held: Held) -> [u16; 512]
-    requires { ⌜ InRange design × Backed (now cells) (now tables) × (held .count ≤ 64) × ((i : ℕ) → heldAt held i .filling < 8) ⌝ }
-    ensures { λ l. ⌜ l ≡ heldLevels design (now (cells .entry)) (now (tables .entry)) held ⌝ }
-{
-    let mut levels = start_held(design, cells, tables, held);
-    close(design, cells, tables, &mut levels);
-    levels
-}
-
-// Loads one value more and marks the rows. A step for each row that is added and each constraint, if the values are spread.
-pub(crate) fn load_value(
+// Loads one value more and marks the rows. Two passes over the marks, a search of the directory, then a step for each row that is added and each
+// constraint.
+pub(crate) fn mark_value(
     design: Design,
     cells: &[u32],
     tables: &[u8],
+    next: &[u16; 4096],
+    first: &[u16; 8192],
+    keys: &[u32; 4096],
+    heads: &[u16; 4096],
+    starts: &[u16; 65],
     marks: &mut [u8],
     column: Column,
     value: u32,
 ) -> Answer
-    requires { ⌜ InRange design × Backed (now cells) (now tables) × (512 ≤ length (now marks)) × (column .place < 8) ⌝ }
+    requires { ⌜ InRange design × (512 ≤ length (now marks)) × (column .table < 8) × (column .place < 8) ⌝ }
+    requires { ⌜ Catalogued design (now cells) (now tables) (now next) (now first) (now keys) (now heads) (now starts) ⌝ }
     ensures { λ a. ⌜ (answerOf a ≡ Answers.loaded
         (addedRows (rowsOf design (now (cells .entry)) (now (tables .entry)))
         (valueLevels design (now (cells .entry)) (now (tables .entry)) (now (marks .entry)) column value))
@@ -47,30 +45,64 @@ pub(crate) fn load_value(
         × (now (marks .exit) ≡ settled (rowsOf design (now (cells .entry)) (now (tables .entry)))
         (valueLevels design (now (cells .entry)) (now (tables .entry)) (now (marks .entry)) column value) (now (marks .entry))) ⌝ }
 {
-    let mut levels = start_value(design.rows, cells, tables, marks, column, value);
-    let rounds = close(design, cells, tables, &mut levels);
-    let rows = rows_added(&levels);
+    let mut levels = [0u16; 512];
+    let grown = load_value(
+        design,
+        cells,
+        tables,
+        next,
+        first,
+        keys,
+        heads,
+        starts,
+        marks,
+        column,
+        value,
+        &mut levels,
+    );
     settle(marks, &levels);
-    Answer::Loaded(rows, rounds)
+    Answer::Loaded(grown.rows, grown.rounds)
 }
 
-// Loads the held values from nothing, marks the rows that they reach, and counts those that were marked and went.
-// A step for each row that is reached and each constraint, if the values are spread.
-pub(crate) fn reload(
+// Loads the held values from nothing, marks the rows that they reach, and counts those that were marked and went: no row is reached that was not marked,
+// so that the load stops once as many are reached as were. Two passes over the marks, a search of the directory for each held value, then a step for each
+// row that is reached and each constraint.
+pub(crate) fn mark_held(
     design: Design,
     cells: &[u32],
     tables: &[u8],
+    next: &[u16; 4096],
+    first: &[u16; 8192],
+    keys: &[u32; 4096],
+    heads: &[u16; 4096],
+    starts: &[u16; 65],
     marks: &mut [u8],
     held: Held,
 ) -> Answer
-    requires { ⌜ InRange design × Backed (now cells) (now tables) × (512 ≤ length (now marks)) × (held .count ≤ 64) × ((i : ℕ) → heldAt held i .filling < 8) ⌝ }
+    requires { ⌜ InRange design × (512 ≤ length (now marks)) × (held .count ≤ 64) × ((i : ℕ) → heldAt held i .filling < 8) ⌝ }
+    requires { ⌜ Catalogued design (now cells) (now tables) (now next) (now first) (now keys) (now heads) (now starts) ⌝ }
+    requires { ⌜ Covers (schemeOf design) (rowsOf design (now cells) (now tables))
+        (wanted (schemeOf design) (rowsOf design (now cells) (now tables)) (pairsOf held)) (marked (now marks)) ⌝ }
     ensures { λ a. ⌜ (answerOf a ≡ Answers.dropped (goneRows (rowsOf design (now (cells .entry)) (now (tables .entry)))
         (heldLevels design (now (cells .entry)) (now (tables .entry)) held) (now (marks .entry))))
         × (now (marks .exit) ≡ settled (rowsOf design (now (cells .entry)) (now (tables .entry)))
         (heldLevels design (now (cells .entry)) (now (tables .entry)) held) (now (marks .entry))) ⌝ }
 {
-    let levels = reloaded(design, cells, tables, held);
-    let rows = rows_gone(marks, &levels);
+    let cached = rows_marked(marks);
+    let mut levels = [0u16; 512];
+    let rows = load_held(
+        design,
+        cells,
+        tables,
+        next,
+        first,
+        keys,
+        heads,
+        starts,
+        held,
+        cached,
+        &mut levels,
+    );
     settle(marks, &levels);
-    Answer::Dropped(rows)
+    Answer::Dropped(cached - rows)
 }

@@ -1,4 +1,5 @@
-// REFER, DROP and PROBE for whatever is lent: cause 7, then 12, then the operation over a sound state.
+// REFER, DROP and PROBE for whatever is lent: cause 7, then 12, then the operation over a sound state, by the catalog that the
+// test for cause 12 made.
 ghost use mathlib.Core.Path.{_≡_};
 ghost use Rattle.model.specs.Cell.{cellOf};
 ghost use Rattle.model.specs.Runs as Runs;
@@ -10,13 +11,13 @@ use crate::lending::drop_held;
 use crate::lending::refer_held;
 use crate::outcome::Outcome;
 use crate::probing::probe_lawful;
-use crate::tests::is_lawful;
+use crate::tests::is_lawful_catalog;
 use crate::tests::is_long_enough;
 use state::Answer;
 use state::Design;
 use state::Held;
 
-// REFER. The test for cause 12 (rows × rows × unique columns at most, and a reload), then one load.
+// REFER. The test for cause 12 (rows × rows × unique columns at most, the catalog, and a reload), then one load.
 pub fn referred(
     design: Design,
     cells: &[u32],
@@ -33,14 +34,43 @@ pub fn referred(
         let answer = Answer::Refused(7);
         return Outcome { held, answer };
     }
-    if !is_lawful(design, cells, tables, marks, held) {
+    let mut next = [512u16; 4096];
+    let mut first = [512u16; 8192];
+    let mut keys = [0u32; 4096];
+    let mut heads = [512u16; 4096];
+    let mut starts = [0u16; 65];
+    if !is_lawful_catalog(
+        design,
+        cells,
+        tables,
+        &mut next,
+        &mut first,
+        &mut keys,
+        &mut heads,
+        &mut starts,
+        marks,
+        held,
+    ) {
         let answer = Answer::Refused(12);
         return Outcome { held, answer };
     }
-    refer_held(design, cells, tables, marks, held, filling, value)
+    refer_held(
+        design,
+        cells,
+        tables,
+        &next,
+        &first,
+        &keys,
+        &heads,
+        &starts,
+        marks,
+        held,
+        filling,
+        value,
+    )
 }
 
-// DROP. The test for cause 12 (rows × rows × unique columns at most, and a reload), then one reload.
+// DROP. The test for cause 12 (rows × rows × unique columns at most, the catalog, and a reload), then one reload.
 pub fn dropped(
     design: Design,
     cells: &[u32],
@@ -57,14 +87,44 @@ pub fn dropped(
         let answer = Answer::Refused(7);
         return Outcome { held, answer };
     }
-    if !is_lawful(design, cells, tables, marks, held) {
+    let mut next = [512u16; 4096];
+    let mut first = [512u16; 8192];
+    let mut keys = [0u32; 4096];
+    let mut heads = [512u16; 4096];
+    let mut starts = [0u16; 65];
+    if !is_lawful_catalog(
+        design,
+        cells,
+        tables,
+        &mut next,
+        &mut first,
+        &mut keys,
+        &mut heads,
+        &mut starts,
+        marks,
+        held,
+    ) {
         let answer = Answer::Refused(12);
         return Outcome { held, answer };
     }
-    drop_held(design, cells, tables, marks, held, filling, value)
+    drop_held(
+        design,
+        cells,
+        tables,
+        &next,
+        &first,
+        &keys,
+        &heads,
+        &starts,
+        marks,
+        held,
+        filling,
+        value,
+    )
 }
 
-// PROBE. The test for cause 12 (rows × rows × unique columns at most, and a reload), then rows for each constraint that ends at the column.
+// PROBE. The test for cause 12 (rows × rows × unique columns at most, the catalog, and a reload), then a look for the value for each
+// constraint that ends at the column.
 pub fn probed(
     design: Design,
     cells: &[u32],
@@ -81,8 +141,37 @@ pub fn probed(
     if !is_long_enough(cells, tables, marks) {
         return Answer::Refused(7);
     }
-    if !is_lawful(design, cells, tables, marks, held) {
+    let mut next = [512u16; 4096];
+    let mut first = [512u16; 8192];
+    let mut keys = [0u32; 4096];
+    let mut heads = [512u16; 4096];
+    let mut starts = [0u16; 65];
+    if !is_lawful_catalog(
+        design,
+        cells,
+        tables,
+        &mut next,
+        &mut first,
+        &mut keys,
+        &mut heads,
+        &mut starts,
+        marks,
+        held,
+    ) {
         return Answer::Refused(12);
     }
-    probe_lawful(design, cells, tables, marks, held, table, column, value)
+    probe_lawful(
+        design,
+        cells,
+        tables,
+        &next,
+        &keys,
+        &heads,
+        &starts,
+        marks,
+        held,
+        table,
+        column,
+        value,
+    )
 }

@@ -3,9 +3,10 @@ ghost use mathlib.Core.Bool.{true};
 ghost use mathlib.Core.Path.{_≡_};
 ghost use Rattle.model.specs.Runs as Runs;
 ghost use Rattle.state.specs.Step.{lent, sound};
+ghost use Rattle.catalog.specs.Catalog.{Catalogued};
 ghost use Rattle.cache.specs.Places.{pair};
 ghost use Rattle.cache.specs.Stepped.{SoundStep};
-use crate::loads::load_value;
+use crate::loads::mark_value;
 use crate::outcome::Outcome;
 use crate::values::appended;
 use crate::values::listed;
@@ -15,17 +16,23 @@ use state::Design;
 use state::Held;
 
 // Holds the value from now on and loads it, unless it is refused, no candidate, or held already. One look at each held value, then one load:
-// a step for each row that is added and each constraint, if the values are spread.
+// a step for each row that is added and each constraint.
 pub fn refer_lawful(
     design: Design,
     cells: &[u32],
     tables: &[u8],
+    next: &[u16; 4096],
+    first: &[u16; 8192],
+    keys: &[u32; 4096],
+    heads: &[u16; 4096],
+    starts: &[u16; 65],
     marks: &mut [u8],
     held: Held,
     filling: u8,
     value: u32,
 ) -> Outcome
-    requires { ⌜ sound (lent design (now cells) (now tables) (now marks) held) ≡ true ⌝ }
+    requires { ⌜ (sound (lent design (now cells) (now tables) (now marks) held) ≡ true)
+        × Catalogued design (now cells) (now tables) (now next) (now first) (now keys) (now heads) (now starts) ⌝ }
     ensures { λ o. ⌜ SoundStep (lent design (now (cells .entry)) (now (tables .entry)) (now (marks .entry)) held)
         (Runs.refer (pair filling value)) o (now (marks .exit)) ⌝ }
 {
@@ -52,7 +59,19 @@ pub fn refer_lawful(
         return Outcome { held, answer };
     }
     let column = candidates.column;
-    let answer = load_value(design, cells, tables, marks, column, value);
+    let answer = mark_value(
+        design,
+        cells,
+        tables,
+        next,
+        first,
+        keys,
+        heads,
+        starts,
+        marks,
+        column,
+        value,
+    );
     let more = appended(held, filling, value);
     Outcome {
         held: more,

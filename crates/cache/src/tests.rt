@@ -1,15 +1,19 @@
 // Causes 7 and 12: whether the lent buffers are long enough, and whether the lent state is lawful.
 ghost use Prim.Native.Nat.{_≤_};
+ghost use mathlib.Core.Bool.{true};
 ghost use mathlib.Core.Path.{_≡_};
 ghost use lib.ListN.{length};
 ghost use Rattle.state.specs.declared.design.Design.{Design};
 ghost use Rattle.state.specs.declared.held.Held.{Held};
 ghost use Rattle.state.specs.Design.{Backed};
 ghost use Rattle.state.specs.Step.{lent, longEnough, lawful};
-use crate::loads::reloaded;
+ghost use Rattle.catalog.specs.Catalog.{Catalogued};
+use crate::distinct::is_distinct;
+use catalog::build;
 use lawful::lawful_design;
 use lawful::lawful_held;
-use lawful::lawful_rows;
+use lawful::rows_stand;
+use load::load_held;
 use load::marks_agree;
 use state::Design;
 use state::Held;
@@ -27,21 +31,75 @@ pub fn is_long_enough(cells: &[u32], tables: &[u8], marks: &[u8]) -> bool
     Design::ROWS <= marks.len()
 }
 
-// Whether cause 12 does not apply. One look at the design, at each row and its unique columns, at each held value, and one reload of all held
-// values: rows × rows × unique columns at most, and the load.
-pub fn is_lawful(design: Design, cells: &[u32], tables: &[u8], marks: &[u8], held: Held) -> bool
+// Whether cause 12 does not apply; where it does not, the arrays have the catalog of the rows then, whatever stood there. One look at the design, at each
+// cell and at each held value, then the catalog, off which it is read whether unique columns have a value twice, and one load of all held values.
+pub fn is_lawful_catalog(
+    design: Design,
+    cells: &[u32],
+    tables: &[u8],
+    next: &mut [u16; 4096],
+    first: &mut [u16; 8192],
+    keys: &mut [u32; 4096],
+    heads: &mut [u16; 4096],
+    starts: &mut [u16; 65],
+    marks: &[u8],
+    held: Held,
+) -> bool
     requires { ⌜ Backed (now cells) (now tables) × (512 ≤ length (now marks)) ⌝ }
-    ensures { λ b. ⌜ b ≡ lawful (lent design (now (cells .entry)) (now (tables .entry)) (now (marks .entry)) held) ⌝ }
+    ensures { λ b. ⌜ (b ≡ lawful (lent design (now (cells .entry)) (now (tables .entry)) (now (marks .entry)) held))
+        × (b ≡ true → Catalogued design (now (cells .entry)) (now (tables .entry)) (now (next .exit)) (now (first .exit)) (now (keys .exit))
+        (now (heads .exit)) (now (starts .exit))) ⌝ }
 {
     if !lawful_design(design) {
         return false;
     }
-    if !lawful_rows(design, cells, tables) {
+    if !rows_stand(design, cells, tables) {
         return false;
     }
     if !lawful_held(design, held) {
         return false;
     }
-    let levels = reloaded(design, cells, tables, held);
+    build(design, cells, tables, next, first, keys, heads, starts);
+    if !is_distinct(design, tables, next) {
+        return false;
+    }
+    let mut levels = [0u16; 512];
+    load_held(
+        design,
+        cells,
+        tables,
+        next,
+        first,
+        keys,
+        heads,
+        starts,
+        held,
+        Design::ROWS,
+        &mut levels,
+    );
     marks_agree(marks, &levels)
+}
+
+// Whether cause 12 does not apply. The cost of `is_lawful_catalog`.
+pub fn is_lawful(design: Design, cells: &[u32], tables: &[u8], marks: &[u8], held: Held) -> bool
+    requires { ⌜ Backed (now cells) (now tables) × (512 ≤ length (now marks)) ⌝ }
+    ensures { λ b. ⌜ b ≡ lawful (lent design (now (cells .entry)) (now (tables .entry)) (now (marks .entry)) held) ⌝ }
+{
+    let mut next = [512u16; 4096];
+    let mut first = [512u16; 8192];
+    let mut keys = [0u32; 4096];
+    let mut heads = [512u16; 4096];
+    let mut starts = [0u16; 65];
+    is_lawful_catalog(
+        design,
+        cells,
+        tables,
+        &mut next,
+        &mut first,
+        &mut keys,
+        &mut heads,
+        &mut starts,
+        marks,
+        held,
+    )
 }

@@ -5,7 +5,7 @@ ghost use mathlib.Core.Path.{_≡_};
 ghost use Rattle.model.specs.Runs as Runs;
 ghost use Rattle.model.specs.Runs.{remove};
 ghost use Rattle.state.specs.Meaning.{pairsOf, heldOf};
-ghost use Rattle.cache.specs.Places.{pair, Tidy, placeOf, keptAt, without};
+ghost use Rattle.cache.specs.Places.{pair, Tidy, placeOf, without};
 use state::Held;
 use state::HeldValue;
 use state::same_pair;
@@ -16,8 +16,10 @@ fn place(held: Held, filling: u8, value: u32) -> usize
     ensures { λ i. ⌜ i ≡ placeOf (pair filling value) (pairsOf held) ⌝ }
 {
     let n = held.count;
+    // read from here, so that the compiler copies a value and not all of them
+    let values = held.values;
     for i in 0..n {
-        if same_pair(held.values[i], HeldValue { filling, value }) {
+        if same_pair(values[i], HeldValue { filling, value }) {
             return i;
         }
     }
@@ -49,40 +51,27 @@ pub(crate) fn appended(held: Held, filling: u8, value: u32) -> Held
     }
 }
 
-// What stands at place i once the value at place `gap` is gone. Constant time.
-fn kept(held: Held, gap: usize, i: usize) -> HeldValue
-    requires { ⌜ i < 64 ⌝ }
-    ensures { λ h. ⌜ h ≡ keptAt held gap i ⌝ }
-{
-    if i < gap {
-        return held.values[i];
-    }
-    if i + 1 < Held::PLACES {
-        return held.values[i + 1];
-    }
-    HeldValue {
-        filling: 0,
-        value: 0,
-    }
-}
-
-// The record without the value at place `gap`. One pass over the 64 places.
+// The record without the value at place `gap`. One step for each place behind it.
 fn closed(held: Held, gap: usize) -> Held
-    requires { ⌜ 0 < held .count ⌝ }
+    requires { ⌜ (0 < held .count) × (gap < 64) ⌝ }
     ensures { λ h. ⌜ h ≡ without held gap ⌝ }
 {
     let mut values = held.values;
-    for i in 0..Held::PLACES {
-        let v = kept(held, gap, i);
+    for i in gap..Held::PLACES - 1 {
+        let v = values[i + 1];
         values[i] = v;
     }
+    values[Held::PLACES - 1] = HeldValue {
+        filling: 0,
+        value: 0,
+    };
     Held {
         count: held.count - 1,
         values: values,
     }
 }
 
-// The record without the pair: the gap closes. One look at each held value and one pass over the 64 places.
+// The record without the pair: the gap closes. One look at each held value before it, and one step for each place behind it.
 pub(crate) fn removed(held: Held, filling: u8, value: u32) -> Held
     requires { ⌜ Tidy held ⌝ }
     ensures { λ h. ⌜ h ≡ heldOf (remove (pair filling value) (pairsOf held)) ⌝ }

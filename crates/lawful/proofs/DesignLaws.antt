@@ -188,10 +188,14 @@ design-if {d} l =
 
 -- ---- what the layers above use
 
--- a column that exists lies below 8
+-- a column that exists lies below 8, and so does its table
 place-below : {d : Design} (k : Column) → LawfulDesign d → ColumnOf (schemeOf d) (columnOf k) → k .place < 8
 unfolding schemeOf
 place-below k l c = omega (arith, c .place, l .table (k .table) (c .table) .most)
+
+table-below : {d : Design} (k : Column) → LawfulDesign d → ColumnOf (schemeOf d) (columnOf k) → k .table < 8
+unfolding schemeOf
+table-below k l c = omega (arith, c .table, l .tables)
 
 pub in-range : (d : Design) → Sized d → lawfulDesign d ≡ true → InRange d
 in-range d z e =
@@ -207,6 +211,12 @@ in-range d z e =
           (λ i h. place-below _ l (l .constraint i h .target)) (l .constraintRest) (lit< tt);
       column = in-array (d .filling) noFilling 8 (d .fillings) (λ f. f .column .place < 8) (z .filling)
           (λ f h. place-below _ l (l .filling f h .column)) (l .fillingRest) (lit< tt);
+      source-table = in-array (d .constraint) noConstraint 16 (d .constraints) (λ c. c .source .table < 8) (z .constraint)
+          (λ i h. table-below _ l (l .constraint i h .source)) (l .constraintRest) (lit< tt);
+      target-table = in-array (d .constraint) noConstraint 16 (d .constraints) (λ c. c .target .table < 8) (z .constraint)
+          (λ i h. table-below _ l (l .constraint i h .target)) (l .constraintRest) (lit< tt);
+      column-table = in-array (d .filling) noFilling 8 (d .fillings) (λ f. f .column .table < 8) (z .filling)
+          (λ f h. table-below _ l (l .filling f h .column)) (l .fillingRest) (lit< tt);
     }
 
 -- a candidate is not blank

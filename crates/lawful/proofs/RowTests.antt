@@ -2,21 +2,19 @@
 use Prim.Native.Nat.{ℕ, _+_, _*_, _≤_, _<_}
 use native.Mathlib.Omega.{arith}
 use mathlib.Core.Path.{_≡_, sym, ap, _∙_}
-use mathlib.Core.Bool.{Bool, true, false, _||_}
+use mathlib.Core.Bool.{Bool, false, _||_}
 use mathlib.Core.List.{List}
 use borrow.Author.Tests.{lt-ltb, le-ltb, eq-eqb, ne-eqb}
 use lib.Dec.{ltb}
 use lib.ListN.{getD}
-use Rattle.finite.specs.Finite.{any, all}
+use Rattle.finite.specs.Finite.{all}
 use Rattle.finite.proofs.Bools.{and-go, and-stop}
 use Rattle.finite.proofs.Search.{all-same}
-use Rattle.model.specs.Cell.{Cell, cellOf, isBlank}
-use Rattle.model.specs.Scheme.{Column}
-use Rattle.model.specs.Database.{has}
+use Rattle.model.specs.Cell.{Cell, isBlank}
 use Rattle.state.specs.declared.design.Design.{Design}
 use Rattle.state.specs.Design.{tableAt}
 use Rattle.state.specs.Meaning.{schemeOf, databaseOf}
-use Rattle.state.specs.Lawful.{rowFits, repeatsAt, zeroRow}
+use Rattle.state.specs.Lawful.{rowFits, zeroRow}
 use Rattle.state.proofs.RowLaws.{cell-at}
 use Rattle.lawful.specs.Parts.{blankAt, blankFrom}
 
@@ -53,21 +51,3 @@ module _ (rows : ℕ) (cells tables : List ℕ) (r : ℕ) where
   pub zero-cells : getD tables r 0 ≡ 0 → blankFrom cells r 0 ≡ zeroRow (databaseOf rows cells tables) r
   unfolding zeroRow databaseOf
   zero-cells h = and-go _ _ (eq-eqb _ _ h) (blank-all rows cells tables r)
-
--- ---- a value that an earlier row has
-
--- column c of row r's table
-abbrev columnAt : List ℕ → ℕ → ℕ → Column
-columnAt tables r c = record { table = getD tables r 0; place = c }
-
-module _ (d : Design) (cells tables : List ℕ) (r c : ℕ) where
-  pub repeats-free : schemeOf d .unique (columnAt tables r c) ≡ false → false ≡ repeatsAt (schemeOf d) (databaseOf (d .rows) cells tables) r c
-  unfolding repeatsAt databaseOf
-  repeats-free h = and-stop _ _ h
-
-  pub repeats-seen : c < 8 → schemeOf d .unique (columnAt tables r c) ≡ true →
-      any r (has (databaseOf (d .rows) cells tables) (columnAt tables r c) (cellOf (getD cells (8 * r + c) 0))) ≡
-      repeatsAt (schemeOf d) (databaseOf (d .rows) cells tables) r c
-  unfolding repeatsAt databaseOf
-  repeats-seen l h =
-      and-go _ _ h (ap (λ (v : Cell). any r (has (databaseOf (d .rows) cells tables) (columnAt tables r c) v)) (sym (cell-at (d .rows) cells tables r c l)))

@@ -22,6 +22,7 @@ use Rattle.state.specs.Lawful.{rowFits, repeatsAt, repeats, zeroRow, lawfulRows
 use Rattle.state.proofs.RowLaws.{cell-at}
 use Rattle.state.proofs.Places.{used-at, unused-at, all-places}
 use Rattle.lawful.specs.LawfulState.{LawfulRows}
+use Rattle.lawful.specs.Parts.{rowsStand}
 
 -- ---- one row of any database
 
@@ -77,7 +78,7 @@ repeats-none S D r l h = refute _ (λ e. let f = any-found 8 (repeatsAt S D r) e
 -- ---- the lent rows
 
 -- past the eighth cell a row is blank
-cell-past : (rows : ℕ) (cells tables : List ℕ) (r c : ℕ) → 8 ≤ c → databaseOf rows cells tables .cell r c ≡ blank
+pub cell-past : (rows : ℕ) (cells tables : List ℕ) (r c : ℕ) → 8 ≤ c → databaseOf rows cells tables .cell r c ≡ blank
 unfolding databaseOf
 cell-past rows cells tables r c h = cond-false (ltb c 8) _ _ (le-ltb c 8 h)
 
@@ -134,7 +135,7 @@ module _ (d : Design) (cells tables : List ℕ) where
         clash (ap isBlank (cell-past (d .rows) cells tables s (k .place) (ltb-false _ _ q)) ∙ blank-is) (equal-full _ v (b .value)))
         (dec (ltb (k .place) 8))
 
-    unique-says : (k : Column) (v : Cell) (r s : ℕ) → schemeOf d .unique k ≡ true → Has rows k v r → Has rows k v s → r ≡ s
+    pub unique-says : (k : Column) (v : Cell) (r s : ℕ) → schemeOf d .unique k ≡ true → Has rows k v r → Has rows k v s → r ≡ s
     unique-says k v r s u a b =
         ⊎-elim (λ (q : ltb r s ≡ true). absurd (never-before k v r s u a b (ltb-true r s q)))
         (λ (q : ltb r s ≡ false). ⊎-elim (λ (p : ltb s r ≡ true). absurd (never-before k v s r u b a (ltb-true s r p)))
@@ -146,6 +147,40 @@ module _ (d : Design) (cells tables : List ℕ) where
         ⊎-elim (λ (q : ltb c 8 ≡ true). is-blank (rows .cell r c) (fits-says (schemeOf d) rows r (row-says r l .0) .1 c (ltb-true c 8 q) h))
         (λ (q : ltb c 8 ≡ false). cell-past (d .rows) cells tables r c (ltb-false c 8 q))
         (dec (ltb c 8))
+
+-- ---- lawful rows are those that stand and have no value twice in a unique column
+
+module _ (d : Design) (cells tables : List ℕ) where
+  pub lawful-stand : lawfulRows d cells tables ≡ true → rowsStand d cells tables ≡ true
+  unfolding rowsStand
+  lawful-stand e =
+      all-places 512 (d .rows) _ (zeroRow (rows d cells tables)) (λ r a b. row-says d cells tables e r (live-if (d .rows) cells tables r a b) .0)
+      (rest-says d cells tables e)
+
+  module _ (e : rowsStand d cells tables ≡ true) where
+    stand-used : (r : ℕ) → r < 512 → r < d .rows → rowFits (schemeOf d) (rows d cells tables) r ≡ true
+    unfolding rowsStand
+    stand-used r l h = used-at 512 (d .rows) (rowFits (schemeOf d) (rows d cells tables)) (zeroRow (rows d cells tables)) e r l h
+
+    stand-unused : (r : ℕ) → r < 512 → d .rows ≤ r → zeroRow (rows d cells tables) r ≡ true
+    unfolding rowsStand
+    stand-unused r l h = unused-at 512 (d .rows) (rowFits (schemeOf d) (rows d cells tables)) (zeroRow (rows d cells tables)) e r l h
+
+    -- each row number names a table, if there is any
+    pub stand-table : d .tables ≤ 8 → (r : ℕ) → r < 512 → getD tables r 0 < 8
+    unfolding schemeOf databaseOf
+    stand-table t r l =
+        ⊎-elim (λ (q : ltb r (d .rows) ≡ true). omega (arith, fits-says (schemeOf d) (rows d cells tables) r (stand-used r l (ltb-true _ _ q)) .0))
+        (λ (q : ltb r (d .rows) ≡ false). omega (arith, zero-says d cells tables r (stand-unused r l (ltb-false _ _ q)) .0))
+        (dec (ltb r (d .rows)))
+
+    pub stand-lawful : ((k : Column) (v : Cell) (r s : ℕ) → schemeOf d .unique k ≡ true → Has (rows d cells tables) k v r →
+        Has (rows d cells tables) k v s → r ≡ s) → lawfulRows d cells tables ≡ true
+    unfolding lawfulRows
+    stand-lawful h =
+        all-places 512 (d .rows) _ (zeroRow (rows d cells tables))
+        (λ r a b. both (stand-used r a b) (ap not (repeats-none (schemeOf d) (rows d cells tables) r (live-if (d .rows) cells tables r a b) h)))
+        stand-unused
 
 -- the lent cells are u32, as their type says
 abbrev pub Stored : List ℕ → Type 0

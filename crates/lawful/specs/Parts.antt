@@ -1,6 +1,6 @@
 -- The parts of a lawful state, place by place, as the loops over the places decide them. Assumes nothing.
 use Prim.Native.Nat.{ℕ, _+_, _*_}
-use mathlib.Core.Bool.{Bool, not, _&&_, _||_}
+use mathlib.Core.Bool.{Bool, _||_}
 use mathlib.Core.List.{List}
 use lib.Dec.{eqb, ltb}
 use lib.ListN.{getD}
@@ -11,7 +11,7 @@ use Rattle.state.specs.Design.{tableAt, constraintAt, fillingAt}
 use Rattle.state.specs.Held.{heldAt}
 use Rattle.state.specs.Meaning.{schemeOf, databaseOf}
 use Rattle.state.specs.Lawful.{usedOr, tableFits, zeroTable, constraintFits, zeroConstraint, fillingFits, zeroFilling}
-use Rattle.state.specs.Lawful.{rowFits, repeats, zeroRow, heldFits, zeroHeld}
+use Rattle.state.specs.Lawful.{rowFits, zeroRow, heldFits, zeroHeld}
 
 -- ---- a design's places: each holds what can stand there, or is unused and 0
 
@@ -42,11 +42,15 @@ blankAt cells r n c = ltb c n || eqb (getD cells (8 * r + c) 0) 0
 abbrev pub blankFrom : List ℕ → ℕ → ℕ → Bool
 blankFrom cells r n = all 8 (blankAt cells r n)
 
-abbrev pub rowLawful : Design → List ℕ → List ℕ → ℕ → Bool
-rowLawful d cells tables r =
-    let S = schemeOf d in
+-- row r fits, or there is none and it is 0
+abbrev pub rowStands : Design → List ℕ → List ℕ → ℕ → Bool
+rowStands d cells tables r =
     let D = databaseOf (d .rows) cells tables in
-    usedOr r (d .rows) (rowFits S D r && not (repeats S D r)) (zeroRow D r)
+    usedOr r (d .rows) (rowFits (schemeOf d) D r) (zeroRow D r)
+
+-- what lawful rows are, but for the values of unique columns
+unfoldable pub rowsStand : Design → List ℕ → List ℕ → Bool
+rowsStand d cells tables = all 512 (rowStands d cells tables)
 
 -- ---- a held record's places
 

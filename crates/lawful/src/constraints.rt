@@ -26,8 +26,10 @@ fn constraint_before(d: Design, n: usize, c: Constraint) -> bool
     requires { ⌜ n ≤ 16 ⌝ }
     ensures { λ b. ⌜ b ≡ any n (λ i. sameConstraint (constraintAt d i) c) ⌝ }
 {
+    // read from here, so that the compiler copies an element and not all of them
+    let constraint = d.constraint;
     for i in 0..n {
-        if same_constraint(d.constraint[i], c) {
+        if same_constraint(constraint[i], c) {
             return true;
         }
     }

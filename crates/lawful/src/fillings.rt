@@ -37,8 +37,10 @@ fn column_filled(d: Design, n: usize, k: Column) -> bool
     requires { ⌜ n ≤ 8 ⌝ }
     ensures { λ b. ⌜ b ≡ any n (λ i. sameColumn (columnOf (fillingAt d i .column)) (columnOf k)) ⌝ }
 {
+    // read from here, so that the compiler copies an element and not all of them
+    let filling = d.filling;
     for i in 0..n {
-        if fills_column(d.filling[i], k) {
+        if fills_column(filling[i], k) {
             return true;
         }
     }

@@ -19,8 +19,10 @@ fn held_before(held: Held, n: usize, v: HeldValue) -> bool
     requires { ⌜ n ≤ 64 ⌝ }
     ensures { λ b. ⌜ b ≡ any n (λ i. samePair (pairOf (heldAt held i)) (pairOf v)) ⌝ }
 {
+    // read from here, so that the compiler copies an element and not all of them
+    let values = held.values;
     for i in 0..n {
-        if same_pair(held.values[i], v) {
+        if same_pair(values[i], v) {
             return true;
         }
     }

@@ -1,5 +1,6 @@
-// The tests behind causes 5, 6 and 12: whether a table, a constraint, a filling, a row or a held value can stand where it is put, and whether a
-// whole design, its rows and its held values are lawful. Each function decides a definition of state's specs/Lawful.antt.
+// The tests behind causes 5, 6 and 12: whether a table, a constraint, a filling, a row or a held value can stand where it is put, whether a whole design
+// and its held values are lawful, and its rows, but for the values of unique columns. Each function decides a definition of state's specs/Lawful.antt, or
+// a part of one (specs/Parts.antt).
 mod constraints;
 mod designs;
 mod fillings;
@@ -12,9 +13,9 @@ pub use designs::lawful_design;
 pub use fillings::filling_fits;
 pub use fillings::is_candidate;
 pub use held::lawful_held;
-pub use rows::lawful_rows;
 pub use rows::row_fits;
-pub use rows::row_repeats;
+pub use rows::rows_stand;
+pub use tables::has_bit;
 pub use tables::is_column;
 pub use tables::is_unique;
 pub use tables::table_fits;

@@ -11,7 +11,7 @@ use state::Table;
 use state::table_at;
 
 // Whether bit i of u is set. Constant time.
-fn has_bit(u: u8, i: u8) -> bool
+pub fn has_bit(u: u8, i: u8) -> bool
     ensures { λ b. ⌜ b ≡ bit u i ⌝ }
 {
     if 8 <= i {

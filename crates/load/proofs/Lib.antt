@@ -1,15 +1,14 @@
--- RaisedLaws: a step of a load on the levels. QueueLaws: the same with the queue. WalkLaws: a step by a walk of the rows that have a value.
--- BuiltLaws: indexes made where they are needed. WalkedLaws: values walked once. SourceLaws: the value by which a constraint goes. PlaceLaws: what
--- stands at a place of the design and the held values. FrontLaws: a round, by the queue. StartLaws: round 0. RoundsEnd: where a loop over the rounds
--- may stop, and what it counts. OutcomeLaws: a row's mark against its level.
+-- RaisedLaws: a step of a load on the levels. QueueLaws: the same with the queue. AlongLaws: the rows that a walk along the links passes. WalkLaws: a
+-- step by such a walk. WalkedLaws: values walked once. PlaceLaws: what stands at a place of the design and the held values. FrontLaws: a round, by the
+-- queue. StartLaws: round 0. RoundsEnd: where a loop over the rounds may stop, and what it counts. EndedLaws: when enough
+-- rows are reached.
 pub mod RaisedLaws
 pub mod QueueLaws
+pub mod AlongLaws
 pub mod WalkLaws
-pub mod BuiltLaws
 pub mod WalkedLaws
-pub mod SourceLaws
 pub mod PlaceLaws
 pub mod FrontLaws
 pub mod StartLaws
 pub mod RoundsEnd
-pub mod OutcomeLaws
+pub mod EndedLaws

@@ -11,10 +11,9 @@ use lib.Dec.{eqb, ltb}
 use lib.ListN.{length, getD, set, length-set}
 use lib.Seq.{getD-set-same, getD-set-other}
 use Rattle.finite.specs.Finite.{any, count}
-use Rattle.finite.proofs.Bools.{same-number, clash, and-left, and-right, both}
+use Rattle.finite.proofs.Bools.{same-number, clash}
 use Rattle.finite.proofs.Search.{any-suc}
 use Rattle.finite.proofs.Counting.{count-le, count-same, count-none, count-one}
-use Rattle.finite.proofs.Tables.{ltb-next}
 use Rattle.model.specs.Cache.{RowSet}
 use Rattle.model.specs.Rounds.{level}
 use Rattle.load.specs.Raised.{raised}
@@ -27,25 +26,9 @@ unfoldable pub below : ℕ → RowSet → RowSet
 below b P r = ltb r b && P r
 
 module _ (b : ℕ) (P : RowSet) where
-  pub below-here : below b P b ≡ false
-  unfolding below
-  below-here = and-left (ltb b b) (P b) (le-ltb b b (omega arith))
-
-  pub below-other : (r : ℕ) → (r ≡ b → ⊥) → below b P r ≡ below (b + 1) P r
-  unfolding below
-  below-other r ne = ap (λ (t : Bool). t && P r) (ltb-next r b ne)
-
-  pub below-hit : P b ≡ true → below (b + 1) P b ≡ true
-  unfolding below
-  below-hit h = both (lt-ltb b (b + 1) (omega arith)) h
-
   pub below-all : (r : ℕ) → r < b → below b P r ≡ P r
   unfolding below
   below-all r l = ap (λ (t : Bool). t && P r) (lt-ltb r b l)
-
-  pub below-out : (r : ℕ) → P r ≡ false → below b P r ≡ false
-  unfolding below
-  below-out r h = and-right (ltb r b) (P r) h
 
 -- ---- rows in the queue
 
@@ -124,29 +107,6 @@ module _ (P : RowSet) (q : List ℕ) (end : ℕ) (u : Listed P q end) where
           where
             was : (i : ℕ) × (i < end) × (getD q i 0 ≡ x) → (i : ℕ) × (i < end + 1) × (getD (set q end r) i 0 ≡ x)
             was f = (f .0, omega (arith, f .1), earlier (f .0) (f .1) ∙ f .2)
-
--- ---- a loop that lists the rows of P
-
-pub fill-start : (P : RowSet) (q : List ℕ) → length q ≡ 512 → Listed (below 0 P) q 0
-unfolding below
-fill-start P q e = listed-none (below 0 P) q e (λ r l. and-left (ltb r 0) (P r) (le-ltb r 0 (omega arith)))
-
-module _ (P : RowSet) (q : List ℕ) (end b : ℕ) (u : Listed (below b P) q end) (l : b < 512) where
-  pub fill-room : P b ≡ true → end < 512
-  fill-room h = listed-room _ q end u (below (b + 1) P) b l (below-here b P) (below-hit b P h) (λ x k ne. below-other b P x ne)
-
-  pub fill-hit : (q′ : List ℕ) (end′ : ℕ) → P b ≡ true → q′ ≡ set q end b → end′ ≡ end + 1 → Listed (below (b + 1) P) q′ end′
-  fill-hit q′ end′ h e f =
-      rw (e, f) (listed-put _ q end u (below (b + 1) P) b l (below-here b P) (below-hit b P h) (λ x k ne. below-other b P x ne))
-
-  pub fill-miss : (q′ : List ℕ) (end′ : ℕ) → P b ≡ false → q′ ≡ q → end′ ≡ end → Listed (below (b + 1) P) q′ end′
-  fill-miss q′ end′ h e f = rw (e, f) (listed-same _ q end u _ (λ r k. ⊎-elim (here r) (λ ne. below-other b P r ne) (same-number r b)))
-    where
-      here : (r : ℕ) → r ≡ b → below b P r ≡ below (b + 1) P r
-      here r w = let f : P r ≡ false = ap P w ∙ h in below-out b P r f ∙ sym (below-out (b + 1) P r f)
-
-pub fill-end : (P : RowSet) (q : List ℕ) (end b : ℕ) → Listed (below b P) q end → b ≤ 512 → 512 ≤ b → Listed P q end
-fill-end P q end b u l g = listed-same _ q end u P (λ r k. below-all b P r (omega arith))
 
 -- ---- a step
 

@@ -10,7 +10,7 @@ use lib.Dec.{eqb}
 use lib.ListN.{length, getD, set, length-set}
 use lib.Seq.{getD-set-same, getD-set-other}
 use Rattle.finite.proofs.Bools.{dec, same-number}
-use Rattle.finite.proofs.Tables.{length-tab, tab-at, tab-of, tab-same}
+use Rattle.finite.proofs.Tables.{tab-at, tab-of, tab-same}
 use Rattle.model.specs.Cache.{RowSet}
 use Rattle.model.specs.Rounds.{level, orElse}
 use Rattle.load.specs.Raised.{raised}
@@ -33,10 +33,6 @@ twice (suc l) a b n h = refl
 -- ---- all rows
 
 module _ (L : List ℕ) (n : ℕ) where
-  pub length-raised : (P : RowSet) → length (raised L n P) ≡ 512
-  unfolding raised
-  length-raised P = length-tab 512 _
-
   pub raised-at : (P : RowSet) (r : ℕ) → r < 512 → level (raised L n P) r ≡ orElse (level L r) (cond (P r) n 0)
   unfolding raised
   raised-at P r h = tab-at 0 512 (λ i. orElse (level L i) (cond (P i) n 0)) r h

@@ -2,13 +2,12 @@
 use Prim.Native.Nat.{ℕ, zero, suc, _≤_, _<_}
 use native.Mathlib.Decide.{decLt}
 use native.Mathlib.Omega.{arith}
-use mathlib.Core.Path.{_≡_, refl, sym, ap, _∙_}
+use mathlib.Core.Path.{_≡_, refl, sym, ap, ap₂, subst, _∙_}
 use mathlib.Core.Bool.{Bool, true, false, cond, _||_}
 use mathlib.Core.List.{List}
 use lib.Dec.{ltb}
 use lib.ListN.{length, replicate, getD-replicate}
 use Rattle.finite.specs.Finite.{any, tab}
-use Rattle.finite.proofs.Bools.{cond-true, cond-false}
 use Rattle.finite.proofs.Search.{any-front}
 use Rattle.finite.proofs.Tables.{length-tab, tab-at, tab-past, tab-same}
 use Rattle.model.specs.Cell.{cellOf}
@@ -23,16 +22,16 @@ use Rattle.state.specs.Held.{heldAt}
 use Rattle.load.specs.Raised.{raised}
 use Rattle.load.specs.Queue.{added, Listed}
 use Rattle.load.proofs.RaisedLaws.{raised-same}
-use Rattle.load.proofs.QueueLaws.{listed-none}
+use Rattle.load.proofs.QueueLaws.{listed-none, not-added}
 
 -- ---- what `close` asks of the levels, and what it gives on round 0
 
 module _ (D : Database) (old seed : RowSet) where
-  pub length-start : length (start D old seed) ≡ D .size
+  length-start : length (start D old seed) ≡ D .size
   unfolding start
   length-start = length-tab (D .size) _
 
-  pub start-low : (r : ℕ) → level (start D old seed) r ≤ 2
+  start-low : (r : ℕ) → level (start D old seed) r ≤ 2
   unfolding start
   start-low r = at-row (decLt r (D .size))
     where
@@ -45,21 +44,47 @@ module _ (D : Database) (old seed : RowSet) where
       at-row (yes h) = low (old r) (seed r) _ (tab-at 0 (D .size) (λ i. cond (old i) 1 (cond (seed i) 2 0)) r h)
       at-row (no h) = omega (arith, tab-past {A = ℕ} 0 (D .size) (λ i. cond (old i) 1 (cond (seed i) 2 0)) r (omega arith))
 
+-- the same over lent rows
+module _ (rows : ℕ) (cells tables : List ℕ) (old seed : RowSet) (L : List ℕ) (e : L ≡ start (databaseOf rows cells tables) old seed) where
+  pub started-long : length L ≡ 512
+  unfolding databaseOf
+  started-long = ap length e ∙ length-start (databaseOf rows cells tables) old seed
+
+  pub started-low : (r : ℕ) → level L r ≤ 2
+  started-low r = subst (λ (K : List ℕ). level K r ≤ 2) (sym e) (start-low (databaseOf rows cells tables) old seed r)
+
 pub load-is : (S : Scheme) (rows : ℕ) (cells tables : List ℕ) (old seed : RowSet) →
     levels S (databaseOf rows cells tables) (start (databaseOf rows cells tables) old seed) 512 ≡ load S (databaseOf rows cells tables) old seed
 unfolding load databaseOf
 load-is S rows cells tables old seed = refl
 
--- ---- round 0 of a load of one value: one row
+-- ---- round 0 of a load of one value, over the levels L of the cached rows
 
-pub start-one : (a : Bool) (m : ℕ) → a ≡ true → _≡_ {A = ℕ} 1 (cond a 1 m)
-start-one a m h = sym (cond-true a 1 m h)
+module _ (old : RowSet) (L : List ℕ) (e : L ≡ tab 512 (λ r. cond (old r) 1 0)) where
+  cached-at : (r : ℕ) → r < 512 → level L r ≡ cond (old r) 1 0
+  cached-at r l = ap (λ (K : List ℕ). level K r) e ∙ tab-at 0 512 (λ i. cond (old i) 1 0) r l
 
-pub start-two : (a t b : Bool) → a ≡ false → t ≡ b → t ≡ true → _≡_ {A = ℕ} 2 (cond a 1 (cond b 2 0))
-start-two a t b h e g = sym (cond-false a 1 _ h ∙ cond-true b 2 0 (sym e ∙ g))
+  pub cached-long : length L ≡ 512
+  cached-long = ap length e ∙ length-tab 512 _
 
-pub start-zero : (a t b : Bool) → a ≡ false → t ≡ b → t ≡ false → _≡_ {A = ℕ} 0 (cond a 1 (cond b 2 0))
-start-zero a t b h e g = sym (cond-false a 1 _ h ∙ cond-false b 2 0 (sym e ∙ g))
+  -- no row has been added
+  pub cached-added : (q : List ℕ) → length q ≡ 512 → Listed (added L) q 0
+  cached-added q l = listed-none (added L) q l (λ r h. not-added L r (low (old r) (level L r) (cached-at r h)))
+    where
+      low : (a : Bool) (l : ℕ) → l ≡ cond a 1 0 → l ≤ 1
+      low true l e = omega arith
+      low false l e = omega arith
+
+  -- a step to level 2
+  pub start-raised : (rows : ℕ) (cells tables : List ℕ) (P seed : RowSet) (M : List ℕ) → M ≡ raised L 2 P → ((r : ℕ) → r < 512 → P r ≡ seed r) →
+      M ≡ start (databaseOf rows cells tables) old seed
+  unfolding start raised databaseOf
+  start-raised rows cells tables P seed M g h =
+      g ∙ tab-same 512 _ _ (λ r l. ap₂ (λ (m : ℕ) (b : Bool). orElse m (cond b 2 0)) (cached-at r l) (h r l) ∙ one (old r) (seed r))
+    where
+      one : (a b : Bool) → orElse (cond a 1 0) (cond b 2 0) ≡ cond a 1 (cond b 2 0)
+      one true b = refl
+      one false b = refl
 
 -- ---- round 0 of a load of all held values
 

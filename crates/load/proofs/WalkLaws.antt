@@ -13,8 +13,8 @@ use lib.ListN.{length}
 use Rattle.finite.proofs.Bools.{clash, or-cases, or-left, bool-ext}
 use Rattle.model.specs.Cache.{RowSet}
 use Rattle.model.specs.Rounds.{level}
-use Rattle.index.specs.First.{firstFrom, Hit}
-use Rattle.index.proofs.FirstLaws.{First, first-from, first-hit}
+use Rattle.catalog.specs.First.{firstFrom, Hit}
+use Rattle.catalog.proofs.FirstLaws.{First, first-from, first-hit}
 use Rattle.load.specs.Queue.{added, Listed, Grown}
 use Rattle.load.proofs.QueueLaws.{below, below-all, grown-none, grown-same, grown-again}
 

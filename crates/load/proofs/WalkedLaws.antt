@@ -2,25 +2,19 @@
 use Prim.Native.Nat.{ℕ, _+_, _*_, _≤_, _<_}
 use native.Mathlib.Decide.{decLt}
 use native.Mathlib.Omega.{arith}
-use mathlib.Core.Path.{_≡_, sym, ap, ap₂, subst, _∙_}
+use mathlib.Core.Path.{_≡_, sym, ap, _∙_}
 use mathlib.Core.Logic.{⊎-elim}
-use mathlib.Core.Bool.{Bool, true, false, cond, _&&_, and-eq-true-iff}
+use mathlib.Core.Bool.{Bool, true, false, cond}
 use mathlib.Core.List.{List}
-use borrow.Author.Tests.{eqb-true}
-use lib.Dec.{eqb}
 use lib.ListN.{length, getD, set, replicate, length-replicate, getD-replicate, List·getD-eq-default}
 use lib.Seq.{getD-set-other}
 use Rattle.finite.proofs.Bools.{same-number, clash}
-use Rattle.model.specs.Cell.{Cell, equal}
-use Rattle.model.specs.Scheme.{Column}
-use Rattle.model.specs.Database.{Database, has}
+use Rattle.model.specs.Database.{Database}
 use Rattle.model.specs.Cache.{RowSet}
 use Rattle.model.specs.Rounds.{level, orElse}
-use Rattle.model.proofs.CellLaws.{equal-same}
-use Rattle.index.specs.First.{firstFrom}
-use Rattle.index.proofs.FirstLaws.{First, first-from}
 use Rattle.load.specs.Queue.{added, Listed, Grown}
-use Rattle.load.specs.Walked.{Walked, alike}
+use Rattle.load.specs.Walked.{Walked, alike, along}
+use Rattle.load.proofs.AlongLaws.{along-alike, along-none}
 use Rattle.load.proofs.RaisedLaws.{raised-at, orElse-kept}
 use Rattle.load.proofs.QueueLaws.{grown-idle, grown-level, grown-none}
 
@@ -48,45 +42,32 @@ walked-none D L = record { levels = λ r p l t s m h. clash t (off (8 * r + p) (
     off i (yes b) = getD-replicate 4096 i false false b
     off i (no b) = List·getD-eq-default (replicate 4096 false) false {n = i} (omega (arith, length-replicate {A = Bool} 4096 false))
 
--- ---- the value v of column k; r is the first row that has it
+-- ---- a walk along place p from r
 
-module _ (D : Database) (k : Column) (v : Cell) (r : ℕ) (f : r ≡ firstFrom (has D k v) 0) where
-  first : First (has D k v) 0 r
-  first = subst (First (has D k v) 0) (sym f) (first-from (has D k v) 0 (omega arith))
+module _ (D : Database) (p r n : ℕ) (L q : List ℕ) (end : ℕ) where
+  -- it passes no row
+  pub walk-empty : 512 ≤ r → length L ≡ 512 → Listed (added L) q end → Grown n (along D p r) L q end L q end
+  walk-empty h e u = grown-idle n L q end (along D p r) e u (λ s l. along-none D p r h s)
 
-  -- no row has it
-  pub walk-empty : (n : ℕ) (L q : List ℕ) (end : ℕ) → 512 ≤ r → length L ≡ 512 → Listed (added L) q end → Grown n (has D k v) L q end L q end
-  walk-empty n L q end h e u = grown-idle n L q end (has D k v) e u (λ s l. first .none s (omega arith) (omega arith))
+  module _ (l : r < 512) (b : p < 8) (walked : List Bool) (w : Walked D walked L) where
+    -- the value has been walked: a walk adds nothing
+    pub walk-again : getD walked (8 * r + p) false ≡ true → length L ≡ 512 → Listed (added L) q end → Grown n (along D p r) L q end L q end
+    walk-again t e u = grown-none n L q end (along D p r) e u (λ s m h. w .levels r p b t s m (sym (along-alike D p r l s) ∙ h))
 
-  -- row r has it
-  module _ (l : r < 512) where
-    -- the rows that are alike row r there are those that have v
-    same-rows : (s : ℕ) → alike D r (k .place) s ≡ has D k v s
-    unfolding alike has
-    same-rows s =
-        let a = and-eq-true-iff (D .live r) (eqb (D .table r) (k .table) && equal (D .cell r (k .place)) v) .0 (first .here l) in
-        let b = and-eq-true-iff (eqb (D .table r) (k .table)) (equal (D .cell r (k .place)) v) .0 (a .1) in
-        ap₂ (λ (t : ℕ) (c : Cell). has D (record { table = t; place = k .place }) c s) (eqb-true _ _ (b .0)) (equal-same (D .cell r (k .place)) v (b .1))
+    -- it is walked now
+    pub walk-marked : (L′ q′ : List ℕ) (end′ : ℕ) → 0 < n → Grown n (along D p r) L q end L′ q′ end′ → Walked D (set walked (8 * r + p) true) L′
+    walk-marked L′ q′ end′ o g =
+        record { levels = λ x y c t s m h. ⊎-elim (here x y c s m h) (other x y c t s m h) (same-number (8 * x + y) (8 * r + p)) }
+      where
+        here : (x y : ℕ) → y < 8 → (s : ℕ) → s < 512 → alike D x y s ≡ true → 8 * x + y ≡ 8 * r + p → 0 < level L′ s
+        here x y c s m h e =
+            let ex : x ≡ r = omega arith in
+            let ey : y ≡ p = omega arith in
+            let h′ : alike D r p s ≡ true = rw (ex, ey) at h in
+            grown-reached n (along D p r) L q end L′ q′ end′ o g s m (along-alike D p r l s ∙ h′)
 
-    module _ (p : k .place < 8) (walked : List Bool) (n : ℕ) (L q : List ℕ) (end : ℕ) (w : Walked D walked L) where
-      -- it has been walked: a walk adds nothing
-      pub walk-again : getD walked (8 * r + k .place) false ≡ true → length L ≡ 512 → Listed (added L) q end → Grown n (has D k v) L q end L q end
-      walk-again t e u = grown-none n L q end (has D k v) e u (λ s m h. w .levels r (k .place) p t s m (same-rows s ∙ h))
-
-      -- it is walked now
-      pub walk-marked : (L′ q′ : List ℕ) (end′ : ℕ) → 0 < n → Grown n (has D k v) L q end L′ q′ end′ → Walked D (set walked (8 * r + k .place) true) L′
-      walk-marked L′ q′ end′ o g =
-          record { levels = λ x y b t s m h. ⊎-elim (here x y b s m h) (other x y b t s m h) (same-number (8 * x + y) (8 * r + k .place)) }
-        where
-          here : (x y : ℕ) → y < 8 → (s : ℕ) → s < 512 → alike D x y s ≡ true → 8 * x + y ≡ 8 * r + k .place → 0 < level L′ s
-          here x y b s m h e =
-              let ex : x ≡ r = omega arith in
-              let ey : y ≡ k .place = omega arith in
-              let h′ : alike D r (k .place) s ≡ true = rw (ex, ey) at h in
-              grown-reached n (has D k v) L q end L′ q′ end′ o g s m (sym (same-rows s) ∙ h′)
-
-          other : (x y : ℕ) → y < 8 → getD (set walked (8 * r + k .place) true) (8 * x + y) false ≡ true → (s : ℕ) → s < 512 → alike D x y s ≡ true →
-              (8 * x + y ≡ 8 * r + k .place → ⊥) → 0 < level L′ s
-          other x y b t s m h ne =
-              let was = w .levels x y b (sym (getD-set-other walked (8 * r + k .place) (8 * x + y) true false ne) ∙ t) s m h in
-              omega (arith, was, grown-level n (has D k v) L q end L′ q′ end′ g s m was)
+        other : (x y : ℕ) → y < 8 → getD (set walked (8 * r + p) true) (8 * x + y) false ≡ true → (s : ℕ) → s < 512 → alike D x y s ≡ true →
+            (8 * x + y ≡ 8 * r + p → ⊥) → 0 < level L′ s
+        other x y c t s m h ne =
+            let was = w .levels x y c (sym (getD-set-other walked (8 * r + p) (8 * x + y) true false ne) ∙ t) s m h in
+            omega (arith, was, grown-level n (along D p r) L q end L′ q′ end′ g s m was)

@@ -1,7 +1,7 @@
--- Raised: what one step of a load does to the levels. Source: the value by which a constraint goes. Queue: where a load keeps the rows that its rounds
--- have added. Built: indexes that are made where they are first needed. Walked: which values have been walked.
+-- Raised: what one step of a load does to the levels. Queue: where a load keeps the rows that its rounds have added. Walked: the rows that a walk along
+-- the links passes, and which values have been walked. Targets: where the constraints end. Ended: how the later rounds end.
 pub mod Raised
-pub mod Source
 pub mod Queue
-pub mod Built
 pub mod Walked
+pub mod Targets
+pub mod Ended

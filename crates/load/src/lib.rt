@@ -1,20 +1,20 @@
-// Loading in rounds, level by level: round 0 from one value or from all held values, the later rounds, and what a load answers and leaves.
+// Loading in rounds, level by level: whole loads, of one value more and of all held values from nothing, and what a load leaves.
 // The levels are the model's (crates/model/specs/Rounds.antt): 0 a row not reached, 1 a row cached before, 2 + n a row that round n adds.
-// Beside the levels a load keeps a queue of the rows that it has added, and indexes of the columns that it looks into, each made where it is
-// first needed: so a row is looked at once for each constraint of its table, and only the rows that have its value are walked. It also keeps which
-// values it has walked, and walks none again: a load costs one step for each added row and constraint, and one walk for each value and target column.
+// A load follows the links of the catalog, and compares no cells: from a row to the first row that a constraint demands of it, and from there to the
+// next row that has the same value. Beside the levels it keeps a queue of the rows that it has added, from round 0 on, so that a row is looked at once for
+// each constraint, and which values it has walked, and walks none again: a load costs one step for each added row and constraint, and one walk for each
+// value and target column. It may stop before its rounds do, once as many rows are reached as can be.
 mod expanding;
-mod indexing;
+mod loading;
 mod outcome;
 mod queue;
-mod raising;
 mod rounds;
 mod start;
+mod walking;
 
+pub use loading::load_held;
+pub use loading::load_value;
+pub use outcome::Growth;
 pub use outcome::marks_agree;
-pub use outcome::rows_added;
-pub use outcome::rows_gone;
+pub use outcome::rows_marked;
 pub use outcome::settle;
-pub use rounds::close;
-pub use start::start_held;
-pub use start::start_value;

@@ -1,13 +1,19 @@
 // What a load answers and leaves, read off its levels.
 ghost use mathlib.Core.Path.{_≡_};
-ghost use mathlib.Core.Bool.{not, cond, _&&_};
+ghost use mathlib.Core.Bool.{cond};
 ghost use mathlib.Core.List.{_++_};
 ghost use Prim.Native.Nat.{_≤_};
 ghost use lib.Dec.{eqb, ltb};
 ghost use lib.ListN.{length, getD, drop};
 ghost use Rattle.finite.specs.Finite.{count, all, tab};
-ghost use Rattle.model.specs.Rounds.{level, reached};
+ghost use Rattle.model.specs.Rounds.{reached};
 ghost use Rattle.model.specs.Runs.{marked};
+
+// How many rows a load added, and how many of its later rounds added one.
+pub struct Growth {
+    pub rows: usize,
+    pub rounds: usize,
+}
 
 // The mark of a row of this level: 1 if it is reached. Constant time.
 pub(crate) fn settled_mark(l: u16) -> u8
@@ -26,38 +32,14 @@ pub fn settle(marks: &mut [u8], levels: &[u16; 512])
     }
 }
 
-// How many rows the load added. One pass over the row numbers.
-pub fn rows_added(levels: &[u16; 512]) -> usize
-    requires { ⌜ length (now levels) ≡ 512 ⌝ }
-    ensures { λ n. ⌜ n ≡ count 512 (λ r. ltb 1 (level (now (levels .entry)) r)) ⌝ }
+// How many rows are marked. One pass over the row numbers.
+pub fn rows_marked(marks: &[u8]) -> usize
+    requires { ⌜ 512 ≤ length (now marks) ⌝ }
+    ensures { λ n. ⌜ n ≡ count 512 (marked (now (marks .entry))) ⌝ }
 {
     let mut n: usize = 0;
     for r in 0..512usize {
-        if 1 < levels[r] {
-            n += 1;
-        }
-    }
-    n
-}
-
-// Whether a row with this mark and this level goes: it is cached and not reached. Constant time.
-pub(crate) fn is_gone(mark: u8, l: u16) -> bool
-    ensures { λ b. ⌜ b ≡ eqb mark 1 && not (ltb 0 l) ⌝ }
-{
-    if mark != 1 {
-        return false;
-    }
-    l == 0
-}
-
-// How many marked rows are not reached. One pass over the row numbers.
-pub fn rows_gone(marks: &[u8], levels: &[u16; 512]) -> usize
-    requires { ⌜ (512 ≤ length (now marks)) × (length (now levels) ≡ 512) ⌝ }
-    ensures { λ n. ⌜ n ≡ count 512 (λ r. marked (now (marks .entry)) r && not (reached (now (levels .entry)) r)) ⌝ }
-{
-    let mut n: usize = 0;
-    for r in 0..512usize {
-        if is_gone(marks[r], levels[r]) {
+        if marks[r] == 1 {
             n += 1;
         }
     }

@@ -4,22 +4,6 @@ ghost use Prim.Native.Nat.{_<_};
 ghost use lib.Dec.{eqb};
 ghost use lib.ListN.{length};
 ghost use Rattle.load.specs.Queue.{Listed, added, Grown};
-use state::Design;
-
-// The rows that have been added, in the order of their numbers; how many they are. One pass over the row numbers.
-pub(crate) fn list_added(levels: &[u16; 512], queue: &mut [u16; 512]) -> usize
-    requires { ⌜ (length (now levels) ≡ 512) × (length (now queue) ≡ 512) ⌝ }
-    ensures { λ end. ⌜ Listed (added (now (levels .entry))) (now (queue .exit)) end ⌝ }
-{
-    let mut end: usize = 0;
-    for r in 0..Design::ROWS {
-        if 1 < levels[r] {
-            queue[end] = r as u16;
-            end += 1;
-        }
-    }
-    end
-}
 
 // Gives row r level `to` and the queue's next place, if it has no level; where the queue ends then. Constant time.
 pub(crate) fn reach(

@@ -4,105 +4,101 @@ ghost use mathlib.Core.Bool.{false, cond};
 ghost use Prim.Native.Nat.{ℕ, _≤_, _<_};
 ghost use lib.Dec.{eqb};
 ghost use lib.ListN.{length};
+ghost use Rattle.finite.specs.Finite.{tab};
 ghost use Rattle.model.specs.Cell.{cellOf};
 ghost use Rattle.model.specs.Database.{has};
 ghost use Rattle.model.specs.Rounds.{start};
 ghost use Rattle.model.specs.Runs.{marked, wanted};
-ghost use Rattle.state.specs.Design.{InRange, Backed};
+ghost use Rattle.state.specs.Design.{InRange};
 ghost use Rattle.state.specs.Held.{heldAt};
 ghost use Rattle.state.specs.Meaning.{columnOf, databaseOf, schemeOf, pairsOf};
-use crate::raising::raise;
+ghost use Rattle.catalog.specs.Catalog.{nexts, Directory};
+ghost use Rattle.load.specs.Queue.{Listed, added};
+use crate::walking::walk;
+use catalog::find;
 use state::Column;
 use state::Design;
 use state::Held;
-use state::HeldValue;
-use state::filling_at;
-use state::row_has;
 
-// Row r's level in round 0 of a load of v in column k, where it has this mark. Constant time.
-pub(crate) fn start_level(
-    rows: usize,
-    cells: &[u32],
-    tables: &[u8],
-    mark: u8,
-    k: Column,
-    v: u32,
-    r: usize,
-) -> u16
-    requires { ⌜ (r < 512) × (k .place < 8) × Backed (now cells) (now tables) ⌝ }
-    ensures { λ n. ⌜ n ≡ cond (eqb mark 1) 1 (cond (has (databaseOf rows (now (cells .entry)) (now (tables .entry))) (columnOf k) (cellOf v) r) 2 0) ⌝ }
+// The level of a row with this mark before a load: 1 if it is cached. Constant time.
+pub(crate) fn cached_level(mark: u8) -> u16
+    ensures { λ n. ⌜ n ≡ cond (eqb mark 1) 1 0 ⌝ }
 {
-    if mark == 1 {
-        return 1;
-    }
-    if row_has(rows, cells, tables, k, v, r) {
-        return 2;
-    }
-    0
+    if mark == 1 { 1 } else { 0 }
 }
 
-// Round 0 of a load of one value: the rows that have v in column k, added to the marked rows. One pass over the row numbers.
-pub fn start_value(
+// The levels before a load. One pass over the marks.
+pub(crate) fn cached_levels(marks: &[u8], levels: &mut [u16; 512])
+    requires { ⌜ (512 ≤ length (now marks)) × (length (now levels) ≡ 512) ⌝ }
+    ensures { λ _. ⌜ now (levels .exit) ≡ tab 512 (λ r. cond (marked (now (marks .entry)) r) 1 0) ⌝ }
+{
+    for r in 0..Design::ROWS {
+        levels[r] = cached_level(marks[r]);
+    }
+}
+
+// Round 0 of a load of one value: the rows that have v in column k, added to the marked rows; how many are, and stand in the queue. One pass over the
+// marks, a search of the directory, and the walk of the value's rows.
+pub(crate) fn start_value(
     rows: usize,
     cells: &[u32],
     tables: &[u8],
+    next: &[u16; 4096],
+    keys: &[u32; 4096],
+    heads: &[u16; 4096],
+    starts: &[u16; 65],
     marks: &[u8],
     k: Column,
     v: u32,
-) -> [u16; 512]
-    requires { ⌜ (k .place < 8) × Backed (now cells) (now tables) × (512 ≤ length (now marks)) ⌝ }
-    ensures { λ a. ⌜ a ≡ start (databaseOf rows (now (cells .entry)) (now (tables .entry))) (marked (now (marks .entry)))
-        (has (databaseOf rows (now (cells .entry)) (now (tables .entry))) (columnOf k) (cellOf v)) ⌝ }
+    levels: &mut [u16; 512],
+    queue: &mut [u16; 512],
+) -> usize
+    requires { ⌜ (k .table < 8) × (k .place < 8) × (512 ≤ length (now marks)) × (length (now levels) ≡ 512) × (length (now queue) ≡ 512) ⌝ }
+    requires { ⌜ (now next ≡ nexts (databaseOf rows (now cells) (now tables)))
+        × Directory (databaseOf rows (now cells) (now tables)) (now keys) (now heads) (now starts) ⌝ }
+    ensures { λ e. ⌜ (now (levels .exit) ≡ start (databaseOf rows (now (cells .entry)) (now (tables .entry))) (marked (now (marks .entry)))
+        (has (databaseOf rows (now (cells .entry)) (now (tables .entry))) (columnOf k) (cellOf v)))
+        × Listed (added (now (levels .exit))) (now (queue .exit)) e ⌝ }
 {
-    let mut levels = [0u16; 512];
-    for r in 0..Design::ROWS {
-        levels[r] = start_level(rows, cells, tables, marks[r], k, v, r);
-    }
-    levels
+    cached_levels(marks, levels);
+    let r = find(keys, heads, starts, k, v);
+    let place = k.place as usize;
+    walk(rows, cells, tables, next, place, r, levels, 2, queue, 0)
 }
 
-// Held value i. Constant time.
-fn held_at(held: Held, i: usize) -> HeldValue
-    requires { ⌜ i < 64 ⌝ }
-    ensures { λ v. ⌜ v ≡ heldAt held i ⌝ }
+// Round 0 of a load of all held values from nothing: the rows that have one of them in its filling's column; how many they are, and stand in the queue.
+// For each held value a search of the directory, and the walk of its rows.
+pub(crate) fn start_held(
+    d: Design,
+    cells: &[u32],
+    tables: &[u8],
+    next: &[u16; 4096],
+    keys: &[u32; 4096],
+    heads: &[u16; 4096],
+    starts: &[u16; 65],
+    held: Held,
+    levels: &mut [u16; 512],
+    queue: &mut [u16; 512],
+) -> usize
+    requires { ⌜ InRange d × (held .count ≤ 64) × ((i : ℕ) → heldAt held i .filling < 8) × (length (now queue) ≡ 512) ⌝ }
+    requires { ⌜ (now next ≡ nexts (databaseOf (d .rows) (now cells) (now tables)))
+        × Directory (databaseOf (d .rows) (now cells) (now tables)) (now keys) (now heads) (now starts) ⌝ }
+    ensures { λ e. ⌜ (now (levels .exit) ≡ start (databaseOf (d .rows) (now (cells .entry)) (now (tables .entry))) (λ _. false)
+        (wanted (schemeOf d) (databaseOf (d .rows) (now (cells .entry)) (now (tables .entry))) (pairsOf held)))
+        × Listed (added (now (levels .exit))) (now (queue .exit)) e ⌝ }
 {
-    held.values[i]
-}
-
-// Round 0 of a load of all held values from nothing: the rows that have one of them in its filling's column. An index for each filling that has a
-// held value, and the walk of each held value's rows.
-pub fn start_held(d: Design, cells: &[u32], tables: &[u8], held: Held) -> [u16; 512]
-    requires { ⌜ InRange d × Backed (now cells) (now tables) × (held .count ≤ 64) × ((i : ℕ) → heldAt held i .filling < 8) ⌝ }
-    ensures { λ a. ⌜ a ≡ start (databaseOf (d .rows) (now (cells .entry)) (now (tables .entry))) (λ _. false)
-        (wanted (schemeOf d) (databaseOf (d .rows) (now (cells .entry)) (now (tables .entry))) (pairsOf held)) ⌝ }
-{
-    let mut levels = [0u16; 512];
-    let mut queue = [0u16; 512];
-    let mut built = [false; 16];
-    let mut heads = [0u16; 8192];
-    let mut links = [0u16; 8192];
-    let mut walked = [false; 4096];
+    *levels = [0u16; 512];
     let mut end: usize = 0;
+    // read from here, so that the compiler copies a value and a filling, and not all of them
+    let values = held.values;
+    let filling = d.filling;
     for i in 0..held.count {
-        let v = held_at(held, i);
-        let at = v.filling as usize;
-        let f = filling_at(d, at);
-        end = raise(
-            d.rows,
-            cells,
-            tables,
-            f.column,
-            at,
-            v.value,
-            &mut built,
-            &mut heads,
-            &mut links,
-            &mut walked,
-            &mut levels,
-            2,
-            &mut queue,
-            end,
-        );
+        let v = values[i];
+        let f = filling[v.filling as usize];
+        let k = f.column;
+        let r = find(keys, heads, starts, k, v.value);
+        let place = k.place as usize;
+        end = walk(d.rows, cells, tables, next, place, r, levels, 2, queue, end);
     }
-    levels
+    end
 }

@@ -3,11 +3,12 @@ use Prim.Native.Nat.{ℕ, zero, suc, _<_}
 use mathlib.Core.Path.{_≡_, refl, sym, ap, ap₂, _∙_}
 use mathlib.Core.Bool.{Bool, true, false, not, _&&_, _||_}
 use mathlib.Core.List.{List}
+use borrow.Author.Tests.{eq-eqb, ne-eqb}
 use lib.Dec.{eqb}
 use lib.ListN.{take}
 use lib.Seq.{getD-take}
 use Rattle.finite.specs.Finite.{any, tab}
-use Rattle.finite.proofs.Bools.{and-go, and-stop, ne-not, eq-not}
+use Rattle.finite.proofs.Bools.{both, and-left, and-right, ne-not, eq-not}
 use Rattle.finite.proofs.Search.{any-same, any-front}
 use Rattle.model.specs.Cell.{Cell, cellOf, isBlank, equal}
 use Rattle.model.specs.Scheme.{Column, Scheme, sameColumn}
@@ -31,18 +32,22 @@ held-any S k v (suc n) f =
 
 -- one held value, test by test
 module _ (j k : Column) (w v : ℕ) where
-  pub one-elsewhere : sameColumn j k ≡ false → false ≡ one j (cellOf w) k (cellOf v)
-  unfolding one
-  one-elsewhere h = and-stop (sameColumn j k) (equal (cellOf w) (cellOf v)) h
+  pub one-other : (w ≡ v → ⊥) → false ≡ one j (cellOf w) k (cellOf v)
+  unfolding one equal isBlank
+  one-other ne = sym (and-right (sameColumn j k) _ (and-right (not (eqb w 0)) (eqb w v) (ne-eqb w v ne)))
 
-  module _ (h : sameColumn j k ≡ true) where
-    pub one-blank : w ≡ 0 → false ≡ one j (cellOf w) k (cellOf v)
+  module _ (e : w ≡ v) where
+    pub one-blank : v ≡ 0 → false ≡ one j (cellOf w) k (cellOf v)
     unfolding one equal isBlank
-    one-blank z = and-go (sameColumn j k) _ h (and-stop (not (eqb w 0)) (eqb w v) (eq-not w 0 z))
+    one-blank z = sym (and-right (sameColumn j k) _ (and-left (not (eqb w 0)) (eqb w v) (eq-not w 0 (e ∙ z))))
 
-    pub one-value : (w ≡ 0 → ⊥) → eqb w v ≡ one j (cellOf w) k (cellOf v)
+    pub one-column : (v ≡ 0 → ⊥) → sameColumn j k ≡ one j (cellOf w) k (cellOf v)
     unfolding one equal isBlank
-    one-value z = and-go (sameColumn j k) _ h (and-go (not (eqb w 0)) (eqb w v) (ne-not w 0 z) refl)
+    one-column z = rest (sameColumn j k) _ (both (ne-not w 0 (λ (q : w ≡ 0). z (sym e ∙ q))) (eq-eqb w v e))
+      where
+        rest : (a b : Bool) → b ≡ true → a ≡ a && b
+        rest true b h = sym h
+        rest false b h = refl
 
 -- ---- grounds 2 and 3 look at the row set below the database's size alone
 

@@ -1,2 +1,3 @@
--- GroundLaws: the grounds as searches, and over row sets that agree.
+-- GroundLaws: the grounds as searches, and over row sets that agree. SeekLaws: a search among the rows that have a value.
 pub mod GroundLaws
+pub mod SeekLaws

@@ -1,53 +1,41 @@
 // Looking for a value among the cached rows.
 ghost use Prim.Native.Nat.{_<_, _≤_};
-ghost use mathlib.Core.Bool.{_&&_};
 ghost use mathlib.Core.Path.{_≡_};
 ghost use lib.ListN.{length};
 ghost use Rattle.model.specs.Cell.{cellOf};
-ghost use Rattle.model.specs.Database.{has};
 ghost use Rattle.model.specs.Probe as Probe;
 ghost use Rattle.model.specs.Runs.{marked};
-ghost use Rattle.state.specs.Design.{Backed};
 ghost use Rattle.state.specs.Meaning.{columnOf, databaseOf};
+ghost use Rattle.catalog.specs.Catalog.{nexts, Directory};
+use catalog::find;
 use state::Column;
 use state::Design;
-use state::row_has;
 
-// Whether row r is cached and has the value in the column. Constant time.
-fn cached_has(
-    rows: usize,
-    cells: &[u32],
-    tables: &[u8],
-    marks: &[u8],
-    k: Column,
-    v: u32,
-    r: usize,
-) -> bool
-    requires { ⌜ (r < 512) × (k .place < 8) × Backed (now cells) (now tables) × (512 ≤ length (now marks)) ⌝ }
-    ensures { λ b. ⌜ b ≡ marked (now (marks .entry)) r && has (databaseOf rows (now (cells .entry)) (now (tables .entry))) (columnOf k) (cellOf v) r ⌝ }
-{
-    if marks[r] != 1 {
-        return false;
-    }
-    row_has(rows, cells, tables, k, v, r)
-}
-
-// Whether a cached row has the value in the column. One look at each of the 512 row numbers.
+// Whether a cached row has the value in the column. A search of the directory, and one step for each row that has the value, up to the first that is
+// cached.
 pub(crate) fn seen(
     rows: usize,
     cells: &[u32],
     tables: &[u8],
+    next: &[u16; 4096],
+    keys: &[u32; 4096],
+    heads: &[u16; 4096],
+    starts: &[u16; 65],
     marks: &[u8],
     k: Column,
     v: u32,
 ) -> bool
-    requires { ⌜ (k .place < 8) × Backed (now cells) (now tables) × (512 ≤ length (now marks)) ⌝ }
+    requires { ⌜ (k .table < 8) × (k .place < 8) × (512 ≤ length (now marks)) ⌝ }
+    requires { ⌜ (now next ≡ nexts (databaseOf rows (now cells) (now tables)))
+        × Directory (databaseOf rows (now cells) (now tables)) (now keys) (now heads) (now starts) ⌝ }
     ensures { λ b. ⌜ b ≡ Probe.seen (databaseOf rows (now (cells .entry)) (now (tables .entry))) (marked (now (marks .entry))) (columnOf k) (cellOf v) ⌝ }
 {
-    for r in 0..Design::ROWS {
-        if cached_has(rows, cells, tables, marks, k, v, r) {
+    let mut r = find(keys, heads, starts, k, v);
+    while r < Design::ROWS {
+        if marks[r] == 1 {
             return true;
         }
+        r = next[Design::COLUMNS * r + k.place as usize] as usize;
     }
     false
 }

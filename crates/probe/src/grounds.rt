@@ -7,9 +7,10 @@ ghost use Rattle.model.specs.Cell.{cellOf};
 ghost use Rattle.model.specs.Probe as Probe;
 ghost use Rattle.model.specs.Runs.{heldIn, marked};
 ghost use Rattle.model.specs.Scheme.{sameColumn};
-ghost use Rattle.state.specs.Design.{InRange, Backed};
+ghost use Rattle.state.specs.Design.{InRange};
 ghost use Rattle.state.specs.Held.{heldAt};
 ghost use Rattle.state.specs.Meaning.{columnOf, constraintOf, pairsOf, schemeOf, databaseOf};
+ghost use Rattle.catalog.specs.Catalog.{nexts, Directory};
 use crate::cached::seen;
 use crate::held::is_held;
 use lawful::is_unique;
@@ -19,17 +20,24 @@ use state::Design;
 use state::Held;
 use state::same_column;
 
-// Whether the constraint ends at the column and a cached row has the value in its source column. Rows, if it ends there.
+// Whether the constraint ends at the column and a cached row has the value in its source column. If it ends there, the cost
+// of looking for the value.
 fn is_demanded_by(
     rows: usize,
     cells: &[u32],
     tables: &[u8],
+    next: &[u16; 4096],
+    keys: &[u32; 4096],
+    heads: &[u16; 4096],
+    starts: &[u16; 65],
     marks: &[u8],
     c: Constraint,
     k: Column,
     v: u32,
 ) -> bool
-    requires { ⌜ (c .source .place < 8) × Backed (now cells) (now tables) × (512 ≤ length (now marks)) ⌝ }
+    requires { ⌜ (c .source .table < 8) × (c .source .place < 8) × (512 ≤ length (now marks)) ⌝ }
+    requires { ⌜ (now next ≡ nexts (databaseOf rows (now cells) (now tables)))
+        × Directory (databaseOf rows (now cells) (now tables)) (now keys) (now heads) (now starts) ⌝ }
     ensures { λ b. ⌜ b ≡ sameColumn (constraintOf c .target) (columnOf k)
         && Probe.seen (databaseOf rows (now (cells .entry)) (now (tables .entry))) (marked (now (marks .entry))) (constraintOf c .source) (cellOf v) ⌝ }
 {
@@ -38,68 +46,129 @@ fn is_demanded_by(
         return false;
     }
     let source = c.source;
-    seen(rows, cells, tables, marks, source, v)
+    seen(
+        rows,
+        cells,
+        tables,
+        next,
+        keys,
+        heads,
+        starts,
+        marks,
+        source,
+        v,
+    )
 }
 
-// Ground 2: whether a constraint ends at the column and a cached row has the value in its source column. Rows for each constraint that
-// ends there.
-fn is_demanded(d: Design, cells: &[u32], tables: &[u8], marks: &[u8], k: Column, v: u32) -> bool
-    requires { ⌜ InRange d × Backed (now cells) (now tables) × (512 ≤ length (now marks)) ⌝ }
+// Ground 2: whether a constraint ends at the column and a cached row has the value in its source column. The cost of looking for the value, for each
+// constraint that ends there.
+fn is_demanded(
+    d: Design,
+    cells: &[u32],
+    tables: &[u8],
+    next: &[u16; 4096],
+    keys: &[u32; 4096],
+    heads: &[u16; 4096],
+    starts: &[u16; 65],
+    marks: &[u8],
+    k: Column,
+    v: u32,
+) -> bool
+    requires { ⌜ InRange d × (512 ≤ length (now marks)) ⌝ }
+    requires { ⌜ (now next ≡ nexts (databaseOf (d .rows) (now cells) (now tables)))
+        × Directory (databaseOf (d .rows) (now cells) (now tables)) (now keys) (now heads) (now starts) ⌝ }
     ensures { λ b. ⌜ b ≡ Probe.demanded (schemeOf d) (databaseOf (d .rows) (now (cells .entry)) (now (tables .entry)))
         (marked (now (marks .entry))) (columnOf k) (cellOf v) ⌝ }
 {
     let n = d.constraints;
+    // read from here, so that the compiler copies 64 bytes and not the whole design
+    let constraint = d.constraint;
     for i in 0..n {
-        let c = d.constraint[i];
-        if is_demanded_by(d.rows, cells, tables, marks, c, k, v) {
+        let c = constraint[i];
+        if is_demanded_by(
+            d.rows,
+            cells,
+            tables,
+            next,
+            keys,
+            heads,
+            starts,
+            marks,
+            c,
+            k,
+            v,
+        ) {
             return true;
         }
     }
     false
 }
 
-// Ground 3: whether the column is unique and a cached row has the value there. Rows, if it is unique.
+// Ground 3: whether the column is unique and a cached row has the value there. The cost of looking for it, if the column is unique.
 fn is_uniquely_seen(
     d: Design,
     cells: &[u32],
     tables: &[u8],
+    next: &[u16; 4096],
+    keys: &[u32; 4096],
+    heads: &[u16; 4096],
+    starts: &[u16; 65],
     marks: &[u8],
     k: Column,
     v: u32,
 ) -> bool
-    requires { ⌜ (k .place < 8) × Backed (now cells) (now tables) × (512 ≤ length (now marks)) ⌝ }
+    requires { ⌜ (k .table < 8) × (k .place < 8) × (512 ≤ length (now marks)) ⌝ }
+    requires { ⌜ (now next ≡ nexts (databaseOf (d .rows) (now cells) (now tables)))
+        × Directory (databaseOf (d .rows) (now cells) (now tables)) (now keys) (now heads) (now starts) ⌝ }
     ensures { λ b. ⌜ b ≡ Probe.uniquelySeen (schemeOf d) (databaseOf (d .rows) (now (cells .entry)) (now (tables .entry)))
         (marked (now (marks .entry))) (columnOf k) (cellOf v) ⌝ }
 {
     if !is_unique(d, k) {
         return false;
     }
-    seen(d.rows, cells, tables, marks, k, v)
+    seen(
+        d.rows,
+        cells,
+        tables,
+        next,
+        keys,
+        heads,
+        starts,
+        marks,
+        k,
+        v,
+    )
 }
 
-// The lowest ground that says the value is complete in the column, 0 if none does. Held values, and rows for each constraint that ends at
-// the column and once more if it is unique.
+// The lowest ground that says the value is complete in the column, 0 if none does. Held values, and a look for the value for each
+// constraint that ends at the column and once more if it is unique.
 pub fn ground(
     d: Design,
     cells: &[u32],
     tables: &[u8],
+    next: &[u16; 4096],
+    keys: &[u32; 4096],
+    heads: &[u16; 4096],
+    starts: &[u16; 65],
     marks: &[u8],
     held: Held,
     k: Column,
     v: u32,
 ) -> u8
-    requires { ⌜ InRange d × Backed (now cells) (now tables) × (512 ≤ length (now marks)) × (held .count ≤ 64) × (k .place < 8)
+    requires { ⌜ InRange d × (512 ≤ length (now marks)) × (held .count ≤ 64) × (k .table < 8) × (k .place < 8)
         × ((i : ℕ) → heldAt held i .filling < 8) ⌝ }
+    requires { ⌜ (now next ≡ nexts (databaseOf (d .rows) (now cells) (now tables)))
+        × Directory (databaseOf (d .rows) (now cells) (now tables)) (now keys) (now heads) (now starts) ⌝ }
     ensures { λ g. ⌜ g ≡ Probe.probe (schemeOf d) (databaseOf (d .rows) (now (cells .entry)) (now (tables .entry)))
         (heldIn (schemeOf d) (pairsOf held)) (marked (take 512 (now (marks .entry)))) (columnOf k) (cellOf v) ⌝ }
 {
     if is_held(d, held, k, v) {
         return 1;
     }
-    if is_demanded(d, cells, tables, marks, k, v) {
+    if is_demanded(d, cells, tables, next, keys, heads, starts, marks, k, v) {
         return 2;
     }
-    if is_uniquely_seen(d, cells, tables, marks, k, v) {
+    if is_uniquely_seen(d, cells, tables, next, keys, heads, starts, marks, k, v) {
         return 3;
     }
     0

@@ -11,31 +11,33 @@ use state::Held;
 use state::HeldValue;
 use state::same_column;
 
-// Whether the held value h is v and its filling's column is k. Constant time.
+// Whether the held value h is v and its filling's column is k. The value is compared first, which tells most held values apart. Constant time.
 fn is_held_by(d: Design, h: HeldValue, k: Column, v: u32) -> bool
     requires { ⌜ h .filling < 8 ⌝ }
     ensures { λ b. ⌜ b ≡ one (schemeOf d .filling (h .filling) .column) (cellOf (h .value)) (columnOf k) (cellOf v) ⌝ }
 {
+    if h.value != v {
+        return false;
+    }
+    if v == 0 {
+        return false;
+    }
     let f = h.filling as usize;
     let filling = d.filling[f];
     let j = filling.column;
-    if !same_column(j, k) {
-        return false;
-    }
-    if h.value == 0 {
-        return false;
-    }
-    h.value == v
+    same_column(j, k)
 }
 
-// Whether a filling of the column holds the value. One look at each held value.
+// Whether a filling of the column holds the value. One comparison for each held value that is another.
 pub(crate) fn is_held(d: Design, held: Held, k: Column, v: u32) -> bool
     requires { ⌜ (held .count ≤ 64) × ((i : ℕ) → heldAt held i .filling < 8) ⌝ }
     ensures { λ b. ⌜ b ≡ heldIn (schemeOf d) (pairsOf held) (columnOf k) (cellOf v) ⌝ }
 {
     let n = held.count;
+    // read from here, so that the compiler copies a value and not all of them
+    let values = held.values;
     for i in 0..n {
-        let h = held.values[i];
+        let h = values[i];
         if is_held_by(d, h, k, v) {
             return true;
         }

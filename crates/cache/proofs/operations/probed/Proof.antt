@@ -14,20 +14,27 @@ is-long-enough-requires c κs = search needs
 returns : tie.Need-returns
 returns c = short-answer _ _ (sym (c .before .is-long-enough .ensures _ _) ∙ not-true _ (c .if1 .taken))
 
-is-lawful-requires : tie.Need-is-lawful-requires
-is-lawful-requires c κs =
-    let s = c .before .before .before .before .before in
-    long-asked _ (sym (c .before .is-long-enough .ensures (s .args .design) (s .args .held)) ∙ not-false _ (c .if1 .left))
+is-lawful-catalog-requires : tie.Need-is-lawful-catalog-requires
+is-lawful-catalog-requires c κs =
+    let p = c .before .before .before .before .before in
+    let s = p .before .before .before .before .before in
+    long-asked _ (sym (p .before .is-long-enough .ensures (s .args .design) (s .args .held)) ∙ not-false _ (p .if1 .left))
 
 returns-2 : tie.Need-returns-2
 returns-2 c =
-    unlawful-answer _ _ (sym (c .before .before .before .is-long-enough .ensures _ _) ∙ not-false _ (c .before .before .if1 .left))
-    (sym (c .before .is-lawful .ensures) ∙ not-true _ (c .if2 .taken))
+    let p = c .before .before .before .before .before .before .before in
+    unlawful-answer _ _ (sym (p .before .is-long-enough .ensures _ _) ∙ not-false _ (p .if1 .left))
+    (sym (c .before .is-lawful-catalog .ensures .0) ∙ not-true _ (c .if2 .taken))
 
 probe-lawful-requires : tie.Need-probe-lawful-requires
 probe-lawful-requires c κs =
-    both (sym (c .before .before .before .is-long-enough .ensures _ _) ∙ not-false _ (c .before .before .if1 .left))
-    (sym (c .before .is-lawful .ensures) ∙ not-false _ (c .if2 .left))
+    let t = c .before .before .before .before in
+    let p = t .before .before .before .before .before .before .before in
+    let is = not-false _ (t .if2 .left) in
+    let k = t .before .is-lawful-catalog .ensures .1 is in (
+      both (sym (p .before .is-long-enough .ensures _ _) ∙ not-false _ (p .if1 .left)) (sym (t .before .is-lawful-catalog .ensures .0) ∙ is),
+      (k .next-is, k .directory),
+    )
 
 returns-3 : tie.Need-returns-3
 returns-3 c = c .probe-lawful .ensures
@@ -38,7 +45,7 @@ probed-spec =
     (tie.spec
     is-long-enough-requires
     returns
-    is-lawful-requires
+    is-lawful-catalog-requires
     returns-2
     probe-lawful-requires
     returns-3)

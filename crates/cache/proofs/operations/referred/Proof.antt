@@ -17,23 +17,29 @@ same-length c = search needs
 returns : tie.Need-returns
 returns c = stepped-short _ _ (sym (c .before .is-long-enough .ensures _ _) ∙ not-true _ (c .if1 .taken))
 
-is-lawful-requires : tie.Need-is-lawful-requires
-is-lawful-requires c κs =
-    let s = c .before .before .before .before .before .before .before in
-    long-asked _ (sym (c .before .before .is-long-enough .ensures (s .args .design) (s .args .held)) ∙ not-false _ (c .before .if1 .left))
+is-lawful-catalog-requires : tie.Need-is-lawful-catalog-requires
+is-lawful-catalog-requires c κs =
+    let p = c .before .before .before .before .before .before in
+    let s = p .before .before .before .before .before .before in
+    long-asked _ (sym (p .before .is-long-enough .ensures (s .args .design) (s .args .held)) ∙ not-false _ (p .if1 .left))
 
 same-length-2 : tie.Need-same-length-2
 same-length-2 c = search needs
 
 returns-2 : tie.Need-returns-2
 returns-2 c =
-    stepped-unlawful _ _ (sym (c .before .before .before .before .is-long-enough .ensures _ _) ∙ not-false _ (c .before .before .before .if1 .left))
-    (sym (c .before .is-lawful .ensures) ∙ not-true _ (c .if2 .taken))
+    let p = c .before .before .before .before .before .before .before .before in
+    stepped-unlawful _ _ (sym (p .before .is-long-enough .ensures _ _) ∙ not-false _ (p .if1 .left))
+    (sym (c .before .is-lawful-catalog .ensures .0) ∙ not-true _ (c .if2 .taken))
 
 refer-held-requires : tie.Need-refer-held-requires
 refer-held-requires c κs =
-    both (sym (c .before .before .before .before .before .is-long-enough .ensures _ _) ∙ not-false _ (c .before .before .before .before .if1 .left))
-    (sym (c .before .before .is-lawful .ensures) ∙ not-false _ (c .before .if2 .left))
+    let t = c .before .before .before .before .before .before in
+    let p = t .before .before .before .before .before .before .before .before in
+    let is = not-false _ (t .if2 .left) in (
+      both (sym (p .before .is-long-enough .ensures _ _) ∙ not-false _ (p .if1 .left)) (sym (t .before .is-lawful-catalog .ensures .0) ∙ is),
+      t .before .is-lawful-catalog .ensures .1 is,
+    )
 
 same-length-3 : tie.Need-same-length-3
 same-length-3 c = search needs
@@ -48,7 +54,7 @@ referred-spec =
     is-long-enough-requires
     same-length
     returns
-    is-lawful-requires
+    is-lawful-catalog-requires
     same-length-2
     returns-2
     refer-held-requires

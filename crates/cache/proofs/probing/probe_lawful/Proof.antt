@@ -3,7 +3,7 @@ use mathlib.Core.Path.{sym, _∙_}
 use borrow.Author.Needs.{needs}
 use borrow.Author.Tests.{not-true, not-false}
 use Rattle.state.proofs.Arrays.{sized, held-sized}
-use Rattle.cache.proofs.Asked.{sound-range, sound-backed, sound-marks, sound-tidy, sound-filling, sound-column}
+use Rattle.cache.proofs.Asked.{sound-range, sound-marks, sound-tidy, sound-filling, sound-table, sound-column}
 use Rattle.cache.proofs.ProbeSteps.{probe-5, probe-9, probe-sent, probe-ground}
 use Rattle.cache.proofs.probing.probe_lawful.Statement.{statement}
 use Rattle.cache.proofs.probing.probe_lawful.Tie as tie
@@ -12,34 +12,38 @@ is-column-requires : tie.Need-is-column-requires
 is-column-requires c κs = search needs
 
 returns : tie.Need-returns
-returns c = probe-5 _ (c .before .before .before .before .before .pre) _ _ (sym (c .before .is-column .ensures) ∙ not-true _ (c .if1 .taken))
+returns c = probe-5 _ (c .before .before .before .before .before .pre .0) _ _ (sym (c .before .is-column .ensures) ∙ not-true _ (c .if1 .taken))
 
 returns-2 : tie.Need-returns-2
 returns-2 c =
-    probe-9 _ (c .before .before .before .before .before .before .pre) _ _ (sym (c .before .before .is-column .ensures) ∙
+    probe-9 _ (c .before .before .before .before .before .before .pre .0) _ _ (sym (c .before .before .is-column .ensures) ∙
     not-false _ (c .before .if1 .left)) (c .if2 .taken)
 
 ground-requires : tie.Need-ground-requires
 ground-requires c κs =
-    let s = c .before .before .before .before .before .before in (
-      sound-range _ (s .pre) (sized (s .args .design) _ (s .good .0)),
-      sound-backed _ (s .pre),
-      sound-marks _ (s .pre),
-      sound-tidy _ (s .pre) .few,
-      sound-column _ (s .pre) _ (sym (c .before .before .is-column .ensures) ∙ not-false _ (c .before .if1 .left)),
-      sound-filling _ (s .pre) (held-sized (s .args .held) _ (s .good .1 .1 .1 .1 .0)),
+    let s = c .before .before .before .before .before .before in
+    let k = sym (c .before .before .is-column .ensures) ∙ not-false _ (c .before .if1 .left) in (
+      (
+        sound-range _ (s .pre .0) (sized (s .args .design) _ (s .good .0)),
+        sound-marks _ (s .pre .0),
+        sound-tidy _ (s .pre .0) .few,
+        sound-table _ (s .pre .0) _ k,
+        sound-column _ (s .pre .0) _ k,
+        sound-filling _ (s .pre .0) (held-sized (s .args .held) _ (s .good .1 .1 .1 .1 .1 .1 .1 .1 .0)),
+      ),
+      s .pre .1,
     )
 
 returns-3 : tie.Need-returns-3
 returns-3 c =
     let p = c .before .before .before .before in
-    probe-sent _ (p .before .before .before .before .pre) _ _ (sym (p .is-column .ensures) ∙
+    probe-sent _ (p .before .before .before .before .pre .0) _ _ (sym (p .is-column .ensures) ∙
     not-false _ (c .before .before .before .if1 .left)) (c .before .before .if2 .left) _ (c .before .ground .ensures) (c .if3 .taken)
 
 returns-4 : tie.Need-returns-4
 returns-4 c =
     let p = c .before .before .before .before in
-    probe-ground _ (p .before .before .before .before .pre) _ _ (sym (p .is-column .ensures) ∙
+    probe-ground _ (p .before .before .before .before .pre .0) _ _ (sym (p .is-column .ensures) ∙
     not-false _ (c .before .before .before .if1 .left)) (c .before .before .if2 .left) _ (c .before .ground .ensures) (c .if3 .left)
 
 pub probe-lawful-spec : {M : Type 1} → statement M

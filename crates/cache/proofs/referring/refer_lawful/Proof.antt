@@ -4,7 +4,7 @@ use mathlib.Core.Path.{sym, _∙_}
 use borrow.Author.Needs.{needs}
 use borrow.Author.Tests.{not-true, not-false}
 use Rattle.state.proofs.Arrays.{sized, held-sized}
-use Rattle.cache.proofs.Asked.{sound-range, sound-backed, sound-marks, sound-fillings, sound-tidy}
+use Rattle.cache.proofs.Asked.{sound-range, sound-marks, sound-fillings, sound-tidy}
 use Rattle.cache.proofs.Steps.{refer-5, refer-9, refer-no-candidate, refer-already, refer-8, refer-load}
 use Rattle.cache.proofs.referring.refer_lawful.Statement.{statement}
 use Rattle.cache.proofs.referring.refer_lawful.Tie as tie
@@ -12,18 +12,18 @@ use Rattle.cache.proofs.referring.refer_lawful.Tie as tie
 returns : tie.Need-returns
 returns c =
     let s = c .before .before .before .before in
-    refer-5 _ (s .pre) (held-sized (s .args .held) _ (s .good .1 .1 .1 .1 .0)) _ _ (c .if1 .taken)
+    refer-5 _ (s .pre .0) (held-sized (s .args .held) _ (s .good .1 .1 .1 .1 .1 .1 .1 .1 .1 .0)) _ _ (c .if1 .taken)
 
 returns-2 : tie.Need-returns-2
 returns-2 c =
     let s = c .before .before .before .before .before in
-    refer-9 _ (s .pre) (held-sized (s .args .held) _ (s .good .1 .1 .1 .1 .0)) _ _ (c .before .if1 .left) (c .if2 .taken)
+    refer-9 _ (s .pre .0) (held-sized (s .args .held) _ (s .good .1 .1 .1 .1 .1 .1 .1 .1 .1 .0)) _ _ (c .before .if1 .left) (c .if2 .taken)
 
 mul-candidates : tie.Need-mul-candidates
 mul-candidates c = search needs
 
 element-copy-out-candidates : tie.Need-element-copy-out-candidates
-element-copy-out-candidates c = omega (arith, sound-fillings _ (c .before .before .before .before .before .pre))
+element-copy-out-candidates c = omega (arith, sound-fillings _ (c .before .before .before .before .before .pre .0))
 
 is-candidate-requires : tie.Need-is-candidate-requires
 is-candidate-requires c κs = search needs
@@ -31,38 +31,38 @@ is-candidate-requires c κs = search needs
 returns-3 : tie.Need-returns-3
 returns-3 c =
     let s = c .before .before .before .before .before .before .before .before in
-    refer-no-candidate _ (s .pre) (held-sized (s .args .held) _ (s .good .1 .1 .1 .1 .0)) _ _ (c .before .before .before .before .if1 .left)
+    refer-no-candidate _ (s .pre .0) (held-sized (s .args .held) _ (s .good .1 .1 .1 .1 .1 .1 .1 .1 .1 .0)) _ _ (c .before .before .before .before .if1 .left)
     (c .before .before .before .if2 .left)
     (sym (c .before .is-candidate .ensures) ∙ not-true _ (c .if3 .taken))
 
 listed-requires : tie.Need-listed-requires
-listed-requires c κs = sound-tidy _ (c .before .before .before .before .before .before .before .before .pre) .few
+listed-requires c κs = sound-tidy _ (c .before .before .before .before .before .before .before .before .pre .0) .few
 
 returns-4 : tie.Need-returns-4
 returns-4 c =
     let p = c .before .before .before in
     let s = p .before .before .before .before .before .before .before in
-    refer-already _ (s .pre) (held-sized (s .args .held) _ (s .good .1 .1 .1 .1 .0)) _ _ (p .before .before .before .if1 .left) (p .before .before .if2 .left)
+    refer-already _ (s .pre .0) (held-sized (s .args .held) _ (s .good .1 .1 .1 .1 .1 .1 .1 .1 .1 .0)) _ _ (p .before .before .before .if1 .left) (p .before .before .if2 .left)
     (sym (p .is-candidate .ensures) ∙ not-false _ (c .before .before .if3 .left)) (sym (c .before .listed .ensures) ∙ c .if4 .taken)
 
 returns-5 : tie.Need-returns-5
 returns-5 c =
     let p = c .before .before .before .before .before in
     let s = p .before .before .before .before .before .before .before in
-    refer-8 _ (s .pre) (held-sized (s .args .held) _ (s .good .1 .1 .1 .1 .0)) _ _ (p .before .before .before .if1 .left) (p .before .before .if2 .left)
+    refer-8 _ (s .pre .0) (held-sized (s .args .held) _ (s .good .1 .1 .1 .1 .1 .1 .1 .1 .1 .0)) _ _ (p .before .before .before .if1 .left) (p .before .before .if2 .left)
     (sym (p .is-candidate .ensures) ∙ not-false _ (c .before .before .before .before .if3 .left)) (sym (c .before .before .before .listed .ensures) ∙
-    c .before .before .if4 .left) (c .if5 .taken)
+    c .before .before .if4 .left) (omega (arith, c .if5 .taken))
 
-load-value-requires : tie.Need-load-value-requires
-load-value-requires c κs =
+mark-value-requires : tie.Need-mark-value-requires
+mark-value-requires c κs =
     let s = c .before .before .before .before .before .before .before .before .before .before .before .before .before .before in
-    let range = sound-range _ (s .pre) (sized (s .args .t1) _ (s .good .0)) in
-    (range, sound-backed _ (s .pre), sound-marks _ (s .pre), range .column _)
+    let range = sound-range _ (s .pre .0) (sized (s .args .t1) _ (s .good .0)) in
+    ((range, sound-marks _ (s .pre .0), range .column-table _, range .column _), s .pre .1)
 
 appended-requires : tie.Need-appended-requires
 appended-requires c κs = (
   sound-tidy _ (c .before .before .before .before .before .before .before .before .before .before .before .before .before .before
-      .before .before .before .pre),
+      .before .before .before .pre .0),
   c .before .before .before .before .before .if5 .left,
 )
 
@@ -74,10 +74,10 @@ returns-6 c =
     let l = c .before .before .before .before .before .before .before .before .before in
     let p = l .before .before in
     let s = p .before .before .before .before .before .before .before in
-    refer-load _ (s .pre) (held-sized (s .args .held) _ (s .good .1 .1 .1 .1 .0)) _ _ (p .before .before .before .if1 .left) (p .before .before .if2 .left)
+    refer-load _ (s .pre .0) (held-sized (s .args .held) _ (s .good .1 .1 .1 .1 .1 .1 .1 .1 .1 .0)) _ _ (p .before .before .before .if1 .left) (p .before .before .if2 .left)
     (sym (p .is-candidate .ensures) ∙ not-false _ (l .before .if3 .left)) (sym (l .listed .ensures) ∙
     c .before .before .before .before .before .before .before .before .if4 .left) (c .before .before .before .before .before .before .if5 .left) _ _ _
-    (c .before .before .before .load-value .ensures) (c .appended .ensures)
+    (c .before .before .before .mark-value .ensures) (c .appended .ensures)
 
 pub refer-lawful-spec : {M : Type 1} → statement M
 refer-lawful-spec =
@@ -92,7 +92,7 @@ refer-lawful-spec =
     listed-requires
     returns-4
     returns-5
-    load-value-requires
+    mark-value-requires
     appended-requires
     same-length
     returns-6)

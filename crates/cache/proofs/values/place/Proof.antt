@@ -4,10 +4,11 @@ use native.Mathlib.Omega.{arith}
 use mathlib.Core.Path.{_≡_, sym, _∙_}
 use mathlib.Core.Bool.{false}
 use borrow.Author.Needs.{needs}
+use lib.ListN.{getD}
 use Rattle.finite.specs.Finite.{any}
 use Rattle.finite.proofs.Search.{any-start, any-more, any-none}
 use Rattle.model.specs.Runs.{samePair}
-use Rattle.state.specs.Held.{heldAt}
+use Rattle.state.specs.Held.{noValue}
 use Rattle.state.specs.Meaning.{pairOf, pairsOf}
 use Rattle.cache.specs.Places.{pair}
 use Rattle.cache.proofs.Pairs.{place-found, place-none}
@@ -15,10 +16,10 @@ use Rattle.cache.proofs.values.place.Statement.{statement}
 use Rattle.cache.proofs.values.place.Tie as tie
 
 abbrev Inv-loop : tie.InvT-loop
-Inv-loop filling value held n i₀ i = (i ≤ n) × (any i (λ j. samePair (pairOf (heldAt held j)) (pair filling value)) ≡ false)
+Inv-loop filling value n values i₀ i = (i ≤ n) × (any i (λ j. samePair (pairOf (getD values j noValue)) (pair filling value)) ≡ false)
 
 abbrev μ-loop : tie.MeasureT-loop
-μ-loop filling value held n i₀ i = n - i
+μ-loop filling value n values i₀ i = n - i
 
 loop-holds : tie.Need-loop-holds Inv-loop μ-loop
 loop-holds c = (omega arith, any-start _)
@@ -26,8 +27,8 @@ loop-holds c = (omega arith, any-start _)
 mul-same-pair : tie.Need-mul-same-pair Inv-loop μ-loop
 mul-same-pair c = search needs
 
-element-copy-out-same-pair : tie.Need-element-copy-out-same-pair Inv-loop μ-loop
-element-copy-out-same-pair c = search needs
+array-copy-out-same-pair : tie.Need-array-copy-out-same-pair Inv-loop μ-loop
+array-copy-out-same-pair c = search needs
 
 same-pair-requires : tie.Need-same-pair-requires Inv-loop μ-loop
 same-pair-requires c κs = search needs
@@ -59,7 +60,7 @@ place-spec =
     μ-loop
     loop-holds
     mul-same-pair
-    element-copy-out-same-pair
+    array-copy-out-same-pair
     same-pair-requires
     returns
     add-i

@@ -4,19 +4,20 @@ use native.Mathlib.Omega.{arith}
 use mathlib.Core.Bool.{false}
 use mathlib.Core.Path.{_∙_, _≡_, sym}
 use borrow.Author.Needs.{needs}
+use lib.ListN.{getD}
 use Rattle.finite.proofs.Search.{any-end, any-hit, any-more, any-start}
 use Rattle.finite.specs.Finite.{any}
 use Rattle.model.specs.Runs.{samePair}
-use Rattle.state.specs.Held.{heldAt}
+use Rattle.state.specs.Held.{noValue}
 use Rattle.state.specs.Meaning.{pairOf}
 use Rattle.lawful.proofs.held.held_before.Statement.{statement}
 use Rattle.lawful.proofs.held.held_before.Tie as tie
 
 abbrev Inv-loop : tie.InvT-loop
-Inv-loop n v h i₀ i = (i ≤ n) × (any i (λ j. samePair (pairOf (heldAt h j)) (pairOf v)) ≡ false)
+Inv-loop n v values i₀ i = (i ≤ n) × (any i (λ j. samePair (pairOf (getD values j noValue)) (pairOf v)) ≡ false)
 
 abbrev μ-loop : tie.MeasureT-loop
-μ-loop n v h i₀ i = n - i
+μ-loop n v values i₀ i = n - i
 
 loop-holds : tie.Need-loop-holds Inv-loop μ-loop
 loop-holds c = (omega arith, any-start _)
@@ -24,8 +25,8 @@ loop-holds c = (omega arith, any-start _)
 mul-same-pair : tie.Need-mul-same-pair Inv-loop μ-loop
 mul-same-pair c = search needs
 
-element-copy-out-same-pair : tie.Need-element-copy-out-same-pair Inv-loop μ-loop
-element-copy-out-same-pair c = search needs
+array-copy-out-same-pair : tie.Need-array-copy-out-same-pair Inv-loop μ-loop
+array-copy-out-same-pair c = search needs
 
 same-pair-requires : tie.Need-same-pair-requires Inv-loop μ-loop
 same-pair-requires c κs = search needs
@@ -48,4 +49,4 @@ returns-2 c = any-end _ _ _ (c .before .loop .inv .0) (c .loop-test .left) (c .b
 pub held-before-spec : {M : Type 1} → statement M
 held-before-spec =
     tie.close (tie.spec
-    Inv-loop μ-loop loop-holds mul-same-pair element-copy-out-same-pair same-pair-requires returns add-i loop-less loop-again returns-2)
+    Inv-loop μ-loop loop-holds mul-same-pair array-copy-out-same-pair same-pair-requires returns add-i loop-less loop-again returns-2)

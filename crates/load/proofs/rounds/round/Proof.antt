@@ -2,12 +2,8 @@
 use Prim.Native.Nat.{_+_, _-_, _≤_}
 use native.Mathlib.Omega.{arith}
 use Rattle.finite.specs.Finite.{any}
-use Rattle.model.proofs.QueryLaws.{target}
-use Rattle.model.specs.Rounds.{demands, levels}
-use Rattle.model.specs.Runs.{taken}
-use Rattle.state.specs.Design.{constraintAt}
+use Rattle.model.specs.Rounds.{demands}
 use Rattle.state.specs.Meaning.{databaseOf, schemeOf}
-use Rattle.load.specs.Built.{Built}
 use Rattle.load.specs.Queue.{Grown}
 use Rattle.load.specs.Walked.{Walked}
 use Rattle.load.proofs.FrontLaws.{asks, asks-here, asks-none, front-next, front-round}
@@ -16,26 +12,25 @@ use Rattle.load.proofs.rounds.round.Statement.{statement}
 use Rattle.load.proofs.rounds.round.Tie as tie
 
 abbrev Inv-loop : tie.InvT-loop
-Inv-loop d cells tables built₀ heads₀ links₀ walked₀ levels₀ n queue₀ from end e₀ i₀ built heads links walked levels queue e i =
+Inv-loop d cells tables next first places walked₀ levels₀ n queue₀ from end e₀ i₀ walked levels queue e i =
     (from ≤ i) ×
     (i ≤ end) ×
     Grown (n + 3) (λ r. any i (λ j. asks (demands (schemeOf d) (databaseOf (d .rows) cells tables)) from queue₀ j r)) levels₀ queue₀ end levels queue e ×
-    Built (d .rows) cells tables (λ j. constraintAt d j .target) built heads links ×
     Walked (databaseOf (d .rows) cells tables) walked levels
 
 abbrev μ-loop : tie.MeasureT-loop
-μ-loop d cells tables built₀ heads₀ links₀ walked₀ levels₀ n queue₀ from end e₀ i₀ built heads links walked levels queue e i = end - i
+μ-loop d cells tables next first places walked₀ levels₀ n queue₀ from end e₀ i₀ walked levels queue e i = end - i
 
 loop-holds : tie.Need-loop-holds Inv-loop μ-loop
 loop-holds c =
-    let p = c .before .before .before .before .pre in
-    (omega arith, p .1 .1 .1 .order, grown-start _ _ _ _ _ _ (p .0 .3) (p .1 .1 .0) (λ r l. asks-none _ _ _ r), p .1 .0, p .1 .1 .2)
+    let p = c .before .before .pre in
+    (omega arith, p .1 .1 .2 .order, grown-start _ _ _ _ _ _ (p .0 .2) (p .1 .1 .1) (λ r l. asks-none _ _ _ r), p .1 .1 .3)
 
 mul-expand : tie.Need-mul-expand Inv-loop μ-loop
-mul-expand c = omega (arith, listed-most _ _ _ (c .before .before .before .before .before .before .pre .1 .1 .0), c .loop-test .taken)
+mul-expand c = omega (arith, listed-most _ _ _ (c .before .before .before .before .pre .1 .1 .1), c .loop-test .taken)
 
 element-copy-out-expand : tie.Need-element-copy-out-expand Inv-loop μ-loop
-element-copy-out-expand c = omega (arith, listed-most _ _ _ (c .before .before .before .before .before .before .pre .1 .1 .0), c .loop-test .taken)
+element-copy-out-expand c = omega (arith, listed-most _ _ _ (c .before .before .before .before .pre .1 .1 .1), c .loop-test .taken)
 
 cast-expand : tie.Need-cast-expand Inv-loop μ-loop
 cast-expand c =
@@ -43,61 +38,44 @@ cast-expand c =
     omega (arith, g .queue .row (c .before .before .loop .i) (omega (arith, c .before .loop-test .taken, g .longer)))
 
 add-expand : tie.Need-add-expand Inv-loop μ-loop
-add-expand c =
-    let c8 = c .before .before .before .before .before .before .before .before in
-    omega (arith, c8 .before .before .before .before .pre .0 .2)
+add-expand c = omega (arith, c .before .before .before .before .before .before .before .pre .0 .1)
 
 expand-requires : tie.Need-expand-requires Inv-loop μ-loop
 expand-requires c κs =
-    let c8 = c .before .before .before .before .before .before .before .before in
-    let p = c8 .before .before .before .before .before .pre in
-    let h = c8 .loop in
+    let p = c .before .before .before .before .before .before .before .before .pre in
+    let h = c .before .before .before .before .before .loop in
     let g = h .inv .2 in
-    let t = c .before .before .before .before .before .before .before .loop-test .taken in
-    let s = g .queue .row (h .i) (omega (arith, t, g .longer)) in (
-      (p .0 .0, p .0 .1, s, omega arith, g .long),
-      (h .inv .3, (g .queue, h .inv .4)),
-    )
+    let s = g .queue .row (h .i) (omega (arith, c .before .before .before .before .loop-test .taken, g .longer)) in
+    ((p .0 .0, s, omega arith, g .long), (p .1 .0, ((p .1 .1 .0, g .queue), h .inv .3)))
 
 add-i : tie.Need-add-i Inv-loop μ-loop
 add-i c =
-    let c8 = c .before .before .before .before .before .before .before .before in
-    let c16 = c8 .before .before .before .before .before .before .before .before in
-    omega (arith, listed-most _ _ _ (c16 .before .before .pre .1 .1 .0), c8 .before .before .before .before .loop-test .taken)
+    let w = c .before .before .before .before .before in
+    omega (arith, listed-most _ _ _ (w .before .before .before .before .pre .1 .1 .1), w .loop-test .taken)
 
 loop-less : tie.Need-loop-less Inv-loop μ-loop
-loop-less c =
-    let c8 = c .before .before .before .before .before .before .before .before in
-    omega (arith, c8 .before .before .before .before .loop-test .taken)
+loop-less c = omega (arith, c .before .before .before .before .before .loop-test .taken)
 
 loop-again : tie.Need-loop-again Inv-loop μ-loop
 loop-again c =
-    let c8 = c .before .before .before .before .before .before .before .before in
-    let c16 = c8 .before .before .before .before .before .before .before .before in
-    let h = c8 .before .before .before .before .before .loop in
+    let w = c .before .before .before .before .before .before in
+    let h = w .loop in
     let g = h .inv .2 in
-    let t = c8 .before .before .before .before .loop-test .taken in
-    let e = c .before .before .before .before .expand .ensures in (
+    let t = c .before .before .before .before .before .loop-test .taken in
+    let q = w .before .before .before .args .queue .now in
+    let e = c .expand .ensures in (
       omega (arith, h .inv .0),
       omega (arith, t),
-      grown-turn _ _ _ _ _ _ _ _ _ _ _ _ _ (omega arith) g (e .0) (λ r l. asks-here _ _ (c16 .before .before .args .queue .now) (h .queue) _ (h .inv .0) (g .kept _ t) r),
-      e .1 .0,
-      e .1 .1,
+      grown-turn _ _ _ _ _ _ _ _ _ _ _ _ _ (omega arith) g (e .0) (λ r l. asks-here _ _ q (h .queue) _ (h .inv .0) (g .kept _ t) r),
+      e .1,
     )
-
-same-length : tie.Need-same-length Inv-loop μ-loop
-same-length c = omega (arith, c .before .loop .inv .3 .heads-long, c .before .before .before .before .before .before .pre .1 .0 .heads-long)
-
-same-length-2 : tie.Need-same-length-2 Inv-loop μ-loop
-same-length-2 c = omega (arith, c .before .loop .inv .3 .links-long, c .before .before .before .before .before .before .pre .1 .0 .links-long)
 
 returns : tie.Need-returns Inv-loop μ-loop
 returns c =
-    let u = c .before .before .before .before .before .before .pre .1 .1 .0 in
-    let w = c .before .before .before .before .before .before .pre .1 .1 .1 in
+    let p = c .before .before .before .before .pre .1 .1 in
     let g = grown-end _ _ _ _ _ _ _ _ _ _ (c .before .loop .inv .1) (c .loop-test .left) (c .before .loop .inv .2) in (
-      front-round _ _ _ _ _ _ _ _ _ u w _ (g .levels),
-      ((g .queue, front-next _ _ _ _ _ u w _ (omega arith) _ _ _ _ g, c .before .loop .inv .4), c .before .loop .inv .3),
+      front-round _ _ _ _ _ _ _ _ _ (p .1) (p .2) _ (g .levels),
+      (g .queue, front-next _ _ _ _ _ (p .1) (p .2) _ (omega arith) _ _ _ _ g, c .before .loop .inv .3),
     )
 
 pub round-spec : {M : Type 1} → statement M
@@ -115,6 +93,4 @@ round-spec =
     add-i
     loop-less
     loop-again
-    same-length
-    same-length-2
     returns)

@@ -1,47 +1,75 @@
--- `probe::cached::seen` meets its contract: a search among the row numbers. Assumes nothing.
-use Prim.Native.Nat.{_≤_, _-_}
+-- `probe::cached::seen` meets its contract: a search among the rows that have the value. Assumes nothing.
+use Prim.Native.Nat.{_-_}
 use native.Mathlib.Omega.{arith}
-use mathlib.Core.Path.{_≡_, sym, _∙_}
-use mathlib.Core.Bool.{false, _&&_}
 use borrow.Author.Needs.{needs}
-use Rattle.finite.specs.Finite.{any}
-use Rattle.finite.proofs.Search.{any-start, any-more, any-hit, any-end}
+use borrow.Author.Tests.{eq-eqb, ne-eqb}
 use Rattle.model.specs.Cell.{cellOf}
-use Rattle.model.specs.Database.{has}
-use Rattle.model.specs.Probe.{seen}
 use Rattle.model.specs.Runs.{marked}
 use Rattle.state.specs.Meaning.{columnOf, databaseOf}
+use Rattle.catalog.proofs.CatalogLaws.{next-from}
+use Rattle.catalog.proofs.FirstLaws.{first-after, first-hit}
+use Rattle.probe.proofs.SeekLaws.{Seeking, seek-end, seek-found, seek-next, seek-start}
 use Rattle.probe.proofs.cached.seen.Statement.{statement}
 use Rattle.probe.proofs.cached.seen.Tie as tie
 
 abbrev Inv-loop : tie.InvT-loop
-Inv-loop rows cells tables marks k v r₀ r = (r ≤ 512) × (any r (λ i. marked marks i && has (databaseOf rows cells tables) (columnOf k) (cellOf v) i) ≡ false)
+Inv-loop rows cells tables next keys heads starts marks k v r₀ r = Seeking (databaseOf rows cells tables) (marked marks) (columnOf k) (cellOf v) r
 
 abbrev μ-loop : tie.MeasureT-loop
-μ-loop rows cells tables marks k v r₀ r = 512 - r
+μ-loop rows cells tables next keys heads starts marks k v r₀ r = 512 - r
+
+find-requires : tie.Need-find-requires Inv-loop μ-loop
+find-requires c κs = let p = c .before .before .before .pre in (p .0 .0, p .0 .1)
 
 loop-holds : tie.Need-loop-holds Inv-loop μ-loop
-loop-holds c = (omega arith, any-start _)
+loop-holds c = seek-start _ _ _ _ _ (c .find .ensures _ (c .before .before .before .before .pre .1 .1))
 
-cached-has-requires : tie.Need-cached-has-requires Inv-loop μ-loop
-cached-has-requires c κs = search needs
+shared-slice-read-if1 : tie.Need-shared-slice-read-if1 Inv-loop μ-loop
+shared-slice-read-if1 c = omega (arith, c .before .before .before .before .before .before .before .pre .0 .2, c .before .loop-test .taken)
 
 returns : tie.Need-returns Inv-loop μ-loop
-unfolding seen databaseOf
-returns c = any-hit _ _ _ (c .before .before .loop-test .taken) (sym (c .before .cached-has .ensures) ∙ c .if1 .taken)
+unfolding marked
+returns c = seek-found _ _ _ _ _ _ _ (c .before .before .before .loop .inv) (c .before .before .loop-test .taken) (eq-eqb _ _ (c .if1 .taken))
+
+mul-r : tie.Need-mul-r Inv-loop μ-loop
+mul-r c = search needs
+
+cast-r : tie.Need-cast-r Inv-loop μ-loop
+cast-r c = search needs
 
 add-r : tie.Need-add-r Inv-loop μ-loop
-add-r c = omega arith
+add-r c = omega (arith, c .before .before .before .before .before .before .before .before .before .pre .0 .1, c .before .before .before .loop-test .taken)
+
+mul-r-2 : tie.Need-mul-r-2 Inv-loop μ-loop
+mul-r-2 c = omega (arith, c .before .before .before .before .before .before .before .before .before .pre .0 .1, c .before .before .before .loop-test .taken)
+
+element-copy-out-r : tie.Need-element-copy-out-r Inv-loop μ-loop
+element-copy-out-r c = omega (arith, c .before .before .before .before .before .before .before .before .before .pre .0 .1, c .before .before .before .loop-test .taken)
+
+cast-r-2 : tie.Need-cast-r-2 Inv-loop μ-loop
+cast-r-2 c =
+    let p = c .before .before .before .before .before .before .before .before .before .before .pre in
+    let t = c .before .before .before .before .loop-test .taken in
+    let f = next-from _ _ _ _ (c .before .before .before .before .before .loop .inv .stands .here t) _ (p .1 .0) t (p .0 .1) in
+    omega (arith, first-hit _ _ _ f .bound)
 
 loop-less : tie.Need-loop-less Inv-loop μ-loop
-loop-less c = omega arith
+loop-less c =
+    let p = c .before .before .before .before .before .before .before .before .before .before .pre in
+    let t = c .before .before .before .before .loop-test .taken in
+    let f = next-from _ _ _ _ (c .before .before .before .before .before .loop .inv .stands .here t) _ (p .1 .0) t (p .0 .1) in
+    omega (arith, first-after _ _ _ t f)
 
 loop-again : tie.Need-loop-again Inv-loop μ-loop
-loop-again c = (omega arith, any-more _ _ (c .before .before .before .loop .inv .1) (sym (c .before .cached-has .ensures) ∙ c .if1 .left))
+unfolding marked
+loop-again c =
+    let p = c .before .before .before .before .before .before .before .before .before .before .pre in
+    let t = c .before .before .before .before .loop-test .taken in
+    let f = next-from _ _ _ _ (c .before .before .before .before .before .loop .inv .stands .here t) _ (p .1 .0) t (p .0 .1) in
+    seek-next _ _ _ _ _ (c .before .before .before .before .before .loop .inv) t (ne-eqb _ _ (c .before .before .if1 .left)) _ f
 
 returns-2 : tie.Need-returns-2 Inv-loop μ-loop
-unfolding seen databaseOf
-returns-2 c = any-end _ _ _ (c .before .loop .inv .0) (c .loop-test .left) (c .before .loop .inv .1)
+returns-2 c = seek-end _ _ _ _ _ _ _ (c .before .loop .inv) (c .loop-test .left)
 
 pub seen-spec : {M : Type 1} → statement M
 seen-spec =
@@ -49,10 +77,16 @@ seen-spec =
     (tie.spec
     Inv-loop
     μ-loop
+    find-requires
     loop-holds
-    cached-has-requires
+    shared-slice-read-if1
     returns
+    mul-r
+    cast-r
     add-r
+    mul-r-2
+    element-copy-out-r
+    cast-r-2
     loop-less
     loop-again
     returns-2)

@@ -4,7 +4,6 @@ use native.Mathlib.Omega.{arith}
 use mathlib.Core.Path.{_≡_, sym, _∙_}
 use mathlib.Core.Bool.{Bool, false, _&&_}
 use mathlib.Core.List.{List}
-use borrow.Author.Needs.{needs}
 use Rattle.finite.specs.Finite.{any}
 use Rattle.finite.proofs.Search.{any-start, any-more, any-hit, any-end}
 use Rattle.model.specs.Cell.{cellOf}
@@ -25,24 +24,25 @@ by d cells tables marks k v i =
     seen (databaseOf (d .rows) cells tables) (marked marks) (constraintOf (constraintAt d i) .source) (cellOf v)
 
 abbrev Inv-loop : tie.InvT-loop
-Inv-loop cells tables marks k v d n i₀ i = (i ≤ n) × (any i (by d cells tables marks k v) ≡ false)
+Inv-loop d cells tables next keys heads starts marks k v n constraint i₀ i = (i ≤ n) × (any i (by d cells tables marks k v) ≡ false)
 
 abbrev μ-loop : tie.MeasureT-loop
-μ-loop cells tables marks k v d n i₀ i = n - i
+μ-loop d cells tables next keys heads starts marks k v n constraint i₀ i = n - i
 
 loop-holds : tie.Need-loop-holds Inv-loop μ-loop
 loop-holds c = (omega arith, any-start _)
 
 mul-c : tie.Need-mul-c Inv-loop μ-loop
-mul-c c = search needs
+mul-c c = omega arith
 
-element-copy-out-c : tie.Need-element-copy-out-c Inv-loop μ-loop
-element-copy-out-c c = search needs
+array-copy-out-c : tie.Need-array-copy-out-c Inv-loop μ-loop
+array-copy-out-c c = omega arith
 
 is-demanded-by-requires : tie.Need-is-demanded-by-requires Inv-loop μ-loop
 is-demanded-by-requires c κs =
-    let s = c .before .before .before .before .before .before in
-    (s .pre .0 .source (c .before .before .loop .i), s .pre .1, s .pre .2)
+    let p = c .before .before .before .before .before .before .before .pre in
+    let i = c .before .before .loop .i in
+    ((p .0 .0 .source-table i, p .0 .0 .source i, p .0 .1), p .1)
 
 returns : tie.Need-returns Inv-loop μ-loop
 unfolding demanded schemeOf
@@ -69,7 +69,7 @@ is-demanded-spec =
     μ-loop
     loop-holds
     mul-c
-    element-copy-out-c
+    array-copy-out-c
     is-demanded-by-requires
     returns
     add-i

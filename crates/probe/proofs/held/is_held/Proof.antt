@@ -3,28 +3,30 @@ use Prim.Native.Nat.{ℕ, _≤_, _-_}
 use native.Mathlib.Omega.{arith}
 use mathlib.Core.Path.{_≡_, sym, _∙_}
 use mathlib.Core.Bool.{Bool, false}
+use mathlib.Core.List.{List}
 use borrow.Author.Needs.{needs}
+use lib.ListN.{getD}
 use Rattle.finite.specs.Finite.{any}
 use Rattle.finite.proofs.Search.{any-start, any-more, any-hit, any-end}
 use Rattle.model.specs.Cell.{cellOf}
 use Rattle.state.specs.declared.design.Design.{Design}
 use Rattle.state.specs.declared.design.Column.{Column}
-use Rattle.state.specs.declared.held.Held.{Held}
-use Rattle.state.specs.Held.{heldAt}
+use Rattle.state.specs.declared.held.HeldValue.{HeldValue}
+use Rattle.state.specs.Held.{noValue}
 use Rattle.state.specs.Meaning.{columnOf, schemeOf, pairOf, pairsOf}
 use Rattle.probe.proofs.GroundLaws.{holds, held-any}
 use Rattle.probe.proofs.held.is_held.Statement.{statement}
 use Rattle.probe.proofs.held.is_held.Tie as tie
 
 -- the held value at i is v, in column k
-abbrev at : Design → Held → Column → ℕ → ℕ → Bool
-at d held k v i = holds (schemeOf d) (columnOf k) (cellOf v) (pairOf (heldAt held i))
+abbrev at : Design → List HeldValue → Column → ℕ → ℕ → Bool
+at d values k v i = holds (schemeOf d) (columnOf k) (cellOf v) (pairOf (getD values i noValue))
 
 abbrev Inv-loop : tie.InvT-loop
-Inv-loop d k v held n i₀ i = (i ≤ n) × (any i (at d held k v) ≡ false)
+Inv-loop d k v n values i₀ i = (i ≤ n) × (any i (at d values k v) ≡ false)
 
 abbrev μ-loop : tie.MeasureT-loop
-μ-loop d k v held n i₀ i = n - i
+μ-loop d k v n values i₀ i = n - i
 
 loop-holds : tie.Need-loop-holds Inv-loop μ-loop
 loop-holds c = (omega arith, any-start _)
@@ -32,11 +34,11 @@ loop-holds c = (omega arith, any-start _)
 mul-h : tie.Need-mul-h Inv-loop μ-loop
 mul-h c = search needs
 
-element-copy-out-h : tie.Need-element-copy-out-h Inv-loop μ-loop
-element-copy-out-h c = search needs
+array-copy-out-h : tie.Need-array-copy-out-h Inv-loop μ-loop
+array-copy-out-h c = search needs
 
 is-held-by-requires : tie.Need-is-held-by-requires Inv-loop μ-loop
-is-held-by-requires c κs = c .before .before .before .pre .1 (c .before .before .loop .i)
+is-held-by-requires c κs = c .before .before .before .before .pre .1 (c .before .before .loop .i)
 
 returns : tie.Need-returns Inv-loop μ-loop
 unfolding pairsOf
@@ -65,7 +67,7 @@ is-held-spec =
     μ-loop
     loop-holds
     mul-h
-    element-copy-out-h
+    array-copy-out-h
     is-held-by-requires
     returns
     add-i

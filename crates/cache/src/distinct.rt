@@ -1,0 +1,48 @@
+// Whether unique columns have no value twice, read off the catalog: one has exactly if some row has a next row there.
+ghost use Prim.Native.Nat.{ℕ, _<_, _≤_};
+ghost use mathlib.Core.Path.{_≡_};
+ghost use lib.ListN.{length, getD};
+ghost use Rattle.finite.specs.Finite.{any};
+ghost use Rattle.cache.specs.Distinct.{linkedAt, distinct};
+use lawful::has_bit;
+use state::Design;
+
+// Whether column c is unique, by the bits of its table, and row r has a next row there. Constant time.
+fn links_at(unique: u8, next: &[u16; 4096], r: usize, c: u8) -> bool
+    requires { ⌜ (r < 512) × (c < 8) ⌝ }
+    ensures { λ b. ⌜ b ≡ linkedAt unique (now (next .entry)) r c ⌝ }
+{
+    if !has_bit(unique, c) {
+        return false;
+    }
+    next[Design::COLUMNS * r + c as usize] < 512
+}
+
+// Whether row r has a next row in one of the unique columns. One look at each of its 8 cells.
+fn row_links(unique: u8, next: &[u16; 4096], r: usize) -> bool
+    requires { ⌜ r < 512 ⌝ }
+    ensures { λ b. ⌜ b ≡ any 8 (linkedAt unique (now (next .entry)) r) ⌝ }
+{
+    for c in 0..8u8 {
+        if links_at(unique, next, r, c) {
+            return true;
+        }
+    }
+    false
+}
+
+// Whether no row has a next row in a unique column. One look at each of the 4,096 cells.
+pub(crate) fn is_distinct(d: Design, tables: &[u8], next: &[u16; 4096]) -> bool
+    requires { ⌜ (512 ≤ length (now tables)) × ((r : ℕ) → r < 512 → getD (now tables) r 0 < 8) ⌝ }
+    ensures { λ b. ⌜ b ≡ distinct d (now (tables .entry)) (now (next .entry)) ⌝ }
+{
+    let table = d.table;
+    for r in 0..Design::ROWS {
+        let t = tables[r] as usize;
+        let x = table[t];
+        if row_links(x.unique, next, r) {
+            return false;
+        }
+    }
+    true
+}

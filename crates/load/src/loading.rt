@@ -1,0 +1,111 @@
+// Whole loads: of one value more, and of all held values from nothing. Round 0 and the later rounds share one queue.
+ghost use mathlib.Core.Path.{_≡_};
+ghost use Prim.Native.Nat.{ℕ, _≤_, _<_};
+ghost use lib.ListN.{length};
+ghost use Rattle.model.specs.Cell.{cellOf};
+ghost use Rattle.model.specs.Database.{has};
+ghost use Rattle.model.specs.Rounds as Rounds;
+ghost use Rattle.model.specs.Rounds.{addedRows, laterRounds};
+ghost use Rattle.model.specs.Runs.{marked, wanted, reloadLevels};
+ghost use Rattle.state.specs.Design.{InRange};
+ghost use Rattle.state.specs.Held.{heldAt};
+ghost use Rattle.state.specs.Meaning.{columnOf, databaseOf, schemeOf, pairsOf};
+ghost use Rattle.catalog.specs.Catalog.{Catalogued};
+ghost use Rattle.load.specs.Ended.{Within, Reaches};
+use crate::outcome::Growth;
+use crate::rounds::close;
+use crate::start::start_held;
+use crate::start::start_value;
+use state::Column;
+use state::Design;
+use state::Held;
+
+// The load of the value v in column k beside the marked rows: its levels. One pass over the marks, a search of the directory, the walk of the value's
+// rows, then a step for each row that is added and each constraint.
+pub fn load_value(
+    d: Design,
+    cells: &[u32],
+    tables: &[u8],
+    next: &[u16; 4096],
+    first: &[u16; 8192],
+    keys: &[u32; 4096],
+    heads: &[u16; 4096],
+    starts: &[u16; 65],
+    marks: &[u8],
+    k: Column,
+    v: u32,
+    levels: &mut [u16; 512],
+) -> Growth
+    requires { ⌜ InRange d × (k .table < 8) × (k .place < 8) × (512 ≤ length (now marks)) × (length (now levels) ≡ 512) ⌝ }
+    requires { ⌜ Catalogued d (now cells) (now tables) (now next) (now first) (now keys) (now heads) (now starts) ⌝ }
+    ensures { λ g. ⌜ (now (levels .exit) ≡ Rounds.load (schemeOf d) (databaseOf (d .rows) (now (cells .entry)) (now (tables .entry)))
+        (marked (now (marks .entry))) (has (databaseOf (d .rows) (now (cells .entry)) (now (tables .entry))) (columnOf k) (cellOf v)))
+        × (g .rows ≡ addedRows (databaseOf (d .rows) (now (cells .entry)) (now (tables .entry))) (now (levels .exit)))
+        × (g .rounds ≡ laterRounds (databaseOf (d .rows) (now (cells .entry)) (now (tables .entry))) (now (levels .exit))) ⌝ }
+{
+    let mut queue = [0u16; 512];
+    let end = start_value(
+        d.rows,
+        cells,
+        tables,
+        next,
+        keys,
+        heads,
+        starts,
+        marks,
+        k,
+        v,
+        levels,
+        &mut queue,
+    );
+    close(
+        d,
+        cells,
+        tables,
+        next,
+        first,
+        levels,
+        &mut queue,
+        end,
+        Design::ROWS + 1,
+    )
+}
+
+// Which rows a load of all held values from nothing reaches: they get levels, and no others do; how many they are. It stops once `most` rows are reached,
+// if no more can be. For each held value a search of the directory and the walk of its rows, then a step for each row that is reached and each constraint.
+pub fn load_held(
+    d: Design,
+    cells: &[u32],
+    tables: &[u8],
+    next: &[u16; 4096],
+    first: &[u16; 8192],
+    keys: &[u32; 4096],
+    heads: &[u16; 4096],
+    starts: &[u16; 65],
+    held: Held,
+    most: usize,
+    levels: &mut [u16; 512],
+) -> usize
+    requires { ⌜ InRange d × (held .count ≤ 64) × ((i : ℕ) → heldAt held i .filling < 8) ⌝ }
+    requires { ⌜ Catalogued d (now cells) (now tables) (now next) (now first) (now keys) (now heads) (now starts) ⌝ }
+    requires { ⌜ Within (schemeOf d) (databaseOf (d .rows) (now cells) (now tables))
+        (wanted (schemeOf d) (databaseOf (d .rows) (now cells) (now tables)) (pairsOf held)) most ⌝ }
+    ensures { λ n. ⌜ Reaches (now (levels .exit))
+        (reloadLevels (schemeOf d) (databaseOf (d .rows) (now (cells .entry)) (now (tables .entry))) (pairsOf held)) n ⌝ }
+{
+    let mut queue = [0u16; 512];
+    let end = start_held(
+        d,
+        cells,
+        tables,
+        next,
+        keys,
+        heads,
+        starts,
+        held,
+        levels,
+        &mut queue,
+    );
+    let g = close(d, cells, tables, next, first, levels, &mut queue, end, most);
+    g.rows
+}

@@ -1,0 +1,48 @@
+-- A search among the rows that have a value, from one to the next, for one that is cached. Assumes nothing.
+use Prim.Native.Nat.{ℕ, _+_, _≤_, _<_}
+use mathlib.Core.Path.{_≡_}
+use mathlib.Core.Bool.{true, false, _&&_}
+use mathlib.Core.List.{List}
+use Rattle.finite.specs.Finite.{any}
+use Rattle.finite.proofs.Bools.{and-left, both}
+use Rattle.finite.proofs.Search.{any-hit, any-end}
+use Rattle.model.specs.Cell.{Cell}
+use Rattle.model.specs.Scheme.{Column}
+use Rattle.model.specs.Database.{Database, has}
+use Rattle.model.specs.Cache.{RowSet}
+use Rattle.model.specs.Probe.{seen}
+use Rattle.state.specs.Meaning.{databaseOf}
+use Rattle.catalog.specs.First.{firstFrom, Hit}
+use Rattle.catalog.proofs.FirstLaws.{first-hit}
+use Rattle.catalog.proofs.Walks.{any-first, any-next, only-right}
+
+-- the search stands at r, and has found none below
+pub record Seeking (D : Database) (X : RowSet) (k : Column) (v : Cell) (r : ℕ) : Type 0 where
+  pub stands : Hit (has D k v) r
+  pub none : any r (λ i. X i && has D k v i) ≡ false
+
+module _ (D : Database) (X : RowSet) (k : Column) (v : Cell) (r : ℕ) where
+  pub seek-start : r ≡ firstFrom (has D k v) 0 → Seeking D X k v r
+  seek-start e =
+      record {
+        stands = first-hit (has D k v) 0 r e;
+        none = any-first (has D k v) (λ i. X i && has D k v i) (λ i. only-right (has D k v) X i) r e;
+      }
+
+  -- row r is not cached
+  pub seek-next : Seeking D X k v r → r < 512 → X r ≡ false → (s : ℕ) → s ≡ firstFrom (has D k v) (r + 1) → Seeking D X k v s
+  seek-next w l h s e =
+      record {
+        stands = first-hit (has D k v) (r + 1) s e;
+        none = any-next (has D k v) (λ i. X i && has D k v i) (λ i. only-right (has D k v) X i) r s l e (w .none) (and-left (X r) (has D k v r) h);
+      }
+
+-- in the lent rows: row r is cached, and there is none left
+module _ (rows : ℕ) (cells tables : List ℕ) (X : RowSet) (k : Column) (v : Cell) (r : ℕ) (w : Seeking (databaseOf rows cells tables) X k v r) where
+  pub seek-found : r < 512 → X r ≡ true → true ≡ seen (databaseOf rows cells tables) X k v
+  unfolding seen databaseOf
+  seek-found l h = any-hit 512 r (λ i. X i && has (databaseOf rows cells tables) k v i) l (both h (w .stands .here l))
+
+  pub seek-end : 512 ≤ r → false ≡ seen (databaseOf rows cells tables) X k v
+  unfolding seen databaseOf
+  seek-end h = any-end 512 r (λ i. X i && has (databaseOf rows cells tables) k v i) (w .stands .bound) h (w .none)
