@@ -1,7 +1,10 @@
--- Sums: sums below n, and numbers under a cap. Weights: elimination. Lists: what the position step and the row trial write.
--- Plan: a query's operands in the model, and the plan made of them. Queried: what a query answers and writes.
+-- Sums: sums below n, and numbers under a cap. Weights: elimination. Memo: weights found where they are needed, and kept. Ways: the way back through
+-- rows that are not entered. Lists: what the position step and the row trial write. Plan: a query's operands in the model, and the plan made of
+-- them. Queried: what a query answers and writes.
 pub mod Sums
 pub mod Weights
 pub mod Lists
 pub mod Plan
 pub mod Queried
+pub mod Memo
+pub mod Ways

@@ -1,14 +1,18 @@
-// QUERY: the fitting lists of marked rows, counted by elimination before a word is written, then listed by a position step and a row trial that
-// call each other.
+// QUERY: the fitting lists of marked rows, counted before a word is written, by weights that are found where they are needed and kept, then
+// listed by a position step and a row trial that call each other.
 mod arithmetic;
+mod entries;
+mod finding;
 mod lister;
 mod listing;
 mod operands;
 mod operations;
 mod plan;
-mod weights;
+mod tables;
+mod ways;
 
 pub use listing::list_fitting;
+pub use operands::operands_fit;
 pub use operations::query;
 pub use operations::query_lawful;
 pub use plan::Join;

@@ -3,12 +3,13 @@ ghost use mathlib.Core.Path.{_≡_};
 ghost use mathlib.Core.Bool.{true};
 ghost use Rattle.state.specs.Meaning.{answerOf};
 ghost use Rattle.state.specs.Step.{lent, sound};
+ghost use Rattle.catalog.specs.Catalog.{Catalogued};
 ghost use Rattle.query.specs.Plan.{queryOf};
 ghost use Rattle.query.specs.Queried.{Queried};
 use crate::listing::list_fitting;
 use crate::operands::operands_fit;
 use crate::plan::Query;
-use cache::is_lawful;
+use cache::is_lawful_catalog;
 use cache::is_long_enough;
 use probe::ground;
 use state::Answer;
@@ -16,17 +17,28 @@ use state::Design;
 use state::Held;
 
 // QUERY in a state known to be lawful: causes 5 and 9, then "sent" if the probe of position 0 has no ground, else the fitting lists, or cause 11.
-// The cost is that of the probe, of counting the lists and of writing their words.
+// The last four tables are working memory: whatever stands there before, and nothing is said of it after. The cost of the probe, of counting the
+// lists and of writing their words.
 pub fn query_lawful(
     design: Design,
     cells: &[u32],
     tables: &[u8],
+    next: &[u16; 4096],
+    first: &[u16; 8192],
+    keys: &[u32; 4096],
+    heads: &[u16; 4096],
+    starts: &[u16; 65],
     marks: &[u8],
     held: Held,
     q: Query,
     words: &mut [u32],
+    weights: &mut [u64; 2560],
+    sums: &mut [u64; 2560],
+    froms: &mut [u16; 2560],
+    links: &mut [u16; 2560],
 ) -> Answer
-    requires { ⌜ sound (lent design (now cells) (now tables) (now marks) held) ≡ true ⌝ }
+    requires { ⌜ (sound (lent design (now cells) (now tables) (now marks) held) ≡ true)
+        × Catalogued design (now cells) (now tables) (now next) (now first) (now keys) (now heads) (now starts) ⌝ }
     ensures { λ a. ⌜ Queried (lent design (now (cells .entry)) (now (tables .entry)) (now (marks .entry)) held)
         (queryOf q) (now (words .entry)) (now (words .exit)) (answerOf a) ⌝ }
 {
@@ -37,13 +49,42 @@ pub fn query_lawful(
         return Answer::Refused(9);
     }
     let k = q.column;
-    if ground(design, cells, tables, marks, held, k, q.value) == 0 {
+    let g = ground(
+        design,
+        cells,
+        tables,
+        next,
+        keys,
+        heads,
+        starts,
+        marks,
+        held,
+        k,
+        q.value,
+    );
+    if g == 0 {
         return Answer::Sent;
     }
-    list_fitting(design, cells, tables, marks, q, words)
+    list_fitting(
+        design,
+        cells,
+        tables,
+        next,
+        first,
+        keys,
+        heads,
+        starts,
+        marks,
+        q,
+        words,
+        weights,
+        sums,
+        froms,
+        links,
+    )
 }
 
-// QUERY. The test for cause 12 (rows × rows × unique columns at most, and a reload), then the cost of `query_lawful`.
+// QUERY. The test for cause 12 (rows × rows × unique columns at most, the catalog, and a reload), then the cost of `query_lawful`.
 pub fn query(
     design: Design,
     cells: &[u32],
@@ -59,8 +100,45 @@ pub fn query(
     if !is_long_enough(cells, tables, marks) {
         return Answer::Refused(7);
     }
-    if !is_lawful(design, cells, tables, marks, held) {
+    let mut next = [512u16; 4096];
+    let mut first = [512u16; 8192];
+    let mut keys = [0u32; 4096];
+    let mut heads = [512u16; 4096];
+    let mut starts = [0u16; 65];
+    if !is_lawful_catalog(
+        design,
+        cells,
+        tables,
+        &mut next,
+        &mut first,
+        &mut keys,
+        &mut heads,
+        &mut starts,
+        marks,
+        held,
+    ) {
         return Answer::Refused(12);
     }
-    query_lawful(design, cells, tables, marks, held, q, words)
+    let mut weights = [0u64; 2560];
+    let mut sums = [0u64; 2560];
+    let mut froms = [0u16; 2560];
+    let mut links = [0u16; 2560];
+    query_lawful(
+        design,
+        cells,
+        tables,
+        &next,
+        &first,
+        &keys,
+        &heads,
+        &starts,
+        marks,
+        held,
+        q,
+        words,
+        &mut weights,
+        &mut sums,
+        &mut froms,
+        &mut links,
+    )
 }

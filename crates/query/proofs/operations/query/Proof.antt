@@ -1,10 +1,10 @@
--- `query::operations::query` meets its contract: cause 7, cause 12, then the query in a sound state. Assumes nothing.
+-- `query::operations::query` meets its contract: cause 7, cause 12, then the query of a sound state. Assumes nothing.
 use mathlib.Core.Path.{sym, _∙_}
-use borrow.Author.Needs.{needs}
 use borrow.Author.Tests.{not-true, not-false}
 use Rattle.finite.proofs.Bools.{both}
 use Rattle.cache.proofs.Asked.{long-asked}
 use Rattle.query.proofs.QueryCases.{query-short, query-unlawful}
+use borrow.Author.Needs.{needs}
 use Rattle.query.proofs.operations.query.Statement.{statement}
 use Rattle.query.proofs.operations.query.Tie as tie
 
@@ -14,20 +14,26 @@ is-long-enough-requires c κs = search needs
 returns : tie.Need-returns
 returns c = query-short _ _ _ (sym (c .before .is-long-enough .ensures _ _) ∙ not-true _ (c .if1 .taken))
 
-is-lawful-requires : tie.Need-is-lawful-requires
-is-lawful-requires c κs =
-    let s = c .before .before .before .before .before .before in
-    long-asked _ (sym (c .before .is-long-enough .ensures (s .args .design) (s .args .held)) ∙ not-false _ (c .if1 .left))
+is-lawful-catalog-requires : tie.Need-is-lawful-catalog-requires
+is-lawful-catalog-requires c κs =
+    let p = c .before .before .before .before .before in
+    let s = p .before .before .before .before .before .before in
+    long-asked _ (sym (p .before .is-long-enough .ensures (s .args .design) (s .args .held)) ∙ not-false _ (p .if1 .left))
 
 returns-2 : tie.Need-returns-2
 returns-2 c =
-    query-unlawful _ _ _ (sym (c .before .before .before .is-long-enough .ensures _ _) ∙ not-false _ (c .before .before .if1 .left))
-    (sym (c .before .is-lawful .ensures) ∙ not-true _ (c .if2 .taken))
+    let p = c .before .before .before .before .before .before .before in
+    query-unlawful _ _ _ (sym (p .before .is-long-enough .ensures _ _) ∙ not-false _ (p .if1 .left))
+    (sym (c .before .is-lawful-catalog .ensures .0) ∙ not-true _ (c .if2 .taken))
 
 query-lawful-requires : tie.Need-query-lawful-requires
 query-lawful-requires c κs =
-    both (sym (c .before .before .before .before .is-long-enough .ensures _ _) ∙ not-false _ (c .before .before .before .if1 .left))
-    (sym (c .before .before .is-lawful .ensures) ∙ not-false _ (c .before .if2 .left))
+    let t = c .before .before .before .before .before .before .before .before .before .before in
+    let p = t .before .before .before .before .before .before .before in
+    let is = not-false _ (t .if2 .left) in (
+      both (sym (p .before .is-long-enough .ensures _ _) ∙ not-false _ (p .if1 .left)) (sym (t .before .is-lawful-catalog .ensures .0) ∙ is),
+      t .before .is-lawful-catalog .ensures .1 is,
+    )
 
 same-length : tie.Need-same-length
 same-length c = search needs
@@ -41,7 +47,7 @@ query-spec =
     (tie.spec
     is-long-enough-requires
     returns
-    is-lawful-requires
+    is-lawful-catalog-requires
     returns-2
     query-lawful-requires
     same-length
