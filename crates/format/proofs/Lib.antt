@@ -1,5 +1,7 @@
--- Laws of the definitions in specs/. CommandLaws: a command's byte, width and operands. WritingLaws: how long what is
--- written is.
+-- Laws of the definitions in specs/. CommandLaws: a command's byte, width and operands. WritingLaws: how long what is written is. LawfulLaws and
+-- Growing: a lawful design place by place, and one item more. TakenLaws, ReadingLaws: one command and all of them. AdmittedLaws, FirstPass: the same
+-- with cause 6 left aside, beside the definition. RepeatLaws: the first repeated value by the catalog. TookLaws, Verdicts, Lent: what the code answers
+-- and leaves. Reached, ReadBack, RoundTrip: reading and writing undo each other.
 pub mod CommandLaws
 pub mod BytesLaws
 pub mod WritingLaws
@@ -10,8 +12,12 @@ pub mod Items
 pub mod TakenLaws
 pub mod Cut
 pub mod TookLaws
+pub mod AdmittedLaws
+pub mod FirstPass
+pub mod RepeatLaws
+pub mod CatalogOf
 pub mod ReadingLaws
-pub mod CommandsRead
+pub mod Verdicts
 pub mod Lent
 pub mod Reached
 pub mod Drafts

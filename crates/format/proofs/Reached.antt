@@ -26,7 +26,7 @@ use Rattle.state.proofs.Places.{unused-is}
 use Rattle.format.specs.declared.command.Command.the-variants.{Table, Constraint, Filling}
 use Rattle.format.specs.Bytes.{byteAt, u32Bytes}
 use Rattle.format.specs.Commands.{widthOf, commandAt, rowCellAt}
-use Rattle.format.specs.Reading.{Draft, emptyDraft, Taken, taken, withTable, withConstraint, withFilling, withRows, withRow, DesignRead, readOn, readFrom, readDesign, mostBytes}
+use Rattle.format.specs.Reading.{Draft, draft, emptyDraft, Taken, taken, redesigned, withTable, withConstraint, withFilling, withRows, withRow, DesignRead, readOn, readFrom, readDesign, mostBytes}
 use Rattle.format.specs.Reading.Taken.{on, complete, refused}
 use Rattle.format.specs.Reading.DesignRead.{accepted, refusedAt}
 use Rattle.format.specs.Writing.{tableBytes, constraintBytes, fillingBytes, designBytes}
@@ -45,13 +45,56 @@ pub record Sizes (p : Draft) : Type 0 where
   pub cells : length (p .cells) ≡ 4096
   pub tables : length (p .tables) ≡ 512
 
-pub record Reached (s : List ℕ) (p : Draft) (i : ℕ) : Type 0 where
+-- a draft whose design is lawful and whose arrays have their sizes
+pub record Fitting (p : Draft) : Type 0 where
   pub design : Parts (p .design)
-  pub rows : RowParts (p .design) (p .cells) (p .tables)
   pub sizes : Sizes p
+
+-- ... whose rows are lawful too, and which is written as the script up to place i
+pub record Reached (s : List ℕ) (p : Draft) (i : ℕ) : Type 0 where
+  pub fitting : Fitting p
+  pub rows : RowParts (p .design) (p .cells) (p .tables)
   pub bytes : itemsBytes (p .design) (p .cells) (p .tables) ≡ take i s
 
 -- ---- one more command
+
+module _ (p : Draft) (r : Fitting p) where
+  pub fit-table : (q : Draft) (t : State-table.Table) → TookTable p q t → Fitting (redesigned p (withTable (p .design) t))
+  unfolding withTable
+  fit-table q t h =
+      let z = r .sizes in
+      record {
+        design = grow-table (p .design) t (z .table) (r .design) (h .room) (h .constraints) (h .fillings) (h .fits);
+        sizes = record { table = length-set (p .design .table) (p .design .tables) t ∙ z .table; constraint = z .constraint; filling = z .filling; cells = z .cells; tables = z .tables };
+      }
+
+  pub fit-constraint : (q : Draft) (c : State-constraint.Constraint) → TookConstraint p q c → Fitting (redesigned p (withConstraint (p .design) c))
+  unfolding withConstraint
+  fit-constraint q c h =
+      let z = r .sizes in
+      record {
+        design = grow-constraint (p .design) c (z .constraint) (r .design) (h .room) (h .fillings) (h .fits);
+        sizes = record { table = z .table; constraint = length-set (p .design .constraint) (p .design .constraints) c ∙ z .constraint; filling = z .filling; cells = z .cells; tables = z .tables };
+      }
+
+  pub fit-filling : (q : Draft) (f : State-filling.Filling) → TookFilling p q f → Fitting (redesigned p (withFilling (p .design) f))
+  unfolding withFilling
+  fit-filling q f h =
+      let z = r .sizes in
+      record {
+        design = grow-filling (p .design) f (z .filling) (r .design) (h .room) (h .fits);
+        sizes = record { table = z .table; constraint = z .constraint; filling = length-set (p .design .filling) (p .design .fillings) f ∙ z .filling; cells = z .cells; tables = z .tables };
+      }
+
+  pub fit-row : (s : List ℕ) (i t : ℕ) → p .design .rows < 512 → Fitting (withRow p s i t)
+  unfolding withRow withRows
+  fit-row s i t l =
+      let z = r .sizes in
+      let n = p .design .rows in
+      record {
+        design = count-rows (p .design) (n + 1) (omega arith) (r .design);
+        sizes = record { table = z .table; constraint = z .constraint; filling = z .filling; cells = length-sets (p .cells) (8 * n) (tab 8 (rowCellAt s i)) ∙ z .cells; tables = length-set (p .tables) n t ∙ z .tables };
+      }
 
 -- what is written goes on by the part of the script at place i
 goes-on : (s xs ys x : List ℕ) (i w : ℕ) → xs ≡ take i s → ys ≡ xs ++ x → x ≡ take w (drop i s) → ys ≡ take (i + w) s
@@ -61,63 +104,36 @@ module _ (s : List ℕ) (p q : Draft) (i : ℕ) (r : Reached s p i) where
   reach-table : (t : State-table.Table) → tableBytes t ≡ take 3 (drop i s) → TookTable p q t → Reached s q (i + 3)
   unfolding withTable
   reach-table t e h =
-      let z = r .sizes in
       let b : itemsBytes (withTable (p .design) t) (p .cells) (p .tables) ≡ take (i + 3) s =
-      goes-on s _ _ (tableBytes t) i 3 (r .bytes) (more-table (p .design) (p .cells) (p .tables) t (omega arith) (h .constraints) (h .fillings) (h .rows)) e in
+      goes-on s _ _ (tableBytes t) i 3 (r .bytes) (more-table (p .design) (p .cells) (p .tables) t (omega (arith, r .fitting .sizes .table)) (h .constraints) (h .fillings) (h .rows)) e in
       subst (λ (x : Draft). Reached s x (i + 3)) (h .is)
-      (record {
-        design = grow-table (p .design) t (z .table) (r .design) (h .room) (h .constraints) (h .fillings) (h .fits);
-        rows = no-rows (p .design) (withTable (p .design) t) (p .cells) (p .tables) (h .rows) (h .rows) (r .rows);
-        sizes = record { table = length-set (p .design .table) (p .design .tables) t ∙ z .table; constraint = z .constraint; filling = z .filling; cells = z .cells; tables = z .tables };
-        bytes = b;
-      })
+      (record { fitting = fit-table p (r .fitting) q t h; rows = no-rows (p .design) (withTable (p .design) t) (p .cells) (p .tables) (h .rows) (h .rows) (r .rows); bytes = b })
 
   reach-constraint : (c : State-constraint.Constraint) → constraintBytes c ≡ take 5 (drop i s) → TookConstraint p q c → Reached s q (i + 5)
   unfolding withConstraint
   reach-constraint c e h =
-      let z = r .sizes in
       let b : itemsBytes (withConstraint (p .design) c) (p .cells) (p .tables) ≡ take (i + 5) s =
-      goes-on s _ _ (constraintBytes c) i 5 (r .bytes) (more-constraint (p .design) (p .cells) (p .tables) c (omega arith) (h .fillings) (h .rows)) e in
+      goes-on s _ _ (constraintBytes c) i 5 (r .bytes) (more-constraint (p .design) (p .cells) (p .tables) c (omega (arith, r .fitting .sizes .constraint)) (h .fillings) (h .rows)) e in
       subst (λ (x : Draft). Reached s x (i + 5)) (h .is)
-      (record {
-        design = grow-constraint (p .design) c (z .constraint) (r .design) (h .room) (h .fillings) (h .fits);
-        rows = no-rows (p .design) (withConstraint (p .design) c) (p .cells) (p .tables) (h .rows) (h .rows) (r .rows);
-        sizes = record { table = z .table; constraint = length-set (p .design .constraint) (p .design .constraints) c ∙ z .constraint; filling = z .filling; cells = z .cells; tables = z .tables };
-        bytes = b;
-      })
+      (record { fitting = fit-constraint p (r .fitting) q c h; rows = no-rows (p .design) (withConstraint (p .design) c) (p .cells) (p .tables) (h .rows) (h .rows) (r .rows); bytes = b })
 
   reach-filling : (f : State-filling.Filling) → fillingBytes f ≡ take 11 (drop i s) → TookFilling p q f → Reached s q (i + 11)
   unfolding withFilling
   reach-filling f e h =
-      let z = r .sizes in
       let b : itemsBytes (withFilling (p .design) f) (p .cells) (p .tables) ≡ take (i + 11) s =
-      goes-on s _ _ (fillingBytes f) i 11 (r .bytes) (more-filling (p .design) (p .cells) (p .tables) f (omega arith) (h .rows)) e in
+      goes-on s _ _ (fillingBytes f) i 11 (r .bytes) (more-filling (p .design) (p .cells) (p .tables) f (omega (arith, r .fitting .sizes .filling)) (h .rows)) e in
       subst (λ (x : Draft). Reached s x (i + 11)) (h .is)
-      (record {
-        design = grow-filling (p .design) f (z .filling) (r .design) (h .room) (h .fits);
-        rows = no-rows (p .design) (withFilling (p .design) f) (p .cells) (p .tables) (h .rows) (h .rows) (r .rows);
-        sizes = record { table = z .table; constraint = z .constraint; filling = length-set (p .design .filling) (p .design .fillings) f ∙ z .filling; cells = z .cells; tables = z .tables };
-        bytes = b;
-      })
+      (record { fitting = fit-filling p (r .fitting) q f h; rows = no-rows (p .design) (withFilling (p .design) f) (p .cells) (p .tables) (h .rows) (h .rows) (r .rows); bytes = b })
 
   reach-row : (t : ℕ) → 4 ∷ t ∷ collect 8 (λ _. true) (λ c. u32Bytes (rowCellAt s i c)) ≡ take 34 (drop i s) → TookRow p (withRow p s i t) q → Reached s q (i + 34)
   unfolding withRow withRows schemeOf
   reach-row t e h =
-      let z = r .sizes in
-      let n = p .design .rows in
-      let xs = tab 8 (rowCellAt s i) in
+      let z = r .fitting .sizes in
       subst (λ (x : Draft). Reached s x (i + 34)) (h .is)
       (record {
-        design = count-rows (p .design) (n + 1) (omega arith) (r .design);
-        rows = grow-row (p .design) t (p .cells) (p .tables) xs (length-tab 8 (rowCellAt s i)) (r .rows) (h .fits);
-        sizes = record {
-          table = z .table;
-          constraint = z .constraint;
-          filling = z .filling;
-          cells = length-sets (p .cells) (8 * n) xs ∙ z .cells;
-          tables = length-set (p .tables) n t ∙ z .tables;
-        };
-        bytes = goes-on s _ _ _ i 34 (r .bytes) (more-row p s i t (omega arith) (omega arith)) e;
+        fitting = fit-row p (r .fitting) s i t (h .room);
+        rows = grow-row (p .design) t (p .cells) (p .tables) (tab 8 (rowCellAt s i)) (length-tab 8 (rowCellAt s i)) (r .rows) (h .fits);
+        bytes = goes-on s _ _ _ i 34 (r .bytes) (more-row p s i t (omega (arith, z .cells, h .room)) (omega (arith, z .tables, h .room))) e;
       })
 
 module _ (s : List ℕ) (small : (j : ℕ) → byteAt s j < 256) where
@@ -159,13 +175,20 @@ empty-row n r =
     both (eq-eqb (getD (tab 512 (λ _. 0)) r 0) 0 (no-number 512 r))
     (all-true 8 _ (λ c h. ap (λ (b : Bool). isBlank (cond b (cellOf (getD (tab 4096 (λ _. 0)) (8 * r + c) 0)) blank)) (lt-ltb c 8 h) ∙ eq-eqb (getD (tab 4096 (λ _. 0)) (8 * r + c) 0) 0 (no-number 4096 (8 * r + c))))
 
-pub reached-start : (s : List ℕ) → Reached s emptyDraft 0
+pub fit-empty : (cells tables : List ℕ) → length cells ≡ 4096 → length tables ≡ 512 → Fitting (draft emptyDesign cells tables)
+unfolding emptyDesign
+fit-empty cells tables a b =
+    record {
+      design = empty-parts;
+      sizes = record { table = length-tab 8 (λ _. noTable); constraint = length-tab 16 (λ _. noConstraint); filling = length-tab 8 (λ _. noFilling); cells = a; tables = b };
+    }
+
+reached-start : (s : List ℕ) → Reached s emptyDraft 0
 unfolding emptyDraft emptyDesign itemsBytes collect
 reached-start s =
     record {
-      design = empty-parts;
+      fitting = fit-empty (tab 4096 (λ _. 0)) (tab 512 (λ _. 0)) (length-tab 4096 (λ _. 0)) (length-tab 512 (λ _. 0));
       rows = record { row = λ r h. unused-is r 0 _ _ (omega arith) ∙ empty-row 0 r };
-      sizes = record { table = length-tab 8 (λ _. noTable); constraint = length-tab 16 (λ _. noConstraint); filling = length-tab 8 (λ _. noFilling); cells = length-tab 4096 (λ _. 0); tables = length-tab 512 (λ _. 0) };
       bytes = refl;
     }
 
@@ -192,9 +215,9 @@ module _ (s : List ℕ) (small : (j : ℕ) → byteAt s j < 256) where
       ap₂ (λ (l : List ℕ) (k : ℕ). l ++ (k ∷ [])) (r .bytes) (sym (x .byte)) ∙ sym (take-suc s i 0 (omega arith)) ∙
       ap (λ (k : ℕ). take k s) (sym (add-one i) ∙ ap (λ (k : ℕ). i + k) (sym (x .width))) in
       record {
-        design = whole (p .design) (r .design);
+        design = whole (p .design) (r .fitting .design);
         rows = whole-rows (p .design) (p .cells) (p .tables) (r .rows);
-        sizes = r .sizes;
+        sizes = r .fitting .sizes;
         bytes = design-items (p .design) (p .cells) (p .tables) ∙ b;
       }
 

@@ -5,7 +5,7 @@ use mathlib.Core.Path.{_≡_, refl, sym, ap, _∙_}
 use mathlib.Core.List.{List}
 use lib.ListN.{length}
 use Rattle.format.specs.declared.command.Command.{Command}
-use Rattle.format.specs.declared.command.Command.the-variants.{End}
+use Rattle.format.specs.declared.command.Command.the-variants.{Row, End}
 use Rattle.format.specs.Bytes.{byteAt}
 use Rattle.format.specs.Commands.{widthOf, commandAt}
 use Rattle.format.specs.Reading.{Draft, Taken, taken, DesignRead, readOn, readFrom}
@@ -20,8 +20,9 @@ pub record Whole (s : List ℕ) (i : ℕ) : Type 0 where
   pub some : 0 < widthOf (byteAt s i)
   pub fits : i + widthOf (byteAt s i) ≤ length s
 
-pub taken-whole : (s : List ℕ) (i : ℕ) (p q : Draft) → taken p s i (commandAt s i) ≡ on q → Whole s i
-taken-whole s i p q e = go (seen s i)
+-- the command at place i is whole, unless every draft refuses it
+pub whole-or : (s : List ℕ) (i : ℕ) → ((n : ℕ) → ((p : Draft) → taken p s i (commandAt s i) ≡ refused n) → ((t : ℕ) → commandAt s i ≡ Row t → ⊥) → ⊥) → Whole s i
+whole-or s i never = go (seen s i)
   where
     go : Seen s i (commandAt s i) (widthOf (byteAt s i)) → Whole s i
     go (seen-table a w f c) = record { some = omega arith; fits = omega arith }
@@ -29,7 +30,10 @@ taken-whole s i p q e = go (seen s i)
     go (seen-filling a w f c) = record { some = omega arith; fits = omega arith }
     go (seen-row a w f c) = record { some = omega arith; fits = omega arith }
     go (seen-end a w f c) = record { some = omega arith; fits = omega arith }
-    go (seen-refused n h k) = absurd (not-on n q (sym (h p) ∙ e))
+    go (seen-refused n h k) = absurd (never n h k)
+
+pub taken-whole : (s : List ℕ) (i : ℕ) (p q : Draft) → taken p s i (commandAt s i) ≡ on q → Whole s i
+taken-whole s i p q e = whole-or s i (λ n h k. not-on n q (sym (h p) ∙ e))
 
 -- ---- END alone completes a design
 

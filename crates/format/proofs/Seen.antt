@@ -9,6 +9,9 @@ use borrow.Author.Tests.{leb-true, leb-false, ltb-true, ltb-false, ne-eqb}
 use lib.Dec.{eqb, leb, ltb}
 use lib.ListN.{length}
 use Rattle.finite.proofs.Bools.{dec, same-number}
+use Rattle.state.specs.declared.design.Table as State-table
+use Rattle.state.specs.declared.design.Constraint as State-constraint
+use Rattle.state.specs.declared.design.Filling as State-filling
 use Rattle.format.specs.declared.command.Command.{Command}
 use Rattle.format.specs.declared.command.Command.the-variants.{Table, Constraint, Filling, Row, End, Refer, Drop, Probe, Query, Unknown, Short}
 use Rattle.format.specs.Bytes.{byteAt, u32At}
@@ -50,6 +53,15 @@ operation-no-row b s i t h₁ h₂ h₃ h₄ h₅ e =
     rest false true z e = let q : _≡_ {A = ℕ} 0 1 = cc in omega arith
     rest false false true e = let q : _≡_ {A = ℕ} 0 1 = cc in omega arith
     rest false false false e = let q : _≡_ {A = ℕ} 0 1 = cc in omega arith
+
+pub table-no-row : (x : State-table.Table) (t : ℕ) → Table x ≡ Row t → ⊥
+table-no-row x t e = let q : _≡_ {A = ℕ} 0 1 = cc in omega arith
+
+pub constraint-no-row : (x : State-constraint.Constraint) (t : ℕ) → Constraint x ≡ Row t → ⊥
+constraint-no-row x t e = let q : _≡_ {A = ℕ} 0 1 = cc in omega arith
+
+pub filling-no-row : (x : State-filling.Filling) (t : ℕ) → Filling x ≡ Row t → ⊥
+filling-no-row x t e = let q : _≡_ {A = ℕ} 0 1 = cc in omega arith
 
 short-no-row : (t : ℕ) → Short ≡ Row t → ⊥
 short-no-row t e = let q : _≡_ {A = ℕ} 0 1 = cc in omega arith

@@ -35,7 +35,7 @@ on-same p q e = cc
 
 -- ---- the refusals in order
 
-unless-on : (b : Bool) (n : ℕ) (t : Taken) (q : Draft) → unless b n t ≡ on q → (b ≡ false) × (t ≡ on q)
+pub unless-on : (b : Bool) (n : ℕ) (t : Taken) (q : Draft) → unless b n t ≡ on q → (b ≡ false) × (t ≡ on q)
 unless-on true n t q e = absurd (not-on n q e)
 unless-on false n t q e = (refl, e)
 
@@ -54,7 +54,7 @@ module _ (a b c : Bool) (k m n : ℕ) (p : Draft) where
   never : unless a k (unless b m (unless c n (on p))) ≡ complete → ⊥
   never = unless-complete a k (unless b m (unless c n (on p))) (unless-complete b m (unless c n (on p)) (unless-complete c n (on p) (on-complete p)))
 
-none : (a b c : Bool) (k m n : ℕ) (t : Taken) → a ≡ false → b ≡ false → c ≡ false → unless a k (unless b m (unless c n t)) ≡ t
+pub none : (a b c : Bool) (k m n : ℕ) (t : Taken) → a ≡ false → b ≡ false → c ≡ false → unless a k (unless b m (unless c n t)) ≡ t
 none true b c k m n t p q r = clash refl p
 none false true c k m n t p q r = clash refl q
 none false false true k m n t p q r = clash refl r

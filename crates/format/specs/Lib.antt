@@ -1,6 +1,7 @@
 -- Bytes: numbers in a script. Commands: a command with its byte, operands and widths. Reading: what a byte string reads as.
--- Writing: what a design with its rows is written as.
+-- Admitting: how the code reads a design, cause 6 last. Writing: what a design with its rows is written as.
 pub mod Bytes
 pub mod Commands
 pub mod Reading
+pub mod Admitting
 pub mod Writing

@@ -22,9 +22,6 @@ use Rattle.format.specs.declared.command.Command.the-variants.{Table, Co
 use Rattle.format.specs.declared.verdict.Verdict.{Verdict}
 use Rattle.format.specs.declared.verdict.Verdict.the-variants.{Accepted, Refused}
 use Rattle.format.specs.declared.verdict.DesignReading.{DesignReading}
-use Rattle.format.specs.declared.reading.Outcome.{Outcome}
-use Rattle.format.specs.declared.reading.Outcome.the-variants.{On, Complete, Cause}
-use Rattle.format.specs.declared.reading.Step.{Step}
 use Rattle.format.specs.Bytes.{byteAt}
 use Rattle.format.specs.Commands.{commandAt, widthOf, rowCellAt}
 
@@ -119,25 +116,9 @@ taken p s i (Query k v n) = refused 3
 taken p s i Unknown = refused 2
 taken p s i Short = refused 1
 
--- what the code answers for a command, and the draft that it leaves: the design beside the answer (an enum holds no array), and the two arrays
-abbrev pub outcomeOf : Taken → Outcome
-outcomeOf (on p) = On
-outcomeOf complete = Complete
-outcomeOf (refused n) = Cause n
-
+-- a draft as the code has it: the design, and the two arrays
 abbrev pub draft : Design → List ℕ → List ℕ → Draft
 draft d cells tables = record { design = d; cells = cells; tables = tables }
-
-abbrev pub causeOf : Outcome → ℕ
-causeOf (Cause n) = n
-causeOf On = 0
-causeOf Complete = 0
-
--- the command c at place i, read into the draft p: the code has answered r and left the arrays
-pub record Took (p : Draft) (s : List ℕ) (i : ℕ) (c : Command) (r : Step) (cells tables : List ℕ) : Type 0 where
-  pub outcome : r .outcome ≡ outcomeOf (taken p s i c)
-  pub goes : (q : Draft) → taken p s i c ≡ on q → q ≡ draft (r .design) cells tables
-  pub whole : taken p s i c ≡ complete → p ≡ draft (r .design) cells tables
 
 -- ---- the whole design
 

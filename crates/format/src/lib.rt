@@ -1,8 +1,10 @@
 // Scripts as bytes: the command at a place, reading a design with its rows, writing it, and (in proofs/) that the two undo each other.
 mod bytes;
 mod command;
+mod opening;
 mod reader;
 mod reading;
+mod repeating;
 mod verdict;
 mod writing;
 
@@ -10,10 +12,11 @@ pub use command::Command;
 pub use command::pair_constraint;
 pub use command::pair_position;
 pub use command::width_of;
+pub use opening::MOST_BYTES;
+pub use opening::read_catalogued;
+pub use opening::read_design;
 pub use reader::ScriptReader;
 pub use reader::command_at;
-pub use reading::MOST_BYTES;
-pub use reading::read_design;
 pub use verdict::DesignReading;
 pub use verdict::Verdict;
 pub use writing::design_length;

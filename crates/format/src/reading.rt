@@ -1,22 +1,21 @@
-// Reading a design with its rows, command by command, into a draft: a design by value and two arrays that are lent. The causes of refusal are
-// tested in document 01's order.
+// The first pass over a design with its rows: command by command into a draft, which is a design by value and two arrays that are lent. Causes 1 to
+// 5 are tested in document 01's order; cause 6 is left aside, and opening.rt finds it through the catalog of the rows read.
 ghost use mathlib.Core.Path.{_≡_};
-ghost use mathlib.Core.List.{List, _++_};
+ghost use mathlib.Core.List.{List};
 ghost use Prim.Native.Nat.{ℕ, suc, _+_, _*_, _≤_, _<_};
-ghost use lib.ListN.{length, drop};
+ghost use lib.ListN.{length};
 ghost use lib.Seq.{sets};
 ghost use Rattle.finite.specs.Finite.{tab};
 ghost use Rattle.state.specs.Design.{emptyDesign};
 ghost use Rattle.format.specs.declared.command.Command.the-variants as C;
 ghost use Rattle.format.specs.declared.reading.Outcome.the-variants as O;
-ghost use Rattle.format.specs.declared.verdict.Verdict.the-variants as Answer;
 ghost use Rattle.format.specs.Commands.{commandAt, rowCellAt};
-ghost use Rattle.format.specs.Reading.{afterTables, afterConstraints, withTable, withConstraint, withFilling, withRows, emptyDraft, draft, causeOf, Took, Read, Leaves, readFrom, readInto};
+ghost use Rattle.format.specs.Reading.{afterTables, afterConstraints, withTable, withConstraint, withFilling, withRows, draft, readFrom};
+ghost use Rattle.format.specs.Admitting.{causeOf, Took, Stopped};
 use crate::command::Command;
 use crate::command::row_cell;
 use crate::command::width_of;
 use crate::reader::command_at;
-use crate::verdict::DesignReading;
 use crate::verdict::Verdict;
 use state::Constraint;
 use state::Design;
@@ -34,6 +33,14 @@ pub enum Outcome {
 pub struct Step {
     pub outcome: Outcome,
     pub design: Design,
+}
+
+// Where the first pass stops: at the END, or at the first command that is refused. The verdict holds if no row read repeats a value; with it the
+// design read so far, and the place of that command.
+pub struct Stop {
+    pub verdict: Verdict,
+    pub design: Design,
+    pub at: usize,
 }
 
 // ---- one more table, constraint, filling or row. Constant time.
@@ -178,7 +185,7 @@ fn take_filling(d: Design, f: Filling) -> Step
     }
 }
 
-// The ROW at place `at`, of table t. One look at each row before it for each unique column.
+// The ROW at place `at`, of table t. One look at each of its cells.
 fn take_row(
     d: Design,
     script: &[u8],
@@ -199,9 +206,6 @@ fn take_row(
     let e = with_rows(d, n + 1);
     if !lawful::row_fits(e, cells, tables, n) {
         return refused(d, 5);
-    }
-    if lawful::row_repeats(e, cells, tables, n) {
-        return refused(d, 6);
     }
     Step {
         outcome: Outcome::On,
@@ -251,21 +255,11 @@ fn cause_of(o: Outcome) -> u8
     n
 }
 
-// A reading that is refused: its design is empty.
-fn refusal(cause: u8, at: usize) -> DesignReading
-    ensures { λ r. ⌜ r ≡ record { verdict = Answer.Refused cause at; design = emptyDesign } ⌝ }
-{
-    DesignReading {
-        verdict: Verdict::Refused(cause, at),
-        design: Design::empty(),
-    }
-}
-
-// Reads from the first command to the END, or to the first that is refused. Each command is read once; a row costs one look at each row before it
-// for each unique column.
-fn read_commands(script: &[u8], cells: &mut [u32], tables: &mut [u8]) -> DesignReading
+// Reads from the first command to the END, or to the first that is refused, cause 6 left aside. Each command is read once.
+pub(crate) fn read_commands(script: &[u8], cells: &mut [u32], tables: &mut [u8]) -> Stop
     requires { ⌜ (length (now cells) ≡ 4096) × (length (now tables) ≡ 512) ⌝ }
-    ensures { λ r. ⌜ Read (readFrom (suc (length (now (script .entry)))) (now (script .entry)) (draft emptyDesign (now (cells .entry)) (now (tables .entry))) 0) r (now (cells .exit)) (now (tables .exit)) ⌝ }
+    ensures { λ r. ⌜ Stopped (readFrom (suc (length (now (script .entry)))) (now (script .entry))
+        (draft emptyDesign (now (cells .entry)) (now (tables .entry))) 0) r (now (cells .exit)) (now (tables .exit)) ⌝ }
 {
     let mut d = Design::empty();
     let mut at = 0usize;
@@ -274,84 +268,21 @@ fn read_commands(script: &[u8], cells: &mut [u32], tables: &mut [u8]) -> DesignR
         let step = take(d, script, at, c, cells, tables);
         let o = step.outcome;
         if let Outcome::Complete = o {
-            return DesignReading {
+            return Stop {
                 verdict: Verdict::Accepted(at + 1),
                 design: d,
+                at,
             };
         }
         let Outcome::On = o else {
-            return refusal(cause_of(o), at);
+            return Stop {
+                verdict: Verdict::Refused(cause_of(o), at),
+                design: d,
+                at,
+            };
         };
         let e = step.design;
         d = e;
         at = at + width_of(script[at]);
     }
-}
-
-// ---- into lent buffers
-
-// Stores the rows of an accepted design, 4,096 cells and 512 row tables, and marks no row. Longer buffers are untouched past these.
-fn copy_cells(from: &[u32], to: &mut [u32])
-    requires { ⌜ (length (now from) ≡ 4096) × (4096 ≤ length (now to)) ⌝ }
-    ensures { λ _. ⌜ now (to .exit) ≡ now (from .entry) ++ drop 4096 (now (to .entry)) ⌝ }
-{
-    for i in 0..Design::CELLS {
-        to[i] = from[i];
-    }
-}
-
-fn copy_bytes(from: &[u8], to: &mut [u8])
-    requires { ⌜ (length (now from) ≡ 512) × (512 ≤ length (now to)) ⌝ }
-    ensures { λ _. ⌜ now (to .exit) ≡ now (from .entry) ++ drop 512 (now (to .entry)) ⌝ }
-{
-    for i in 0..Design::ROWS {
-        to[i] = from[i];
-    }
-}
-
-// Reads into buffers that are long enough. Nothing lent is written until the whole design is accepted.
-fn read_into(script: &[u8], cells: &mut [u32], tables: &mut [u8], marks: &mut [u8]) -> DesignReading
-    requires { ⌜ (4096 ≤ length (now cells)) × (512 ≤ length (now tables)) × (512 ≤ length (now marks)) ⌝ }
-    ensures { λ r. ⌜ Leaves (readFrom (suc (length (now (script .entry)))) (now (script .entry)) emptyDraft 0) r (now (cells .entry)) (now (cells .exit)) (now (tables .entry)) (now (tables .exit)) (now (marks .entry)) (now (marks .exit)) ⌝ }
-{
-    let mut x = [0u32; 4096];
-    let mut y = [0u8; 512];
-    let z = [0u8; 512];
-    let r = read_commands(script, &mut x, &mut y);
-    let v = r.verdict;
-    let Verdict::Accepted(_) = v else {
-        return r;
-    };
-    copy_cells(&x, cells);
-    copy_bytes(&y, tables);
-    copy_bytes(&z, marks);
-    r
-}
-
-pub const MOST_BYTES: usize = 65536;
-
-// Reads a design with its rows into lent buffers: the verdict, with the place after the END or the cause and place of the refusal, and the design,
-// which is empty where it is refused. The buffers are written only where it is accepted: the rows, and no row marked. Each command is read once; a
-// row costs one look at each row before it for each unique column.
-pub fn read_design(
-    script: &[u8],
-    cells: &mut [u32],
-    tables: &mut [u8],
-    marks: &mut [u8],
-) -> DesignReading
-    ensures { λ r. ⌜ Leaves (readInto (now (script .entry)) (now (cells .entry)) (now (tables .entry)) (now (marks .entry))) r (now (cells .entry)) (now (cells .exit)) (now (tables .entry)) (now (tables .exit)) (now (marks .entry)) (now (marks .exit)) ⌝ }
-{
-    if cells.len() < Design::CELLS {
-        return refusal(7, 0);
-    }
-    if tables.len() < Design::ROWS {
-        return refusal(7, 0);
-    }
-    if marks.len() < Design::ROWS {
-        return refusal(7, 0);
-    }
-    if MOST_BYTES < script.len() {
-        return refusal(4, 0);
-    }
-    read_into(script, cells, tables, marks)
 }

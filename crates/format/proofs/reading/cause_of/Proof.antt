@@ -1,6 +1,6 @@
 -- `format::reading::cause_of` meets its contract. Assumes nothing.
 use borrow.Author.Needs.{needs}
-use Rattle.format.proofs.CommandsRead.{no-cause}
+use Rattle.format.proofs.FirstPass.{no-cause}
 use Rattle.format.proofs.reading.cause_of.Statement.{statement}
 use Rattle.format.proofs.reading.cause_of.Tie as tie
 

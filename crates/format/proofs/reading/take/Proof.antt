@@ -2,8 +2,7 @@
 use mathlib.Core.Path.{refl, sym, _∙_}
 use borrow.Author.Needs.{needs}
 use Rattle.format.proofs.Seen.{row-whole}
-use Rattle.format.proofs.TakenLaws.{end-completes}
-use Rattle.format.proofs.TookLaws.{took-as, took-refused, took-complete, refer-refused, drop-refused, probe-refused, query-refused, unknown-refused, short-refused}
+use Rattle.format.proofs.TookLaws.{took-as, took-refused, took-complete, kept-all, refer-refused, drop-refused, probe-refused, query-refused, unknown-refused, short-refused, end-admitted}
 use Rattle.format.proofs.reading.take.Statement.{statement}
 use Rattle.format.proofs.reading.take.Tie as tie
 
@@ -89,25 +88,25 @@ returns-4 : tie.Need-returns-4
 returns-4 c = took-as _ _ _ _ _ _ _ _ (c .before .before .before .before .before .before .before .before .c4 .given .1) (c .before .before .before .before .take-row .ensures)
 
 returns-5 : tie.Need-returns-5
-returns-5 c = took-as _ _ _ _ _ _ _ _ (c .enum-told .given .1) (took-complete _ _ _ _ _ _ _ refl refl (end-completes _ _ _))
+returns-5 c = took-as _ _ _ _ _ _ _ _ (c .enum-told .given .1) (took-complete _ _ _ _ _ _ _ refl refl (end-admitted _ _ _))
 
 returns-6 : tie.Need-returns-6
-returns-6 c = took-as _ _ _ _ _ _ _ _ (c .before .enum-told2 .given .1) (took-refused _ _ _ _ _ _ _ 3 _ (c .refused .ensures) (refer-refused _ _ _ _ _))
+returns-6 c = took-as _ _ _ _ _ _ _ _ (c .before .enum-told2 .given .1) (took-refused _ _ _ _ _ _ _ 3 _ (c .refused .ensures) (refer-refused _ _ _ _ _) (kept-all _ _ _))
 
 returns-7 : tie.Need-returns-7
-returns-7 c = took-as _ _ _ _ _ _ _ _ (c .before .enum-told3 .given .1) (took-refused _ _ _ _ _ _ _ 3 _ (c .refused2 .ensures) (drop-refused _ _ _ _ _))
+returns-7 c = took-as _ _ _ _ _ _ _ _ (c .before .enum-told3 .given .1) (took-refused _ _ _ _ _ _ _ 3 _ (c .refused2 .ensures) (drop-refused _ _ _ _ _) (kept-all _ _ _))
 
 returns-8 : tie.Need-returns-8
-returns-8 c = took-as _ _ _ _ _ _ _ _ (c .before .enum-told4 .given .1) (took-refused _ _ _ _ _ _ _ 3 _ (c .refused3 .ensures) (probe-refused _ _ _ _ _))
+returns-8 c = took-as _ _ _ _ _ _ _ _ (c .before .enum-told4 .given .1) (took-refused _ _ _ _ _ _ _ 3 _ (c .refused3 .ensures) (probe-refused _ _ _ _ _) (kept-all _ _ _))
 
 returns-9 : tie.Need-returns-9
-returns-9 c = took-as _ _ _ _ _ _ _ _ (c .before .enum-told5 .given .1) (took-refused _ _ _ _ _ _ _ 3 _ (c .refused4 .ensures) (query-refused _ _ _ _ _ _))
+returns-9 c = took-as _ _ _ _ _ _ _ _ (c .before .enum-told5 .given .1) (took-refused _ _ _ _ _ _ _ 3 _ (c .refused4 .ensures) (query-refused _ _ _ _ _ _) (kept-all _ _ _))
 
 returns-10 : tie.Need-returns-10
-returns-10 c = took-as _ _ _ _ _ _ _ _ (c .before .enum-told6 .given .1) (took-refused _ _ _ _ _ _ _ 2 _ (c .refused5 .ensures) (unknown-refused _ _ _))
+returns-10 c = took-as _ _ _ _ _ _ _ _ (c .before .enum-told6 .given .1) (took-refused _ _ _ _ _ _ _ 2 _ (c .refused5 .ensures) (unknown-refused _ _ _) (kept-all _ _ _))
 
 returns-11 : tie.Need-returns-11
-returns-11 c = took-as _ _ _ _ _ _ _ _ (c .before .enum-told7 .given .1) (took-refused _ _ _ _ _ _ _ 1 _ (c .refused6 .ensures) (short-refused _ _ _))
+returns-11 c = took-as _ _ _ _ _ _ _ _ (c .before .enum-told7 .given .1) (took-refused _ _ _ _ _ _ _ 1 _ (c .refused6 .ensures) (short-refused _ _ _) (kept-all _ _ _))
 
 pub take-spec : {M : Type 1} → statement M
 take-spec =

@@ -2,7 +2,7 @@
 use mathlib.Core.Path.{refl, sym, _∙_}
 use borrow.Author.Needs.{needs}
 use borrow.Author.Tests.{not-true, not-false}
-use Rattle.format.proofs.TookLaws.{took-refused, took-on, constraint-late, constraint-many, constraint-wrong, constraint-right}
+use Rattle.format.proofs.TookLaws.{took-refused, took-on, kept-all, constraint-late, constraint-many, constraint-wrong, constraint-right}
 use Rattle.format.proofs.reading.take_constraint.Statement.{statement}
 use Rattle.format.proofs.reading.take_constraint.Tie as tie
 
@@ -13,14 +13,14 @@ refused-requires : tie.Need-refused-requires
 refused-requires c κs = search needs
 
 returns : tie.Need-returns
-returns c = λ s cells tables i. took-refused _ _ _ _ _ _ _ 3 _ (c .refused .ensures) (constraint-late _ _ _ _ (sym (c .before .before .after-constraints .ensures) ∙ c .before .if1 .taken))
+returns c = λ s cells tables i. took-refused _ _ _ _ _ _ _ 3 _ (c .refused .ensures) (constraint-late _ _ _ _ (sym (c .before .before .after-constraints .ensures) ∙ c .before .if1 .taken)) (kept-all _ _ _)
 
 refused-requires-2 : tie.Need-refused-requires-2
 refused-requires-2 c κs = search needs
 
 returns-2 : tie.Need-returns-2
 returns-2 c =
-    λ s cells tables i. took-refused _ _ _ _ _ _ _ 4 _ (c .refused2 .ensures) (constraint-many _ _ _ _ (sym (c .before .before .before .after-constraints .ensures) ∙ c .before .before .if1 .left) (c .before .if2 .taken))
+    λ s cells tables i. took-refused _ _ _ _ _ _ _ 4 _ (c .refused2 .ensures) (constraint-many _ _ _ _ (sym (c .before .before .before .after-constraints .ensures) ∙ c .before .before .if1 .left) (c .before .if2 .taken)) (kept-all _ _ _)
 
 constraint-fits-requires : tie.Need-constraint-fits-requires
 constraint-fits-requires c κs = search needs
@@ -31,7 +31,7 @@ refused-requires-3 c κs = search needs
 returns-3 : tie.Need-returns-3
 returns-3 c =
     λ s cells tables i. took-refused _ _ _ _ _ _ _ 5 _ (c .refused3 .ensures)
-    (constraint-wrong _ _ _ _ (sym (c .before .before .before .before .before .after-constraints .ensures) ∙ c .before .before .before .before .if1 .left) (c .before .before .before .if2 .left) (sym (c .before .before .constraint-fits .ensures) ∙ not-true _ (c .before .if3 .taken)))
+    (constraint-wrong _ _ _ _ (sym (c .before .before .before .before .before .after-constraints .ensures) ∙ c .before .before .before .before .if1 .left) (c .before .before .before .if2 .left) (sym (c .before .before .constraint-fits .ensures) ∙ not-true _ (c .before .if3 .taken))) (kept-all _ _ _)
 
 with-constraint-requires : tie.Need-with-constraint-requires
 with-constraint-requires c κs = search needs
@@ -39,7 +39,7 @@ with-constraint-requires c κs = search needs
 returns-4 : tie.Need-returns-4
 returns-4 c =
     λ s cells tables i. took-on _ _ _ _ _ _ _ refl
-    (constraint-right _ _ _ _ (sym (c .before .before .before .before .before .after-constraints .ensures) ∙ c .before .before .before .before .if1 .left) (c .before .before .before .if2 .left) _ (sym (c .before .before .constraint-fits .ensures) ∙ not-false _ (c .before .if3 .left)) (c .with-constraint .ensures))
+    (constraint-right _ _ _ _ (sym (c .before .before .before .before .before .after-constraints .ensures) ∙ c .before .before .before .before .if1 .left) (c .before .before .before .if2 .left) _ (sym (c .before .before .constraint-fits .ensures) ∙ not-false _ (c .before .if3 .left)) (c .with-constraint .ensures)) (kept-all _ _ _)
 
 pub take-constraint-spec : {M : Type 1} → statement M
 take-constraint-spec =

@@ -4,7 +4,7 @@ use mathlib.Core.Path.{refl, sym, _∙_}
 use borrow.Author.Needs.{needs}
 use borrow.Author.Tests.{not-true, not-false}
 use lib.ListN.{length-set}
-use Rattle.format.proofs.TookLaws.{took-refused, took-on, row-put, rows-many, row-wrong, row-twice, row-right}
+use Rattle.format.proofs.TookLaws.{took-refused, took-on, row-put, kept-all, kept-put, rows-many, row-wrong, row-right}
 use Rattle.format.proofs.reading.take_row.Statement.{statement}
 use Rattle.format.proofs.reading.take_row.Tie as tie
 
@@ -12,7 +12,7 @@ refused-requires : tie.Need-refused-requires
 refused-requires c κs = search needs
 
 returns : tie.Need-returns
-returns c = took-refused _ _ _ _ _ _ _ 4 _ (c .refused .ensures) (rows-many _ _ _ _ (c .before .if1 .taken))
+returns c = took-refused _ _ _ _ _ _ _ 4 _ (c .refused .ensures) (rows-many _ _ _ _ (c .before .if1 .taken)) (kept-all _ _ _)
 
 store-cells-requires : tie.Need-store-cells-requires
 store-cells-requires c κs = search needs
@@ -43,12 +43,7 @@ returns-2 c =
     took-refused _ _ _ _ _ _ _ 5 _ (c .refused2 .ensures)
     (row-wrong _ _ _ _ (c .before .before .before .before .before .before .before .before .before .before .if1 .left) _ _ _ (row-put _ _ _ _ _ _ (c .before .before .before .before .before .with-rows .ensures) (c .before .before .before .before .before .before .before .before .store-cells .ensures))
     (sym (c .before .before .row-fits .ensures) ∙ not-true _ (c .before .if2 .taken)))
-
-row-repeats-requires : tie.Need-row-repeats-requires
-row-repeats-requires c κs = (omega arith, record { rows = omega (arith, c .before .before .before .before .before .before .before .before .before .store-cells .kept); members = simp length-set (omega arith) })
-
-refused-requires-3 : tie.Need-refused-requires-3
-refused-requires-3 c κs = search needs
+    (kept-put _ _ _ _ _ _ _ (c .before .before .before .before .before .before .before .before .store-cells .ensures))
 
 same-length-3 : tie.Need-same-length-3
 same-length-3 c = search needs
@@ -58,21 +53,9 @@ same-length-4 c = search needs
 
 returns-3 : tie.Need-returns-3
 returns-3 c =
-    took-refused _ _ _ _ _ _ _ 6 _ (c .refused3 .ensures)
-    (row-twice _ _ _ _ (c .before .before .before .before .before .before .before .before .before .before .before .before .before .before .if1 .left) _ _ _ (row-put _ _ _ _ _ _ (c .before .before .before .before .before .before .before .before .before .with-rows .ensures) (c .before .before .before .before .before .before .before .before .before .before .before .before .store-cells .ensures))
-    (sym (c .before .before .before .before .before .before .row-fits .ensures) ∙ not-false _ (c .before .before .before .before .before .if2 .left)) (sym (c .before .before .row-repeats .ensures) ∙ c .before .if3 .taken))
-
-same-length-5 : tie.Need-same-length-5
-same-length-5 c = search needs
-
-same-length-6 : tie.Need-same-length-6
-same-length-6 c = search needs
-
-returns-4 : tie.Need-returns-4
-returns-4 c =
     took-on _ _ _ _ _ _ _ refl
-    (row-right _ _ _ _ (c .before .before .before .before .before .before .before .before .before .before .before .before .before .if1 .left) _ _ _ (row-put _ _ _ _ _ _ (c .before .before .before .before .before .before .before .before .with-rows .ensures) (c .before .before .before .before .before .before .before .before .before .before .before .store-cells .ensures))
-    (sym (c .before .before .before .before .before .row-fits .ensures) ∙ not-false _ (c .before .before .before .before .if2 .left)) (sym (c .before .row-repeats .ensures) ∙ c .if3 .left))
+    (row-right _ _ _ _ (c .before .before .before .before .before .before .before .before .before .if1 .left) _ _ _ (row-put _ _ _ _ _ _ (c .before .before .before .before .with-rows .ensures) (c .before .before .before .before .before .before .before .store-cells .ensures)) (sym (c .before .row-fits .ensures) ∙ not-false _ (c .if2 .left)))
+    (kept-put _ _ _ _ _ _ _ (c .before .before .before .before .before .before .before .store-cells .ensures))
 
 pub take-row-spec : {M : Type 1} → statement M
 take-row-spec =
@@ -89,11 +72,6 @@ take-row-spec =
     same-length
     same-length-2
     returns-2
-    row-repeats-requires
-    refused-requires-3
     same-length-3
     same-length-4
-    returns-3
-    same-length-5
-    same-length-6
-    returns-4)
+    returns-3)

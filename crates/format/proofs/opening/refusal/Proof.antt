@@ -1,7 +1,7 @@
--- `format::reading::refusal` meets its contract. Assumes nothing.
+-- `format::opening::refusal` meets its contract. Assumes nothing.
 use borrow.Author.Needs.{needs}
-use Rattle.format.proofs.reading.refusal.Statement.{statement}
-use Rattle.format.proofs.reading.refusal.Tie as tie
+use Rattle.format.proofs.opening.refusal.Statement.{statement}
+use Rattle.format.proofs.opening.refusal.Tie as tie
 
 empty-requires : tie.Need-empty-requires
 empty-requires c κs = search needs

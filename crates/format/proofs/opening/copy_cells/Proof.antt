@@ -1,23 +1,30 @@
--- `format::reading::copy_bytes` meets its contract: what is passed is copied. Assumes nothing.
+-- `format::opening::copy_cells` meets its contract: what is passed is copied. Assumes nothing.
 use Prim.Native.Nat.{_-_, _≤_}
 use native.Mathlib.Omega.{arith}
 use mathlib.Core.Path.{refl}
+use borrow.Author.Needs.{needs}
 use lib.ListN.{length, getD}
 use Rattle.finite.proofs.Tables.{Upto, upto-start, upto-set, upto-copied}
-use Rattle.format.proofs.reading.copy_bytes.Statement.{statement}
-use Rattle.format.proofs.reading.copy_bytes.Tie as tie
+use Rattle.format.proofs.opening.copy_cells.Statement.{statement}
+use Rattle.format.proofs.opening.copy_cells.Tie as tie
 
 abbrev Inv-loop : tie.InvT-loop
-Inv-loop from to₀ i₀ to i = (i ≤ 512) × Upto 0 (length to₀) i (λ r. getD from r 0) (λ r. getD to₀ r 0) to
+Inv-loop from to₀ i₀ to i = (i ≤ 4096) × Upto 0 (length to₀) i (λ r. getD from r 0) (λ r. getD to₀ r 0) to
 
 abbrev μ-loop : tie.MeasureT-loop
-μ-loop from to₀ i₀ to i = 512 - i
+μ-loop from to₀ i₀ to i = 4096 - i
 
 loop-holds : tie.Need-loop-holds Inv-loop μ-loop
 loop-holds c = (omega arith, upto-start 0 _ _ _ refl)
 
+mul-to : tie.Need-mul-to Inv-loop μ-loop
+mul-to c = search needs
+
 shared-slice-read-to : tie.Need-shared-slice-read-to Inv-loop μ-loop
 shared-slice-read-to c = omega arith
+
+mul-to-2 : tie.Need-mul-to-2 Inv-loop μ-loop
+mul-to-2 c = search needs
 
 slice-write-to : tie.Need-slice-write-to Inv-loop μ-loop
 slice-write-to c = omega arith
@@ -35,16 +42,18 @@ same-length : tie.Need-same-length Inv-loop μ-loop
 same-length c = omega arith
 
 returns : tie.Need-returns Inv-loop μ-loop
-returns c = upto-copied 0 512 _ (c .before .before .args .from .now) (c .before .before .args .to .now) _ (c .before .loop .inv .1) (c .before .loop .inv .0) (c .loop-test .left) (c .before .before .pre .1) (c .before .before .pre .0)
+returns c = upto-copied 0 4096 _ (c .before .before .args .from .now) (c .before .before .args .to .now) _ (c .before .loop .inv .1) (c .before .loop .inv .0) (c .loop-test .left) (c .before .before .pre .1) (c .before .before .pre .0)
 
-pub copy-bytes-spec : {M : Type 1} → statement M
-copy-bytes-spec =
+pub copy-cells-spec : {M : Type 1} → statement M
+copy-cells-spec =
     tie.close
     (tie.spec
     Inv-loop
     μ-loop
     loop-holds
+    mul-to
     shared-slice-read-to
+    mul-to-2
     slice-write-to
     add-i
     loop-less

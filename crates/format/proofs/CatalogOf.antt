@@ -1,0 +1,128 @@
+-- A catalog of the rows read is a catalog of the buffers that they are copied to: it says nothing of what lies past 512 rows. Assumes nothing.
+use Prim.Native.Nat.{ℕ, _+_, _*_, _/_, _%_, _≤_, _<_}
+use native.Mathlib.Decide.{decLt}
+use native.Mathlib.Omega.{arith}
+use mathlib.Core.Path.{_≡_, refl, sym, ap, ap₂, _∙_}
+use mathlib.Core.Bool.{Bool, true, false, cond, _&&_}
+use mathlib.Core.List.{List, _++_}
+use borrow.Author.Tests.{le-ltb}
+use lib.Dec.{eqb, ltb}
+use lib.ListN.{length, getD, List·getD-append}
+use Rattle.finite.proofs.Bools.{clash, and-left}
+use Rattle.finite.proofs.Tables.{tab-same}
+use Rattle.model.specs.Cell.{Cell, equal}
+use Rattle.model.specs.Scheme as Model
+use Rattle.model.specs.Scheme.{Scheme}
+use Rattle.model.specs.Database.{Database, has}
+use Rattle.model.specs.Rounds.{leads}
+use Rattle.state.specs.declared.design.Design.{Design}
+use Rattle.state.specs.Meaning.{schemeOf, databaseOf}
+use Rattle.catalog.specs.First.{firstFrom}
+use Rattle.catalog.specs.Catalog.{columnAt, nextOf, demandedFirst, Listed, Directory, Catalogued}
+use Rattle.format.proofs.LawfulLaws.{SameRow, same-row}
+
+-- which rows have a value, as a test of any kind; and the rows that constraint j demands by it of a row that is live or not, with its table and cell
+abbrev Test : Type 0
+Test = Model.Column → Cell → ℕ → Bool
+
+abbrev leading : Model.Constraint → Test → Bool → ℕ → Cell → ℕ → Bool
+leading j h b t v r = b && (eqb t (j .source .table) && h (j .target) v r)
+
+module _ (D E : Database) (live : (r : ℕ) → D .live r ≡ E .live r) (dead : (r : ℕ) → 512 ≤ r → D .live r ≡ false)
+    (same : (r : ℕ) → r < 512 → SameRow D E r) where
+  has-alike : (k : Model.Column) (v : Cell) (r : ℕ) → has D k v r ≡ has E k v r
+  unfolding has
+  has-alike k v r = go (decLt r 512)
+    where
+      go : Dec (r < 512) → has D k v r ≡ has E k v r
+      go (yes l) = ap₂ _&&_ (live r) (ap₂ (λ t x. eqb t (k .table) && equal x v) (same r l .table) (same r l .cell (k .place)))
+      go (no l) = and-left (D .live r) _ (dead r (omega arith)) ∙ sym (and-left (E .live r) _ (sym (live r) ∙ dead r (omega arith)))
+
+  has-none : (k : Model.Column) (v : Cell) (r : ℕ) → 512 ≤ r → has E k v r ≡ false
+  unfolding has
+  has-none k v r l = and-left (E .live r) _ (sym (live r) ∙ dead r l)
+
+  -- as functions
+  has-is : has D ≡ has E
+  has-is = λ i k v r. has-alike k v r i
+
+  next-alike : (r c : ℕ) → r < 512 → nextOf D r c ≡ nextOf E r c
+  unfolding nextOf
+  next-alike r c l =
+      ap (λ (h : Test).
+      cond (h (columnAt D r c) (D .cell r c) r) (firstFrom (h (columnAt D r c) (D .cell r c)) (r + 1)) 512) has-is ∙
+      ap₂ (λ (t : ℕ) (v : Cell). cond (has E (record { table = t; place = c }) v r) (firstFrom (has E (record { table = t; place = c }) v) (r + 1)) 512)
+      (same r l .table) (same r l .cell c)
+
+  leads-alike : (j : Model.Constraint) (s : ℕ) → s < 512 → leads D j s ≡ leads E j s
+  unfolding leads
+  leads-alike j s l =
+      let v = D .cell s (j .source .place) in
+      ap (λ (h : Test). leading j h (D .live s) (D .table s) v) has-is ∙ ap (λ (b : Bool). leading j (has E) b (D .table s) v) (live s) ∙
+      ap₂ (leading j (has E) (E .live s)) (same s l .table) (same s l .cell (j .source .place))
+
+  first-alike : (S : Scheme) (i s : ℕ) → s < 512 → demandedFirst S D i s ≡ demandedFirst S E i s
+  unfolding demandedFirst
+  first-alike S i s l = ap (λ (p : ℕ → Bool). cond (ltb i (S .constraints)) (firstFrom p 0) 512) (leads-alike (S .constraint i) s l)
+
+  directory-alike : (keys heads starts : List ℕ) → Directory D keys heads starts → Directory E keys heads starts
+  directory-alike keys heads starts f =
+      record {
+        keys-long = f .keys-long;
+        heads-long = f .heads-long;
+        starts-long = f .starts-long;
+        column = λ t c a b. listed (record { table = t; place = c }) _ _ (f .column t c a b);
+      }
+    where
+      listed : (k : Model.Column) (from to : ℕ) → Listed D k 0 from to keys heads → Listed E k 0 from to keys heads
+      listed k from to g =
+          record {
+            order = g .order;
+            bound = g .bound;
+            falls = g .falls;
+            value = g .value;
+            head = λ i a b. g .head i a b ∙ ap (λ (h : Test). firstFrom (h k (record { number = getD keys i 0 })) 0) has-is;
+            there = λ s a h. there s h (decLt s 512);
+          }
+        where
+          there : (s : ℕ) → has E k (E .cell s (k .place)) s ≡ true → Dec (s < 512)
+              → (i : ℕ) × (from ≤ i) × (i < to) × (getD keys i 0 ≡ E .cell s (k .place) .number)
+          there s h (yes l) =
+              let e = same s l .cell (k .place) in
+              let y = g .there s (omega arith) (has-alike k (D .cell s (k .place)) s ∙ ap (λ (v : Cell). has E k v s) e ∙ h) in
+              (y .0, y .1, y .2, y .3 ∙ ap (λ (v : Cell). v .number) e)
+          there s h (no l) = clash h (has-none k (E .cell s (k .place)) s (omega arith))
+
+-- the first 512 rows of both are the same
+pub catalogued-as : (d : Design) (cells tables cells′ tables′ next first keys heads starts : List ℕ)
+    → ((x : ℕ) → x < 4096 → getD cells′ x 0 ≡ getD cells x 0) → ((r : ℕ) → r < 512 → getD tables′ r 0 ≡ getD tables r 0)
+    → Catalogued d cells tables next first keys heads starts → Catalogued d cells′ tables′ next first keys heads starts
+unfolding databaseOf
+catalogued-as d cells tables cells′ tables′ next first keys heads starts a b f =
+    record {
+      next-is = f .next-is ∙ tab-same 4096 _ _ (λ x l. next-alike D E live dead same (x / 8) (x % 8) (omega arith));
+      first-is = f .first-is ∙ tab-same 8192 _ _ (λ x l. first-alike D E live dead same (schemeOf d) (x / 512) (x % 512) (omega arith));
+      directory = directory-alike D E live dead same keys heads starts (f .directory);
+    }
+  where
+    D : Database
+    D = databaseOf (d .rows) cells tables
+
+    E : Database
+    E = databaseOf (d .rows) cells′ tables′
+
+    live : (r : ℕ) → D .live r ≡ E .live r
+    live r = refl
+
+    dead : (r : ℕ) → 512 ≤ r → D .live r ≡ false
+    dead r l = and-left (ltb r 512) (ltb r (d .rows)) (le-ltb r 512 l)
+
+    same : (r : ℕ) → r < 512 → SameRow D E r
+    same r l = same-row (d .rows) (d .rows) cells cells′ tables tables′ r (sym (b r l)) (λ c h. sym (a (8 * r + c) (omega arith)))
+
+-- what is copied out
+pub catalogued-copied : (d : Design) (cells tables more rest next first keys heads starts : List ℕ) → length cells ≡ 4096 → length tables ≡ 512
+    → Catalogued d cells tables next first keys heads starts → Catalogued d (cells ++ more) (tables ++ rest) next first keys heads starts
+catalogued-copied d cells tables more rest next first keys heads starts a b f =
+    catalogued-as d cells tables (cells ++ more) (tables ++ rest) next first keys heads starts
+    (λ x l. List·getD-append cells more 0 x (omega arith)) (λ r l. List·getD-append tables rest 0 r (omega arith)) f

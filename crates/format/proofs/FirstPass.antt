@@ -1,0 +1,234 @@
+-- The first pass over a design beside the definition's reading. As long as no row has repeated a value, what is left to read is what the whole reads
+-- as. Once a row has, the whole is refused with cause 6 at that row's command; from then on the pass meets only ROWs, 34 bytes each, so the place
+-- of that command is counted back from the place reached. Assumes nothing.
+use Prim.Native.Nat.{ℕ, suc, _+_, _-_, _*_, _≤_, _<_}
+use native.Mathlib.Omega.{arith}
+use mathlib.Core.Path.{_≡_, refl, sym, ap, ap₂, subst, _∙_}
+use mathlib.Core.Bool.{Bool, true}
+use mathlib.Core.List.{List, [], _∷_}
+use mathlib.Core.Logic.{⊎-elim}
+use lib.ListN.{length}
+use types.Run.{OneOf}
+use denote.Enum.Declared.{tagOf}
+use Rattle.finite.proofs.Search.{below-suc}
+use Rattle.model.specs.Scheme.{Scheme}
+use Rattle.model.specs.Database.{Database}
+use Rattle.state.specs.declared.design.Design.{Design}
+use Rattle.state.specs.Design.{emptyDesign}
+use Rattle.state.specs.Meaning.{schemeOf, databaseOf}
+use Rattle.state.specs.Lawful.{repeats}
+use Rattle.lawful.proofs.DesignLaws.{in-range}
+use Rattle.format.specs.declared.command.Command.{Command}
+use Rattle.format.specs.declared.command.Command.the-variants.{Row}
+use Rattle.format.specs.declared.verdict.Verdict.{Verdict}
+use Rattle.format.specs.declared.verdict.Verdict.the-variants.{Accepted, Refused}
+use Rattle.format.specs.declared.reading.Outcome.{Outcome}
+use Rattle.format.specs.declared.reading.Outcome.the-variants.{On, Complete, Cause}
+use Rattle.format.specs.declared.reading.Step.{Step}
+use Rattle.format.specs.Bytes.{byteAt}
+use Rattle.format.specs.Commands.{widthOf, commandAt}
+use Rattle.format.specs.Reading.{Draft, draft, Taken, taken, withTable, withConstraint, withFilling, withRow, withRows, DesignRead, readFrom}
+use Rattle.format.specs.Reading.Taken.{on, complete, refused}
+use Rattle.format.specs.Reading.DesignRead.{accepted, refusedAt}
+use Rattle.format.specs.Admitting.{admitted, outcomeOf, causeOf, Kept, Took, again, None, Earliest, readAs, rowPlace, Stopped}
+use Rattle.format.proofs.reading.Outcome.{the-type}
+use Rattle.format.proofs.LawfulLaws.{whole, SameRow, same-row, live-same, repeats-same}
+use Rattle.format.proofs.Seen.{Seen, seen-table, seen-constraint, seen-filling, seen-row, seen-end, seen-refused, seen}
+use Rattle.format.proofs.Seen.{table-no-row, constraint-no-row, filling-no-row}
+use Rattle.format.proofs.TakenLaws.{not-on, on-complete, end-on, took-table, took-constraint, took-filling}
+use Rattle.format.proofs.ReadingLaws.{readAll, all-on, all-complete, all-refused, Whole, Ends, taken-complete}
+use Rattle.format.proofs.TookLaws.{kept-put}
+use Rattle.format.proofs.AdmittedLaws.{no-row, Admitted, row-admitted, admitted-whole, stops}
+use Rattle.format.proofs.Reached.{Sizes, Fitting, fit-table, fit-constraint, fit-filling, fit-row, fit-empty}
+
+-- ---- rows that stay as they are repeat what they repeated
+
+pub kept-again : (S : Scheme) (m n : ℕ) (cells tables cells′ tables′ : List ℕ) → n ≤ m → Kept n cells tables cells′ tables′ → (r : ℕ) → r < n
+    → repeats S (databaseOf m cells′ tables′) r ≡ repeats S (databaseOf n cells tables) r
+kept-again S m n cells tables cells′ tables′ l k r h =
+    let D : Database = databaseOf m cells′ tables′ in
+    let E : Database = databaseOf n cells tables in
+    let same : (q : ℕ) → q < n → SameRow D E q =
+    λ q g. same-row m n cells′ cells tables′ tables q (k .table q g) (λ c b. k .cell (8 * q + c) (omega arith)) in
+    repeats-same S D E r (same r h) (λ q g. same q (omega arith)) (λ q g. live-same m n cells′ cells tables′ tables q (omega arith) (omega arith))
+
+-- ---- the place reached
+
+abbrev twiceIn : Draft → ℕ → Bool
+twiceIn p = again (p .design) (p .cells) (p .tables)
+
+-- the pass over a script s that reads as w has come to the draft p and to place i
+pub record Along (s : List ℕ) (w : DesignRead) (p : Draft) (i : ℕ) : Type 0 where
+  pub fitting : Fitting p
+  pub once : None (p .design .rows) (twiceIn p) → w ≡ readAll s p i
+  pub twice : (q : ℕ) → Earliest (p .design .rows) (twiceIn p) q → (34 * (p .design .rows - q) ≤ i) × (w ≡ refusedAt 6 (rowPlace i (p .design .rows) q))
+
+pub along-start : (s cells tables : List ℕ) (d : Design) → d ≡ emptyDesign → length cells ≡ 4096 → length tables ≡ 512
+    → Along s (readFrom (suc (length s)) s (draft emptyDesign cells tables) 0) (draft d cells tables) 0
+unfolding readAll emptyDesign
+along-start s cells tables d e a b =
+    subst (λ (x : Design). Along s (readFrom (suc (length s)) s (draft emptyDesign cells tables) 0) (draft x cells tables) 0) (sym e)
+    (record { fitting = fit-empty cells tables a b; once = λ _. start; twice = λ q h. absurd (none q h) })
+  where
+    start : readFrom (suc (length s)) s (draft emptyDesign cells tables) 0 ≡ readAll s (draft emptyDesign cells tables) 0
+    start = let z : length s ≡ length s - 0 = omega arith in ap (λ (n : ℕ). readFrom (suc n) s (draft emptyDesign cells tables) 0) z
+
+    none : (q : ℕ) → Earliest (emptyDesign .rows) (twiceIn (draft emptyDesign cells tables)) q → ⊥
+    none q h = omega (arith, h .below)
+
+-- ---- a command that is admitted
+
+module _ (s : List ℕ) (w : DesignRead) (p : Draft) (i : ℕ) (a : Along s w p i) (q : Draft) where
+  -- before the first row
+  along-early : p .design .rows ≡ 0 → q .design .rows ≡ 0 → Fitting q → taken p s i (commandAt s i) ≡ on q → Along s w q (i + widthOf (byteAt s i))
+  along-early z y f e =
+      record {
+        fitting = f;
+        once = λ _. a .once (λ r l. absurd (omega arith)) ∙ all-on s p i q e;
+        twice = λ r h. absurd (omega (arith, h .below));
+      }
+
+  -- a row
+  along-row : (t : ℕ) → commandAt s i ≡ Row t → widthOf (byteAt s i) ≡ 34 → Admitted p s i t q → q .design .rows ≡ p .design .rows + 1
+      → ((r : ℕ) → r < p .design .rows → twiceIn q r ≡ twiceIn p r) → Along s w q (i + widthOf (byteAt s i))
+  along-row t c wide h more same =
+      record {
+        fitting = subst Fitting (h .is) (fit-row p (a .fitting) s i t (h .room));
+        once = λ none. a .once (λ r l. sym (same r l) ∙ none r (omega arith)) ∙ all-on s p i q (ap (taken p s i) c ∙ h .once (none n (omega arith)));
+        twice = λ r g. ⊎-elim (here r g) (before r g) (below-suc (let z = g .below in omega arith));
+      }
+    where
+      n : ℕ
+      n = p .design .rows
+
+      before : (r : ℕ) → Earliest (q .design .rows) (twiceIn q) r → r < n
+          → (34 * (q .design .rows - r) ≤ i + widthOf (byteAt s i)) × (w ≡ refusedAt 6 (rowPlace (i + widthOf (byteAt s i)) (q .design .rows) r))
+      before r g l =
+          let y = a .twice r (record { below = l; here = sym (same r l) ∙ g .here; before = λ j k. sym (same j (omega arith)) ∙ g .before j k }) in
+          let z : rowPlace i n r ≡ rowPlace (i + widthOf (byteAt s i)) (q .design .rows) r = omega (arith, y .0) in
+          (omega (arith, y .0), y .1 ∙ ap (refusedAt 6) z)
+
+      here : (r : ℕ) → Earliest (q .design .rows) (twiceIn q) r → r ≡ n
+          → (34 * (q .design .rows - r) ≤ i + widthOf (byteAt s i)) × (w ≡ refusedAt 6 (rowPlace (i + widthOf (byteAt s i)) (q .design .rows) r))
+      here r g e =
+          let z : i ≡ rowPlace (i + widthOf (byteAt s i)) (q .design .rows) r = omega arith in
+          let f : taken p s i (commandAt s i) ≡ refused 6 = ap (taken p s i) c ∙ h .twice (subst (λ (x : ℕ). twiceIn q x ≡ true) e (g .here)) in
+          (omega arith, a .once (λ j l. sym (same j l) ∙ g .before j (omega arith)) ∙ all-refused s p i 6 f ∙ ap (refusedAt 6) z)
+
+-- the rows before a row that is put in
+row-same : (p : Draft) (s : List ℕ) (i t r : ℕ) → r < p .design .rows → twiceIn (withRow p s i t) r ≡ twiceIn p r
+unfolding withRow withRows schemeOf
+row-same p s i t r l =
+    let n = p .design .rows in
+    kept-again (schemeOf (p .design)) (n + 1) n (p .cells) (p .tables) _ _ (omega arith) (kept-put n t i (p .cells) (p .tables) s _ refl) r l
+
+row-more : (p : Draft) (s : List ℕ) (i t : ℕ) → withRow p s i t .design .rows ≡ p .design .rows + 1
+unfolding withRow withRows
+row-more p s i t = refl
+
+along-admitted : (s : List ℕ) (w : DesignRead) (p : Draft) (i : ℕ) → Along s w p i → (q : Draft) → admitted p s i (commandAt s i) ≡ on q
+    → Along s w q (i + widthOf (byteAt s i))
+unfolding admitted withTable withConstraint withFilling
+along-admitted s w p i a q e = go (seen s i)
+  where
+    early : ((t : ℕ) → commandAt s i ≡ Row t → ⊥) → p .design .rows ≡ 0 → q .design .rows ≡ 0 → Fitting q → Along s w q (i + widthOf (byteAt s i))
+    early k z y f = along-early s w p i a q z y f (sym (no-row p s i (commandAt s i) k) ∙ e)
+
+    no-more : {x : Draft} → x ≡ q → x .design .rows ≡ 0 → q .design .rows ≡ 0
+    no-more e z = sym (ap (λ (y : Draft). y .design .rows) e) ∙ z
+
+    go : Seen s i (commandAt s i) (widthOf (byteAt s i)) → Along s w q (i + widthOf (byteAt s i))
+    go (seen-table b u f c) =
+        let h = took-table p q s i _ (ap (admitted p s i) (sym c) ∙ e) in
+        early (λ t g. absurd (table-no-row _ t (sym c ∙ g))) (h .rows) (no-more (h .is) (h .rows)) (subst Fitting (h .is) (fit-table p (a .fitting) q _ h))
+    go (seen-constraint b u f c) =
+        let h = took-constraint p q s i _ (ap (admitted p s i) (sym c) ∙ e) in
+        early (λ t g. absurd (constraint-no-row _ t (sym c ∙ g))) (h .rows) (no-more (h .is) (h .rows)) (subst Fitting (h .is) (fit-constraint p (a .fitting) q _ h))
+    go (seen-filling b u f c) =
+        let h = took-filling p q s i _ (ap (admitted p s i) (sym c) ∙ e) in
+        early (λ t g. absurd (filling-no-row _ t (sym c ∙ g))) (h .rows) (no-more (h .is) (h .rows)) (subst Fitting (h .is) (fit-filling p (a .fitting) q _ h))
+    go (seen-row b u f c) =
+        let t = byteAt s (i + 1) in
+        let h = row-admitted p s i t q (ap (admitted p s i) (sym c) ∙ e) in
+        along-row s w p i a q t c u h (sym (ap (λ (y : Draft). y .design .rows) (h .is)) ∙ row-more p s i t)
+        (λ r l. sym (ap (λ (y : Draft). twiceIn y r) (h .is)) ∙ row-same p s i t r l)
+    go (seen-end b u f c) = absurd (end-on p s i q (ap (admitted p s i) (sym c) ∙ e))
+    go (seen-refused n h k) = absurd (not-on n q (sym (h p) ∙ sym (no-row p s i (commandAt s i) k) ∙ e))
+
+-- ---- one turn of the loop: the command c at place i, read into the draft p, with the answer r
+
+pub no-cause : (o : Outcome) → OneOf (0 ∷ 1 ∷ []) (tagOf the-type o) → 0 ≡ causeOf o
+no-cause On e = refl
+no-cause Complete e = refl
+no-cause (Cause n) e = absurd (⊎-elim (λ z. omega arith) (λ z. omega arith) e)
+
+-- neither complete nor going on
+pub is-cause : (o : Outcome) → OneOf (0 ∷ 2 ∷ []) (tagOf the-type o) → OneOf (1 ∷ 2 ∷ []) (tagOf the-type o) → o ≡ Cause (causeOf o)
+is-cause On e f = absurd (⊎-elim (λ z. omega arith) (λ z. omega arith) f)
+is-cause Complete e f = absurd (⊎-elim (λ z. omega arith) (λ z. omega arith) e)
+is-cause (Cause n) e f = refl
+
+on-is : (t : Taken) → outcomeOf t ≡ On → (q : Draft) × (t ≡ on q)
+on-is (on q) e = (q, refl)
+on-is complete e = absurd (let z : _≡_ {A = ℕ} 0 1 = cc in omega arith)
+on-is (refused n) e = absurd (let z : _≡_ {A = ℕ} 0 1 = cc in omega arith)
+
+complete-is : (t : Taken) → outcomeOf t ≡ Complete → t ≡ complete
+complete-is (on q) e = absurd (let z : _≡_ {A = ℕ} 0 1 = cc in omega arith)
+complete-is complete e = refl
+complete-is (refused n) e = absurd (let z : _≡_ {A = ℕ} 0 1 = cc in omega arith)
+
+cause-is : (t : Taken) (n : ℕ) → outcomeOf t ≡ Cause n → t ≡ refused n
+cause-is (on q) n e = absurd (let z : _≡_ {A = ℕ} 0 1 = cc in omega arith)
+cause-is complete n e = absurd (let z : _≡_ {A = ℕ} 0 1 = cc in omega arith)
+cause-is (refused m) n e = let z : m ≡ n = cc in ap refused z
+
+module _ (s : List ℕ) (w : DesignRead) (p : Draft) (i : ℕ) (a : Along s w p i) (c : Command) (r : Step) (cells tables : List ℕ)
+    (at : c ≡ commandAt s i) (t : Took p s i c r cells tables) where
+  told : (o : Outcome) → r .outcome ≡ o → outcomeOf (admitted p s i (commandAt s i)) ≡ o
+  told o e = ap (λ (x : Command). outcomeOf (admitted p s i x)) (sym at) ∙ sym (t .outcome) ∙ e
+
+  -- it goes on
+  pub on-whole : r .outcome ≡ On → Whole s i
+  on-whole e = let q = on-is (admitted p s i (commandAt s i)) (told On e) in admitted-whole s i p (q .0) (q .1)
+
+  pub along-on : r .outcome ≡ On → (u : ℕ) → u ≡ widthOf (byteAt s i) → Along s w (draft (r .design) cells tables) (i + u)
+  along-on e u f =
+      let q = on-is (admitted p s i (commandAt s i)) (told On e) in
+      subst (λ (k : ℕ). Along s w (draft (r .design) cells tables) (i + k)) (sym f)
+      (subst (λ (x : Draft). Along s w x (i + widthOf (byteAt s i))) (t .goes (q .0) (ap (admitted p s i) at ∙ q .1)) (along-admitted s w p i a (q .0) (q .1)))
+
+  -- it stops
+  stopped-at : (v : Verdict) → readAll s p i ≡ readAs v (draft (p .design) cells tables) → Stopped w (record { verdict = v; design = p .design; at = i }) cells tables
+  stopped-at v e =
+      record {
+        range = in-range (p .design) (record { table = z .table; constraint = z .constraint; filling = z .filling }) (whole (p .design) (a .fitting .design));
+        once = λ none. a .once (λ q l. sym (same q l) ∙ none q l) ∙ e;
+        twice = λ q h. a .twice q
+            (record { below = h .below; here = sym (same q (h .below)) ∙ h .here; before = λ j l. sym (same j (omega (arith, h .below))) ∙ h .before j l });
+      }
+    where
+      z : Sizes p
+      z = a .fitting .sizes
+
+      same : (q : ℕ) → q < p .design .rows → again (p .design) cells tables q ≡ twiceIn p q
+      same q l = kept-again (schemeOf (p .design)) (p .design .rows) (p .design .rows) (p .cells) (p .tables) cells tables (omega arith) (t .kept) q l
+
+  completed : r .outcome ≡ Complete → admitted p s i (commandAt s i) ≡ complete
+  completed e = complete-is (admitted p s i (commandAt s i)) (told Complete e)
+
+  pub complete-ends : r .outcome ≡ Complete → Ends s i
+  complete-ends e = taken-complete s i p (stops p s i (commandAt s i) complete on-complete (completed e))
+
+  pub along-complete : r .outcome ≡ Complete → Stopped w (record { verdict = Accepted (i + 1); design = p .design; at = i }) cells tables
+  along-complete e =
+      let g = t .whole (ap (admitted p s i) at ∙ completed e) in
+      stopped-at (Accepted (i + 1))
+      (all-complete s p i (stops p s i (commandAt s i) complete on-complete (completed e)) ∙ ap (λ (m : ℕ). accepted p (i + m)) (complete-ends e .width) ∙
+      ap₂ (λ (xs ys : List ℕ). accepted (draft (p .design) xs ys) (i + 1)) (ap (λ (y : Draft). y .cells) g) (ap (λ (y : Draft). y .tables) g))
+
+  pub along-refused : r .outcome ≡ Cause (causeOf (r .outcome)) → (m : ℕ) → m ≡ causeOf (r .outcome)
+      → Stopped w (record { verdict = Refused m i; design = p .design; at = i }) cells tables
+  along-refused e m f =
+      stopped-at (Refused m i)
+      (all-refused s p i m (stops p s i (commandAt s i) (refused m) (λ x h. not-on m x (sym h)) (cause-is (admitted p s i (commandAt s i)) m (told (Cause m) (e ∙ ap Cause (sym f))))))

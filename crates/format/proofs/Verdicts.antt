@@ -1,0 +1,107 @@
+-- What is answered where the first pass has stopped: its verdict, or cause 6; and the catalog. Assumes nothing.
+use Prim.Native.Nat.{ℕ, _-_, _*_, _≤_, _<_}
+use native.Mathlib.Omega.{arith}
+use mathlib.Core.Path.{_≡_, sym, ap, ap₂, subst, _∙_}
+use mathlib.Core.List.{List, _++_}
+use lib.ListN.{length}
+use Rattle.state.specs.declared.design.Design.{Design}
+use Rattle.state.specs.Design.{emptyDesign}
+use Rattle.catalog.specs.Catalog.{Catalogued}
+use Rattle.format.specs.declared.verdict.DesignReading.{DesignReading}
+use Rattle.format.specs.declared.verdict.Verdict.{Verdict}
+use Rattle.format.specs.declared.verdict.Verdict.the-variants.{Accepted, Refused}
+use Rattle.format.specs.declared.reading.Stop.{Stop}
+use Rattle.format.specs.Reading.{Draft, draft, DesignRead, Read, verdictOf, designOf}
+use Rattle.format.specs.Reading.DesignRead.{accepted, refusedAt}
+use Rattle.format.specs.Admitting.{again, Earliest, readAs, rowPlace, Stopped, uniqueNext, lowest, Opens, Keeps}
+use Rattle.format.proofs.CatalogOf.{catalogued-copied}
+use Rattle.format.proofs.RepeatLaws.{found-none, found-first}
+
+-- ---- the reading, and the catalog
+
+-- a refused design has no catalog
+not-both : (n i j : ℕ) → Refused n i ≡ Accepted j → ⊥
+not-both n i j e = let z : _≡_ {A = ℕ} 0 1 = cc in omega arith
+
+pub opens-refused : (x : DesignReading) (n i : ℕ) → x .verdict ≡ Refused n i → (cells tables next first keys heads starts : List ℕ)
+    → Opens x cells tables next first keys heads starts
+opens-refused x n i e cells tables next first keys heads starts j f = absurd (not-both n i j (sym e ∙ f))
+
+pub keeps-accepted : (x : DesignReading) (j : ℕ) → x .verdict ≡ Accepted j → (n n′ f f′ k k′ h h′ s s′ : List ℕ) → Keeps x n n′ f f′ k k′ h h′ s s′
+keeps-accepted x j e n n′ f f′ k k′ h h′ s s′ =
+    record {
+      next = λ c i g. absurd (not-both c i j (sym g ∙ e));
+      first = λ c i g. absurd (not-both c i j (sym g ∙ e));
+      keys = λ c i g. absurd (not-both c i j (sym g ∙ e));
+      heads = λ c i g. absurd (not-both c i j (sym g ∙ e));
+      starts = λ c i g. absurd (not-both c i j (sym g ∙ e));
+    }
+
+-- what is copied out is catalogued
+pub opens-copied : (x : DesignReading) (cells tables next first keys heads starts : List ℕ) → Opens x cells tables next first keys heads starts
+    → length cells ≡ 4096 → length tables ≡ 512 → (cs ts more rest : List ℕ) → cs ≡ cells ++ more → ts ≡ tables ++ rest
+    → Opens x cs ts next first keys heads starts
+opens-copied x cells tables next first keys heads starts o a b cs ts more rest e f i v =
+    subst (λ (ys : List ℕ). Catalogued (x .design) cs ys next first keys heads starts) (sym f)
+    (subst (λ (xs : List ℕ). Catalogued (x .design) xs (tables ++ rest) next first keys heads starts) (sym e)
+    (catalogued-copied (x .design) cells tables more rest next first keys heads starts a b (o i v)))
+
+pub read-refused : (w : DesignRead) (x : DesignReading) (cells tables : List ℕ) (n i : ℕ) → w ≡ refusedAt n i
+    → x ≡ record { verdict = Refused n i; design = emptyDesign } → Read w x cells tables
+read-refused w x cells tables n i h g =
+    record {
+      verdict = ap (λ y. y .verdict) g ∙ sym (ap verdictOf h);
+      design = ap (λ y. y .design) g ∙ sym (ap designOf h);
+      rows = λ q j k. absurd (never n i q j (sym h ∙ k));
+    }
+  where
+    never : (m k : ℕ) (q : Draft) (j : ℕ) → refusedAt m k ≡ accepted q j → ⊥
+    never m k q j e = let z : _≡_ {A = ℕ} 0 1 = cc in omega arith
+
+pub read-accepted : (w : DesignRead) (v : Verdict) (d : Design) (cells tables : List ℕ) (j : ℕ) → v ≡ Accepted j → w ≡ accepted (draft d cells tables) j
+    → Read w (record { verdict = v; design = d }) cells tables
+read-accepted w v d cells tables j g e =
+    record {
+      verdict = g ∙ sym (ap verdictOf e);
+      design = sym (ap designOf e);
+      rows = λ q k f. let z = same (draft d cells tables) q j k (sym e ∙ f) in (ap (λ (x : Draft). x .cells) z, ap (λ (x : Draft). x .tables) z);
+    }
+  where
+    same : (a b : Draft) (j k : ℕ) → accepted a j ≡ accepted b k → a ≡ b
+    same a b j k e = cc
+
+-- ---- the first pass has stopped, the rows read are catalogued, and the lowest next row in a unique column is r
+
+module _ (w : DesignRead) (p : Stop) (cells tables next first keys heads starts : List ℕ) (h : Stopped w p cells tables)
+    (k : Catalogued (p .design) cells tables next first keys heads starts) (r : ℕ)
+    (f : r ≡ lowest (8 * p .design .rows) (uniqueNext (p .design) tables next)) where
+  earliest : r < p .design .rows → Earliest (p .design .rows) (again (p .design) cells tables) r
+  earliest l = found-first (p .design) cells tables next (h .range .rows) (k .next-is) r f l
+
+  pub repeat-place : r < p .design .rows → 34 * (p .design .rows - r) ≤ p .at
+  repeat-place l = h .twice r (earliest l) .0
+
+  -- row r repeats a value
+  pub rows-twice : r < p .design .rows → (x : DesignReading) → x ≡ record { verdict = Refused 6 (rowPlace (p .at) (p .design .rows) r); design = emptyDesign }
+      → Read w x cells tables × Opens x cells tables next first keys heads starts
+  rows-twice l x e = (
+    read-refused w x cells tables 6 _ (h .twice r (earliest l) .1) e,
+    opens-refused x 6 _ (ap (λ y. y .verdict) e) cells tables next first keys heads starts,
+  )
+
+  -- no row does: the verdict stands
+  module _ (l : p .design .rows ≤ r) where
+    once : (v : Verdict) → p .verdict ≡ v → w ≡ readAs v (draft (p .design) cells tables)
+    once v e = h .once (found-none (p .design) cells tables next (h .range .rows) (k .next-is) r f l) ∙
+        ap (λ (y : Verdict). readAs y (draft (p .design) cells tables)) e
+
+    pub rows-refused : (n i : ℕ) → p .verdict ≡ Refused n i → (d : Design) → d ≡ emptyDesign → let x : DesignReading = record { verdict = p .verdict; design = d } in
+        Read w x cells tables × Opens x cells tables next first keys heads starts
+    rows-refused n i e d g = (
+      read-refused w _ cells tables n i (once (Refused n i) e) (ap₂ (λ a b. let z : DesignReading = record { verdict = a; design = b } in z) e g),
+      opens-refused _ n i e cells tables next first keys heads starts,
+    )
+
+    pub rows-accepted : (j : ℕ) → p .verdict ≡ Accepted j → let x : DesignReading = record { verdict = p .verdict; design = p .design } in
+        Read w x cells tables × Opens x cells tables next first keys heads starts
+    rows-accepted j e = (read-accepted w (p .verdict) (p .design) cells tables j e (once (Accepted j) e), λ i _. k)

@@ -1,0 +1,127 @@
+-- How the code reads a design: a first pass leaves cause 6 aside, so that each command is looked at once; the catalog of the rows read then tells
+-- the first row that repeats a value. Assumes nothing.
+use Prim.Native.Nat.{ℕ, zero, suc, _-_, _*_, _/_, _%_, _≤_, _<_}
+use mathlib.Core.Path.{_≡_}
+use mathlib.Core.Bool.{Bool, true, false, not, cond}
+use mathlib.Core.List.{List}
+use lib.Dec.{leb, ltb}
+use lib.ListN.{getD}
+use Rattle.state.specs.declared.design.Design.{Design}
+use Rattle.state.specs.Design.{InRange}
+use Rattle.state.specs.Meaning.{schemeOf, databaseOf}
+use Rattle.state.specs.Lawful.{rowFits, repeats}
+use Rattle.catalog.specs.Catalog.{Catalogued}
+use Rattle.format.specs.declared.command.Command.{Command}
+use Rattle.format.specs.declared.command.Command.the-variants.{Table, Constraint, Filling, Row, End, Refer, Drop, Probe, Query, Unknown, Short}
+use Rattle.format.specs.declared.verdict.Verdict.{Verdict}
+use Rattle.format.specs.declared.verdict.Verdict.the-variants.{Accepted, Refused}
+use Rattle.format.specs.declared.verdict.DesignReading.{DesignReading}
+use Rattle.format.specs.declared.reading.Outcome.{Outcome}
+use Rattle.format.specs.declared.reading.Outcome.the-variants.{On, Complete, Cause}
+use Rattle.format.specs.declared.reading.Step.{Step}
+use Rattle.format.specs.declared.reading.Stop.{Stop}
+use Rattle.format.specs.Reading.{Draft, draft, Taken, unless, taken, withRow, DesignRead}
+use Rattle.format.specs.Reading.Taken.{on, complete, refused}
+use Rattle.format.specs.Reading.DesignRead.{accepted, refusedAt}
+
+-- ---- one command
+
+-- the command c, which stands at place i, read into the draft p without a look at cause 6: a row that repeats a value is put in like any other
+unfoldable pub admitted : Draft → List ℕ → ℕ → Command → Taken
+admitted p s i (Row t) =
+    let q = withRow p s i t in
+    unless (leb 512 (p .design .rows)) 4
+    (unless (not (rowFits (schemeOf (q .design)) (databaseOf (q .design .rows) (q .cells) (q .tables)) (p .design .rows))) 5
+    (on q))
+admitted p s i (Table t) = taken p s i (Table t)
+admitted p s i (Constraint c) = taken p s i (Constraint c)
+admitted p s i (Filling f) = taken p s i (Filling f)
+admitted p s i End = taken p s i End
+admitted p s i (Refer f v) = taken p s i (Refer f v)
+admitted p s i (Drop f v) = taken p s i (Drop f v)
+admitted p s i (Probe k v) = taken p s i (Probe k v)
+admitted p s i (Query k v n) = taken p s i (Query k v n)
+admitted p s i Unknown = taken p s i Unknown
+admitted p s i Short = taken p s i Short
+
+-- what the code answers for a command, and the draft that it leaves: the design beside the answer (an enum holds no array), and the two arrays
+abbrev pub outcomeOf : Taken → Outcome
+outcomeOf (on p) = On
+outcomeOf complete = Complete
+outcomeOf (refused n) = Cause n
+
+abbrev pub causeOf : Outcome → ℕ
+causeOf (Cause n) = n
+causeOf On = 0
+causeOf Complete = 0
+
+-- the first n rows are as they were
+pub record Kept (n : ℕ) (cells tables cells′ tables′ : List ℕ) : Type 0 where
+  pub cell : (x : ℕ) → x < 8 * n → getD cells′ x 0 ≡ getD cells x 0
+  pub table : (r : ℕ) → r < n → getD tables′ r 0 ≡ getD tables r 0
+
+-- the command c at place i, read into the draft p: the code has answered r and left the arrays
+pub record Took (p : Draft) (s : List ℕ) (i : ℕ) (c : Command) (r : Step) (cells tables : List ℕ) : Type 0 where
+  pub outcome : r .outcome ≡ outcomeOf (admitted p s i c)
+  pub goes : (q : Draft) → admitted p s i c ≡ on q → q ≡ draft (r .design) cells tables
+  pub whole : admitted p s i c ≡ complete → p ≡ draft (r .design) cells tables
+  pub kept : Kept (p .design .rows) (p .cells) (p .tables) cells tables
+
+-- ---- the first pass
+
+-- row r repeats a value of an earlier row in a unique column
+abbrev pub again : Design → List ℕ → List ℕ → ℕ → Bool
+again d cells tables r = repeats (schemeOf d) (databaseOf (d .rows) cells tables) r
+
+-- none of the first n numbers passes, and r is the first of them that does
+abbrev pub None : ℕ → (ℕ → Bool) → Type 0
+None n p = (r : ℕ) → r < n → p r ≡ false
+
+pub record Earliest (n : ℕ) (p : ℕ → Bool) (r : ℕ) : Type 0 where
+  pub below : r < n
+  pub here : p r ≡ true
+  pub before : None r p
+
+-- the reading that has this verdict, with the draft p where it is accepted
+abbrev pub readAs : Verdict → Draft → DesignRead
+readAs (Accepted j) p = accepted p j
+readAs (Refused n i) p = refusedAt n i
+
+-- a ROW takes 34 bytes: the place of row r's command, where n rows end at place i
+abbrev pub rowPlace : ℕ → ℕ → ℕ → ℕ
+rowPlace i n r = i - 34 * (n - r)
+
+-- a script that reads as w has been read up to the END or to the first command that is refused, with cause 6 left aside: the code has answered r
+pub record Stopped (w : DesignRead) (r : Stop) (cells tables : List ℕ) : Type 0 where
+  pub range : InRange (r .design)
+  pub once : None (r .design .rows) (again (r .design) cells tables) → w ≡ readAs (r .verdict) (draft (r .design) cells tables)
+  pub twice : (q : ℕ) → Earliest (r .design .rows) (again (r .design) cells tables) q
+      → (34 * (r .design .rows - q) ≤ r .at) × (w ≡ refusedAt 6 (rowPlace (r .at) (r .design .rows) q))
+
+-- ---- the first repeated value, by the next rows of a catalog
+
+-- the next row of cell number x in its column where the column is unique; 512 where it is not or there is none
+unfoldable pub uniqueNext : Design → List ℕ → List ℕ → ℕ → ℕ
+uniqueNext d tables next x = cond (schemeOf d .unique (record { table = getD tables (x / 8) 0; place = x % 8 })) (getD next x 0) 512
+
+abbrev pub lower : ℕ → ℕ → ℕ
+lower a b = cond (ltb b a) b a
+
+-- the lowest of f 0, f 1, .. f (n - 1), and 512 if none is below that
+unfoldable pub lowest : ℕ → (ℕ → ℕ) → ℕ
+lowest zero f = 512
+lowest (suc n) f = lower (lowest n f) (f n)
+
+-- ---- the catalog of an accepted design
+
+-- the rows of an accepted design are catalogued
+abbrev pub Opens : DesignReading → List ℕ → List ℕ → List ℕ → List ℕ → List ℕ → List ℕ → List ℕ → Type 0
+Opens r cells tables next first keys heads starts = (i : ℕ) → r .verdict ≡ Accepted i → Catalogued (r .design) cells tables next first keys heads starts
+
+-- ... and a refused one leaves the catalog's arrays as they were: n, f, k, h and s before
+pub record Keeps (r : DesignReading) (n n′ f f′ k k′ h h′ s s′ : List ℕ) : Type 0 where
+  pub next : (c i : ℕ) → r .verdict ≡ Refused c i → n′ ≡ n
+  pub first : (c i : ℕ) → r .verdict ≡ Refused c i → f′ ≡ f
+  pub keys : (c i : ℕ) → r .verdict ≡ Refused c i → k′ ≡ k
+  pub heads : (c i : ℕ) → r .verdict ≡ Refused c i → h′ ≡ h
+  pub starts : (c i : ℕ) → r .verdict ≡ Refused c i → s′ ≡ s

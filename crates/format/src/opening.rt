@@ -1,0 +1,241 @@
+// Reading a design with its rows into lent buffers, with the catalog of the rows: the first pass, then cause 6 through the catalog, and nothing is
+// stored until the whole design is accepted.
+ghost use mathlib.Core.Path.{_≡_};
+ghost use mathlib.Core.List.{_++_};
+ghost use Prim.Native.Nat.{suc, _≤_};
+ghost use lib.ListN.{length, drop};
+ghost use Rattle.state.specs.Design.{emptyDesign};
+ghost use Rattle.format.specs.declared.verdict.Verdict.the-variants as Answer;
+ghost use Rattle.format.specs.Reading.{emptyDraft, draft, Read, Leaves, readFrom, readInto};
+ghost use Rattle.format.specs.Admitting.{Opens, Keeps};
+use crate::reading::read_commands;
+use crate::repeating::first_repeat;
+use crate::verdict::DesignReading;
+use crate::verdict::Verdict;
+use state::Design;
+
+pub const MOST_BYTES: usize = 65536;
+
+// A ROW's bytes.
+const ROW_BYTES: usize = 34;
+
+// A reading that is refused: its design is empty.
+fn refusal(cause: u8, at: usize) -> DesignReading
+    ensures { λ r. ⌜ r ≡ record { verdict = Answer.Refused cause at; design = emptyDesign } ⌝ }
+{
+    DesignReading {
+        verdict: Verdict::Refused(cause, at),
+        design: Design::empty(),
+    }
+}
+
+// Reads a whole design and makes the catalog of the rows read. A row that repeats a value comes before the command at which the first pass stopped,
+// and behind it there are only ROWs. The cost of the catalog, and one look at each command and cell.
+fn read_rows(
+    script: &[u8],
+    cells: &mut [u32],
+    tables: &mut [u8],
+    next: &mut [u16; 4096],
+    first: &mut [u16; 8192],
+    keys: &mut [u32; 4096],
+    heads: &mut [u16; 4096],
+    starts: &mut [u16; 65],
+) -> DesignReading
+    requires { ⌜ (length (now cells) ≡ 4096) × (length (now tables) ≡ 512) ⌝ }
+    ensures { λ r. ⌜ Read (readFrom (suc (length (now (script .entry)))) (now (script .entry))
+        (draft emptyDesign (now (cells .entry)) (now (tables .entry))) 0) r (now (cells .exit)) (now (tables .exit)) ⌝ }
+    ensures { λ r. ⌜ Opens r (now (cells .exit)) (now (tables .exit)) (now (next .exit)) (now (first .exit)) (now (keys .exit)) (now (heads .exit))
+        (now (starts .exit)) ⌝ }
+{
+    let stop = read_commands(script, cells, tables);
+    let d = stop.design;
+    let at = stop.at;
+    catalog::build(d, cells, tables, next, first, keys, heads, starts);
+    let r = first_repeat(d, tables, next);
+    if r < d.rows {
+        return refusal(6, at - ROW_BYTES * (d.rows - r));
+    }
+    let v = stop.verdict;
+    let Verdict::Accepted(_) = v else {
+        return DesignReading {
+            verdict: v,
+            design: Design::empty(),
+        };
+    };
+    DesignReading {
+        verdict: v,
+        design: d,
+    }
+}
+
+// ---- into lent buffers
+
+// Stores the rows of an accepted design, 4,096 cells and 512 row tables, and marks no row. Longer buffers are untouched past these.
+fn copy_cells(from: &[u32], to: &mut [u32])
+    requires { ⌜ (length (now from) ≡ 4096) × (4096 ≤ length (now to)) ⌝ }
+    ensures { λ _. ⌜ now (to .exit) ≡ now (from .entry) ++ drop 4096 (now (to .entry)) ⌝ }
+{
+    for i in 0..Design::CELLS {
+        to[i] = from[i];
+    }
+}
+
+fn copy_bytes(from: &[u8], to: &mut [u8])
+    requires { ⌜ (length (now from) ≡ 512) × (512 ≤ length (now to)) ⌝ }
+    ensures { λ _. ⌜ now (to .exit) ≡ now (from .entry) ++ drop 512 (now (to .entry)) ⌝ }
+{
+    for i in 0..Design::ROWS {
+        to[i] = from[i];
+    }
+}
+
+// Reads into buffers that are long enough. No row is written until the whole design is accepted; the catalog's arrays are written in any case.
+fn read_into(
+    script: &[u8],
+    cells: &mut [u32],
+    tables: &mut [u8],
+    marks: &mut [u8],
+    next: &mut [u16; 4096],
+    first: &mut [u16; 8192],
+    keys: &mut [u32; 4096],
+    heads: &mut [u16; 4096],
+    starts: &mut [u16; 65],
+) -> DesignReading
+    requires { ⌜ (4096 ≤ length (now cells)) × (512 ≤ length (now tables)) × (512 ≤ length (now marks)) ⌝ }
+    ensures { λ r. ⌜ Leaves (readFrom (suc (length (now (script .entry)))) (now (script .entry)) emptyDraft 0) r (now (cells .entry)) (now (cells .exit))
+        (now (tables .entry)) (now (tables .exit)) (now (marks .entry)) (now (marks .exit)) ⌝ }
+    ensures { λ r. ⌜ Opens r (now (cells .exit)) (now (tables .exit)) (now (next .exit)) (now (first .exit)) (now (keys .exit)) (now (heads .exit))
+        (now (starts .exit)) ⌝ }
+{
+    let mut x = [0u32; 4096];
+    let mut y = [0u8; 512];
+    let z = [0u8; 512];
+    let r = read_rows(script, &mut x, &mut y, next, first, keys, heads, starts);
+    let read = r.verdict;
+    let Verdict::Accepted(_) = read else {
+        return r;
+    };
+    copy_cells(&x, cells);
+    copy_bytes(&y, tables);
+    copy_bytes(&z, marks);
+    r
+}
+
+// Reads into whatever buffers are lent. Where the design is refused, the catalog's arrays are left anyhow.
+fn read_lent(
+    script: &[u8],
+    cells: &mut [u32],
+    tables: &mut [u8],
+    marks: &mut [u8],
+    next: &mut [u16; 4096],
+    first: &mut [u16; 8192],
+    keys: &mut [u32; 4096],
+    heads: &mut [u16; 4096],
+    starts: &mut [u16; 65],
+) -> DesignReading
+    ensures { λ r. ⌜ Leaves (readInto (now (script .entry)) (now (cells .entry)) (now (tables .entry)) (now (marks .entry))) r (now (cells .entry))
+        (now (cells .exit)) (now (tables .entry)) (now (tables .exit)) (now (marks .entry)) (now (marks .exit)) ⌝ }
+    ensures { λ r. ⌜ Opens r (now (cells .exit)) (now (tables .exit)) (now (next .exit)) (now (first .exit)) (now (keys .exit)) (now (heads .exit))
+        (now (starts .exit)) ⌝ }
+{
+    if cells.len() < Design::CELLS {
+        return refusal(7, 0);
+    }
+    if tables.len() < Design::ROWS {
+        return refusal(7, 0);
+    }
+    if marks.len() < Design::ROWS {
+        return refusal(7, 0);
+    }
+    if MOST_BYTES < script.len() {
+        return refusal(4, 0);
+    }
+    read_into(
+        script,
+        cells,
+        tables,
+        marks,
+        next,
+        first,
+        keys,
+        heads,
+        starts,
+    )
+}
+
+// Reads a design with its rows into lent buffers, and leaves the catalog of the rows: the verdict, with the place after the END or the cause and
+// place of the refusal, and the design, which is empty where it is refused. The buffers and the catalog's arrays are written only where it is
+// accepted: the rows, no row marked, and the catalog. The cost of the catalog, and one look at each command and cell.
+pub fn read_catalogued(
+    script: &[u8],
+    cells: &mut [u32],
+    tables: &mut [u8],
+    marks: &mut [u8],
+    next: &mut [u16; 4096],
+    first: &mut [u16; 8192],
+    keys: &mut [u32; 4096],
+    heads: &mut [u16; 4096],
+    starts: &mut [u16; 65],
+) -> DesignReading
+    ensures { λ r. ⌜ Leaves (readInto (now (script .entry)) (now (cells .entry)) (now (tables .entry)) (now (marks .entry))) r (now (cells .entry))
+        (now (cells .exit)) (now (tables .entry)) (now (tables .exit)) (now (marks .entry)) (now (marks .exit)) ⌝ }
+    ensures { λ r. ⌜ Opens r (now (cells .exit)) (now (tables .exit)) (now (next .exit)) (now (first .exit)) (now (keys .exit)) (now (heads .exit))
+        (now (starts .exit)) ⌝ }
+    ensures { λ r. ⌜ Keeps r (now (next .entry)) (now (next .exit)) (now (first .entry)) (now (first .exit)) (now (keys .entry)) (now (keys .exit))
+        (now (heads .entry)) (now (heads .exit)) (now (starts .entry)) (now (starts .exit)) ⌝ }
+{
+    let mut a = [0u16; 4096];
+    let mut b = [0u16; 8192];
+    let mut k = [0u32; 4096];
+    let mut h = [0u16; 4096];
+    let mut s = [0u16; 65];
+    let r = read_lent(
+        script,
+        cells,
+        tables,
+        marks,
+        &mut a,
+        &mut b,
+        &mut k,
+        &mut h,
+        &mut s,
+    );
+    let answer = r.verdict;
+    let Verdict::Accepted(_) = answer else {
+        return r;
+    };
+    *next = a;
+    *first = b;
+    *keys = k;
+    *heads = h;
+    *starts = s;
+    r
+}
+
+// The same for those who need no catalog.
+pub fn read_design(
+    script: &[u8],
+    cells: &mut [u32],
+    tables: &mut [u8],
+    marks: &mut [u8],
+) -> DesignReading
+    ensures { λ r. ⌜ Leaves (readInto (now (script .entry)) (now (cells .entry)) (now (tables .entry)) (now (marks .entry))) r (now (cells .entry))
+        (now (cells .exit)) (now (tables .entry)) (now (tables .exit)) (now (marks .entry)) (now (marks .exit)) ⌝ }
+{
+    let mut a = [0u16; 4096];
+    let mut b = [0u16; 8192];
+    let mut k = [0u32; 4096];
+    let mut h = [0u16; 4096];
+    let mut s = [0u16; 65];
+    read_lent(
+        script,
+        cells,
+        tables,
+        marks,
+        &mut a,
+        &mut b,
+        &mut k,
+        &mut h,
+        &mut s,
+    )
+}
