@@ -5,7 +5,6 @@ use mathlib.Core.List.{List, [], _∷_, _++_}
 use lib.Dec.{ltb}
 use lib.ListN.{getD}
 use Rattle.finite.specs.Finite.{collect}
-use Rattle.io.specs.Digits.{glyph}
 use Rattle.state.specs.declared.design.Design.{Design}
 use Rattle.state.specs.declared.answer.Answer.{Answer}
 use Rattle.state.specs.declared.answer.Answer.the-variants.{Loaded, Held, NoCandidate, Dropped, Ground, Sent, Lists, Refused}
@@ -16,10 +15,14 @@ space = 32
 abbrev pub newline : ℕ
 newline = 10
 
+-- the digit of a number below 10
+abbrev pub digit : ℕ → ℕ
+digit n = 48 + n
+
 -- a number in decimal, without leading zeros; f is a number of digits that suffices
 unfoldable pub decimalBy : ℕ → ℕ → List ℕ
 decimalBy zero n = []
-decimalBy (suc f) n = cond (ltb n 10) (glyph n ∷ []) (decimalBy f (n / 10) ++ (glyph (n % 10) ∷ []))
+decimalBy (suc f) n = cond (ltb n 10) (digit n ∷ []) (decimalBy f (n / 10) ++ (digit (n % 10) ∷ []))
 
 -- a number below 2 ^ 64 has at most 20 digits
 abbrev pub decimal : ℕ → List ℕ

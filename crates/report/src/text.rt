@@ -27,14 +27,16 @@ pub(crate) fn put_byte(out: &mut [u8], at: usize, b: u8) -> usize
     at + 1
 }
 
-// Writes a number in decimal: at most 20 bytes.
+// Writes a number in decimal, its leading digits first: at most 20 bytes.
 pub(crate) fn put_decimal(out: &mut [u8], at: usize, n: u64) -> usize
     requires { ⌜ at + 20 ≤ length (now out) ⌝ }
     ensures { λ z. ⌜ Wrote (now (out .entry)) (now (out .exit)) at z (decimal n) ⌝ }
 {
-    let mut digits = [0u8; 20];
-    let k = io::decimal(n, &mut digits);
-    put_bytes(out, at, &digits[..k], k)
+    if n < 10 {
+        return put_byte(out, at, 48 + n as u8);
+    }
+    let z = put_decimal(out, at, n / 10);
+    put_byte(out, z, 48 + (n % 10) as u8)
 }
 
 // Writes a space and a number: at most 21 bytes.
