@@ -1,5 +1,5 @@
 -- CellLaws, DatabaseLaws, ProbeLaws: the tests say what they are named for. Closed, RoundsLaws, Loads: rounds reach the smallest row set.
--- Exact: the probe. Marks, RunLaws, Demand3: runs. QueryLaws, ListLaws: queries. Examples: the worked cases.
+-- Exact: the probe. Marks, RunLaws, Demand3: runs. QueryLaws, ListLaws, Demand2: queries. Examples: the worked cases.
 pub mod CellLaws
 pub mod DatabaseLaws
 pub mod ProbeLaws
@@ -12,4 +12,5 @@ pub mod RunLaws
 pub mod Demand3
 pub mod QueryLaws
 pub mod ListLaws
+pub mod Demand2
 pub mod Examples
