@@ -232,3 +232,11 @@ turns-less script p q e f =
     ⊎-elim (λ (h : q .more ≡ true). let b : turns script q ≡ length script - q .at + 1 = cond-true (q .more) _ _ h in omega (arith, a, b, f h .0, f h .1))
     (λ (h : q .more ≡ false). let b : turns script q ≡ 0 = cond-false (q .more) _ _ h in omega (arith, a, b))
     (dec (q .more))
+
+-- no more than there are bytes, and one
+pub turns-few : (script : List ℕ) (p : Progress) → turns script p ≤ length script + 1
+unfolding turns
+turns-few script p =
+    ⊎-elim (λ (h : p .more ≡ true). let b : turns script p ≡ length script - p .at + 1 = cond-true (p .more) _ _ h in omega (arith, b))
+    (λ (h : p .more ≡ false). let b : turns script p ≡ 0 = cond-false (p .more) _ _ h in omega (arith, b))
+    (dec (p .more))

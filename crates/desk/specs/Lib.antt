@@ -1,2 +1,3 @@
--- Printed: what the desk prints for a script.
+-- Printed: what the desk prints for a script. Parts: the report handed out part by part.
 pub mod Printed
+pub mod Parts

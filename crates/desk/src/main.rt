@@ -1,94 +1,166 @@
-// The desk program: reads a script on standard input and writes its report on standard output, a full buffer at a time. Everything that it does is
-// done by functions of the libraries and of reporting.rt, which are proved: the bytes of each part, with what is still to be printed, are the report.
-// Not proved, since no contract can say it, is that the C functions below `io` read standard input and write standard output. A script of more than
-// 65,536 bytes is read only so far that it is known to be too long.
-ghost use mathlib.Core.Bool.{true};
+// The desk program: reads a script on standard input and writes its report on standard output, a full buffer at a time. Each part that is handed to
+// standard output is proved to be the report's bytes behind those handed over before it, and where every write goes well all of them are. Not proved,
+// since no contract can say it, is that the C functions below `io` read standard input and write standard output. A script of more than 65,536 bytes
+// is read only so far that it is known to be too long. The first read or write that fails ends the program, with a line on standard error; a program
+// in Rattle cannot set its exit status.
+ghost use Prim.Native.Nat.{_+_, _*_, _≤_};
+ghost use mathlib.Core.Bool.{cond};
 ghost use mathlib.Core.Path.{_≡_};
-ghost use Rattle.state.specs.Held.{noneHeld};
-ghost use Rattle.state.specs.Step.{lent, sound};
+ghost use lib.ListN.{length, take};
+ghost use Rattle.desk.specs.Parts.{deskReport, Stands, HandedOver};
 
+mod parts;
 mod reporting;
 
-use crate::reporting::Progress;
-use crate::reporting::fill;
-use format::Verdict;
-use format::read_design;
-use report::put_design_line;
-use report::put_refusal_line;
-use state::Design;
-use state::Held;
+use crate::parts::begin;
+use crate::parts::next_part;
 
-// Reports an accepted design and then each command from place `from` on, with 4,096 answer words lent: one write for each full buffer. The cost of
-// the operations, and of the text.
-fn report_operations(
-    script: &[u8],
-    design: Design,
-    cells: &[u32],
-    tables: &[u8],
-    marks: &mut [u8],
-    from: usize,
-)
-    requires { ⌜ sound (lent design (now cells) (now tables) (now marks) noneHeld) ≡ true ⌝ }
+// ---- writing
+
+// How many bytes of the report have been handed over, and whether all went well.
+pub struct Handed {
+    pub bytes: usize,
+    pub well: bool,
+}
+
+// Hands the part of the script's report that stands from byte `done` on to standard output. Its bytes count only where all of them were taken. The
+// script is there for the contract alone, and so is the bound, of 65,540 full buffers: a sum below it fits.
+fn write_part(script: &[u8], done: usize, part: &[u8]) -> Handed
+    requires { ⌜ Stands (deskReport (now script)) done (now part) ⌝ }
+    requires { ⌜ done ≤ 65536 * 65540 ⌝ }
+    ensures { λ h. ⌜ h .bytes ≡ cond (h .well) (done + length (now (part .entry))) done ⌝ }
 {
-    let mut words = [0u32; 4096];
-    let mut out = [0u8; 131072];
-    let end = put_design_line(&mut out, 0, design);
-    let mut p = Progress {
-        at: from,
-        number: 0,
-        more: from < script.len(),
-        held: Held::none(),
-        end,
-    };
-    loop {
-        let q = fill(
-            script,
-            p,
-            design,
-            cells,
-            tables,
-            marks,
-            &mut words,
-            &mut out,
-        );
-        let n = q.end;
-        io::write_all(1, &out[..n]);
-        if !q.more {
-            return;
-        }
-        p = q;
-        p.end = 0;
+    if !io::write_all(1, part) {
+        return Handed {
+            bytes: done,
+            well: false,
+        };
+    }
+    Handed {
+        bytes: done + part.len(),
+        well: true,
     }
 }
 
-// Reports a refused design. Constant time.
-fn report_refusal(cause: u8, place: usize) {
-    let mut line = [0u8; 64];
-    let n = put_refusal_line(&mut line, 0, cause, place);
-    io::write_all(1, &line[..n]);
-}
-
-// Reads the design into lent buffers, and reports. The cost of reading it, of the operations, and of the text.
-fn report(script: &[u8], cells: &mut [u32], tables: &mut [u8], marks: &mut [u8]) {
-    let reading = read_design(script, cells, tables, marks);
-    let design = reading.design;
-    let verdict = reading.verdict;
-    match verdict {
-        Verdict::Accepted(at) => report_operations(script, design, cells, tables, marks, at),
-        Verdict::Refused(cause, place) => report_refusal(cause, place),
-    }
-}
-
-// Lends the buffers for the rows.
-fn run(script: &[u8]) {
+// Lends the buffers, the catalog's arrays and the working memory, and hands the script's report over, part by part, up to the first write that fails.
+// The cost of reading the design, of the operations, and of the text.
+fn write_report(script: &[u8]) -> Handed
+    requires { ⌜ length (now script) ≤ 65537 ⌝ }
+    ensures { λ h. ⌜ HandedOver (deskReport (now (script .entry))) h ⌝ }
+{
     let mut cells = [0u32; 4096];
     let mut tables = [0u8; 512];
     let mut marks = [0u8; 512];
-    report(script, &mut cells, &mut tables, &mut marks);
+    let mut words = [0u32; 4096];
+    let mut out = [0u8; 65536];
+    let mut next = [512u16; 4096];
+    let mut first = [512u16; 8192];
+    let mut keys = [0u32; 4096];
+    let mut heads = [512u16; 4096];
+    let mut starts = [0u16; 65];
+    let mut weights = [0u64; 2560];
+    let mut sums = [0u64; 2560];
+    let mut froms = [0u16; 2560];
+    let mut links = [0u16; 2560];
+    let beginning = begin(
+        script,
+        &mut cells,
+        &mut tables,
+        &mut next,
+        &mut first,
+        &mut keys,
+        &mut heads,
+        &mut starts,
+        &mut marks,
+        &mut out,
+    );
+    let design = beginning.design;
+    let mut p = beginning.progress;
+    let mut done: usize = 0;
+    loop {
+        let n = p.end;
+        let handed = write_part(script, done, &out[..n]);
+        if !handed.well {
+            return handed;
+        }
+        if !p.more {
+            return handed;
+        }
+        done = handed.bytes;
+        let q = next_part(
+            script,
+            p,
+            design,
+            &cells,
+            &tables,
+            &next,
+            &first,
+            &keys,
+            &heads,
+            &starts,
+            &mut marks,
+            &mut words,
+            &mut weights,
+            &mut sums,
+            &mut froms,
+            &mut links,
+            &mut out,
+        );
+        p = q;
+    }
+}
+
+// ---- reading
+
+// How many bytes have been read, and whether all went well.
+pub struct Input {
+    pub bytes: usize,
+    pub well: bool,
+}
+
+// One read of standard input into the room behind the first n bytes, which stay. What C's read answers.
+fn read_behind(input: &mut [u8], n: usize) -> isize
+    requires { ⌜ n ≤ length (now input) ⌝ }
+    ensures { λ r. ⌜ take n (now (input .exit)) ≡ take n (now (input .entry)) ⌝ }
+{
+    libc::read(0, &mut input[n..])
+}
+
+// Reads standard input until it ends or the buffer is full, or up to the first read that fails.
+fn read_script(input: &mut [u8]) -> Input
+    ensures { λ r. ⌜ r .bytes ≤ length (now (input .exit)) ⌝ }
+{
+    let mut n: usize = 0;
+    while n < input.len() {
+        let got = read_behind(input, n);
+        if got < 0 {
+            return Input {
+                bytes: n,
+                well: false,
+            };
+        }
+        let k = io::count(got, &input[n..]);
+        if k == 0 {
+            break;
+        }
+        n += k;
+    }
+    Input {
+        bytes: n,
+        well: true,
+    }
 }
 
 fn main() {
     let mut input = [0u8; 65537];
-    let n = io::read_full(0, &mut input);
-    run(&input[..n]);
+    let script = read_script(&mut input);
+    if !script.well {
+        io::write_all(2, b"desk: standard input could not be read\n");
+        return;
+    }
+    let n = script.bytes;
+    let report = write_report(&input[..n]);
+    if !report.well {
+        io::write_all(2, b"desk: standard output could not be written\n");
+    }
 }

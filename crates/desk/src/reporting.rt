@@ -8,6 +8,7 @@ ghost use lib.ListN.{length};
 ghost use Rattle.finite.specs.Writing.{Wrote};
 ghost use Rattle.state.specs.declared.answer.Answer.the-variants as Answers;
 ghost use Rattle.state.specs.Step.{lent, sound};
+ghost use Rattle.catalog.specs.Catalog.{Catalogued};
 ghost use Rattle.desk.specs.Printed.{listsText, positionsAt, Printed};
 use report::put_command_line;
 use report::put_list_lines;
@@ -38,7 +39,8 @@ fn positions_at(script: &[u8], at: usize) -> usize
 
 // Writes the lists that go with an answer, p row numbers to a line. At most 11 bytes for each number.
 fn put_lists(out: &mut [u8], at: usize, answer: Answer, words: &[u32], p: usize) -> usize
-    requires { ⌜ (1 ≤ p) × ((n : ℕ) → answer ≡ Answers.Lists n → (n * p ≤ length (now words)) × (at + 11 * (n * p) + 9 ≤ length (now out))) ⌝ }
+    requires { ⌜ (1 ≤ p) × ((n : ℕ) → answer ≡ Answers.Lists n → (n * p ≤ length (now words))
+        × (at + 11 * (n * p) + 9 ≤ length (now out))) ⌝ }
     ensures { λ z. ⌜ Wrote (now (out .entry)) (now (out .exit)) at z (listsText answer (now (words .entry)) p) ⌝ }
 {
     let Answer::Lists(n) = answer else {
@@ -47,14 +49,14 @@ fn put_lists(out: &mut [u8], at: usize, answer: Answer, words: &[u32], p: usize)
     put_list_lines(out, at, words, n, p)
 }
 
-// Whether a command follows. Constant time.
-fn goes_on(script: &[u8], more: bool, next: usize) -> bool
-    ensures { λ b. ⌜ b ≡ (more && ltb next (length (now (script .entry)))) ⌝ }
+// Whether a command follows, at place `after`. Constant time.
+fn goes_on(script: &[u8], more: bool, after: usize) -> bool
+    ensures { λ b. ⌜ b ≡ (more && ltb after (length (now (script .entry)))) ⌝ }
 {
     if !more {
         return false;
     }
-    next < script.len()
+    after < script.len()
 }
 
 // One step, and its lines: at most 71 bytes, and 11 for each of 4,096 words; there must be 9 more. The cost of the operation, and of its lines.
@@ -64,19 +66,49 @@ fn report_step(
     design: Design,
     cells: &[u32],
     tables: &[u8],
+    next: &[u16; 4096],
+    first: &[u16; 8192],
+    keys: &[u32; 4096],
+    heads: &[u16; 4096],
+    starts: &[u16; 65],
     marks: &mut [u8],
     words: &mut [u32],
+    weights: &mut [u64; 2560],
+    sums: &mut [u64; 2560],
+    froms: &mut [u16; 2560],
+    links: &mut [u16; 2560],
     out: &mut [u8],
 ) -> Progress
-    requires { ⌜ sound (lent design (now cells) (now tables) (now marks) (from .held)) ≡ true ⌝ }
-    requires { ⌜ (from .more ≡ true) × (from .at < length (now script)) × (from .number ≤ from .at) × (length (now words) ≤ 4096) × (from .end + 45136 ≤ length (now out)) ⌝ }
-    ensures { λ q. ⌜ Printed (now (script .entry)) (lent design (now (cells .entry)) (now (tables .entry)) (now (marks .entry)) (from .held)) (now (words .entry)) from
-        (now (out .entry)) (now (out .exit)) (now (marks .exit)) (now (words .exit)) q ⌝ }
-    ensures { λ q. ⌜ (q .end ≤ from .end + 45127) × (q .more ≡ true → (from .at < q .at) × (q .at < length (now (script .entry))) × (q .number ≤ q .at)) ⌝ }
+    requires { ⌜ (sound (lent design (now cells) (now tables) (now marks) (from .held)) ≡ true)
+        × Catalogued design (now cells) (now tables) (now next) (now first) (now keys) (now heads) (now starts) ⌝ }
+    requires { ⌜ (from .more ≡ true) × (from .at < length (now script)) × (from .number ≤ from .at) × (length (now words) ≤ 4096)
+        × (from .end + 45136 ≤ length (now out)) ⌝ }
+    ensures { λ q. ⌜ Printed (now (script .entry)) (lent design (now (cells .entry)) (now (tables .entry)) (now (marks .entry)) (from .held))
+        (now (words .entry)) from (now (out .entry)) (now (out .exit)) (now (marks .exit)) (now (words .exit)) q ⌝ }
+    ensures { λ q. ⌜ (q .end ≤ from .end + 45127)
+        × (q .more ≡ true → (from .at < q .at) × (q .at < length (now (script .entry))) × (q .number ≤ q .at)) ⌝ }
 {
     let at = from.at;
     let held = from.held;
-    let step = step_lawful(script, at, design, cells, tables, marks, held, words);
+    let step = step_lawful(
+        script,
+        at,
+        design,
+        cells,
+        tables,
+        next,
+        first,
+        keys,
+        heads,
+        starts,
+        marks,
+        held,
+        words,
+        weights,
+        sums,
+        froms,
+        links,
+    );
     let answer = step.answer;
     let z = put_command_line(out, from.end, from.number, answer, step.place);
     let p = positions_at(script, at);
@@ -92,8 +124,8 @@ fn report_step(
     }
 }
 
-// A buffer is full where a step's lines might not fit behind its text.
-const FULL: usize = 65536;
+// A buffer of 65,536 bytes is full where its text has more than these: up to here a step's lines fit behind it.
+const FULL: usize = 16384;
 
 // Steps and their lines until there is no command left or the buffer is full. The cost of the operations, and of the text.
 pub(crate) fn fill(
@@ -102,15 +134,26 @@ pub(crate) fn fill(
     design: Design,
     cells: &[u32],
     tables: &[u8],
+    next: &[u16; 4096],
+    first: &[u16; 8192],
+    keys: &[u32; 4096],
+    heads: &[u16; 4096],
+    starts: &[u16; 65],
     marks: &mut [u8],
     words: &mut [u32],
+    weights: &mut [u64; 2560],
+    sums: &mut [u64; 2560],
+    froms: &mut [u16; 2560],
+    links: &mut [u16; 2560],
     out: &mut [u8],
 ) -> Progress
-    requires { ⌜ sound (lent design (now cells) (now tables) (now marks) (from .held)) ≡ true ⌝ }
-    requires { ⌜ (from .more ≡ true → (from .at < length (now script)) × (from .number ≤ from .at)) × (length (now words) ≤ 4096) × (from .end ≤ 65536) × (length (now out) ≡ 131072) ⌝ }
-    ensures { λ q. ⌜ Printed (now (script .entry)) (lent design (now (cells .entry)) (now (tables .entry)) (now (marks .entry)) (from .held)) (now (words .entry)) from
-        (now (out .entry)) (now (out .exit)) (now (marks .exit)) (now (words .exit)) q ⌝ }
-    ensures { λ q. ⌜ (q .end ≤ 131072) × (q .more ≡ true → (from .at < q .at) × (q .at < length (now (script .entry))) × (q .number ≤ q .at)) ⌝ }
+    requires { ⌜ (sound (lent design (now cells) (now tables) (now marks) (from .held)) ≡ true)
+        × Catalogued design (now cells) (now tables) (now next) (now first) (now keys) (now heads) (now starts) ⌝ }
+    requires { ⌜ (from .more ≡ true → (from .at < length (now script)) × (from .number ≤ from .at)) × (length (now words) ≤ 4096)
+        × (from .end ≤ 16384) × (length (now out) ≡ 65536) ⌝ }
+    ensures { λ q. ⌜ Printed (now (script .entry)) (lent design (now (cells .entry)) (now (tables .entry)) (now (marks .entry)) (from .held))
+        (now (words .entry)) from (now (out .entry)) (now (out .exit)) (now (marks .exit)) (now (words .exit)) q ⌝ }
+    ensures { λ q. ⌜ (q .end ≤ 65536) × (q .more ≡ true → (from .at < q .at) × (q .at < length (now (script .entry))) × (q .number ≤ q .at)) ⌝ }
 {
     let mut p = from;
     loop {
@@ -120,7 +163,25 @@ pub(crate) fn fill(
         if FULL < p.end {
             return p;
         }
-        let q = report_step(script, p, design, cells, tables, marks, words, out);
+        let q = report_step(
+            script,
+            p,
+            design,
+            cells,
+            tables,
+            next,
+            first,
+            keys,
+            heads,
+            starts,
+            marks,
+            words,
+            weights,
+            sums,
+            froms,
+            links,
+            out,
+        );
         p = q;
     }
 }

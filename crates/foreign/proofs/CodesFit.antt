@@ -29,12 +29,12 @@ use Rattle.format.specs.Bytes.{byteAt}
 use Rattle.format.specs.Commands.{commandAt, widthOf}
 use Rattle.format.specs.Reading.{mostBytes}
 use Rattle.script.specs.Step.{Stepped, refusing, operated, queried, carried, stepAt}
-use Rattle.foreign.specs.Codes.{codeOf, codes, answerOfKind, answerIn}
+use Rattle.foreign.specs.Codes.{answerNumber, codes, answerOfKind, answerIn}
 
 -- the number fits, and tells the answer
 pub record Fits (a : Answer) : Type 0 where
-  pub number : codeOf a < codes
-  pub told : answerIn (codeOf a) ≡ a
+  pub number : answerNumber a < codes
+  pub told : answerIn (answerNumber a) ≡ a
 
 -- a number whose kind and rest are known stands for that answer
 told-by : (n k m : ℕ) (a : Answer) → n % 16 ≡ k → n / 16 ≡ m → answerOfKind k m ≡ a → answerIn n ≡ a
@@ -43,7 +43,7 @@ told-by n k m a p q e = ap₂ answerOfKind p q ∙ e
 -- ---- causes, and answers in their order
 
 refused-fits : (n : ℕ) → n < 256 → Fits (refused n)
-unfolding codeOf
+unfolding answerNumber
 refused-fits n l = record { number = omega arith; told = told-by (8 + 16 * n) 8 n (refused n) (omega arith) (omega arith) refl }
 
 unless-fits : (b : Bool) (n : ℕ) (a : Answer) → n < 256 → (b ≡ false → Fits a) → Fits (unless b n a)
@@ -108,7 +108,7 @@ high : (m n : ℕ) → m ≤ 512 → (m + 1024 * n) / 1024 ≡ n
 high m n l = omega arith
 
 loaded-fits : (m n : ℕ) → m ≤ 512 → n ≤ 512 → Fits (loaded m n)
-unfolding codeOf
+unfolding answerNumber
 loaded-fits m n a b =
     record {
       number = omega arith;
@@ -116,11 +116,11 @@ loaded-fits m n a b =
     }
 
 dropped-fits : (n : ℕ) → n ≤ 512 → Fits (dropped n)
-unfolding codeOf
+unfolding answerNumber
 dropped-fits n a = record { number = omega arith; told = told-by (4 + 16 * n) 4 n (dropped n) (omega arith) (omega arith) refl }
 
 ground-fits : (n : ℕ) → n ≤ 3 → Fits (ground n)
-unfolding codeOf
+unfolding answerNumber
 ground-fits n a = record { number = omega arith; told = told-by (5 + 16 * n) 5 n (ground n) (omega arith) (omega arith) refl }
 
 lowest-le : (a b c : Bool) → Probe.lowest a b c ≤ 3
@@ -134,11 +134,11 @@ unfolding Probe.probe
 probe-fits S D H X k v = ground-fits _ (lowest-le (H k v) (Probe.demanded S D X k v) (Probe.uniquelySeen S D X k v))
 
 lists-fits : (n : ℕ) → n ≤ 35184372088832 → Fits (lists n)
-unfolding codeOf
+unfolding answerNumber
 lists-fits n a = record { number = omega arith; told = told-by (7 + 16 * n) 7 n (lists n) (omega arith) (omega arith) refl }
 
 plain-fits : Fits held × Fits noCandidate × Fits sent
-unfolding codeOf
+unfolding answerNumber
 plain-fits =
     (record { number = omega arith; told = refl }, record { number = omega arith; told = refl }, record { number = omega arith; told = refl })
 

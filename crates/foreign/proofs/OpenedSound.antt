@@ -1,5 +1,5 @@
--- What opening leaves with number 0 is ready for a step: the words stand for the design just read and for no held values, and that state is sound.
--- Assumes nothing.
+-- What opening leaves with number 0 is ready for a step: the words stand for the design just read and for no held values, that state is sound, and the
+-- arrays have the catalog of its rows. -- Assumes nothing.
 use Prim.Native.Nat.{ℕ, zero, suc, _+_, _<_}
 use native.Mathlib.Omega.{arith}
 use mathlib.Core.Path.{_≡_, refl, sym, ap, subst, _∙_}
@@ -10,6 +10,7 @@ use lib.Dec.{leb, ltb}
 use lib.ListN.{length}
 use lib.Seq.{sets, length-sets}
 use Rattle.finite.proofs.Tables.{length-tab}
+use Rattle.state.specs.declared.design.Design.{Design}
 use Rattle.state.specs.Held.{noneHeld, noValue}
 use Rattle.state.specs.Step.{lent, sound, longEnough}
 use Rattle.state.specs.Design.{emptyDesign}
@@ -28,8 +29,8 @@ use Rattle.format.specs.Reading.DesignRead.{accepted, refusedAt}
 use Rattle.format.proofs.Small.{Small}
 use Rattle.script.specs.Runs.{buffers, justRead}
 use Rattle.script.proofs.JustRead.{Begun, begun}
-use Rattle.foreign.specs.Words.{designLength, heldLength, designWords, heldWords, designFrom, heldFrom}
-use Rattle.foreign.specs.Calls.{opening, numberOf, designAfter, heldAfter, Opened, stateFrom, Ready}
+use Rattle.foreign.specs.Words.{designLength, heldLength, designWords, heldWords, wordsDesign, wordsHeld}
+use Rattle.foreign.specs.Calls.{opening, numberOf, designAfter, heldAfter, Opened, Arrays, CatalogIn, Catalogs, wordsState, Ready}
 use Rattle.foreign.proofs.WordLaws.{design-stored, held-stored}
 use Rattle.foreign.proofs.Narrow.{narrow-design, narrow-held}
 use Rattle.foreign.proofs.Opening.{enough}
@@ -112,17 +113,18 @@ unfolding noneHeld
 none-long = length-tab 64 (λ _. noValue)
 
 module _ (script cs ts ms ds hs : List ℕ) (n : ℕ) (cs′ ts′ ms′ ds′ hs′ : List ℕ)
-    (o : Opened (opening script cs ts ms ds hs) n cs cs′ ts ts′ ms ms′ ds ds′ hs hs′) where
+    (o : Opened (opening script cs ts ms ds hs) n cs cs′ ts ts′ ms ms′ ds ds′ hs hs′) (k k′ : Arrays)
+    (g : Catalogs (opening script cs ts ms ds hs) cs′ ts′ k k′) where
   -- THEOREM: the buffers that `wurzsige_open` leaves with number 0 meet what `wurzsige_step` requires. That the script is of bytes and the cells
   -- are u32 their types say.
-  pub opened-sound : Small script → Stored cs′ → n ≡ 0 → Ready ds′ cs′ ts′ ms′ hs′
+  pub opened-sound : Small script → Stored cs′ → n ≡ 0 → Ready ds′ cs′ ts′ k′ ms′ hs′
   opened-sound small stored e = go (opening script cs ts ms ds hs) refl
     where
-      go : (w : DesignRead) → opening script cs ts ms ds hs ≡ w → Ready ds′ cs′ ts′ ms′ hs′
+      go : (w : DesignRead) → opening script cs ts ms ds hs ≡ w → Ready ds′ cs′ ts′ k′ ms′ hs′
       go (refusedAt c i) q =
           let l : 0 < c = ltb-true 0 c (sym (ap causeRead q) ∙ opening-caused script cs ts ms ds hs) in
-          let k : c ≡ 0 = sym (ap numberOf q) ∙ sym (o .number) ∙ e in
-          absurd (omega (arith, l, k))
+          let z : c ≡ 0 = sym (ap numberOf q) ∙ sym (o .number) ∙ e in
+          absurd (omega (arith, l, z))
       go (accepted p i) q =
           let w = enough script cs ts ms ds hs p i q in
           let cells : cs′ ≡ cellsAfter (accepted p i) cs = o .cells ∙ ap (λ (v : DesignRead). cellsAfter v cs) q in
@@ -132,16 +134,17 @@ module _ (script cs ts ms ds hs : List ℕ) (n : ℕ) (cs′ ts′ ms′ ds′ h
           let held : hs′ ≡ sets hs 0 (heldWords noneHeld) = o .held ∙ ap (λ (v : DesignRead). heldAfter v hs) q in
           let b : Begun (buffers cs ts ms []) p i = begun script small (buffers cs ts ms []) p i (w .2) (subst Stored cells stored) in
           let z = b .sizes in
-          let d : designFrom ds′ ≡ p .design =
-          ap designFrom design ∙
+          let d : wordsDesign ds′ ≡ p .design =
+          ap wordsDesign design ∙
           design-stored (p .design) (record { table = z .table; constraint = z .constraint; filling = z .filling })
           (narrow-design (p .design) (b .design)) ds (w .0) in
-          let h : heldFrom hs′ ≡ noneHeld =
-          ap heldFrom held ∙ held-stored noneHeld none-long (narrow-held (p .design) noneHeld (b .design) (parts _ (b .sound) .held)) hs (w .1) in
-          let s : stateFrom ds′ cs′ ts′ ms′ hs′ ≡ justRead (accepted p i) (buffers cs ts ms []) =
+          let h : wordsHeld hs′ ≡ noneHeld =
+          ap wordsHeld held ∙ held-stored noneHeld none-long (narrow-held (p .design) noneHeld (b .design) (parts _ (b .sound) .held)) hs (w .1) in
+          let s : wordsState ds′ cs′ ts′ ms′ hs′ ≡ justRead (accepted p i) (buffers cs ts ms []) =
           λ x. lent (d x) (cells x) (tables x) (marks x) (h x) in
           record {
             design = omega (arith, w .0, ap length design, length-sets ds 0 (designWords (p .design)));
             held = omega (arith, w .1, ap length held, length-sets hs 0 (heldWords noneHeld));
             sound = ap sound s ∙ b .sound;
+            catalog = subst (λ (x : Design). CatalogIn k′ x cs′ ts′) (sym d) (g .made p i q);
           }

@@ -1,7 +1,7 @@
 -- What opening leaves, case by case: too few words, a design that is refused, one that is accepted. Assumes nothing.
 use Prim.Native.Nat.{ℕ, _≤_, _<_}
 use native.Mathlib.Omega.{arith}
-use mathlib.Core.Path.{_≡_, refl, sym, ap, _∙_}
+use mathlib.Core.Path.{_≡_, refl, sym, ap, subst, _∙_}
 use mathlib.Core.Bool.{Bool, true, false, _&&_, and-eq-true-iff}
 use mathlib.Core.List.{List, []}
 use mathlib.Core.Logic.{⊎-elim}
@@ -26,7 +26,7 @@ use Rattle.format.proofs.Small.{Small}
 use Rattle.script.specs.Runs.{buffers}
 use Rattle.script.proofs.RanLaws.{start-sound}
 use Rattle.foreign.specs.Words.{designLength, heldLength, designWords, heldWords}
-use Rattle.foreign.specs.Calls.{opening, numberOf, designAfter, heldAfter, Opened}
+use Rattle.foreign.specs.Calls.{opening, numberOf, designAfter, heldAfter, Opened, Arrays, CatalogIn, Catalogs}
 
 module _ (script cs ts ms ds hs : List ℕ) where
   abbrev long : Bool
@@ -46,11 +46,32 @@ module _ (script cs ts ms ds hs : List ℕ) where
         held = sym (ap (λ (w : DesignRead). heldAfter w hs) o);
       }
 
+  kept-7 : long ≡ false → (k : Arrays) → Catalogs (opening script cs ts ms ds hs) cs ts k k
+  unfolding opening
+  kept-7 e k =
+      record {
+        made = λ p i q.
+            absurd (let z : _≡_ {A = ℕ} 0 1 = cc (q, cond-false long (readInto script cs ts ms) (refusedAt 7 0) e) in omega arith);
+        kept = λ c i q. refl;
+      }
+
+  short-design : length ds < designLength → long ≡ false
+  short-design l = and-left (leb designLength (length ds)) (leb heldLength (length hs)) (lt-leb designLength (length ds) l)
+
+  short-held : length hs < heldLength → long ≡ false
+  short-held l = and-right (leb designLength (length ds)) (leb heldLength (length hs)) (lt-leb heldLength (length hs) l)
+
   pub few-design : length ds < designLength → Opened (opening script cs ts ms ds hs) 7 cs cs ts ts ms ms ds ds hs hs
-  few-design l = refused-7 (and-left (leb designLength (length ds)) (leb heldLength (length hs)) (lt-leb designLength (length ds) l))
+  few-design l = refused-7 (short-design l)
+
+  pub few-design-kept : length ds < designLength → (k : Arrays) → Catalogs (opening script cs ts ms ds hs) cs ts k k
+  few-design-kept l = kept-7 (short-design l)
 
   pub few-held : length hs < heldLength → Opened (opening script cs ts ms ds hs) 7 cs cs ts ts ms ms ds ds hs hs
-  few-held l = refused-7 (and-right (leb designLength (length ds)) (leb heldLength (length hs)) (lt-leb heldLength (length hs) l))
+  few-held l = refused-7 (short-held l)
+
+  pub few-held-kept : length hs < heldLength → (k : Arrays) → Catalogs (opening script cs ts ms ds hs) cs ts k k
+  few-held-kept l = kept-7 (short-held l)
 
   -- a design is accepted only where there are enough words
   pub enough : (p : Draft) (i : ℕ) → opening script cs ts ms ds hs ≡ accepted p i →
@@ -89,6 +110,22 @@ module _ (script cs ts ms ds hs : List ℕ) where
         go : (w : DesignRead) → readInto script cs ts ms ≡ w → Opened (opening script cs ts ms ds hs) n cs cs′ ts ts′ ms ms′ ds ds hs hs
         go (accepted p j) e = absurd (let z : _≡_ {A = ℕ} 0 1 = cc (read .verdict ∙ ap verdictOf e) in omega arith)
         go (refusedAt c j) e = leaves (refusedAt c j) e n ds hs (cc (read .verdict ∙ ap verdictOf e)) refl refl
+
+    -- the catalog's arrays: as they were, or with the catalog of the design's rows
+    pub catalogs-refused : (n i : ℕ) → r .verdict ≡ Refused n i → (k k′ : Arrays) → k′ ≡ k → Catalogs (opening script cs ts ms ds hs) cs′ ts′ k k′
+    catalogs-refused n i v k k′ e =
+        record {
+          made = λ p j q. absurd (let z : _≡_ {A = ℕ} 0 1 = cc (v, read .verdict ∙ ap verdictOf (sym opens ∙ q)) in omega arith);
+          kept = λ c j q. e;
+        }
+
+    pub catalogs-accepted : (j : ℕ) → r .verdict ≡ Accepted j → (k k′ : Arrays) → CatalogIn k′ (r .design) cs′ ts′ →
+        Catalogs (opening script cs ts ms ds hs) cs′ ts′ k k′
+    catalogs-accepted j v k k′ h =
+        record {
+          made = λ p i q. subst (λ (d : Design). CatalogIn k′ d cs′ ts′) (read .design ∙ ap designOf (sym opens ∙ q)) h;
+          kept = λ c i q. absurd (let z : _≡_ {A = ℕ} 0 1 = cc (v, read .verdict ∙ ap verdictOf (sym opens ∙ q)) in omega arith);
+        }
 
     module _ (j : ℕ) (v : r .verdict ≡ Accepted j) where
       pub opened-accepted : (ds′ hs′ : List ℕ) (none : Held) → none ≡ noneHeld → ds′ ≡ sets ds 0 (designWords (r .design)) →

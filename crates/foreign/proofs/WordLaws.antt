@@ -25,7 +25,7 @@ use Rattle.state.proofs.Arrays.{Sized}
 use Rattle.format.proofs.Standing.{Stands, stands-first, stands-part, stands-at, stands-piece}
 use Rattle.foreign.specs.Words.{tableWords, constraintWords, fillingWords, valueWords, countsWords, tablesWords, constraintsWords}
 use Rattle.foreign.specs.Words.{fillingsWords, valuesWords, designWords, heldWords, wordAt, byteOf, tableFrom, columnFrom, constraintFrom}
-use Rattle.foreign.specs.Words.{fillingFrom, valueFrom, tablesFrom, constraintsFrom, fillingsFrom, valuesFrom, designFrom, heldFrom}
+use Rattle.foreign.specs.Words.{fillingFrom, valueFrom, tablesFrom, constraintsFrom, fillingsFrom, valuesFrom, wordsDesign, wordsHeld}
 
 -- ---- how long they are
 
@@ -139,13 +139,13 @@ value-is ws i b e = ap (λ (x : ℕ). let v : HeldValue = record { filling = x; 
 
 pub design-is : (ws : List ℕ) (a b c e : ℕ) (ts : List Table) (cs : List Constraint) (fs : List Filling) → a ≡ wordAt ws 0 → ts ≡ tablesFrom ws →
     b ≡ wordAt ws 1 → cs ≡ constraintsFrom ws → c ≡ wordAt ws 2 → fs ≡ fillingsFrom ws → e ≡ wordAt ws 3 →
-    record { tables = a; table = ts; constraints = b; constraint = cs; fillings = c; filling = fs; rows = e } ≡ designFrom ws
-unfolding designFrom
+    record { tables = a; table = ts; constraints = b; constraint = cs; fillings = c; filling = fs; rows = e } ≡ wordsDesign ws
+unfolding wordsDesign
 design-is ws a b c e ts cs fs p q r s t u v =
     λ x. record { tables = p x; table = q x; constraints = r x; constraint = s x; fillings = t x; filling = u x; rows = v x }
 
-pub held-is : (ws : List ℕ) (n : ℕ) (vs : List HeldValue) → n ≡ wordAt ws 0 → vs ≡ valuesFrom ws → record { count = n; values = vs } ≡ heldFrom ws
-unfolding heldFrom
+pub held-is : (ws : List ℕ) (n : ℕ) (vs : List HeldValue) → n ≡ wordAt ws 0 → vs ≡ valuesFrom ws → record { count = n; values = vs } ≡ wordsHeld ws
+unfolding wordsHeld
 held-is ws n vs p q = λ x. record { count = p x; values = q x }
 
 -- ---- reading them back
@@ -277,8 +277,8 @@ module _ (d : Design) (s : List ℕ) (h : Stands s 0 (designWords d)) where
     count-back : (j b : ℕ) → j < 4 → getD (countsWords d) j 0 ≡ b → wordAt s j ≡ b
     count-back j b l e = word-back s (countsWords d) 0 j j b counts-stand (omega (arith, length-counts d)) e (omega arith)
 
-    design-stands : designFrom s ≡ d
-    unfolding designFrom countsWords
+    design-stands : wordsDesign s ≡ d
+    unfolding wordsDesign countsWords
     design-stands =
         λ x. record {
           tables = count-back 0 (d .tables) (omega arith) refl x;
@@ -291,8 +291,8 @@ module _ (d : Design) (s : List ℕ) (h : Stands s 0 (designWords d)) where
         }
 
 module _ (h : Held) (z : length (h .values) ≡ 64) (n : (i : ℕ) → i < 64 → heldAt h i .filling < 256) where
-  held-stands : (s : List ℕ) → Stands s 0 (heldWords h) → heldFrom s ≡ h
-  unfolding heldFrom heldWords valuesWords
+  held-stands : (s : List ℕ) → Stands s 0 (heldWords h) → wordsHeld s ≡ h
+  unfolding wordsHeld heldWords valuesWords
   held-stands s e = λ x. record { count = count x; values = sym values x }
     where
       first : List ℕ
@@ -312,16 +312,16 @@ module _ (h : Held) (z : length (h .values) ≡ 64) (n : (i : ℕ) → i < 64 �
           tab-of noValue 64 _ (h .values) z
           (λ i l. value-back s (1 + 2 * i) (heldAt h i) (stands-piece s 1 2 _ (λ j. length-value _) 64 behind i l) (n i l))
 
-  pub held-back : (rest : List ℕ) → heldFrom (heldWords h ++ rest) ≡ h
+  pub held-back : (rest : List ℕ) → wordsHeld (heldWords h ++ rest) ≡ h
   held-back rest = held-stands _ (stands-first (heldWords h) rest)
 
   -- also where they were stored
-  pub held-stored : (l : List ℕ) → 129 ≤ length l → heldFrom (sets l 0 (heldWords h)) ≡ h
-  held-stored l m = ap heldFrom (sets-eq (heldWords h) l 0 (omega (arith, length-held h))) ∙ held-back (drop (0 + length (heldWords h)) l)
+  pub held-stored : (l : List ℕ) → 129 ≤ length l → wordsHeld (sets l 0 (heldWords h)) ≡ h
+  held-stored l m = ap wordsHeld (sets-eq (heldWords h) l 0 (omega (arith, length-held h))) ∙ held-back (drop (0 + length (heldWords h)) l)
 
 module _ (d : Design) (z : Sized d) (n : NarrowDesign d) where
-  pub design-back : (rest : List ℕ) → designFrom (designWords d ++ rest) ≡ d
+  pub design-back : (rest : List ℕ) → wordsDesign (designWords d ++ rest) ≡ d
   design-back rest = design-stands d _ (stands-first (designWords d) rest) z n
 
-  pub design-stored : (l : List ℕ) → 116 ≤ length l → designFrom (sets l 0 (designWords d)) ≡ d
-  design-stored l m = ap designFrom (sets-eq (designWords d) l 0 (omega (arith, length-design d))) ∙ design-back (drop (0 + length (designWords d)) l)
+  pub design-stored : (l : List ℕ) → 116 ≤ length l → wordsDesign (sets l 0 (designWords d)) ≡ d
+  design-stored l m = ap wordsDesign (sets-eq (designWords d) l 0 (omega (arith, length-design d))) ∙ design-back (drop (0 + length (designWords d)) l)

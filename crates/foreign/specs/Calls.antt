@@ -1,4 +1,4 @@
--- What the two exported functions give and leave. Assumes nothing.
+-- What the exported functions give and leave. Assumes nothing.
 use Prim.Native.Nat.{ℕ, _≤_}
 use mathlib.Core.Path.{_≡_}
 use mathlib.Core.Bool.{true, cond, _&&_}
@@ -8,11 +8,14 @@ use lib.ListN.{length}
 use lib.Seq.{sets}
 use Rattle.state.specs.Held.{noneHeld}
 use Rattle.state.specs.Step.{State, lent, sound}
-use Rattle.format.specs.Reading.{DesignRead, readInto, cellsAfter, tablesAfter, marksAfter}
+use Rattle.state.specs.declared.design.Design.{Design}
+use Rattle.catalog.specs.Catalog.{Catalogued}
+use Rattle.format.specs.Reading.{Draft, DesignRead, readInto, cellsAfter, tablesAfter, marksAfter}
 use Rattle.format.specs.Reading.DesignRead.{accepted, refusedAt}
 use Rattle.script.specs.Step.{Stepped}
-use Rattle.foreign.specs.Words.{designLength, heldLength, designWords, heldWords, designFrom, heldFrom}
-use Rattle.foreign.specs.Codes.{codeOf}
+use Rattle.script.specs.Runs.{Left}
+use Rattle.foreign.specs.Words.{designLength, heldLength, designWords, heldWords, wordsDesign, wordsHeld}
+use Rattle.foreign.specs.Codes.{answerNumber}
 
 -- ---- wurzsige_open
 
@@ -44,22 +47,52 @@ pub record Opened (w : DesignRead) (n : ℕ) (cs cs′ ts ts′ ms ms′ ds ds�
   pub design : ds′ ≡ designAfter w ds
   pub held : hs′ ≡ heldAfter w hs
 
+-- the five arrays of a catalog
+pub record Arrays : Type 0 where
+  pub next : List ℕ
+  pub first : List ℕ
+  pub keys : List ℕ
+  pub heads : List ℕ
+  pub starts : List ℕ
+
+abbrev pub arrays : List ℕ → List ℕ → List ℕ → List ℕ → List ℕ → Arrays
+arrays next first keys heads starts = record { next = next; first = first; keys = keys; heads = heads; starts = starts }
+
+-- they have the catalog of a design with lent rows
+abbrev pub CatalogIn : Arrays → Design → List ℕ → List ℕ → Type 0
+CatalogIn k d cells tables = Catalogued d cells tables (k .next) (k .first) (k .keys) (k .heads) (k .starts)
+
+-- the arrays before, k, and after, k′: with an accepted design the catalog of its rows, else as they were
+pub record Catalogs (w : DesignRead) (cs′ ts′ : List ℕ) (k k′ : Arrays) : Type 0 where
+  pub made : (p : Draft) (i : ℕ) → w ≡ accepted p i → CatalogIn k′ (p .design) cs′ ts′
+  pub kept : (c i : ℕ) → w ≡ refusedAt c i → k′ ≡ k
+
 -- ---- wurzsige_step
 
 -- the state that the words and the other buffers stand for
-abbrev pub stateFrom : List ℕ → List ℕ → List ℕ → List ℕ → List ℕ → State
-stateFrom design cells tables marks held = lent (designFrom design) cells tables marks (heldFrom held)
+abbrev pub wordsState : List ℕ → List ℕ → List ℕ → List ℕ → List ℕ → State
+wordsState design cells tables marks held = lent (wordsDesign design) cells tables marks (wordsHeld held)
 
--- what a step asks of its buffers: long enough, and a sound state
-pub record Ready (ds cs ts ms hs : List ℕ) : Type 0 where
+-- what a step asks of its buffers: long enough, a sound state, and the catalog of its rows
+pub record Ready (ds cs ts : List ℕ) (k : Arrays) (ms hs : List ℕ) : Type 0 where
   pub design : designLength ≤ length ds
   pub held : heldLength ≤ length hs
-  pub sound : sound (stateFrom ds cs ts ms hs) ≡ true
+  pub sound : sound (wordsState ds cs ts ms hs) ≡ true
+  pub catalog : CatalogIn k (wordsDesign ds) cs ts
 
 -- the step R was taken: its number n, the marks and words afterwards, the held words hs before and hs′ after; and the next step can be taken
-pub record Took (R : Stepped) (n : ℕ) (ds cs ts ms′ ws′ hs hs′ : List ℕ) : Type 0 where
-  pub number : n ≡ codeOf (R .answer)
+pub record StepTaken (R : Stepped) (n : ℕ) (ds cs ts : List ℕ) (k : Arrays) (ms′ ws′ hs hs′ : List ℕ) : Type 0 where
+  pub number : n ≡ answerNumber (R .answer)
   pub marks : ms′ ≡ R .marks
   pub words : ws′ ≡ R .words
   pub held : hs′ ≡ sets hs 0 (heldWords (R .held))
-  pub ready : Ready ds cs ts ms′ hs′
+  pub ready : Ready ds cs ts k ms′ hs′
+
+-- ---- wurzsige_run
+
+-- the run that leaves l was made: the marks and words afterwards, the held words hs before and hs′ after; and a step can be taken then
+pub record RunMade (l : Left) (ds cs ts : List ℕ) (k : Arrays) (ms′ ws′ hs hs′ : List ℕ) : Type 0 where
+  pub marks : ms′ ≡ l .state .marks
+  pub words : ws′ ≡ l .words
+  pub held : hs′ ≡ sets hs 0 (heldWords (l .state .held))
+  pub ready : Ready ds cs ts k ms′ hs′

@@ -5,15 +5,15 @@ use mathlib.Core.Bool.{cond}
 use lib.Dec.{eqb}
 use Rattle.model.specs.Answers.{Answer, loaded, held, noCandidate, dropped, ground, sent, lists, refused}
 
-unfoldable pub codeOf : Answer → ℕ
-codeOf (loaded rows rounds) = 1 + 16 * rows + 16384 * rounds
-codeOf held = 2
-codeOf noCandidate = 3
-codeOf (dropped rows) = 4 + 16 * rows
-codeOf (ground g) = 5 + 16 * g
-codeOf sent = 6
-codeOf (lists n) = 7 + 16 * n
-codeOf (refused cause) = 8 + 16 * cause
+unfoldable pub answerNumber : Answer → ℕ
+answerNumber (loaded rows rounds) = 1 + 16 * rows + 16384 * rounds
+answerNumber held = 2
+answerNumber noCandidate = 3
+answerNumber (dropped rows) = 4 + 16 * rows
+answerNumber (ground g) = 5 + 16 * g
+answerNumber sent = 6
+answerNumber (lists n) = 7 + 16 * n
+answerNumber (refused cause) = 8 + 16 * cause
 
 -- what a caller reads off a number: the answer of kind k with the numbers m (proofs/CodesFit.antt: it is the step's)
 abbrev pub answerOfKind : ℕ → ℕ → Answer

@@ -94,8 +94,8 @@ fillingsFrom ws = tab 8 (λ i. fillingFrom ws (84 + 4 * i))
 abbrev pub valuesFrom : List ℕ → List HeldValue
 valuesFrom ws = tab 64 (λ i. valueFrom ws (1 + 2 * i))
 
-unfoldable pub designFrom : List ℕ → Design
-designFrom ws =
+unfoldable pub wordsDesign : List ℕ → Design
+wordsDesign ws =
     record {
       tables = wordAt ws 0;
       table = tablesFrom ws;
@@ -106,5 +106,5 @@ designFrom ws =
       rows = wordAt ws 3;
     }
 
-unfoldable pub heldFrom : List ℕ → Held
-heldFrom ws = record { count = wordAt ws 0; values = valuesFrom ws }
+unfoldable pub wordsHeld : List ℕ → Held
+wordsHeld ws = record { count = wordAt ws 0; values = valuesFrom ws }

@@ -2,13 +2,13 @@
 ghost use Prim.Native.Nat.{_<_};
 ghost use mathlib.Core.Path.{_≡_};
 ghost use Rattle.state.specs.Meaning.{answerOf};
-ghost use Rattle.foreign.specs.Codes.{codeOf, codes};
+ghost use Rattle.foreign.specs.Codes.{answerNumber, codes};
 use state::Answer;
 
 // Its kind from 1 to 8, then what goes with it. Constant time.
 pub(crate) fn code_of(answer: Answer) -> u64
-    requires { ⌜ codeOf (answerOf answer) < codes ⌝ }
-    ensures { λ r. ⌜ r ≡ codeOf (answerOf answer) ⌝ }
+    requires { ⌜ answerNumber (answerOf answer) < codes ⌝ }
+    ensures { λ r. ⌜ r ≡ answerNumber (answerOf answer) ⌝ }
 {
     match answer {
         Answer::Loaded(rows, rounds) => 1 + 16 * (rows as u64) + 16384 * (rounds as u64),

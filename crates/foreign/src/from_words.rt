@@ -3,7 +3,7 @@ ghost use Prim.Native.Nat.{_+_, _≤_, _<_};
 ghost use mathlib.Core.Path.{_≡_};
 ghost use lib.ListN.{length};
 ghost use Rattle.foreign.specs.Words.{wordAt, byteOf, tableFrom, columnFrom, constraintFrom, fillingFrom, valueFrom, tablesFrom};
-ghost use Rattle.foreign.specs.Words.{constraintsFrom, fillingsFrom, valuesFrom, designFrom, heldFrom};
+ghost use Rattle.foreign.specs.Words.{constraintsFrom, fillingsFrom, valuesFrom, wordsDesign, wordsHeld};
 use state::Column;
 use state::Constraint;
 use state::Design;
@@ -141,7 +141,7 @@ fn values_from(words: &[u32]) -> [HeldValue; 64]
 // The design that the first 116 words stand for. One step for each of its 32 places.
 pub(crate) fn design_from(words: &[u32]) -> Design
     requires { ⌜ 116 ≤ length (now words) ⌝ }
-    ensures { λ d. ⌜ d ≡ designFrom (now (words .entry)) ⌝ }
+    ensures { λ d. ⌜ d ≡ wordsDesign (now (words .entry)) ⌝ }
 {
     let tables = count_at(words, 0);
     let table = tables_from(words);
@@ -164,7 +164,7 @@ pub(crate) fn design_from(words: &[u32]) -> Design
 // The held values that the first 129 words stand for. One step for each of their 64 places.
 pub(crate) fn held_from(words: &[u32]) -> Held
     requires { ⌜ 129 ≤ length (now words) ⌝ }
-    ensures { λ h. ⌜ h ≡ heldFrom (now (words .entry)) ⌝ }
+    ensures { λ h. ⌜ h ≡ wordsHeld (now (words .entry)) ⌝ }
 {
     let count = count_at(words, 0);
     let values = values_from(words);

@@ -1,7 +1,10 @@
-// The desk for programs in C or Rust, which lend it all of its memory: reading a design, and one step of a script. A design and the held values
-// are structs in Rattle, so they go across as lists of u32 words (specs/Words.antt), and an answer as one number (specs/Codes.antt).
+// The desk for programs in C or Rust, which lend it all of its memory: reading a design, one step of a script, and all steps from a place on. A design
+// and the held values are structs in Rattle, so they go across as lists of u32 words (specs/Words.antt), and an answer as one number (specs/Codes.antt).
+// The catalog of a design's rows and the working memory of a query are arrays of fixed length, each a plain pointer.
+ghost use lib.ListN.{length};
 ghost use Rattle.script.specs.Step.{stepAt};
-ghost use Rattle.foreign.specs.Calls.{opening, Opened, stateFrom, Ready, Took};
+ghost use Rattle.script.specs.Runs.{leftFrom};
+ghost use Rattle.foreign.specs.Calls.{opening, Opened, arrays, Catalogs, wordsState, Ready, StepTaken, RunMade};
 
 mod codes;
 mod from_words;
@@ -13,7 +16,8 @@ use crate::from_words::held_from;
 use crate::to_words::put_design;
 use crate::to_words::put_held;
 use format::Verdict;
-use format::read_design;
+use format::read_catalogued;
+use script::run_lawful;
 use script::step_lawful;
 use state::Held;
 
@@ -22,12 +26,18 @@ const DESIGN_WORDS: usize = 116;
 
 const HELD_WORDS: usize = 129;
 
-// Reads a design into lent buffers: 0, or the cause of its refusal, which leaves all of them as they were. The cost of reading it.
+// Reads a design into lent buffers and makes the catalog of its rows: 0, or the cause of its refusal, which leaves all of them as they were. The cost
+// of `read_catalogued`.
 #[no_mangle]
 pub extern "C" fn wurzsige_open(
     script: &[u8],
     cells: &mut [u32],
     tables: &mut [u8],
+    next: &mut [u16; 4096],
+    first: &mut [u16; 8192],
+    keys: &mut [u32; 4096],
+    heads: &mut [u16; 4096],
+    starts: &mut [u16; 65],
     marks: &mut [u8],
     design: &mut [u32],
     held: &mut [u32],
@@ -36,6 +46,11 @@ pub extern "C" fn wurzsige_open(
         (opening (now (script .entry)) (now (cells .entry)) (now (tables .entry)) (now (marks .entry)) (now (design .entry)) (now (held .entry))) n
         (now (cells .entry)) (now (cells .exit)) (now (tables .entry)) (now (tables .exit)) (now (marks .entry)) (now (marks .exit))
         (now (design .entry)) (now (design .exit)) (now (held .entry)) (now (held .exit)) ⌝ }
+    ensures { λ n. ⌜ Catalogs
+        (opening (now (script .entry)) (now (cells .entry)) (now (tables .entry)) (now (marks .entry)) (now (design .entry)) (now (held .entry)))
+        (now (cells .exit)) (now (tables .exit))
+        (arrays (now (next .entry)) (now (first .entry)) (now (keys .entry)) (now (heads .entry)) (now (starts .entry)))
+        (arrays (now (next .exit)) (now (first .exit)) (now (keys .exit)) (now (heads .exit)) (now (starts .exit))) ⌝ }
 {
     if design.len() < DESIGN_WORDS {
         return 7;
@@ -43,7 +58,17 @@ pub extern "C" fn wurzsige_open(
     if held.len() < HELD_WORDS {
         return 7;
     }
-    let reading = read_design(script, cells, tables, marks);
+    let reading = read_catalogued(
+        script,
+        cells,
+        tables,
+        marks,
+        next,
+        first,
+        keys,
+        heads,
+        starts,
+    );
     let verdict = reading.verdict;
     if let Verdict::Refused(cause, _) = verdict {
         return cause;
@@ -54,32 +79,115 @@ pub extern "C" fn wurzsige_open(
     0
 }
 
-// The step at place `at` of a script, over a state known sound, as one number. A caller keeps to memory that only these two functions write: what
-// `wurzsige_open` leaves with number 0 is sound (proofs/OpenedSound.antt), and each step leaves a sound state, so the `requires` holds from call to
-// call. The cost of the command's operation, and a copy of the design's and the held values' words.
+// The step at place `at` of a script, over a state known sound with the catalog of its rows, as one number. A caller keeps to memory that only these
+// functions write: what `wurzsige_open` leaves with number 0 is ready (proofs/OpenedSound.antt), and each step leaves it so, so the `requires` holds
+// from call to call. The last four arrays are working memory, whatever stands in them. The cost of the command's operation, and a copy of the design's
+// and the held values' words.
 #[no_mangle]
 pub extern "C" fn wurzsige_step(
     script: &[u8],
     at: usize,
     cells: &[u32],
     tables: &[u8],
+    next: &[u16; 4096],
+    first: &[u16; 8192],
+    keys: &[u32; 4096],
+    heads: &[u16; 4096],
+    starts: &[u16; 65],
     marks: &mut [u8],
     design: &[u32],
     held: &mut [u32],
     words: &mut [u32],
+    weights: &mut [u64; 2560],
+    sums: &mut [u64; 2560],
+    froms: &mut [u16; 2560],
+    links: &mut [u16; 2560],
 ) -> u64
-    requires { ⌜ Ready (now design) (now cells) (now tables) (now marks) (now held) ⌝ }
-    ensures { λ n. ⌜ Took
-        (stepAt (stateFrom (now (design .entry)) (now (cells .entry)) (now (tables .entry)) (now (marks .entry)) (now (held .entry)))
+    requires { ⌜ Ready (now design) (now cells) (now tables) (arrays (now next) (now first) (now keys) (now heads) (now starts)) (now marks) (now held) ⌝ }
+    ensures { λ n. ⌜ StepTaken
+        (stepAt (wordsState (now (design .entry)) (now (cells .entry)) (now (tables .entry)) (now (marks .entry)) (now (held .entry)))
         (now (words .entry)) (now (script .entry)) at)
-        n (now (design .entry)) (now (cells .entry)) (now (tables .entry)) (now (marks .exit)) (now (words .exit))
-        (now (held .entry)) (now (held .exit)) ⌝ }
+        n (now (design .entry)) (now (cells .entry)) (now (tables .entry))
+        (arrays (now (next .entry)) (now (first .entry)) (now (keys .entry)) (now (heads .entry)) (now (starts .entry)))
+        (now (marks .exit)) (now (words .exit)) (now (held .entry)) (now (held .exit)) ⌝ }
 {
     let d = design_from(design);
     let h = held_from(held);
-    let t = step_lawful(script, at, d, cells, tables, marks, h, words);
+    let t = step_lawful(
+        script,
+        at,
+        d,
+        cells,
+        tables,
+        next,
+        first,
+        keys,
+        heads,
+        starts,
+        marks,
+        h,
+        words,
+        weights,
+        sums,
+        froms,
+        links,
+    );
     let kept = t.held;
     put_held(kept, held);
     let a = t.answer;
     code_of(a)
+}
+
+// All steps from place `at` of a script on, until it ends or cause 1, 2 or 4 stops it, over a state as `wurzsige_step` asks for; no answer is told, and
+// the answer words are the last query's. The cost of the operations, and one copy of the design's and the held values' words.
+#[no_mangle]
+pub extern "C" fn wurzsige_run(
+    script: &[u8],
+    at: usize,
+    cells: &[u32],
+    tables: &[u8],
+    next: &[u16; 4096],
+    first: &[u16; 8192],
+    keys: &[u32; 4096],
+    heads: &[u16; 4096],
+    starts: &[u16; 65],
+    marks: &mut [u8],
+    design: &[u32],
+    held: &mut [u32],
+    words: &mut [u32],
+    weights: &mut [u64; 2560],
+    sums: &mut [u64; 2560],
+    froms: &mut [u16; 2560],
+    links: &mut [u16; 2560],
+)
+    requires { ⌜ Ready (now design) (now cells) (now tables) (arrays (now next) (now first) (now keys) (now heads) (now starts)) (now marks) (now held) ⌝ }
+    ensures { λ _. ⌜ RunMade
+        (leftFrom (length (now (script .entry))) (now (script .entry))
+        (wordsState (now (design .entry)) (now (cells .entry)) (now (tables .entry)) (now (marks .entry)) (now (held .entry))) (now (words .entry)) at)
+        (now (design .entry)) (now (cells .entry)) (now (tables .entry))
+        (arrays (now (next .entry)) (now (first .entry)) (now (keys .entry)) (now (heads .entry)) (now (starts .entry)))
+        (now (marks .exit)) (now (words .exit)) (now (held .entry)) (now (held .exit)) ⌝ }
+{
+    let d = design_from(design);
+    let h = held_from(held);
+    let left = run_lawful(
+        script,
+        at,
+        d,
+        cells,
+        tables,
+        next,
+        first,
+        keys,
+        heads,
+        starts,
+        marks,
+        h,
+        words,
+        weights,
+        sums,
+        froms,
+        links,
+    );
+    put_held(left, held);
 }

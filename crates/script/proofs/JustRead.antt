@@ -78,7 +78,7 @@ module _ (rows : ℕ) (cells tables : List ℕ) where
 -- ---- an accepted design
 
 -- what lies past the cells read does not matter
-stored-first : (xs ys : List ℕ) → Stored (xs ++ ys) → Stored xs
+pub stored-first : (xs ys : List ℕ) → Stored (xs ++ ys) → Stored xs
 stored-first xs ys u i =
     ⊎-elim (λ (q : ltb i (length xs) ≡ true). subst (λ (n : ℕ). n < 2 ^ 32) (List·getD-append xs ys 0 i (ltb-true i (length xs) q)) (u i))
     (λ (q : ltb i (length xs) ≡ false). subst (λ (n : ℕ). n < 2 ^ 32) (sym (List·getD-eq-default xs 0 (ltb-false i (length xs) q))) (omega arith))

@@ -1,95 +1,35 @@
 -- A probe behind a run: its answer on the state that the run has left, and that a yes is exact (demand 3). Assumes nothing.
 use Prim.Native.Nat.{ℕ}
-use native.Mathlib.Nat.{pos-of-ne-zero}
 use native.Mathlib.Omega.{arith}
-use mathlib.Core.Path.{_≡_, refl, sym, ap, subst, _∙_}
-use mathlib.Core.Bool.{Bool, true, false}
-use mathlib.Core.List.{List, [], _∷_}
-use mathlib.Core.Logic.{_↔_, _≢_}
-use borrow.Author.Tests.{lt-ltb}
-use Rattle.model.specs.Cell.{Cell, Fits, isBlank}
-use Rattle.model.specs.Scheme.{Column, Scheme, ColumnOf}
-use Rattle.model.specs.Database.{Database}
-use Rattle.model.specs.Cache.{Held, Complete, Alike}
-use Rattle.model.specs.Probe as Probe
-use Rattle.model.specs.Runs.{Pair, Operation, probe, heldFrom, heldIn}
-use Rattle.model.specs.Answers.{Answer, refused, ground, sent, orAnswer, groundOf}
-use Rattle.model.proofs.Exact.{exact}
+use mathlib.Core.Path.{_≡_, refl, ap, subst, _∙_}
+use mathlib.Core.Bool.{true}
+use mathlib.Core.List.{List}
+use Rattle.model.specs.Cell.{Cell, Fits}
+use Rattle.model.specs.Scheme.{Column}
+use Rattle.model.specs.Runs.{probe}
+use Rattle.model.specs.Answers.{Answer, refused}
 use Rattle.state.specs.declared.design.Design.{Design}
-use Rattle.state.specs.Meaning.{schemeOf, databaseOf, pairsOf}
-use Rattle.state.specs.Step.{State, lent, database, cache, sound, answerAt}
-use Rattle.lawful.proofs.DesignLaws.{column-if}
-use Rattle.lawful.proofs.HeldLaws.{PairsFit, pairs-back}
+use Rattle.state.specs.Step.{State, lent, sound, answerAt}
 use Rattle.lawful.proofs.RowsLaws.{Stored}
-use Rattle.cache.proofs.Answering.{probe-full}
-use Rattle.cache.proofs.PairsFit.{step-fit}
-use Rattle.cache.proofs.SoundState.{answer-at}
 use Rattle.format.specs.declared.verdict.Verdict.the-variants.{Accepted, Refused}
 use Rattle.format.specs.Reading.{Draft, DesignRead, verdictOf, designOf, cellsAfter, tablesAfter}
 use Rattle.format.specs.Reading.DesignRead.{accepted, refusedAt}
 use Rattle.format.proofs.Small.{Small}
 use Rattle.script.specs.declared.outcome.Run.{Run}
-use Rattle.script.specs.Runs.{operationsAt, Buffers, readingOf, rowsOf, heldBy, cachedBy, Operated, Ran, ProbedAfter}
-use Rattle.script.proofs.SameRows.{SameRows, same-back, smallest-same, lawful-same, alike-same}
-use Rattle.script.proofs.JustRead.{none-fit, Begun, begun}
-
--- a probe's answer is a yes exactly if it has a ground
-ground-says : (n : ℕ) → ((g : ℕ) × (groundOf n ≡ ground g)) ↔ (n ≢ 0)
-ground-says n = (
-  λ y z. let e : sent ≡ ground (y .0) = ap groundOf (sym z) ∙ y .1 in let f : _≡_ {A = ℕ} 0 1 = cc in omega arith,
-  λ h. (n, ap (λ (b : Bool). orAnswer b (ground n) sent) (lt-ltb 0 n (pos-of-ne-zero h))),
-)
-
--- the pairs that a run holds fit the scheme
-run-fit : (S : Scheme) (ps : List Pair) (os : List Operation) → PairsFit S ps → PairsFit S (heldFrom S ps os)
-unfolding heldFrom
-run-fit S ps [] f = f
-run-fit S ps (o ∷ os) f = run-fit S _ os (step-fit S ps o f)
+use Rattle.script.specs.Runs.{operationsAt, Buffers, readingOf, Called, Operated, Ran, ProbedAfter}
+use Rattle.script.proofs.JustRead.{begun}
+use Rattle.script.proofs.ExactProbes.{answer-exact}
 
 -- the state that a run with an accepted design p leaves
 abbrev leftBehind : Draft → Buffers → Run → State
 leftBehind p a r = lent (p .design) (a .cells) (a .tables) (a .marks) (r .held)
 
-module _ (script : List ℕ) (b a : Buffers) (r : Run) (p : Draft) (i : ℕ) (w : Begun b p i) (o : Operated script p i b a (r .held))
-    (cells : a .cells ≡ cellsAfter (accepted p i) (b .cells)) (tables : a .tables ≡ tablesAfter (accepted p i) (b .tables)) where
-  abbrev S : Scheme
-  S = schemeOf (p .design)
-
-  abbrev D : Database
-  D = database (leftBehind p a r)
-
-  abbrev H : Held
-  H = heldIn S (heldBy script p i)
-
-  same : SameRows (rowsOf p) D
-  same = subst (SameRows (rowsOf p)) (λ x. databaseOf (p .design .rows) (sym cells x) (sym tables x)) (same-back (w .rows))
-
-  pairs-are : pairsOf (r .held) ≡ heldBy script p i
-  pairs-are = ap pairsOf (o .held) ∙ pairs-back (heldBy script p i) (run-fit S [] (operationsAt script i) (none-fit S) .few)
-
-  -- a probe of a column of the design for a value other than blank
-  module _ (k : Column) (c : ColumnOf S k) (v : Cell) (f : Fits v) (full : isBlank v ≡ false) where
-    answer-is : answerAt (leftBehind p a r) (probe k v) ≡ groundOf (Probe.probe S D H (cachedBy a) k v)
-    answer-is =
-        answer-at (leftBehind p a r) (o .sound) (probe k v) ∙
-        sym (probe-full S D (cache (leftBehind p a r)) k v (column-if c) full) ∙
-        ap (λ (ps : List Pair). groundOf (Probe.probe S D (heldIn S ps) (cachedBy a) k v)) pairs-are
-
-    probe-exact : (Probe.probe S D H (cachedBy a) k v ≢ 0) ↔ ((E : Database) → Alike S (rowsOf p) H (cachedBy a) E → Complete E (cachedBy a) k v)
-    probe-exact = (
-      λ y E m. here .0 y E (alike-same same (o .demand3 .smallest .meets .rows) m),
-      λ all. here .1 (λ E m. all E (alike-same (same-back same) (smallest-same same (o .demand3 .smallest) .meets .rows) m)),
-    )
-      where
-        here : (Probe.probe S D H (cachedBy a) k v ≢ 0) ↔ ((E : Database) → Alike S D H (cachedBy a) E → Complete E (cachedBy a) k v)
-        here = exact (lawful-same same (w .lawful)) (smallest-same same (o .demand3 .smallest)) c v f full
-
-    answer-exact : (x : Answer) → x ≡ answerAt (leftBehind p a r) (probe k v) →
-        ((g : ℕ) × (x ≡ ground g)) ↔ ((E : Database) → Alike S (rowsOf p) H (cachedBy a) E → Complete E (cachedBy a) k v)
-    answer-exact x e = (
-      λ y. probe-exact .0 (ground-says _ .0 (y .0, sym (e ∙ answer-is) ∙ y .1)),
-      λ all. let y = ground-says _ .1 (probe-exact .1 all) in (y .0, e ∙ answer-is ∙ y .1),
-    )
+-- it is what the calls that stand in the script leave
+left-called : (script : List ℕ) (b a : Buffers) (r : Run) (p : Draft) (i : ℕ) → Operated script p i b a (r .held) →
+    a .cells ≡ cellsAfter (accepted p i) (b .cells) → a .tables ≡ tablesAfter (accepted p i) (b .tables) →
+    Called p b (operationsAt script i) (leftBehind p a r)
+left-called script b a r p i o cells tables =
+    record { held = o .held; marks = o .marks; demand3 = o .demand3; design = refl; cells = cells; tables = tables; sound = o .sound }
 
 module _ (script : List ℕ) (b a : Buffers) (r : Run) (ran : Ran script b a r) where
   -- the design is refused, and so is the probe
@@ -124,8 +64,9 @@ module _ (script : List ℕ) (b a : Buffers) (r : Run) (ran : Ran script b a r) 
           refused = λ n i e. absurd (let z : _≡_ {A = ℕ} 0 1 = cc (ran .verdict ∙ ap verdictOf e) in omega arith);
           answer = answered;
           exact = λ p i e c full.
-              answer-exact script b a r p i (begun script small b p i e (subst Stored (cells p i e) stored)) (ran .accepted p i e) (cells p i e)
-              (ran .tables ∙ ap (λ (R : DesignRead). tablesAfter R (b .tables)) e) k c v f full x (answered p i e);
+              answer-exact b p i (begun script small b p i e (subst Stored (cells p i e) stored)) (operationsAt script i) (leftBehind p a r)
+              (left-called script b a r p i (ran .accepted p i e) (cells p i e) (ran .tables ∙ ap (λ (R : DesignRead). tablesAfter R (b .tables)) e))
+              k v c f full x (answered p i e);
         }
       where
         cells : (p : Draft) (i : ℕ) → readingOf script b ≡ accepted p i → a .cells ≡ cellsAfter (accepted p i) (b .cells)

@@ -21,7 +21,7 @@ use Rattle.format.specs.Commands.{commandAt, widthOf}
 use Rattle.format.specs.Reading.{mostBytes}
 use Rattle.format.proofs.CommandLaws.{at-end}
 use Rattle.script.specs.Step.{Stepped, operated, queried, carried, stepAt, stateAfterStep}
-use Rattle.script.specs.Runs.{operationThen, operationsFrom, Left, leftFrom}
+use Rattle.script.specs.Runs.{operationThen, operationsFrom, Left, leftFrom, stateAfterAll}
 use Rattle.script.proofs.StepLaws.{Tidy, after-cache, after-past, after-tidy, step-carried, step-on}
 
 -- ---- one turn of `leftFrom`
@@ -141,3 +141,10 @@ module _ (script : List ℕ) (short : length script ≤ mostBytes) where
       (then-follows n s t words i (i + widthOf (byteAt script i)) _
       (λ l u w. left-follows n l u w (i + widthOf (byteAt script i))) (commandAt script i)))
       (dec (leb (length script) i))
+
+-- ---- any list of calls
+
+pub calls-follow : (s : State) → Tidy s → (os : List Operation) → Follows s os (stateAfterAll s os)
+unfolding stateAfterAll
+calls-follow s t [] = stays s t
+calls-follow s t (o ∷ os) = first s t o os _ (calls-follow (stateAfter s o) (after-tidy s (t .sound) o) os)

@@ -2,12 +2,12 @@
 -- state that the one before left; and what a run of all of it gives and leaves (demand 3). Assumes nothing.
 use Prim.Native.Nat.{ℕ, zero, suc, _+_}
 use mathlib.Core.Path.{_≡_}
-use mathlib.Core.Logic.{_↔_}
+use mathlib.Core.Logic.{_↔_, _≢_}
 use mathlib.Core.Bool.{true, false, cond}
 use mathlib.Core.List.{List, [], _∷_, _++_}
 use lib.Dec.{leb}
 use lib.ListN.{length, take, drop as past}
-use Rattle.model.specs.Cell.{Cell, cellOf, isBlank}
+use Rattle.model.specs.Cell.{Cell, Fits, cellOf, isBlank}
 use Rattle.model.specs.Scheme.{Column, ColumnOf}
 use Rattle.model.specs.Database.{Database}
 use Rattle.model.specs.Cache.{RowSet, Complete, Alike}
@@ -17,7 +17,7 @@ use Rattle.model.specs.Demand.{Demand3}
 use Rattle.state.specs.declared.held.Held.{Held}
 use Rattle.state.specs.Held.{noneHeld}
 use Rattle.state.specs.Meaning.{columnOf, schemeOf, databaseOf, heldOf}
-use Rattle.state.specs.Step.{State, lent, sound, answerAt}
+use Rattle.state.specs.Step.{State, lent, sound, answerAt, stateAfter}
 use Rattle.format.specs.declared.command.Command.{Command}
 use Rattle.format.specs.declared.command.Command.the-variants.{Table, Constraint, Filling, Row, End, Refer, Drop, Probe, Query, Unknown, Short}
 use Rattle.format.specs.Bytes.{byteAt}
@@ -115,6 +115,42 @@ pub record Operated (script : List ℕ) (p : Draft) (i : ℕ) (b a : Buffers) (h
   pub words : a .words ≡ leftFrom (length script) script (justRead (accepted p i) b) (b .words) i .words
   -- what is left can be worked on: neither cause 7 nor 12 applies
   pub sound : sound (lent (p .design) (a .cells) (a .tables) (a .marks) h) ≡ true
+
+-- ---- any list of calls
+
+-- the state behind a list of operations, each called on the state that the one before left, a refused one too
+unfoldable pub stateAfterAll : State → List Operation → State
+stateAfterAll s [] = s
+stateAfterAll s (o ∷ os) = stateAfterAll (stateAfter s o) os
+
+-- DEMAND 3, of any list of operations os, called on the design p just read into the buffers b: e is the state that they leave
+pub record Called (p : Draft) (b : Buffers) (os : List Operation) (e : State) : Type 0 where
+  -- the held values are the list's, in order
+  pub held : e .held ≡ heldOf (heldFrom (schemeOf (p .design)) [] os)
+  -- the first 512 marks are 1 on the cached rows and 0 on all other numbers; what lies past them is untouched
+  pub marks : e .marks ≡ marks (rowsOf p) (marked (take 512 (e .marks))) ++ past 512 (b .marks)
+  -- the cached rows are the smallest row set for what is held, and every probe says yes exactly when the value is complete in all databases alike
+  pub demand3 : Demand3 (schemeOf (p .design)) (rowsOf p) (heldFrom (schemeOf (p .design)) [] os) (marked (take 512 (e .marks)))
+  -- neither the design nor its rows have changed, and what is left can be worked on
+  pub design : e .design ≡ p .design
+  pub cells : e .cells ≡ p .cells ++ past 4096 (b .cells)
+  pub tables : e .tables ≡ p .tables ++ past 512 (b .tables)
+  pub sound : sound e ≡ true
+
+-- the value v in column k is complete in every lawful database from which the rows X would have been cached with the pairs ps held
+abbrev pub CompleteInAll : Draft → List Pair → RowSet → Column → Cell → Type 0
+CompleteInAll p ps X k v =
+    (E : Database) → Alike (schemeOf (p .design)) (rowsOf p) (heldIn (schemeOf (p .design)) ps) X E → Complete E X k v
+
+-- DEMAND 3, at every point: os is any list of operations, called on the design p just read into the buffers b, with its END before place i. Each PROBE
+-- among them, on the state e that those before it have left, answers x; where that is no refusal, it is a ground exactly if the value is complete in
+-- every lawful database from which the same rows would have been cached.
+pub record ProbesExact (p : Draft) (i : ℕ) (b : Buffers) (os : List Operation) : Type 0 where
+  pub exact : (earlier later : List Operation) (k : Column) (v : Cell) → os ≡ earlier ++ (probe k v ∷ later) → Fits v →
+      (e : State) → e ≡ stateAfterAll (justRead (accepted p i) b) earlier → (x : Answer) → x ≡ answerAt e (probe k v) → ((n : ℕ) → x ≢ refused n) →
+      ((g : ℕ) × (x ≡ ground g)) ↔ CompleteInAll p (heldFrom (schemeOf (p .design)) [] earlier) (marked (take 512 (e .marks))) k v
+
+-- ---- what a whole run gives
 
 -- a refused design leaves everything as it was, and nothing held
 pub record Untouched (b a : Buffers) (h : Held) : Type 0 where

@@ -12,6 +12,7 @@ pub use outcome::Step;
 pub use outcome::Written;
 pub use runs::probe_after;
 pub use runs::run;
+pub use runs::run_lawful;
 pub use steps::step;
 pub use steps::step_lawful;
 pub use writing::write;

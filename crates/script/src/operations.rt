@@ -7,9 +7,10 @@ ghost use Prim.Native.Nat.{ℕ, _+_, _≤_, _<_};
 ghost use lib.ListN.{length};
 ghost use Rattle.model.specs.Cell.{cellOf};
 ghost use Rattle.model.specs.Runs as Runs;
-ghost use Rattle.state.specs.Meaning.{answerOf, columnOf};
+ghost use Rattle.state.specs.Meaning.{answerOf, columnOf, databaseOf};
 ghost use Rattle.state.specs.Step.{lent, sound};
 ghost use Rattle.format.specs.Commands.{positionAt, constraintNumberAt};
+ghost use Rattle.catalog.specs.Catalog.{nexts, Directory, Catalogued};
 ghost use Rattle.query.specs.Plan.{queryOf};
 ghost use Rattle.script.specs.Step.{placeOf, queryAt, operated, queried, DoesSoundly};
 use crate::outcome::Step;
@@ -36,15 +37,15 @@ fn place_of(answer: Answer, at: usize) -> usize
     at
 }
 
-// The answer of an operation that stood at place `at`. Constant time.
-fn answering(answer: Answer, at: usize, next: usize, held: Held) -> Step
-    ensures { λ t. ⌜ t ≡ record { answer = answer; place = placeOf (answerOf answer) at; next = next; more = true; held = held } ⌝ }
+// The answer of an operation that stood at place `at`, before place `after`. Constant time.
+fn answering(answer: Answer, at: usize, after: usize, held: Held) -> Step
+    ensures { λ t. ⌜ t ≡ record { answer = answer; place = placeOf (answerOf answer) at; next = after; more = true; held = held } ⌝ }
 {
     let place = place_of(answer, at);
     Step {
         answer,
         place,
-        next,
+        next: after,
         more: true,
         held,
     }
@@ -53,80 +54,128 @@ fn answering(answer: Answer, at: usize, next: usize, held: Held) -> Step
 // REFER. The cost is `refer_held`'s: one load.
 pub(crate) fn refer_at(
     at: usize,
-    next: usize,
+    after: usize,
     design: Design,
     cells: &[u32],
     tables: &[u8],
+    next: &[u16; 4096],
+    first: &[u16; 8192],
+    keys: &[u32; 4096],
+    heads: &[u16; 4096],
+    starts: &[u16; 65],
     marks: &mut [u8],
     held: Held,
     filling: u8,
     value: u32,
 ) -> Step
-    requires { ⌜ sound (lent design (now cells) (now tables) (now marks) held) ≡ true ⌝ }
+    requires { ⌜ (sound (lent design (now cells) (now tables) (now marks) held) ≡ true)
+        × Catalogued design (now cells) (now tables) (now next) (now first) (now keys) (now heads) (now starts) ⌝ }
     ensures { λ t. ⌜ ((words : List ℕ) → DoesSoundly (lent design (now (cells .entry)) (now (tables .entry)) (now (marks .entry)) held)
         (operated (lent design (now (cells .entry)) (now (tables .entry)) (now (marks .entry)) held) words
-        (Runs.refer (record { filling = filling; value = cellOf value })) at next)
+        (Runs.refer (record { filling = filling; value = cellOf value })) at after)
         t (now (marks .exit)) words) ⌝ }
 {
-    let o = refer_held(design, cells, tables, marks, held, filling, value);
+    let o = refer_held(
+        design,
+        cells,
+        tables,
+        next,
+        first,
+        keys,
+        heads,
+        starts,
+        marks,
+        held,
+        filling,
+        value,
+    );
     let h = o.held;
     let a = o.answer;
-    answering(a, at, next, h)
+    answering(a, at, after, h)
 }
 
 // DROP. The cost is `drop_held`'s: one reload.
 pub(crate) fn drop_at(
     at: usize,
-    next: usize,
+    after: usize,
     design: Design,
     cells: &[u32],
     tables: &[u8],
+    next: &[u16; 4096],
+    first: &[u16; 8192],
+    keys: &[u32; 4096],
+    heads: &[u16; 4096],
+    starts: &[u16; 65],
     marks: &mut [u8],
     held: Held,
     filling: u8,
     value: u32,
 ) -> Step
-    requires { ⌜ sound (lent design (now cells) (now tables) (now marks) held) ≡ true ⌝ }
+    requires { ⌜ (sound (lent design (now cells) (now tables) (now marks) held) ≡ true)
+        × Catalogued design (now cells) (now tables) (now next) (now first) (now keys) (now heads) (now starts) ⌝ }
     ensures { λ t. ⌜ ((words : List ℕ) → DoesSoundly (lent design (now (cells .entry)) (now (tables .entry)) (now (marks .entry)) held)
         (operated (lent design (now (cells .entry)) (now (tables .entry)) (now (marks .entry)) held) words
-        (Runs.drop (record { filling = filling; value = cellOf value })) at next)
+        (Runs.drop (record { filling = filling; value = cellOf value })) at after)
         t (now (marks .exit)) words) ⌝ }
 {
-    let o = drop_held(design, cells, tables, marks, held, filling, value);
+    let o = drop_held(
+        design,
+        cells,
+        tables,
+        next,
+        first,
+        keys,
+        heads,
+        starts,
+        marks,
+        held,
+        filling,
+        value,
+    );
     let left = o.held;
     let a = o.answer;
-    answering(a, at, next, left)
+    answering(a, at, after, left)
 }
 
-// PROBE. The cost is `probe_lawful`'s: rows for each constraint that ends at the column.
+// PROBE. The cost is `probe_lawful`'s: a look for the value for each constraint that ends at the column.
 pub(crate) fn probe_at(
     at: usize,
-    next: usize,
+    after: usize,
     design: Design,
     cells: &[u32],
     tables: &[u8],
+    next: &[u16; 4096],
+    keys: &[u32; 4096],
+    heads: &[u16; 4096],
+    starts: &[u16; 65],
     marks: &[u8],
     held: Held,
     column: Column,
     value: u32,
 ) -> Step
     requires { ⌜ sound (lent design (now cells) (now tables) (now marks) held) ≡ true ⌝ }
+    requires { ⌜ (now next ≡ nexts (databaseOf (design .rows) (now cells) (now tables)))
+        × Directory (databaseOf (design .rows) (now cells) (now tables)) (now keys) (now heads) (now starts) ⌝ }
     ensures { λ t. ⌜ ((words : List ℕ) → DoesSoundly (lent design (now (cells .entry)) (now (tables .entry)) (now (marks .entry)) held)
         (operated (lent design (now (cells .entry)) (now (tables .entry)) (now (marks .entry)) held) words
-        (Runs.probe (columnOf column) (cellOf value)) at next)
+        (Runs.probe (columnOf column) (cellOf value)) at after)
         t (now (marks .entry)) words) ⌝ }
 {
     let a = probe_lawful(
         design,
         cells,
         tables,
+        next,
+        keys,
+        heads,
+        starts,
         marks,
         held,
         column.table,
         column.place,
         value,
     );
-    answering(a, at, next, held)
+    answering(a, at, after, held)
 }
 
 // Pair j of the QUERY at place `at`. Constant time.
@@ -157,28 +206,55 @@ fn query_at(script: &[u8], at: usize, column: Column, value: u32, joins: u8) -> 
     }
 }
 
-// QUERY. The cost is `query_lawful`'s: a step for each position and row, if the values are spread, and for each list its words.
+// QUERY. The cost is `query_lawful`'s. The last four arrays are working memory, whatever stands in them.
 pub(crate) fn answer_query(
     script: &[u8],
     at: usize,
-    next: usize,
+    after: usize,
     design: Design,
     cells: &[u32],
     tables: &[u8],
+    next: &[u16; 4096],
+    first: &[u16; 8192],
+    keys: &[u32; 4096],
+    heads: &[u16; 4096],
+    starts: &[u16; 65],
     marks: &[u8],
     held: Held,
     column: Column,
     value: u32,
     joins: u8,
     words: &mut [u32],
+    weights: &mut [u64; 2560],
+    sums: &mut [u64; 2560],
+    froms: &mut [u16; 2560],
+    links: &mut [u16; 2560],
 ) -> Step
-    requires { ⌜ (at + 16 ≤ length (now script)) × (sound (lent design (now cells) (now tables) (now marks) held) ≡ true) ⌝ }
+    requires { ⌜ (at + 16 ≤ length (now script)) × (sound (lent design (now cells) (now tables) (now marks) held) ≡ true)
+        × Catalogued design (now cells) (now tables) (now next) (now first) (now keys) (now heads) (now starts) ⌝ }
     ensures { λ t. ⌜ DoesSoundly (lent design (now (cells .entry)) (now (tables .entry)) (now (marks .entry)) held)
         (queried (lent design (now (cells .entry)) (now (tables .entry)) (now (marks .entry)) held) (now (words .entry))
-        (queryAt (now (script .entry)) at column value joins) at next)
+        (queryAt (now (script .entry)) at column value joins) at after)
         t (now (marks .entry)) (now (words .exit)) ⌝ }
 {
     let q = query_at(script, at, column, value, joins);
-    let a = query_lawful(design, cells, tables, marks, held, q, words);
-    answering(a, at, next, held)
+    let a = query_lawful(
+        design,
+        cells,
+        tables,
+        next,
+        first,
+        keys,
+        heads,
+        starts,
+        marks,
+        held,
+        q,
+        words,
+        weights,
+        sums,
+        froms,
+        links,
+    );
+    answering(a, at, after, held)
 }

@@ -1,42 +1,75 @@
 // A whole run of a script: its design is read, then every operation behind the END is carried out in order, refused ones too.
 ghost use mathlib.Core.Path.{_≡_};
 ghost use mathlib.Core.Bool.{true};
+ghost use Prim.Native.Nat.{ℕ};
 ghost use lib.ListN.{length};
 ghost use Rattle.model.specs.Cell.{cellOf};
 ghost use Rattle.state.specs.Meaning.{answerOf};
 ghost use Rattle.state.specs.Step.{lent, sound};
+ghost use Rattle.catalog.specs.Catalog.{Catalogued};
+ghost use Rattle.format.specs.declared.verdict.Verdict.the-variants as Verdicts;
 ghost use Rattle.script.specs.Runs.{buffers, leftFrom, Leaves, Ran, ProbedAfter};
 use crate::outcome::ProbedRun;
 use crate::outcome::Run;
 use crate::steps::step_lawful;
 use cache::probe_lawful;
 use format::Verdict;
-use format::read_design;
+use format::read_catalogued;
 use state::Answer;
 use state::Design;
 use state::Held;
 
-// The steps from place `at` on, until the script ends or cause 1 or 2 stops it; the values held afterwards. The cost is that of the operations.
-fn run_from(
+// The steps from place `at` on, until the script ends or cause 1, 2 or 4 stops it, on a state known sound with the catalog of its rows; the values
+// held afterwards, with which the state is sound again. The last four arrays are working memory, whatever stands in them. The cost of the operations.
+pub fn run_lawful(
     script: &[u8],
     at: usize,
     design: Design,
     cells: &[u32],
     tables: &[u8],
+    next: &[u16; 4096],
+    first: &[u16; 8192],
+    keys: &[u32; 4096],
+    heads: &[u16; 4096],
+    starts: &[u16; 65],
     marks: &mut [u8],
     held: Held,
     words: &mut [u32],
+    weights: &mut [u64; 2560],
+    sums: &mut [u64; 2560],
+    froms: &mut [u16; 2560],
+    links: &mut [u16; 2560],
 ) -> Held
-    requires { ⌜ sound (lent design (now cells) (now tables) (now marks) held) ≡ true ⌝ }
+    requires { ⌜ (sound (lent design (now cells) (now tables) (now marks) held) ≡ true)
+        × Catalogued design (now cells) (now tables) (now next) (now first) (now keys) (now heads) (now starts) ⌝ }
     ensures { λ h. ⌜ Leaves
         (leftFrom (length (now (script .entry))) (now (script .entry))
         (lent design (now (cells .entry)) (now (tables .entry)) (now (marks .entry)) held) (now (words .entry)) at)
         h (now (marks .exit)) (now (words .exit)) ⌝ }
+    ensures { λ h. ⌜ sound (lent design (now (cells .entry)) (now (tables .entry)) (now (marks .exit)) h) ≡ true ⌝ }
 {
     let mut i = at;
     let mut h = held;
     while i < script.len() {
-        let t = step_lawful(script, i, design, cells, tables, marks, h, words);
+        let t = step_lawful(
+            script,
+            i,
+            design,
+            cells,
+            tables,
+            next,
+            first,
+            keys,
+            heads,
+            starts,
+            marks,
+            h,
+            words,
+            weights,
+            sums,
+            froms,
+            links,
+        );
         let kept = t.held;
         h = kept;
         if !t.more {
@@ -47,8 +80,77 @@ fn run_from(
     h
 }
 
-// The run of a whole script. Reading the design costs one look at each earlier row for each row and unique column; then the cost is that of the
-// operations. What is lent is known to be sound from then on, so that no step tests for cause 12.
+// The run of a whole script, which leaves the catalog of an accepted design's rows in the arrays, whatever stood there. The cost of `read_catalogued`, then that of the operations. What is lent is known to be sound from then on, so that no step tests for cause 12.
+fn run_catalogued(
+    script: &[u8],
+    cells: &mut [u32],
+    tables: &mut [u8],
+    next: &mut [u16; 4096],
+    first: &mut [u16; 8192],
+    keys: &mut [u32; 4096],
+    heads: &mut [u16; 4096],
+    starts: &mut [u16; 65],
+    marks: &mut [u8],
+    words: &mut [u32],
+) -> Run
+    ensures { λ r. ⌜ Ran (now (script .entry))
+        (buffers (now (cells .entry)) (now (tables .entry)) (now (marks .entry)) (now (words .entry)))
+        (buffers (now (cells .exit)) (now (tables .exit)) (now (marks .exit)) (now (words .exit))) r ⌝ }
+    ensures { λ r. ⌜ ((i : ℕ) → r .verdict ≡ Verdicts.Accepted i → Catalogued (r .design) (now (cells .exit)) (now (tables .exit))
+        (now (next .exit)) (now (first .exit)) (now (keys .exit)) (now (heads .exit)) (now (starts .exit))) ⌝ }
+{
+    let reading = read_catalogued(
+        script,
+        cells,
+        tables,
+        marks,
+        next,
+        first,
+        keys,
+        heads,
+        starts,
+    );
+    let verdict = reading.verdict;
+    let design = reading.design;
+    let none = Held::none();
+    let Verdict::Accepted(at) = verdict else {
+        return Run {
+            verdict,
+            design,
+            held: none,
+        };
+    };
+    let mut weights = [0u64; 2560];
+    let mut sums = [0u64; 2560];
+    let mut froms = [0u16; 2560];
+    let mut links = [0u16; 2560];
+    let held = run_lawful(
+        script,
+        at,
+        design,
+        cells,
+        tables,
+        next,
+        first,
+        keys,
+        heads,
+        starts,
+        marks,
+        none,
+        words,
+        &mut weights,
+        &mut sums,
+        &mut froms,
+        &mut links,
+    );
+    Run {
+        verdict,
+        design,
+        held,
+    }
+}
+
+// The run of a whole script. Reading the design and making its catalog, then the cost of the operations.
 pub fn run(
     script: &[u8],
     cells: &mut [u32],
@@ -60,23 +162,23 @@ pub fn run(
         (buffers (now (cells .entry)) (now (tables .entry)) (now (marks .entry)) (now (words .entry)))
         (buffers (now (cells .exit)) (now (tables .exit)) (now (marks .exit)) (now (words .exit))) r ⌝ }
 {
-    let reading = read_design(script, cells, tables, marks);
-    let verdict = reading.verdict;
-    let design = reading.design;
-    let none = Held::none();
-    let Verdict::Accepted(at) = verdict else {
-        return Run {
-            verdict,
-            design,
-            held: none,
-        };
-    };
-    let held = run_from(script, at, design, cells, tables, marks, none, words);
-    Run {
-        verdict,
-        design,
-        held,
-    }
+    let mut next = [512u16; 4096];
+    let mut first = [512u16; 8192];
+    let mut keys = [0u32; 4096];
+    let mut heads = [512u16; 4096];
+    let mut starts = [0u16; 65];
+    run_catalogued(
+        script,
+        cells,
+        tables,
+        &mut next,
+        &mut first,
+        &mut keys,
+        &mut heads,
+        &mut starts,
+        marks,
+        words,
+    )
 }
 
 // The run of a whole script, and a probe of what it has left; with a refused design, its cause. The cost of the run and that of the probe: what a
@@ -96,7 +198,23 @@ pub fn probe_after(
         (buffers (now (cells .exit)) (now (tables .exit)) (now (marks .exit)) (now (words .exit)))
         (x .run) (record { table = table; place = column }) (cellOf value) (answerOf (x .answer)) ⌝ }
 {
-    let left = run(script, cells, tables, marks, words);
+    let mut next = [512u16; 4096];
+    let mut first = [512u16; 8192];
+    let mut keys = [0u32; 4096];
+    let mut heads = [512u16; 4096];
+    let mut starts = [0u16; 65];
+    let left = run_catalogued(
+        script,
+        cells,
+        tables,
+        &mut next,
+        &mut first,
+        &mut keys,
+        &mut heads,
+        &mut starts,
+        marks,
+        words,
+    );
     let verdict = left.verdict;
     let design = left.design;
     let held = left.held;
@@ -106,6 +224,19 @@ pub fn probe_after(
             answer: Answer::Refused(cause),
         };
     }
-    let answer = probe_lawful(design, cells, tables, marks, held, table, column, value);
+    let answer = probe_lawful(
+        design,
+        cells,
+        tables,
+        &next,
+        &keys,
+        &heads,
+        &starts,
+        marks,
+        held,
+        table,
+        column,
+        value,
+    );
     ProbedRun { run: left, answer }
 }

@@ -4,6 +4,7 @@ ghost use mathlib.Core.Bool.{true};
 ghost use Prim.Native.Nat.{_+_, min};
 ghost use Rattle.state.specs.declared.answer.Answer.the-variants as Answers;
 ghost use Rattle.state.specs.Step.{lent, sound};
+ghost use Rattle.catalog.specs.Catalog.{Catalogued};
 ghost use Rattle.format.specs.Bytes.{byteAt};
 ghost use Rattle.format.specs.Commands.{commandAt, widthOf};
 ghost use Rattle.script.specs.Step.{carried, stepAt, Does, DoesSoundly};
@@ -12,7 +13,7 @@ use crate::operations::drop_at;
 use crate::operations::probe_at;
 use crate::operations::refer_at;
 use crate::outcome::Step;
-use cache::is_lawful;
+use cache::is_lawful_catalog;
 use cache::is_long_enough;
 use format::Command;
 use format::MOST_BYTES;
@@ -23,13 +24,13 @@ use state::Design;
 use state::Held;
 
 // A refusal, with nothing changed. Constant time.
-fn refusing(cause: u8, place: usize, next: usize, more: bool, held: Held) -> Step
-    ensures { λ t. ⌜ t ≡ record { answer = Answers.Refused cause; place = place; next = next; more = more; held = held } ⌝ }
+fn refusing(cause: u8, place: usize, after: usize, more: bool, held: Held) -> Step
+    ensures { λ t. ⌜ t ≡ record { answer = Answers.Refused cause; place = place; next = after; more = more; held = held } ⌝ }
 {
     Step {
         answer: Answer::Refused(cause),
         place,
-        next,
+        next: after,
         more,
         held,
     }
@@ -52,65 +53,139 @@ fn lower(a: usize, b: usize) -> usize
     if a <= b { a } else { b }
 }
 
-// Carries out the command that stands at place `at`, followed by place `next`. The cost is that of its operation.
+// Carries out the command that stands at place `at`, followed by place `after`. The cost is that of its operation.
 fn carry_out(
     script: &[u8],
     at: usize,
-    next: usize,
+    after: usize,
     command: Command,
     design: Design,
     cells: &[u32],
     tables: &[u8],
+    next: &[u16; 4096],
+    first: &[u16; 8192],
+    keys: &[u32; 4096],
+    heads: &[u16; 4096],
+    starts: &[u16; 65],
     marks: &mut [u8],
     held: Held,
     words: &mut [u32],
+    weights: &mut [u64; 2560],
+    sums: &mut [u64; 2560],
+    froms: &mut [u16; 2560],
+    links: &mut [u16; 2560],
 ) -> Step
-    requires { ⌜ (command ≡ commandAt (now script) at) × (sound (lent design (now cells) (now tables) (now marks) held) ≡ true) ⌝ }
+    requires { ⌜ (command ≡ commandAt (now script) at) × (sound (lent design (now cells) (now tables) (now marks) held) ≡ true)
+        × Catalogued design (now cells) (now tables) (now next) (now first) (now keys) (now heads) (now starts) ⌝ }
     ensures { λ t. ⌜ DoesSoundly (lent design (now (cells .entry)) (now (tables .entry)) (now (marks .entry)) held)
         (carried (lent design (now (cells .entry)) (now (tables .entry)) (now (marks .entry)) held) (now (words .entry))
-        (now (script .entry)) at next command)
+        (now (script .entry)) at after command)
         t (now (marks .exit)) (now (words .exit)) ⌝ }
 {
     match command {
-        Command::Refer(f, v) => refer_at(at, next, design, cells, tables, marks, held, f, v),
-        Command::Drop(f, v) => drop_at(at, next, design, cells, tables, marks, held, f, v),
-        Command::Probe(k, v) => probe_at(at, next, design, cells, tables, marks, held, k, v),
-        Command::Query(k, v, n) => answer_query(
-            script,
+        Command::Refer(f, v) => refer_at(
             at,
-            next,
+            after,
             design,
             cells,
             tables,
+            next,
+            first,
+            keys,
+            heads,
+            starts,
+            marks,
+            held,
+            f,
+            v,
+        ),
+        Command::Drop(f, v) => drop_at(
+            at,
+            after,
+            design,
+            cells,
+            tables,
+            next,
+            first,
+            keys,
+            heads,
+            starts,
+            marks,
+            held,
+            f,
+            v,
+        ),
+        Command::Probe(k, v) => probe_at(
+            at,
+            after,
+            design,
+            cells,
+            tables,
+            next,
+            keys,
+            heads,
+            starts,
+            marks,
+            held,
+            k,
+            v,
+        ),
+        Command::Query(k, v, n) => answer_query(
+            script,
+            at,
+            after,
+            design,
+            cells,
+            tables,
+            next,
+            first,
+            keys,
+            heads,
+            starts,
             marks,
             held,
             k,
             v,
             n,
             words,
+            weights,
+            sums,
+            froms,
+            links,
         ),
-        Command::Table(_) => refusing(3, at, next, true, held),
-        Command::Constraint(_) => refusing(3, at, next, true, held),
-        Command::Filling(_) => refusing(3, at, next, true, held),
-        Command::Row(_) => refusing(3, at, next, true, held),
-        Command::End => refusing(3, at, next, true, held),
+        Command::Table(_) => refusing(3, at, after, true, held),
+        Command::Constraint(_) => refusing(3, at, after, true, held),
+        Command::Filling(_) => refusing(3, at, after, true, held),
+        Command::Row(_) => refusing(3, at, after, true, held),
+        Command::End => refusing(3, at, after, true, held),
         Command::Unknown => refusing(2, at, at, false, held),
         Command::Short => refusing(1, lower(at, script.len()), at, false, held),
     }
 }
 
-// The step at place `at` on a state known sound: no test for causes 7 and 12. The cost is that of the command's operation.
+// The step at place `at` on a state known sound, with the catalog of its rows: no test for causes 7 and 12. The last four arrays are working memory,
+// whatever stands in them. The cost is that of the command's operation.
 pub fn step_lawful(
     script: &[u8],
     at: usize,
     design: Design,
     cells: &[u32],
     tables: &[u8],
+    next: &[u16; 4096],
+    first: &[u16; 8192],
+    keys: &[u32; 4096],
+    heads: &[u16; 4096],
+    starts: &[u16; 65],
     marks: &mut [u8],
     held: Held,
     words: &mut [u32],
+    weights: &mut [u64; 2560],
+    sums: &mut [u64; 2560],
+    froms: &mut [u16; 2560],
+    links: &mut [u16; 2560],
 ) -> Step
-    requires { ⌜ sound (lent design (now cells) (now tables) (now marks) held) ≡ true ⌝ }
+    requires { ⌜ (sound (lent design (now cells) (now tables) (now marks) held) ≡ true)
+        × Catalogued design (now cells) (now tables) (now next) (now first) (now keys) (now heads) (now starts) ⌝ }
     ensures { λ t. ⌜ DoesSoundly (lent design (now (cells .entry)) (now (tables .entry)) (now (marks .entry)) held)
         (stepAt (lent design (now (cells .entry)) (now (tables .entry)) (now (marks .entry)) held) (now (words .entry)) (now (script .entry)) at)
         t (now (marks .exit)) (now (words .exit)) ⌝ }
@@ -118,24 +193,33 @@ pub fn step_lawful(
     if MOST_BYTES < script.len() {
         return refusing(4, 0, at, false, held);
     }
-    let next = place_after(script, at);
+    let after = place_after(script, at);
     let command = command_at(script, at);
     carry_out(
         script,
         at,
-        next,
+        after,
         command,
         design,
         cells,
         tables,
+        next,
+        first,
+        keys,
+        heads,
+        starts,
         marks,
         held,
         words,
+        weights,
+        sums,
+        froms,
+        links,
     )
 }
 
-// The step at place `at` on whatever is lent: causes 7 and 12 first. The test for cause 12 (rows × rows × unique columns at most, and a reload),
-// then the cost of the command's operation.
+// The step at place `at` on whatever is lent: causes 7 and 12 first. The test for cause 12 (rows × rows × unique columns at most, the catalog, and a
+// reload), then the cost of the command's operation, by that catalog.
 pub fn step(
     script: &[u8],
     at: usize,
@@ -153,8 +237,46 @@ pub fn step(
     if !is_long_enough(cells, tables, marks) {
         return refusing(7, 0, at, false, held);
     }
-    if !is_lawful(design, cells, tables, marks, held) {
+    let mut next = [512u16; 4096];
+    let mut first = [512u16; 8192];
+    let mut keys = [0u32; 4096];
+    let mut heads = [512u16; 4096];
+    let mut starts = [0u16; 65];
+    if !is_lawful_catalog(
+        design,
+        cells,
+        tables,
+        &mut next,
+        &mut first,
+        &mut keys,
+        &mut heads,
+        &mut starts,
+        marks,
+        held,
+    ) {
         return refusing(12, 0, at, false, held);
     }
-    step_lawful(script, at, design, cells, tables, marks, held, words)
+    let mut weights = [0u64; 2560];
+    let mut sums = [0u64; 2560];
+    let mut froms = [0u16; 2560];
+    let mut links = [0u16; 2560];
+    step_lawful(
+        script,
+        at,
+        design,
+        cells,
+        tables,
+        &next,
+        &first,
+        &keys,
+        &heads,
+        &starts,
+        marks,
+        held,
+        words,
+        &mut weights,
+        &mut sums,
+        &mut froms,
+        &mut links,
+    )
 }

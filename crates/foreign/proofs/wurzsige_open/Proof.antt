@@ -1,18 +1,20 @@
 -- `foreign::wurzsige_open` meets its contract: too few words, a refused design, an accepted one. Assumes nothing.
 use native.Mathlib.Omega.{arith}
-use Rattle.foreign.proofs.Opening.{few-design, few-held, opened-refused, opened-accepted, accepted-lawful, none-few}
+use Rattle.foreign.specs.Calls.{arrays}
+use Rattle.foreign.proofs.Opening.{few-design, few-design-kept, few-held, few-held-kept, opened-refused, opened-accepted}
+use Rattle.foreign.proofs.Opening.{catalogs-refused, catalogs-accepted, accepted-lawful, none-few}
 use borrow.Author.Needs.{needs}
 use Rattle.foreign.proofs.wurzsige_open.Statement.{statement}
 use Rattle.foreign.proofs.wurzsige_open.Tie as tie
 
 returns : tie.Need-returns
-returns c = few-design _ _ _ _ _ _ (c .if1 .taken)
+returns c = (few-design _ _ _ _ _ _ (c .if1 .taken), few-design-kept _ _ _ _ _ _ (c .if1 .taken) _)
 
 returns-2 : tie.Need-returns-2
-returns-2 c = few-held _ _ _ _ _ _ (c .if2 .taken)
+returns-2 c = (few-held _ _ _ _ _ _ (c .if2 .taken), few-held-kept _ _ _ _ _ _ (c .if2 .taken) _)
 
-read-design-requires : tie.Need-read-design-requires
-read-design-requires c κs = search needs
+read-catalogued-requires : tie.Need-read-catalogued-requires
+read-catalogued-requires c κs = search needs
 
 enum-known-verdict : tie.Need-enum-known-verdict
 enum-known-verdict c = search needs
@@ -29,8 +31,13 @@ same-length-3 c = search needs
 returns-3 : tie.Need-returns-3
 returns-3 c =
     let r = c .before .before .before .before .before .before .before .before .before in
-    let i = r .before .before .before .before in
-    opened-refused _ _ _ _ _ _ (i .before .if1 .left) (i .if2 .left) _ _ _ _ (r .read-design .ensures) _ _ (c .before .verdict .given .1)
+    let i = r .before .before .before .before .before .before .before .before .before in
+    let v = c .before .verdict .given .1 in
+    let k = r .read-catalogued .ensures .1 .1 in (
+      opened-refused _ _ _ _ _ _ (i .before .if1 .left) (i .if2 .left) _ _ _ _ (r .read-catalogued .ensures .0) _ _ v,
+      catalogs-refused _ _ _ _ _ _ (i .before .if1 .left) (i .if2 .left) _ _ _ _ (r .read-catalogued .ensures .0) _ _ v _ _
+          (λ x. arrays (k .next _ _ v x) (k .first _ _ v x) (k .keys _ _ v x) (k .heads _ _ v x) (k .starts _ _ v x)),
+    )
 
 enum-told : tie.Need-enum-told
 enum-told c = search needs
@@ -40,9 +47,9 @@ put-design-requires c κs =
     let e = c .before .before in
     let k = e .before .before .before .before .before .before in
     let r = k .before .before in
-    let i = r .before .before .before .before in
+    let i = r .before .before .before .before .before .before .before .before .before in
     let b = i .before .before .before .before .before .before .before in
-    let w = accepted-lawful _ _ _ _ _ _ _ _ (r .read-design .ensures) _ (e .enum-told .given .1)
+    let w = accepted-lawful _ _ _ _ _ _ _ _ (r .read-catalogued .ensures .0) _ (e .enum-told .given .1)
     (record { at = λ j. omega (arith, b .shared-slice-known .given j) }) (λ j. omega (arith, k .slice-known6 .given j)) in
     (omega (arith, i .before .if1 .left), w .tables, w .constraints, w .fillings, w .rows)
 
@@ -53,7 +60,7 @@ put-held-requires : tie.Need-put-held-requires
 put-held-requires c κs =
     let n = c .before in
     let r = n .before .before .before .before .before .before .before .before .before .before .before .before .before .before in
-    let i = r .before .before .before .before in
+    let i = r .before .before .before .before .before .before .before .before .before in
     (omega (arith, i .if2 .left), none-few _ (n .none .ensures))
 
 same-length-4 : tie.Need-same-length-4
@@ -78,9 +85,13 @@ returns-4 c =
     let d = n .before .before .before in
     let e = d .before .before .before in
     let r = e .before .before .before .before .before .before .before .before in
-    let i = r .before .before .before .before in
-    opened-accepted _ _ _ _ _ _ (i .before .if1 .left) (i .if2 .left) _ _ _ _ (r .read-design .ensures) _ (e .enum-told .given .1) _ _ _
-    (n .none .ensures) (d .put-design .ensures) (h .put-held .ensures .0)
+    let i = r .before .before .before .before .before .before .before .before .before in
+    let v = e .enum-told .given .1 in (
+      opened-accepted _ _ _ _ _ _ (i .before .if1 .left) (i .if2 .left) _ _ _ _ (r .read-catalogued .ensures .0) _ v _ _ _
+          (n .none .ensures) (d .put-design .ensures) (h .put-held .ensures .0),
+      catalogs-accepted _ _ _ _ _ _ (i .before .if1 .left) (i .if2 .left) _ _ _ _ (r .read-catalogued .ensures .0) _ v _ _
+          (r .read-catalogued .ensures .1 .0 _ v),
+    )
 
 pub wurzsige-open-spec : {M : Type 1} → statement M
 wurzsige-open-spec =
@@ -88,7 +99,7 @@ wurzsige-open-spec =
     (tie.spec
     returns
     returns-2
-    read-design-requires
+    read-catalogued-requires
     enum-known-verdict
     same-length
     same-length-2

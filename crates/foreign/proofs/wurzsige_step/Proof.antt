@@ -1,6 +1,7 @@
 -- `foreign::wurzsige_step` meets its contract: the step on the state that the words stand for. Assumes nothing.
 use native.Mathlib.Omega.{arith}
-use Rattle.foreign.proofs.Stepping.{ready-sound, kept-few, answer-fits, step-took}
+use mathlib.Core.Path.{refl}
+use Rattle.foreign.proofs.Stepping.{ready-lawful, kept-few, answer-fits, step-taken}
 use borrow.Author.Needs.{needs}
 use Rattle.foreign.proofs.wurzsige_step.Statement.{statement}
 use Rattle.foreign.proofs.wurzsige_step.Tie as tie
@@ -13,25 +14,18 @@ held-from-requires c κs = search needs
 
 step-lawful-requires : tie.Need-step-lawful-requires
 step-lawful-requires c κs =
-    let h = c .before .before in
+    let h = c .before .before .before .before .before .before in
     let d = h .before .before in
-    ready-sound _ _ _ _ _ _ _ (d .design-from .ensures) (h .held-from .ensures)
-    (d .before .before .before .before .before .before .before .before .pre)
+    ready-lawful _ _ _ _ _ _ _ _ (d .design-from .ensures) (h .held-from .ensures) (d .before .before .before .before .before .before .before .before .pre)
 
 put-held-requires : tie.Need-put-held-requires
 put-held-requires c κs =
     let s = c .before .before .before .before .before .before in
-    let h = s .before .before .before in
-    let d = h .before .before in
-    let start = d .before .before .before .before .before .before .before .before in
-    (omega (arith, start .pre .held), kept-few _ _ _ _ _ _ _ (d .design-from .ensures) (h .held-from .ensures) _ _ _ _ _ _ (s .step-lawful .ensures))
+    let d = s .before .before .before .before .before .before .before .before .before in
+    (omega (arith, d .before .before .before .before .before .before .before .before .pre .held), kept-few _ _ _ _ _ (s .step-lawful .ensures .sound))
 
 code-of-requires : tie.Need-code-of-requires
-code-of-requires c κs =
-    let s = c .before .before .before .before .before .before .before .before .before in
-    let h = s .before .before .before in
-    let d = h .before .before in
-    answer-fits _ _ _ _ _ _ _ (d .design-from .ensures) (h .held-from .ensures) _ _ _ _ _ _ (s .step-lawful .ensures)
+code-of-requires c κs = answer-fits _ _ _ _ _ _ _ (c .before .before .before .before .before .before .before .before .before .step-lawful .ensures .does)
 
 same-length : tie.Need-same-length
 same-length c = search needs
@@ -46,11 +40,10 @@ returns : tie.Need-returns
 returns c =
     let k = c .before .before .before in
     let s = k .before .before .before .before .before .before .before in
-    let h = s .before .before .before in
+    let h = s .before .before .before .before .before .before .before in
     let d = h .before .before in
-    step-took _ _ _ _ _ _ _ (d .design-from .ensures) (h .held-from .ensures) _ _ _ _ _ _ (s .step-lawful .ensures)
-    (d .before .before .before .before .before .before .before .before .pre) _
-    (k .put-held .ensures .0) (k .put-held .ensures .1) _ (c .code-of .ensures)
+    step-taken _ _ _ _ _ _ _ _ (d .design-from .ensures) (h .held-from .ensures) (d .before .before .before .before .before .before .before .before .pre) _ _ (s .step-lawful .ensures .sound) _
+    (k .put-held .ensures .0) (k .put-held .ensures .1) _ _ _ _ _ refl (s .step-lawful .ensures .does) _ (c .code-of .ensures)
 
 pub wurzsige-step-spec : {M : Type 1} → statement M
 wurzsige-step-spec =

@@ -14,18 +14,18 @@ use Rattle.desk.proofs.reporting.fill.Statement.{statement}
 use Rattle.desk.proofs.reporting.fill.Tie as tie
 
 abbrev Inv-loop : tie.InvT-loop
-Inv-loop script design cells tables marks₀ words₀ out₀ p₀ marks words out p =
+Inv-loop script design cells tables next first keys heads starts marks₀ words₀ weights₀ sums₀ froms₀ links₀ out₀ p₀ marks words weights sums froms links out p =
     Printed script (lent design cells tables marks₀ (p₀ .held)) words₀ p₀ out₀ out marks words p ×
-    (p .more ≡ true → (p .at < length script) × (p .number ≤ p .at)) × (p .more ≡ true → (p₀ .at < p .at) ⊎ ((p .at ≡ p₀ .at) × (p .end ≤ 65536))) ×
-    (p .end ≤ 110663) × (length words ≤ 4096) × (length out ≡ 131072) × (length marks ≡ length marks₀) × (length words ≡ length words₀) × (length out ≡ length out₀)
+    (p .more ≡ true → (p .at < length script) × (p .number ≤ p .at)) × (p .more ≡ true → (p₀ .at < p .at) ⊎ ((p .at ≡ p₀ .at) × (p .end ≤ 16384))) ×
+    (p .end ≤ 61511) × (length words ≤ 4096) × (length out ≡ 65536) × (length marks ≡ length marks₀) × (length words ≡ length words₀) × (length out ≡ length out₀)
 
 abbrev μ-loop : tie.MeasureT-loop
-μ-loop script design cells tables marks₀ words₀ out₀ p₀ marks words out p = turns script p
+μ-loop script design cells tables next first keys heads starts marks₀ words₀ weights₀ sums₀ froms₀ links₀ out₀ p₀ marks words weights sums froms links out p = turns script p
 
 loop-holds : tie.Need-loop-holds Inv-loop μ-loop
 loop-holds c =
     let start = c .before .before .before .before .before .before in
-    (printed-none _ _ _ _ _ (start .pre .0) refl, start .pre .1 .0, λ e. inr (refl, start .pre .1 .2), omega arith, start .pre .1 .1, start .pre .1 .3, refl, refl, refl)
+    (printed-none _ _ _ _ _ (start .pre .0 .0) refl, start .pre .1 .0, λ e. inr (refl, start .pre .1 .2), omega arith, start .pre .1 .1, start .pre .1 .3, refl, refl, refl)
 
 same-length : tie.Need-same-length Inv-loop μ-loop
 same-length c = omega (arith, c .before .before .loop .inv .6)
@@ -64,25 +64,27 @@ returns-2 c =
 
 report-step-requires : tie.Need-report-step-requires Inv-loop μ-loop
 report-step-requires c κs =
-    let j = c .before .before .before .before .before .before .before .loop in
-    let more = not-false (j .p .more) (c .before .before .before .before .before .if1 .left) in
-    (j .inv .0 .sound, (more, j .inv .1 more .0, j .inv .1 more .1, j .inv .4, omega (arith, j .inv .5, c .before .before .before .if2 .left)))
+    let j = c .before .before .before .before .before .before .before .before .before .before .before .loop in
+    let more = not-false (j .p .more) (c .before .before .before .before .before .before .before .before .before .if1 .left) in (
+      (j .inv .0 .sound, c .before .before .before .before .before .before .before .before .before .before .before .before .before .before .before .before .before .before .pre .0 .1),
+      (more, j .inv .1 more .0, j .inv .1 more .1, j .inv .4, omega (arith, j .inv .5, c .before .before .before .before .before .before .before .if2 .left)),
+    )
 
 loop-less : tie.Need-loop-less Inv-loop μ-loop
 loop-less c =
-    let j = c .before .before .before .before .before .before .before .before .before .before .before .before .before .before .loop in
+    let j = c .before .before .before .before .before .before .before .before .before .before .before .before .before .before .before .before .before .before .loop in
     let next = c .before .before .before .before .before .before .report-step .ensures .1 .1 in
-    turns-less _ _ _ (not-false (j .p .more) (c .before .before .before .before .before .before .before .before .before .before .before .before .if1 .left)) (λ e. (next e .0, next e .1))
+    turns-less _ _ _ (not-false (j .p .more) (c .before .before .before .before .before .before .before .before .before .before .before .before .before .before .before .before .if1 .left)) (λ e. (next e .0, next e .1))
 
 loop-again : tie.Need-loop-again Inv-loop μ-loop
 loop-again c =
-    let j = c .before .before .before .before .before .before .before .before .before .before .before .before .before .before .loop in
+    let j = c .before .before .before .before .before .before .before .before .before .before .before .before .before .before .before .before .before .before .loop in
     let step = c .before .before .before .before .before .before .report-step .ensures in
-    let more = not-false (j .p .more) (c .before .before .before .before .before .before .before .before .before .before .before .before .if1 .left) in (
+    let more = not-false (j .p .more) (c .before .before .before .before .before .before .before .before .before .before .before .before .before .before .before .before .if1 .left) in (
       printed-then _ _ _ _ _ _ _ _ _ _ _ _ _ (j .inv .0) (step .0),
       λ e. (step .1 .1 e .1, step .1 .1 e .2),
       λ e. let l = step .1 .1 e .0 in inl (⊎-elim (λ h. omega (arith, h, l)) (λ h. omega (arith, h .0, l)) (j .inv .2 more)),
-      omega (arith, step .1 .0, c .before .before .before .before .before .before .before .before .before .before .if2 .left),
+      omega (arith, step .1 .0, c .before .before .before .before .before .before .before .before .before .before .before .before .before .before .if2 .left),
       omega (arith, j .inv .4, c .before .before .before .words .given),
       omega (arith, j .inv .5, c .before .out .given),
       omega (arith, j .inv .6, c .before .before .before .before .before .marks .given),

@@ -1,6 +1,6 @@
 -- `foreign::codes::code_of` meets its contract: case by case; where the number of the answer fits, so do its parts. Assumes nothing.
 use native.Mathlib.Omega.{arith}
-use Rattle.foreign.specs.Codes.{codeOf}
+use Rattle.foreign.specs.Codes.{answerNumber}
 use Rattle.foreign.proofs.CodeLaws.{code-is, loaded-fits, dropped-fits, lists-fits}
 use borrow.Author.Needs.{needs}
 use Rattle.foreign.proofs.codes.code_of.Statement.{statement}
@@ -73,35 +73,35 @@ add-result-6 : tie.Need-add-result-6
 add-result-6 c = search needs
 
 returns : tie.Need-returns
-unfolding codeOf
+unfolding answerNumber
 returns c = code-is _ _ (c .before .answer .given .1)
 
 returns-2 : tie.Need-returns-2
-unfolding codeOf
+unfolding answerNumber
 returns-2 c = code-is _ _ (c .enum-told .given .1)
 
 returns-3 : tie.Need-returns-3
-unfolding codeOf
+unfolding answerNumber
 returns-3 c = code-is _ _ (c .enum-told2 .given .1)
 
 returns-4 : tie.Need-returns-4
-unfolding codeOf
+unfolding answerNumber
 returns-4 c = code-is _ _ (c .before .answer2 .given .1)
 
 returns-5 : tie.Need-returns-5
-unfolding codeOf
+unfolding answerNumber
 returns-5 c = code-is _ _ (c .before .answer3 .given .1)
 
 returns-6 : tie.Need-returns-6
-unfolding codeOf
+unfolding answerNumber
 returns-6 c = code-is _ _ (c .enum-told3 .given .1)
 
 returns-7 : tie.Need-returns-7
-unfolding codeOf
+unfolding answerNumber
 returns-7 c = code-is _ _ (c .before .answer4 .given .1)
 
 returns-8 : tie.Need-returns-8
-unfolding codeOf
+unfolding answerNumber
 returns-8 c = code-is _ _ (c .before .answer5 .given .1)
 
 pub code-of-spec : {M : Type 1} → statement M

@@ -19,8 +19,8 @@ same-length c = search needs
 returns : tie.Need-returns
 returns c =
     let q = c .before .before .before in
-    let s = q .before .before .before .before .before .before .before .before in
-    queried-does _ (s .pre .1) _ _ _ _ _ _ _ _ _ (q .before .before .query-at .ensures) _ (q .query-lawful .ensures .answer)
+    let s = q .before .before .before .before .before .before .before .before .before .before .before .before in
+    queried-does _ (s .pre .1) _ _ _ _ _ _ _ _ _ (q .before .before .before .before .before .before .query-at .ensures) _ (q .query-lawful .ensures .answer)
     (q .query-lawful .ensures .words) _ (c .answering .ensures)
 
 pub answer-query-spec : {M : Type 1} → statement M

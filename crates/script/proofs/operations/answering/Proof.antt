@@ -12,7 +12,7 @@ returns c =
     λ i. record {
       answer = c .before .args .answer;
       place = c .place-of .ensures i;
-      next = c .before .args .next;
+      next = c .before .args .after;
       more = true;
       held = c .before .args .held;
     }

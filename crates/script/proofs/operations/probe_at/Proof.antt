@@ -15,7 +15,7 @@ returns : tie.Need-returns
 returns c =
     let b = c .before .before .before .before .before in
     operated-does _ _ _ _ _ _
-    (probe-steps _ (b .pre) (held-sized (b .args .held) _ (b .good .1 .1 .1 .1 .1 .1 .0)) _ _ _ (c .before .probe-lawful .ensures)) _
+    (probe-steps _ (b .pre .0) (held-sized (b .args .held) _ (b .good .1 .1 .1 .1 .1 .1 .1 .1 .1 .1 .0)) _ _ _ (c .before .probe-lawful .ensures)) _
     (c .answering .ensures)
 
 pub probe-at-spec : {M : Type 1} → statement M

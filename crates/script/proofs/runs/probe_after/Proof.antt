@@ -6,8 +6,8 @@ use borrow.Author.Needs.{needs}
 use Rattle.script.proofs.runs.probe_after.Statement.{statement}
 use Rattle.script.proofs.runs.probe_after.Tie as tie
 
-run-requires : tie.Need-run-requires
-run-requires c κs = search needs
+run-catalogued-requires : tie.Need-run-catalogued-requires
+run-catalogued-requires c κs = search needs
 
 enum-known-verdict : tie.Need-enum-known-verdict
 enum-known-verdict c = search needs
@@ -25,18 +25,17 @@ same-length-4 : tie.Need-same-length-4
 same-length-4 c = search needs
 
 returns : tie.Need-returns
-returns c =
-    let r = c .before .before .before .before .before .before .before .before .before .before .before .before .before in
-    refused-probed _ _ _ _ (r .run .ensures) _ _ (c .before .verdict .given .1) _ _
+returns c = refused-probed _ _ _ _ (c .before .before .before .before .before .before .before .before .before .before .before .before .before .run-catalogued .ensures .0) _ _ (c .before .verdict .given .1) _ _
 
 enum-told : tie.Need-enum-told
 enum-told c = search needs
 
 probe-lawful-requires : tie.Need-probe-lawful-requires
 probe-lawful-requires c κs =
-    let v = c .before .before .before in
+    let v = c .before .before .before .before .before .before .before in
     let r = v .before .before .before .before .before .before .before .before .before .before .before .before in
-    left-sound _ _ _ _ (r .run .ensures) _ (v .enum-told .given .1)
+    let k = r .run-catalogued .ensures .1 _ (v .enum-told .given .1) in
+    (left-sound _ _ _ _ (r .run-catalogued .ensures .0) _ (v .enum-told .given .1), (k .next-is, k .directory))
 
 same-length-5 : tie.Need-same-length-5
 same-length-5 c = search needs
@@ -53,18 +52,19 @@ same-length-8 c = search needs
 returns-2 : tie.Need-returns-2
 unfolding Fits
 returns-2 c =
-    let v = c .before .before .before .before in
+    let v = c .before .before .before .before .before .before .before .before in
     let k = v .before .before .before .before .before .before .before .before .before .before in
     let r = k .before .before in
-    let b = r .before .before .before .before .before .before .before .before .before in
-    accepted-probed _ _ _ _ (r .run .ensures) _ (v .enum-told .given .1) (record { at = λ j. omega (arith, b .shared-slice-known .given j) })
-    (λ j. omega (arith, k .slice-known5 .given j)) _ _ (omega (arith, b .before .fits)) _ (c .probe-lawful .ensures)
+    let b = r .before .before .before .before .before .before .before .before .before .before .before .before .before .before in
+    accepted-probed _ _ _ _ (r .run-catalogued .ensures .0) _ (v .enum-told .given .1)
+    (record { at = λ j. omega (arith, b .shared-slice-known .given j) }) (λ j. omega (arith, k .slice-known5 .given j)) _ _
+    (omega (arith, b .before .fits)) _ (c .probe-lawful .ensures)
 
 pub probe-after-spec : {M : Type 1} → statement M
 probe-after-spec =
     tie.close
     (tie.spec
-    run-requires
+    run-catalogued-requires
     enum-known-verdict
     same-length
     same-length-2

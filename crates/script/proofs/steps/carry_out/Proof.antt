@@ -23,15 +23,15 @@ enum-known-command-3 : tie.Need-enum-known-command-3
 enum-known-command-3 c = search needs
 
 probe-at-requires : tie.Need-probe-at-requires
-probe-at-requires c κs = search needs
+probe-at-requires c κs = let s = c .before .before .before .before .before .before .before .before .before in (s .pre .1, (s .pre .2 .next-is, s .pre .2 .directory))
 
 enum-known-command-4 : tie.Need-enum-known-command-4
 enum-known-command-4 c = search needs
 
 answer-query-requires : tie.Need-answer-query-requires
 answer-query-requires c κs =
-    let s = c .before .before .before .before .before .before .before .before .before .before in
-    (query-fits _ _ _ _ _ (sym (s .pre .0) ∙ c .before .before .before .command4 .given .1), s .pre .1)
+    let s = c .before .before .before .before .before .before .before .before .before .before .before .before .before .before in
+    (query-fits _ _ _ _ _ (sym (s .pre .0) ∙ c .before .before .before .before .before .before .before .command4 .given .1), s .pre .1, s .pre .2)
 
 enum-told : tie.Need-enum-told
 enum-told c = search needs
@@ -107,9 +107,7 @@ same-length-5 c = search needs
 
 returns-4 : tie.Need-returns-4
 unfolding carried
-returns-4 c =
-    let m = c .before .before .before .before .before .before in
-    in-case _ _ _ _ _ _ _ _ _ _ (m .command4 .given .1) (c .before .before .answer-query .ensures)
+returns-4 c = in-case _ _ _ _ _ _ _ _ _ _ (c .before .before .before .before .before .before .before .before .before .before .command4 .given .1) (c .before .before .answer-query .ensures)
 
 returns-5 : tie.Need-returns-5
 unfolding carried

@@ -20,10 +20,11 @@ same-length c = search needs
 returns : tie.Need-returns
 returns c = short-does _ _ _ _ _ (sym (c .before .before .is-long-enough .ensures _ _) ∙ not-true _ (c .before .if1 .taken)) (c .refusing .ensures)
 
-is-lawful-requires : tie.Need-is-lawful-requires
-is-lawful-requires c κs =
-    let s = c .before .before .before .before .before .before .before .before .before in
-    long-asked _ (sym (c .before .before .is-long-enough .ensures (s .args .design) (s .args .held)) ∙ not-false _ (c .before .if1 .left))
+is-lawful-catalog-requires : tie.Need-is-lawful-catalog-requires
+is-lawful-catalog-requires c κs =
+    let p = c .before .before .before .before .before .before in
+    let s = p .before .before .before .before .before .before .before .before in
+    long-asked _ (sym (p .before .is-long-enough .ensures (s .args .design) (s .args .held)) ∙ not-false _ (p .if1 .left))
 
 refusing-requires-2 : tie.Need-refusing-requires-2
 refusing-requires-2 c κs = search needs
@@ -33,15 +34,18 @@ same-length-2 c = search needs
 
 returns-2 : tie.Need-returns-2
 returns-2 c =
-    let l = c .before .before in
-    unlawful-does _ _ _ _ _ (sym (l .before .before .before .is-long-enough .ensures _ _) ∙ not-false _ (l .before .before .if1 .left))
-    (sym (l .is-lawful .ensures) ∙ not-true _ (c .before .if2 .taken)) (c .refusing2 .ensures)
+    let p = c .before .before .before .before .before .before .before .before .before in
+    unlawful-does _ _ _ _ _ (sym (p .before .is-long-enough .ensures _ _) ∙ not-false _ (p .if1 .left))
+    (sym (c .before .before .is-lawful-catalog .ensures .0) ∙ not-true _ (c .before .if2 .taken)) (c .refusing2 .ensures)
 
 step-lawful-requires : tie.Need-step-lawful-requires
 step-lawful-requires c κs =
-    let l = c .before .before .before in
-    both (sym (l .before .before .before .is-long-enough .ensures _ _) ∙ not-false _ (l .before .before .if1 .left))
-    (sym (l .is-lawful .ensures) ∙ not-false _ (c .before .before .if2 .left))
+    let t = c .before .before .before .before .before .before .before .before .before .before .before in
+    let p = t .before .before .before .before .before .before .before .before in
+    let is = not-false _ (t .if2 .left) in (
+      both (sym (p .before .is-long-enough .ensures _ _) ∙ not-false _ (p .if1 .left)) (sym (t .before .is-lawful-catalog .ensures .0) ∙ is),
+      t .before .is-lawful-catalog .ensures .1 is,
+    )
 
 same-length-3 : tie.Need-same-length-3
 same-length-3 c = search needs
@@ -60,7 +64,7 @@ step-spec =
     refusing-requires
     same-length
     returns
-    is-lawful-requires
+    is-lawful-catalog-requires
     refusing-requires-2
     same-length-2
     returns-2

@@ -11,7 +11,7 @@ refusing-requires c κs = search needs
 returns : tie.Need-returns
 returns c =
     let s = c .before .before .before .before .before .before .before in
-    step-case _ _ _ _ _ _ (step-overlong _ _ _ _ (s .pre) (c .before .if1 .taken)) (refusing-soundly _ (s .pre) _ _ _ _ _ _ (c .refusing .ensures))
+    step-case _ _ _ _ _ _ (step-overlong _ _ _ _ (s .pre .0) (c .before .if1 .taken)) (refusing-soundly _ (s .pre .0) _ _ _ _ _ _ (c .refusing .ensures))
 
 place-after-requires : tie.Need-place-after-requires
 place-after-requires c κs = search needs
@@ -31,9 +31,9 @@ same-length-2 c = search needs
 returns-2 : tie.Need-returns-2
 returns-2 c =
     let d = c .before .before .before .before in
-    let p = d .before .before .before .before in
+    let p = d .before .before .before .before .before .before .before .before in
     let s = p .before .before .before .before .before .before .before in
-    step-is _ (s .pre) _ _ _ (p .before .if1 .left) _ (p .place-after .ensures) _ (d .before .before .before .command-at .ensures) _ _ _
+    step-is _ (s .pre .0) _ _ _ (p .before .if1 .left) _ (p .place-after .ensures) _ (d .before .before .before .before .before .before .before .command-at .ensures) _ _ _
     (d .carry-out .ensures)
 
 pub step-lawful-spec : {M : Type 1} → statement M

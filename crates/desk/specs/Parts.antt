@@ -1,0 +1,86 @@
+-- The report handed out part by part: the first text, what a buffer holds of the report, and where in the report a part stands. Assumes nothing.
+use Prim.Native.Nat.{ℕ, _≤_, _<_}
+use mathlib.Core.Path.{_≡_}
+use mathlib.Core.Bool.{Bool, true, false}
+use mathlib.Core.List.{List, _++_}
+use lib.Dec.{ltb}
+use lib.ListN.{length, take, drop, replicate}
+use Rattle.finite.specs.Writing.{Wrote}
+use Rattle.state.specs.declared.design.Design.{Design}
+use Rattle.state.specs.Held.{noneHeld}
+use Rattle.state.specs.Step.{State, lent, sound}
+use Rattle.format.specs.declared.verdict.Verdict.{Verdict}
+use Rattle.format.specs.declared.verdict.Verdict.the-variants.{Accepted, Refused}
+use Rattle.report.specs.Report.{designLine, refusalLine}
+use Rattle.script.specs.Runs.{Buffers, buffers, readingOf}
+use Rattle.desk.specs.declared.reporting.Progress.{Progress}
+use Rattle.desk.specs.declared.parts.Beginning.{Beginning}
+use Rattle.desk.specs.declared.Handed.{Handed}
+use Rattle.desk.specs.Printed.{reportOf, restOf, stateWith}
+
+-- ---- the first text
+
+-- "design with tables, constraints, fillings and rows", or "A refused design prints only refused number place"
+unfoldable pub firstText : Design → Verdict → List ℕ
+firstText d (Accepted i) = designLine d
+firstText d (Refused n i) = refusalLine n i
+
+-- the place of the first command, and whether there is one
+abbrev pub firstPlace : Verdict → ℕ
+firstPlace (Accepted i) = i
+firstPlace (Refused n i) = i
+
+unfoldable pub anyCommand : List ℕ → Verdict → Bool
+anyCommand script (Accepted i) = ltb i (length script)
+anyCommand script (Refused n i) = false
+
+-- the first text in a buffer, o before and o′ after, and the progress p with which the report goes on
+pub record First (script : List ℕ) (d : Design) (v : Verdict) (o o′ : List ℕ) (p : Progress) : Type 0 where
+  pub wrote : Wrote o o′ 0 (p .end) (firstText d v)
+  pub at : p .at ≡ firstPlace v
+  pub number : p .number ≡ 0
+  pub more : p .more ≡ anyCommand script v
+  pub held : p .held ≡ noneHeld
+
+-- ---- between two parts
+
+-- the first n bytes of the buffer o, with `rest` behind them, are what was left
+pub record Part (left o : List ℕ) (n : ℕ) (rest : List ℕ) : Type 0 where
+  pub fits : n ≤ length o
+  pub whole : left ≡ take n o ++ rest
+
+-- where a command follows, it stands in the script, and the state s can be worked on
+pub record NextReady (script : List ℕ) (s : State) (p : Progress) : Type 0 where
+  pub sound : sound s ≡ true
+  pub at : p .at < length script
+  pub number : p .number ≤ p .at
+
+-- what `begin` gives, where b was lent and the rows, their tables and the marks are then cs, ts and ms: the buffer o has the first part of the report
+pub record Begins (script : List ℕ) (b : Buffers) (cs ts ms o : List ℕ) (r : Beginning) : Type 0 where
+  pub part : Part (reportOf script b (readingOf script b)) o (r .progress .end)
+      (restOf script (lent (r .design) cs ts ms (r .progress .held)) (b .words) (r .progress))
+  pub ready : r .progress .more ≡ true → NextReady script (lent (r .design) cs ts ms (r .progress .held)) (r .progress)
+
+-- what `next_part` gives, from p to q: the buffer o has the next part. The marks m and the answer words w are those afterwards.
+pub record Continues (script : List ℕ) (s : State) (words : List ℕ) (p : Progress) (o m w : List ℕ) (q : Progress) : Type 0 where
+  pub part : Part (restOf script s words p) o (q .end) (restOf script (stateWith s m q) w q)
+  pub ready : q .more ≡ true → NextReady script (stateWith s m q) q
+  pub on : q .more ≡ true → p .at < q .at
+
+-- ---- the whole report of a script
+
+-- what the desk lends: cells, row tables, marks and answer words, all 0
+abbrev pub lentBuffers : Buffers
+lentBuffers = buffers (replicate 4096 0) (replicate 512 0) (replicate 512 0) (replicate 4096 0)
+
+unfoldable pub deskReport : List ℕ → List ℕ
+deskReport script = reportOf script lentBuffers (readingOf script lentBuffers)
+
+-- a part is what a text has from byte `done` on
+pub record Stands (text : List ℕ) (done : ℕ) (part : List ℕ) : Type 0 where
+  pub here : part ≡ take (length part) (drop done text)
+
+-- how much of a text has been handed over: all of it, unless that failed
+pub record HandedOver (text : List ℕ) (h : Handed) : Type 0 where
+  pub within : h .bytes ≤ length text
+  pub whole : h .well ≡ true → h .bytes ≡ length text

@@ -1,0 +1,47 @@
+-- Demand 2 of what the entry points answer, in every sound state: a probe or a query that isn't refused is sent exactly if there is no ground; else a
+-- query's list is the one from the full tables, and that of the cached rows. Assumes nothing.
+use Prim.Native.Nat.{ℕ}
+use mathlib.Core.Path.{_≡_, sym, subst}
+use mathlib.Core.Bool.{true}
+use mathlib.Core.Logic.{_↔_}
+use Rattle.model.specs.Cell.{Cell}
+use Rattle.model.specs.Scheme.{Column}
+use Rattle.model.specs.Database.{Lawful}
+use Rattle.model.specs.Runs.{probe}
+use Rattle.model.specs.Query.{Query}
+use Rattle.model.specs.Answers.{Answer, sent, answer, queryAnswer}
+use Rattle.model.specs.Demand.{Groundless, Unrefused, Demand2}
+use Rattle.model.proofs.RunLaws.{Sound}
+use Rattle.model.proofs.Demand2.{probe-sent-exactly, demand2}
+use Rattle.state.specs.Step.{State, scheme, database, cache, sound, answerAt, queryAnswerAt}
+use Rattle.lawful.proofs.RowsLaws.{Stored, lawful-database}
+use Rattle.cache.proofs.Fresh.{fresh-sound}
+use Rattle.cache.proofs.SoundState.{parts, lawful-fresh, answer-at}
+use Rattle.query.proofs.QueryCases as Queries
+
+module _ (s : State) (e : sound s ≡ true) where
+  -- THEOREM: `cache::probed`, and a PROBE of a script
+  pub probed-exactly : (k : Column) (v : Cell) → Unrefused (answerAt s (probe k v)) →
+      (answerAt s (probe k v) ≡ sent) ↔ Groundless (scheme s) (database s) (cache s) k v
+  probed-exactly k v u =
+      subst (λ (a : Answer). (a ≡ sent) ↔ Groundless (scheme s) (database s) (cache s) k v) (sym at)
+      (probe-sent-exactly (scheme s) (database s) (cache s) k v (subst Unrefused at u))
+    where
+      at : answerAt s (probe k v) ≡ answer (scheme s) (database s) (cache s) (probe k v)
+      at = answer-at s e (probe k v)
+
+  -- THEOREM: `query::query`, and a QUERY of a script: what is answered is the model's answer, and demand 2 holds of it. The cells are u32 numbers.
+  pub queried-exactly : Stored (s .cells) → (room : ℕ) (q : Query) → Unrefused (queryAnswerAt s room q) →
+      (queryAnswerAt s room q ≡ queryAnswer (scheme s) (database s) (cache s) room q) × Demand2 (scheme s) (database s) (cache s) room q
+  queried-exactly u room q n = (at, demand2 lawful (cache s) smallest room q (subst Unrefused at n))
+    where
+      at : queryAnswerAt s room q ≡ queryAnswer (scheme s) (database s) (cache s) room q
+      at = Queries.answer-at s e room q
+
+      lawful : Lawful (scheme s) (database s)
+      lawful = lawful-database (s .design) (s .cells) (s .tables) (parts s e .rows) u
+
+      smallest : Sound (scheme s) (database s) (cache s)
+      smallest =
+          fresh-sound (scheme s) (database s) (cache s)
+          (lawful-fresh (s .design) (s .cells) (s .tables) (s .held) (s .marks) (parts s e .long .marks) (parts s e .marks))
