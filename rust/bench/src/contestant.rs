@@ -1,27 +1,55 @@
 //! What an implementation has to offer to be timed.
 
-use notation::{Command, Design};
+use notation::{encode, Command, Design};
+
+use crate::clock::thread_time;
+use crate::measure::TIME_LIMIT;
 
 /// An implementation of the desk.
 pub trait Contestant {
     /// Its name in the tables.
     fn name(&self) -> &'static str;
 
-    /// Takes a design, with nothing held and no row cached.
-    fn open(&self, design: &Design) -> Box<dyn OpenDesk>;
+    /// Takes a design that all of them accept, with nothing held and no row
+    /// cached.
+    fn open(&self, design: &Opening) -> Box<dyn OpenDesk>;
 }
 
 /// A design at work in one implementation.
 pub trait OpenDesk {
-    /// Gets ready for an operation; this isn't on the clock.
-    fn prepare(&mut self, _operation: &Operation) {}
+    /// Gets ready for operations; this isn't on the clock.
+    fn prepare(&mut self, _operations: &Operations) {}
 
-    /// Carries out one operation.
-    fn perform(&mut self, operation: &Operation) -> Answer;
+    /// Carries out one operation. This isn't on the clock: it shows that all
+    /// contestants do the same work.
+    fn answer(&mut self, operation: &Operation) -> Answer;
+
+    /// Carries out operations as fast as it can, up to and with their answers,
+    /// which it leaves behind. Gives how many were done within
+    /// [`TIME_LIMIT`]; a contestant that can't be stopped does them all.
+    fn run(&mut self, operations: &Operations) -> usize;
 }
 
-/// An operation in the two forms that implementations take it in, so that
-/// turning one into the other isn't on the clock.
+/// A design in the two forms that implementations take it in, so that turning
+/// one into the other isn't on the clock.
+#[derive(Clone, Debug)]
+pub struct Opening {
+    /// The design taken apart.
+    pub design: Design,
+    /// The design as it stands in a script, up to and with END.
+    pub script: Vec<u8>,
+}
+
+impl From<&Design> for Opening {
+    fn from(design: &Design) -> Opening {
+        Opening {
+            design: design.clone(),
+            script: encode(&design.commands()),
+        }
+    }
+}
+
+/// An operation in two forms.
 #[derive(Clone, Debug)]
 pub struct Operation {
     /// The operation taken apart.
@@ -30,13 +58,45 @@ pub struct Operation {
     pub bytes: Vec<u8>,
 }
 
-impl From<Command> for Operation {
-    fn from(command: Command) -> Operation {
-        Operation {
+/// Operations, one by one and as a script.
+#[derive(Clone, Debug)]
+pub struct Operations {
+    /// One by one.
+    pub list: Vec<Operation>,
+    /// Their bytes one after another.
+    pub script: Vec<u8>,
+}
+
+impl From<&[Command]> for Operations {
+    fn from(commands: &[Command]) -> Operations {
+        let operation = |&command: &Command| Operation {
             command,
             bytes: command.bytes(),
+        };
+        Operations {
+            list: commands.iter().map(operation).collect(),
+            script: encode(commands),
         }
     }
+}
+
+/// For contestants that take operations one by one: carries them out until one
+/// gives false or the time limit has passed. Gives how many were done.
+pub fn run_one_by_one(
+    operations: &Operations,
+    mut perform: impl FnMut(&Operation) -> bool,
+) -> usize {
+    /// So many operations go between two looks at the clock, since a look costs
+    /// as much as a small operation.
+    const STRIDE: usize = 64;
+    let start = thread_time();
+    for (number, operation) in operations.list.iter().enumerate() {
+        let look = number % STRIDE == STRIDE - 1;
+        if look && thread_time() - start > TIME_LIMIT || !perform(operation) {
+            return number;
+        }
+    }
+    operations.list.len()
 }
 
 /// What an operation gives: enough to see that all have done the same work.
@@ -59,6 +119,38 @@ pub enum Answer {
     Lists(Vec<usize>),
     /// A cause of refusal.
     Refused(u8),
-    /// Given up after [`crate::measure::TIME_LIMIT`].
+    /// Given up after [`TIME_LIMIT`].
     OutOfTime,
+}
+
+#[cfg(test)]
+mod tests {
+    use super::*;
+
+    fn ends(count: usize) -> Operations {
+        Operations::from(&vec![Command::End; count][..])
+    }
+
+    #[test]
+    fn an_operation_that_is_not_done_ends_a_run() {
+        let mut left = 3;
+        let done = run_one_by_one(&ends(9), |_| {
+            left -= 1;
+            left > 0
+        });
+        assert_eq!(done, 2);
+        assert_eq!(run_one_by_one(&ends(9), |_| true), 9);
+    }
+
+    #[test]
+    fn the_time_limit_ends_a_run() {
+        let start = thread_time();
+        let done = run_one_by_one(&ends(9_000), |_| {
+            let now = thread_time();
+            while thread_time() - now < TIME_LIMIT / 100 {}
+            true
+        });
+        assert!(done < 9_000 && done > 9, "{done}");
+        assert!(thread_time() - start < 2 * TIME_LIMIT);
+    }
 }

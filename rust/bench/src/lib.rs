@@ -5,17 +5,20 @@
 //! - [`contestant`] is what an implementation has to offer to take part, and
 //!   [`contestants`] lists those that do.
 //! - [`measure`] takes the times, by the [`clock`] for processor time, and
-//!   [`table`] sets them out.
+//!   [`table`] sets them out. [`process`] takes those of whole programs.
+//! - [`slowest`] looks for the slowest scripts.
 
 #![deny(unsafe_code)]
 
 pub mod clock;
 pub mod contestant;
+pub mod limit_desk;
 pub mod measure;
 pub mod process;
 #[cfg(feature = "proved")]
 pub mod proved;
 pub mod second;
+pub mod slowest;
 #[cfg(feature = "sqlite")]
 pub mod sqlite;
 pub mod table;
@@ -23,11 +26,12 @@ pub mod work;
 
 use contestant::Contestant;
 
-/// The implementations that take part. Ratios are to the first of them.
+/// The implementations that take part.
 pub fn contestants() -> Vec<Box<dyn Contestant>> {
     vec![
         #[cfg(feature = "proved")]
         Box::new(proved::ProvedDesk),
+        Box::new(limit_desk::Limit),
         Box::new(second::SecondImplementation),
         #[cfg(feature = "sqlite")]
         Box::new(sqlite::Sqlite),

@@ -2,39 +2,68 @@
 //! the machine does can still cost a run its caches, so the least time of all
 //! runs counts.
 
+use std::cell::RefCell;
+use std::ops::Range;
 use std::time::{Duration, Instant};
 
 use crate::clock::thread_time;
-use crate::contestant::{Answer, Contestant, Operation};
+use crate::contestant::{Answer, Contestant, OpenDesk, Opening, Operations};
 use crate::work::Work;
 
-/// The longest processor time for one operation; a contestant that can't be
-/// stopped has no limit.
+/// The longest processor time for one run; a contestant that can't be stopped
+/// has no limit.
 pub const TIME_LIMIT: Duration = Duration::from_secs(2);
 
 const MOST_RUNS: usize = 51;
 
-/// No run begins after so much time on one work, by the wall clock.
-const BUDGET: Duration = Duration::from_secs(1);
+/// No run of a contestant begins after it has had so much time for one work, by
+/// the wall clock.
+const BUDGET: Duration = Duration::from_millis(500);
 
 /// What was measured.
-#[derive(Clone, Copy, Debug, PartialEq, Eq)]
+#[derive(Clone, Copy, Debug, PartialEq)]
 pub enum Timing {
-    /// The least time of all runs.
-    Least(Duration),
-    /// A run passed [`TIME_LIMIT`].
+    /// The least time of all runs, in seconds.
+    Least(f64),
+    /// Not even one operation was done within [`TIME_LIMIT`].
     OutOfTime,
 }
 
-/// A run, which gives its time unless it passed the limit.
-pub type Run<'a> = Box<dyn FnMut() -> Option<Duration> + 'a>;
+/// A run, which gives its time in seconds unless it passed the limit.
+pub type Run<'a> = Box<dyn FnMut() -> Option<f64> + 'a>;
 
-/// Times the operations of a work that are on the clock.
-pub fn measure(contestants: &[Box<dyn Contestant>], work: &Work) -> Vec<Timing> {
+/// Times an operation of a work, on the average of those on the clock. Of a
+/// contestant that runs out of time, those that it has done count. Fails if two
+/// that have done all of them answer differently afterwards.
+pub fn measure(contestants: &[Box<dyn Contestant>], work: &Work) -> Result<Vec<Timing>, String> {
+    let prepared = &Prepared::of(work);
+    let afterwards = RefCell::new(Agreement::new(work.name));
     let runs = contestants.iter().map(|contestant| -> Run<'_> {
         Box::new(|| {
-            let (time, answers) = perform(contestant.as_ref(), work);
-            (!answers.contains(&Answer::OutOfTime)).then_some(time)
+            let mut desk = prepared.open(contestant.as_ref());
+            let start = thread_time();
+            let done = desk.run(&prepared.timed);
+            let time = thread_time() - start;
+            if done == work.timed.len() {
+                let answers = answers(desk.as_mut(), &prepared.timed, 0..AFTERWARDS);
+                afterwards.borrow_mut().add(contestant.name(), answers);
+            }
+            (done > 0).then(|| time.as_secs_f64() / done as f64)
+        })
+    });
+    let timings = measure_runs(runs.collect());
+    afterwards.into_inner().result().map(|()| timings)
+}
+
+/// Times the opening of a design.
+pub fn measure_opening(contestants: &[Box<dyn Contestant>], design: &Opening) -> Vec<Timing> {
+    let runs = contestants.iter().map(|contestant| -> Run<'_> {
+        Box::new(|| {
+            let start = thread_time();
+            let desk = contestant.open(design);
+            let time = thread_time() - start;
+            drop(desk);
+            Some(time.as_secs_f64())
         })
     });
     measure_runs(runs.collect())
@@ -42,60 +71,136 @@ pub fn measure(contestants: &[Box<dyn Contestant>], work: &Work) -> Vec<Timing> 
 
 /// Times runs in turn.
 pub fn measure_runs(mut runs: Vec<Run<'_>>) -> Vec<Timing> {
-    let mut timings = vec![Timing::Least(Duration::MAX); runs.len()];
-    let start = Instant::now();
+    let mut timings = vec![Timing::Least(f64::INFINITY); runs.len()];
+    let mut spent = vec![Duration::ZERO; runs.len()];
     for _ in 0..MOST_RUNS {
-        for (run, timing) in runs.iter_mut().zip(&mut timings) {
-            if let Timing::Least(least) = *timing {
+        for ((run, timing), spent) in runs.iter_mut().zip(&mut timings).zip(&mut spent) {
+            let Timing::Least(least) = *timing else {
+                continue;
+            };
+            if *spent < BUDGET {
+                let start = Instant::now();
                 *timing = run().map_or(Timing::OutOfTime, |time| Timing::Least(time.min(least)));
+                *spent += start.elapsed();
             }
-        }
-        if start.elapsed() > BUDGET {
-            break;
         }
     }
     timings
 }
 
-/// Sees to it that all contestants that answer in time answer the same.
+/// Sees to it that all contestants answer the same one by one, as far as they
+/// come in time; and that each answers the same after a run.
 pub fn check(contestants: &[Box<dyn Contestant>], work: &Work) -> Result<(), String> {
-    let mut first: Option<(&str, Vec<Answer>)> = None;
+    let prepared = Prepared::of(work);
+    let mut agreement = Agreement::new(work.name);
+    let mut after_runs = CUTS.map(|_| Agreement::new(work.name));
     for contestant in contestants {
-        let (_, answers) = perform(contestant.as_ref(), work);
-        if answers.contains(&Answer::OutOfTime) {
-            continue;
-        }
-        match &first {
-            None => first = Some((contestant.name(), answers)),
-            Some((name, expected)) if *expected != answers => {
-                let other = contestant.name();
-                return Err(format!("{}: {other} and {name} differ", work.name));
+        let mut desk = prepared.open(contestant.as_ref());
+        let one_by_one = answers(desk.as_mut(), &prepared.timed, 0..CHECKED);
+        for (cut, agreement) in CUTS.into_iter().zip(&mut after_runs) {
+            let Some(part) = work.timed.get(..cut) else {
+                continue;
+            };
+            let mut desk = prepared.open(contestant.as_ref());
+            if desk.run(&Operations::from(part)) == cut {
+                let expected = one_by_one.get(cut..).unwrap_or_default();
+                let rest = answers(desk.as_mut(), &prepared.timed, cut..CHECKED);
+                agreement.add(contestant.name(), expected.to_vec());
+                agreement.add("itself after a run", rest);
             }
-            Some(_) => {}
         }
+        agreement.add(contestant.name(), one_by_one);
     }
-    Ok(())
+    let mut all = [agreement].into_iter().chain(after_runs);
+    all.try_for_each(Agreement::result)
 }
 
-/// One run of a work: the time on the clock, and the answers from then.
-fn perform(contestant: &dyn Contestant, work: &Work) -> (Duration, Vec<Answer>) {
-    let operations = |commands: &[_]| -> Vec<Operation> {
-        commands.iter().copied().map(Operation::from).collect()
-    };
-    let (before, timed) = (operations(&work.before), operations(&work.timed));
-    let mut answers = Vec::with_capacity(timed.len());
-    let mut desk = contestant.open(&work.design);
-    for operation in before.iter().chain(&timed) {
-        desk.prepare(operation);
-    }
-    for operation in &before {
-        desk.perform(operation);
-    }
+/// How many operations are answered one by one in a check.
+const CHECKED: usize = 512;
+
+/// How many of them are done in a run before, in two other checks. Where loads
+/// and drops take turns, a drop comes next.
+const CUTS: [usize; 2] = [1, 129];
+
+/// How many operations are answered after a work has been timed.
+const AFTERWARDS: usize = 16;
+
+/// The answers to some of the operations, as far as they come in time.
+fn answers(desk: &mut dyn OpenDesk, operations: &Operations, range: Range<usize>) -> Vec<Answer> {
+    let end = range.end.min(operations.list.len());
+    let list = operations.list.get(range.start..end).unwrap_or_default();
     let start = thread_time();
-    for operation in &timed {
-        answers.push(desk.perform(operation));
+    let mut answers = Vec::new();
+    for operation in list {
+        let answer = desk.answer(operation);
+        if answer == Answer::OutOfTime || thread_time() - start > TIME_LIMIT / 8 {
+            break;
+        }
+        answers.push(answer);
     }
-    (thread_time() - start, answers)
+    answers
+}
+
+/// Whether contestants have answered the same, as far as they have answered.
+struct Agreement {
+    work: &'static str,
+    longest: Option<(&'static str, Vec<Answer>)>,
+    difference: Option<String>,
+}
+
+impl Agreement {
+    fn new(work: &'static str) -> Agreement {
+        Agreement {
+            work,
+            longest: None,
+            difference: None,
+        }
+    }
+
+    fn add(&mut self, name: &'static str, answers: Vec<Answer>) {
+        let Some((other, longest)) = &self.longest else {
+            self.longest = Some((name, answers));
+            return;
+        };
+        if longest.iter().zip(&answers).any(|(one, two)| one != two) {
+            let difference = format!("{}: {name} and {other} differ", self.work);
+            self.difference.get_or_insert(difference);
+        } else if longest.len() < answers.len() {
+            self.longest = Some((name, answers));
+        }
+    }
+
+    fn result(self) -> Result<(), String> {
+        self.difference.map_or(Ok(()), Err)
+    }
+}
+
+/// A work in the forms that contestants take it in.
+struct Prepared {
+    design: Opening,
+    before: Operations,
+    timed: Operations,
+}
+
+impl Prepared {
+    fn of(work: &Work) -> Prepared {
+        Prepared {
+            design: Opening::from(&work.design),
+            before: Operations::from(&work.before[..]),
+            timed: Operations::from(&work.timed[..]),
+        }
+    }
+
+    /// A desk right before the clock starts.
+    fn open(&self, contestant: &dyn Contestant) -> Box<dyn OpenDesk> {
+        let mut desk = contestant.open(&self.design);
+        desk.prepare(&self.before);
+        desk.prepare(&self.timed);
+        for operation in &self.before.list {
+            desk.answer(operation);
+        }
+        desk
+    }
 }
 
 #[cfg(test)]
@@ -104,18 +209,29 @@ mod tests {
 
     #[test]
     fn the_least_time_counts() {
-        let mut times = [9, 1, 5].into_iter().cycle();
-        let run: Run = Box::new(move || times.next().map(Duration::from_millis));
-        let expected = Timing::Least(Duration::from_millis(1));
-        assert_eq!(measure_runs(vec![run]), [expected]);
+        let mut times = [9.0, 1.0, 5.0].into_iter().cycle();
+        let run: Run = Box::new(move || times.next());
+        assert_eq!(measure_runs(vec![run]), [Timing::Least(1.0)]);
     }
 
     #[test]
     fn one_run_out_of_time_is_enough() {
-        let mut times = [9, 1].into_iter();
-        let limited: Run = Box::new(move || times.next().map(Duration::from_millis));
-        let other: Run = Box::new(|| Some(Duration::ZERO));
-        let expected = [Timing::OutOfTime, Timing::Least(Duration::ZERO)];
+        let mut times = [9.0, 1.0].into_iter();
+        let limited: Run = Box::new(move || times.next());
+        let other: Run = Box::new(|| Some(0.0));
+        let expected = [Timing::OutOfTime, Timing::Least(0.0)];
         assert_eq!(measure_runs(vec![limited, other]), expected);
+    }
+
+    #[test]
+    fn only_what_was_answered_has_to_agree() {
+        let mut agreement = Agreement::new("work");
+        agreement.add("one", vec![Answer::Sent]);
+        agreement.add("two", vec![Answer::Sent, Answer::Held]);
+        agreement.add("three", vec![]);
+        assert_eq!(agreement.difference, None);
+        agreement.add("four", vec![Answer::Sent, Answer::Sent]);
+        let expected = "work: four and two differ".to_string();
+        assert_eq!(agreement.result(), Err(expected));
     }
 }

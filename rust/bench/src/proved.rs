@@ -6,13 +6,12 @@
 
 #![allow(unsafe_code)]
 
-use notation::{encode, Design};
+use reference::ANSWER_WORDS;
 
-use crate::contestant::{Answer, Contestant, OpenDesk, Operation};
+use crate::contestant::{Answer, Contestant, OpenDesk, Opening, Operation, Operations};
 
 const CELLS: usize = 4_096;
 const ROWS: usize = 512;
-const ANSWER_WORDS: usize = 4_096;
 
 /// The words that a design takes in `foreign`'s layout.
 const DESIGN_WORDS: usize = 116;
@@ -20,6 +19,19 @@ const DESIGN_WORDS: usize = 116;
 /// The words that the held values take.
 const HELD_WORDS: usize = 129;
 
+/// The catalog's arrays: for each cell, for each row and constraint, for each
+/// different value of a column twice, and for each column.
+const NEXT: usize = 4_096;
+const FIRST: usize = 8_192;
+const KEYS: usize = 4_096;
+const HEADS: usize = 4_096;
+const STARTS: usize = 65;
+
+/// A query's working memory: for each position and row.
+const POSITIONS: usize = 2_560;
+
+// A Rattle slice goes across as a pointer and a length, and an array of a fixed
+// size as a pointer, which is what a reference to an array is in Rust.
 #[link(name = "foreign", kind = "static")]
 extern "C" {
     fn wurzsige_open(
@@ -29,6 +41,11 @@ extern "C" {
         cells_length: usize,
         tables: *mut u8,
         tables_length: usize,
+        next: &mut [u16; NEXT],
+        first: &mut [u16; FIRST],
+        keys: &mut [u32; KEYS],
+        heads: &mut [u16; HEADS],
+        starts: &mut [u16; STARTS],
         marks: *mut u8,
         marks_length: usize,
         design: *mut u32,
@@ -45,6 +62,11 @@ extern "C" {
         cells_length: usize,
         tables: *const u8,
         tables_length: usize,
+        next: &[u16; NEXT],
+        first: &[u16; FIRST],
+        keys: &[u32; KEYS],
+        heads: &[u16; HEADS],
+        starts: &[u16; STARTS],
         marks: *mut u8,
         marks_length: usize,
         design: *const u32,
@@ -53,21 +75,67 @@ extern "C" {
         held_length: usize,
         words: *mut u32,
         words_length: usize,
+        weights: &mut [u64; POSITIONS],
+        sums: &mut [u64; POSITIONS],
+        froms: &mut [u16; POSITIONS],
+        links: &mut [u16; POSITIONS],
     ) -> u64;
+
+    fn wurzsige_run(
+        script: *const u8,
+        script_length: usize,
+        at: usize,
+        cells: *const u32,
+        cells_length: usize,
+        tables: *const u8,
+        tables_length: usize,
+        next: &[u16; NEXT],
+        first: &[u16; FIRST],
+        keys: &[u32; KEYS],
+        heads: &[u16; HEADS],
+        starts: &[u16; STARTS],
+        marks: *mut u8,
+        marks_length: usize,
+        design: *const u32,
+        design_length: usize,
+        held: *mut u32,
+        held_length: usize,
+        words: *mut u32,
+        words_length: usize,
+        weights: &mut [u64; POSITIONS],
+        sums: &mut [u64; POSITIONS],
+        froms: &mut [u16; POSITIONS],
+        links: &mut [u16; POSITIONS],
+    );
 }
 
 /// The proved desk.
 pub struct ProvedDesk;
 
-/// What the desk is lent. Only `wurzsige_open` and `wurzsige_step` write it, so
-/// that it stays lawful, as the latter asks.
+/// What the desk is lent. Only the functions above write it, so that it stays
+/// lawful, as the last two ask.
 struct Lent {
-    cells: Vec<u32>,
-    tables: Vec<u8>,
-    marks: Vec<u8>,
-    design: Vec<u32>,
-    held: Vec<u32>,
-    words: Vec<u32>,
+    cells: Box<[u32; CELLS]>,
+    tables: Box<[u8; ROWS]>,
+    marks: Box<[u8; ROWS]>,
+    next: Box<[u16; NEXT]>,
+    first: Box<[u16; FIRST]>,
+    keys: Box<[u32; KEYS]>,
+    heads: Box<[u16; HEADS]>,
+    starts: Box<[u16; STARTS]>,
+    design: Box<[u32; DESIGN_WORDS]>,
+    held: Box<[u32; HELD_WORDS]>,
+    words: Box<[u32; ANSWER_WORDS]>,
+    weights: Box<[u64; POSITIONS]>,
+    sums: Box<[u64; POSITIONS]>,
+    froms: Box<[u16; POSITIONS]>,
+    links: Box<[u16; POSITIONS]>,
+}
+
+/// Zeros, which cost nothing until they are touched.
+fn zeros<T: Clone + From<u8>, const N: usize>() -> Box<[T; N]> {
+    let zeros = vec![T::from(0); N].into_boxed_slice().try_into();
+    zeros.unwrap_or_else(|_| unreachable!("as long as it was made"))
 }
 
 impl Contestant for ProvedDesk {
@@ -75,25 +143,72 @@ impl Contestant for ProvedDesk {
         "proved desk"
     }
 
-    fn open(&self, design: &Design) -> Box<dyn OpenDesk> {
-        let script = encode(&design.commands());
-        Box::new(Lent::open(&script).expect("works have accepted designs"))
+    fn open(&self, design: &Opening) -> Box<dyn OpenDesk> {
+        match Lent::open(&design.script) {
+            Ok(lent) => Box::new(lent),
+            Err(cause) => panic!("works have accepted designs: {cause}"),
+        }
     }
+}
+
+/// A call of `wurzsige_step` or `wurzsige_run`, which take the same operands.
+macro_rules! call {
+    ($function:ident, $lent:expr, $script:expr) => {
+        // SAFETY: each pointer goes with its slice's length, the slices and
+        // arrays don't overlap, and the state is as the last call left it.
+        unsafe {
+            $function(
+                $script.as_ptr(),
+                $script.len(),
+                0,
+                $lent.cells.as_ptr(),
+                $lent.cells.len(),
+                $lent.tables.as_ptr(),
+                $lent.tables.len(),
+                &$lent.next,
+                &$lent.first,
+                &$lent.keys,
+                &$lent.heads,
+                &$lent.starts,
+                $lent.marks.as_mut_ptr(),
+                $lent.marks.len(),
+                $lent.design.as_ptr(),
+                $lent.design.len(),
+                $lent.held.as_mut_ptr(),
+                $lent.held.len(),
+                $lent.words.as_mut_ptr(),
+                $lent.words.len(),
+                &mut $lent.weights,
+                &mut $lent.sums,
+                &mut $lent.froms,
+                &mut $lent.links,
+            )
+        }
+    };
 }
 
 impl Lent {
     /// Reads a design, or gives the cause of its refusal.
     fn open(script: &[u8]) -> Result<Lent, u8> {
         let mut lent = Lent {
-            cells: vec![0; CELLS],
-            tables: vec![0; ROWS],
-            marks: vec![0; ROWS],
-            design: vec![0; DESIGN_WORDS],
-            held: vec![0; HELD_WORDS],
-            words: vec![0; ANSWER_WORDS],
+            cells: zeros(),
+            tables: zeros(),
+            marks: zeros(),
+            next: zeros(),
+            first: zeros(),
+            keys: zeros(),
+            heads: zeros(),
+            starts: zeros(),
+            design: zeros(),
+            held: zeros(),
+            words: zeros(),
+            weights: zeros(),
+            sums: zeros(),
+            froms: zeros(),
+            links: zeros(),
         };
-        // SAFETY: each pointer goes with its slice's length, and the slices
-        // don't overlap.
+        // SAFETY: each pointer goes with its slice's length, and the slices and
+        // arrays don't overlap.
         let cause = unsafe {
             wurzsige_open(
                 script.as_ptr(),
@@ -102,6 +217,11 @@ impl Lent {
                 lent.cells.len(),
                 lent.tables.as_mut_ptr(),
                 lent.tables.len(),
+                &mut lent.next,
+                &mut lent.first,
+                &mut lent.keys,
+                &mut lent.heads,
+                &mut lent.starts,
                 lent.marks.as_mut_ptr(),
                 lent.marks.len(),
                 lent.design.as_mut_ptr(),
@@ -115,36 +235,11 @@ impl Lent {
             cause => Err(cause),
         }
     }
-
-    /// Carries out the command that a script begins with.
-    fn step(&mut self, script: &[u8]) -> u64 {
-        // SAFETY: each pointer goes with its slice's length, the slices don't
-        // overlap, and the state is as the last call left it.
-        unsafe {
-            wurzsige_step(
-                script.as_ptr(),
-                script.len(),
-                0,
-                self.cells.as_ptr(),
-                self.cells.len(),
-                self.tables.as_ptr(),
-                self.tables.len(),
-                self.marks.as_mut_ptr(),
-                self.marks.len(),
-                self.design.as_ptr(),
-                self.design.len(),
-                self.held.as_mut_ptr(),
-                self.held.len(),
-                self.words.as_mut_ptr(),
-                self.words.len(),
-            )
-        }
-    }
 }
 
 impl OpenDesk for Lent {
-    fn perform(&mut self, operation: &Operation) -> Answer {
-        let code = self.step(&operation.bytes);
+    fn answer(&mut self, operation: &Operation) -> Answer {
+        let code = call!(wurzsige_step, self, operation.bytes);
         let value = (code / 16) as usize;
         match code % 16 {
             1 => Answer::Loaded(value % 1_024),
@@ -162,5 +257,10 @@ impl OpenDesk for Lent {
             8 => Answer::Refused(value as u8),
             kind => unreachable!("no answer has kind {kind}"),
         }
+    }
+
+    fn run(&mut self, operations: &Operations) -> usize {
+        call!(wurzsige_run, self, operations.script);
+        operations.list.len()
     }
 }

@@ -1,13 +1,16 @@
 //! The second implementation as a contestant.
 
-use notation::{encode, Design};
+use std::hint::black_box;
+
 use reference::design::Design as ReferenceDesign;
 use reference::desk::{Answer as ReferenceAnswer, Desk};
 use reference::refusal::Cause;
 use reference::script::read_command;
 use reference::ANSWER_WORDS;
 
-use crate::contestant::{Answer, Contestant, OpenDesk, Operation};
+use crate::contestant::{
+    run_one_by_one, Answer, Contestant, OpenDesk, Opening, Operation, Operations,
+};
 
 /// The second implementation.
 pub struct SecondImplementation;
@@ -17,19 +20,29 @@ impl Contestant for SecondImplementation {
         "second implementation"
     }
 
-    fn open(&self, design: &Design) -> Box<dyn OpenDesk> {
-        let script = encode(&design.commands());
-        let (design, _) = ReferenceDesign::read(&script).expect("works have accepted designs");
+    fn open(&self, design: &Opening) -> Box<dyn OpenDesk> {
+        let read = ReferenceDesign::read(&design.script);
+        let (design, _) = read.expect("works have accepted designs");
         Box::new(Desk::new(design, ANSWER_WORDS))
     }
 }
 
 impl OpenDesk for Desk {
-    fn perform(&mut self, operation: &Operation) -> Answer {
-        let answer = read_command(&operation.bytes, 0)
-            .and_then(|(command, _)| Desk::perform(self, &command));
-        answer.map_or_else(refused, answered)
+    fn answer(&mut self, operation: &Operation) -> Answer {
+        perform(self, operation).map_or_else(refused, answered)
     }
+
+    fn run(&mut self, operations: &Operations) -> usize {
+        run_one_by_one(operations, |operation| {
+            let _ = black_box(perform(self, operation));
+            true
+        })
+    }
+}
+
+fn perform(desk: &mut Desk, operation: &Operation) -> Result<ReferenceAnswer, Cause> {
+    let (command, _) = read_command(&operation.bytes, 0)?;
+    desk.perform(&command)
 }
 
 fn refused(cause: Cause) -> Answer {

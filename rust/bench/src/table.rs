@@ -1,7 +1,5 @@
 //! Sets times out in tables of plain text.
 
-use std::time::Duration;
-
 use crate::measure::{Timing, TIME_LIMIT};
 
 /// A table: a head and rows of as many cells. The first column is flush left,
@@ -48,30 +46,32 @@ impl Table {
 /// A time in words.
 pub fn time(timing: Timing) -> String {
     match timing {
-        Timing::Least(time) => duration(time),
-        Timing::OutOfTime => format!("over {}", duration(TIME_LIMIT)),
+        Timing::Least(seconds) => duration(seconds),
+        Timing::OutOfTime => format!("over {}", duration(TIME_LIMIT.as_secs_f64())),
     }
 }
 
-fn duration(time: Duration) -> String {
-    let micros = time.as_secs_f64() * 1e6;
-    if micros < 1e3 {
-        format!("{micros:.1} µs")
-    } else if micros < 1e6 {
-        format!("{:.2} ms", micros / 1e3)
-    } else {
-        format!("{:.2} s", micros / 1e6)
+/// Three figures, or four, and the unit that suits them.
+fn duration(seconds: f64) -> String {
+    let (number, unit) = match seconds {
+        1.0.. => (seconds, "s"),
+        1e-3.. => (seconds * 1e3, "ms"),
+        _ => (seconds * 1e6, "µs"),
+    };
+    match number {
+        100.0.. => format!("{number:.0} {unit}"),
+        10.0.. => format!("{number:.1} {unit}"),
+        1.0.. => format!("{number:.2} {unit}"),
+        _ => format!("{number:.3} {unit}"),
     }
 }
 
 /// How many times as long as `base` a time is.
 pub fn ratio(timing: Timing, base: Timing) -> String {
     match (timing, base) {
-        (Timing::Least(time), Timing::Least(base)) => {
-            format!("{:.2}", time.as_secs_f64() / base.as_secs_f64())
-        }
+        (Timing::Least(time), Timing::Least(base)) => format!("{:.2}", time / base),
         (Timing::OutOfTime, Timing::Least(base)) => {
-            format!("over {:.0}", TIME_LIMIT.as_secs_f64() / base.as_secs_f64())
+            format!("over {:.0}", TIME_LIMIT.as_secs_f64() / base)
         }
         (_, Timing::OutOfTime) => "-".into(),
     }
@@ -81,8 +81,8 @@ pub fn ratio(timing: Timing, base: Timing) -> String {
 mod tests {
     use super::*;
 
-    fn micros(time: u64) -> Timing {
-        Timing::Least(Duration::from_micros(time))
+    fn micros(time: f64) -> Timing {
+        Timing::Least(time / 1e6)
     }
 
     #[test]
@@ -95,16 +95,19 @@ mod tests {
 
     #[test]
     fn times_take_the_unit_that_suits_them() {
-        assert_eq!(time(micros(12)), "12.0 µs");
-        assert_eq!(time(micros(1_500)), "1.50 ms");
-        assert_eq!(time(micros(2_000_000)), "2.00 s");
+        assert_eq!(time(micros(0.0123)), "0.012 µs");
+        assert_eq!(time(micros(1.234)), "1.23 µs");
+        assert_eq!(time(micros(12.34)), "12.3 µs");
+        assert_eq!(time(micros(123.4)), "123 µs");
+        assert_eq!(time(micros(1_500.0)), "1.50 ms");
+        assert_eq!(time(micros(2_000_000.0)), "2.00 s");
         assert_eq!(time(Timing::OutOfTime), "over 2.00 s");
     }
 
     #[test]
     fn ratios_name_a_bound_where_a_time_is_missing() {
-        assert_eq!(ratio(micros(30), micros(20)), "1.50");
-        assert_eq!(ratio(Timing::OutOfTime, micros(1_000)), "over 2000");
-        assert_eq!(ratio(micros(30), Timing::OutOfTime), "-");
+        assert_eq!(ratio(micros(30.0), micros(20.0)), "1.50");
+        assert_eq!(ratio(Timing::OutOfTime, micros(1_000.0)), "over 2000");
+        assert_eq!(ratio(micros(30.0), Timing::OutOfTime), "-");
     }
 }

@@ -4,7 +4,7 @@ use std::fmt;
 use std::io::{self, Read, Write};
 use std::os::unix::process::ExitStatusExt;
 use std::path::PathBuf;
-use std::process::{Child, Command, Stdio};
+use std::process::{Child, Command, ExitStatus, Stdio};
 use std::sync::mpsc;
 use std::thread;
 use std::time::Duration;
@@ -12,8 +12,13 @@ use std::time::Duration;
 /// What came back for a script.
 #[derive(Clone, Debug, PartialEq, Eq)]
 pub enum Reply {
-    /// The program ended and had printed this.
+    /// The program ended well, with this on standard output and nothing on
+    /// standard error.
     Report(Vec<u8>),
+    /// The program ended well, but with this on standard error.
+    Complaint(Vec<u8>),
+    /// The program ended with this exit status, which isn't 0.
+    Failed(i32),
     /// A signal ended the program.
     Killed(i32),
     /// The program hadn't ended within its time.
@@ -24,6 +29,11 @@ impl fmt::Display for Reply {
     fn fmt(&self, out: &mut fmt::Formatter<'_>) -> fmt::Result {
         match self {
             Reply::Report(report) => write!(out, "{}", String::from_utf8_lossy(report)),
+            Reply::Complaint(complaint) => {
+                let complaint = String::from_utf8_lossy(complaint);
+                writeln!(out, "(on standard error: {})", complaint.trim_end())
+            }
+            Reply::Failed(status) => writeln!(out, "(ended with status {status})"),
             Reply::Killed(signal) => writeln!(out, "(ended by signal {signal})"),
             Reply::OutOfTime => writeln!(out, "(not ended within its time)"),
         }
@@ -41,11 +51,12 @@ pub struct Program {
 
 impl Program {
     /// Gives the program a script on standard input and collects what it
-    /// prints on standard output.
+    /// prints.
     pub fn reply(&self, script: &[u8]) -> io::Result<Reply> {
         let mut child = Command::new(&self.path)
             .stdin(Stdio::piped())
             .stdout(Stdio::piped())
+            .stderr(Stdio::piped())
             .spawn()?;
         self.converse(&mut child, script)
     }
@@ -55,16 +66,19 @@ impl Program {
     fn converse(&self, child: &mut Child, script: &[u8]) -> io::Result<Reply> {
         let stdin = child.stdin.take();
         let stdout = child.stdout.take();
+        let stderr = child.stderr.take();
         let (sender, receiver) = mpsc::channel();
         thread::scope(|scope| {
             // A program may refuse a script without reading all of it, so a
             // broken pipe is no failure.
             scope.spawn(move || stdin.map(|mut pipe| pipe.write_all(script)));
+            let complaint = scope.spawn(move || read_all(stderr));
             scope.spawn(move || sender.send(read_all(stdout)));
             match receiver.recv_timeout(self.time_limit) {
                 Ok(report) => {
-                    let signal = child.wait()?.signal();
-                    Ok(signal.map_or(Reply::Report(report?), Reply::Killed))
+                    let status = child.wait()?;
+                    let complaint = complaint.join().expect("reading doesn't panic");
+                    Ok(reply(status, report?, complaint?))
                 }
                 Err(_) => {
                     child.kill()?;
@@ -73,6 +87,15 @@ impl Program {
                 }
             }
         })
+    }
+}
+
+fn reply(status: ExitStatus, report: Vec<u8>, complaint: Vec<u8>) -> Reply {
+    match (status.signal(), status.code()) {
+        (Some(signal), _) => Reply::Killed(signal),
+        (None, Some(0)) if complaint.is_empty() => Reply::Report(report),
+        (None, Some(0)) => Reply::Complaint(complaint),
+        (None, code) => Reply::Failed(code.unwrap_or(-1)),
     }
 }
 

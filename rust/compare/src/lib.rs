@@ -4,13 +4,17 @@
 //! - [`generate`] makes the scripts from a seed, each from its own number.
 //! - [`desk`] runs the desk program as a child process.
 //! - [`run`] puts the two side by side and stops at the first difference.
+//! - [`examples`] are scripts with their reports, which the desk is held to too.
 //! - [`reduce`] makes the script of a difference small.
-//! - [`tally`] counts which answers and causes were reached, so that a run that
-//!   never reached one can't pass for a good one.
+//! - [`tally`] counts which answers, causes and extremes were reached, so that a
+//!   run that never reached one can't pass for a good one.
+//! - [`faults`] makes reads and writes of the desk program fail.
 
 #![forbid(unsafe_code)]
 
 pub mod desk;
+pub mod examples;
+pub mod faults;
 pub mod generate;
 pub mod random;
 pub mod reduce;

@@ -25,7 +25,7 @@ impl<D: Fn(&[u8]) -> io::Result<Reply> + Sync> Desk for D {}
 /// What a comparison came to.
 #[derive(Debug, Default)]
 pub struct Outcome {
-    /// What the second implementation's reports showed.
+    /// What the scripts and the second implementation's reports showed.
     pub tally: Tally,
     /// The number of the first script on which the two differ.
     pub difference: Option<u64>,
@@ -63,7 +63,7 @@ fn compare_some(desk: &impl Desk, seed: u64, count: u64, next: &AtomicU64) -> io
             return Ok(outcome);
         }
         let comparison = Comparison::of(desk, generate::script(seed, number))?;
-        outcome.tally.add(&comparison.expected);
+        outcome.tally.add(&comparison.script, &comparison.expected);
         if comparison.differs() {
             outcome.difference = Some(number);
             return Ok(outcome);
@@ -92,11 +92,11 @@ impl Comparison {
         })
     }
 
-    /// Whether the two differ in any byte.
+    /// Whether the two differ in any byte, or the desk didn't end well.
     pub fn differs(&self) -> bool {
         match &self.reply {
             Reply::Report(report) => report != self.expected.as_bytes(),
-            Reply::Killed(_) | Reply::OutOfTime => true,
+            _ => true,
         }
     }
 

@@ -1,14 +1,20 @@
-//! Counts the answers and causes that reports show.
+//! Counts the answers, causes and extremes that scripts and their reports show.
 
 use std::collections::BTreeMap;
 use std::fmt;
 
+use notation::{split, Command, Piece};
+use reference::ANSWER_WORDS;
+
 /// Every answer and cause that a script can reach through the desk program, by
-/// the names that [`Tally`] counts under.
+/// the names that [`Tally`] counts under, and extremes where something might
+/// overflow.
 ///
 /// After END there is no cause 4 or 6, since design commands are refused with
-/// 3. Causes 7 and 12 are about lent memory, which no script can spoil.
-pub const OUTCOMES: [&str; 26] = [
+/// 3. Causes 7 and 12 are about lent memory, which no script can spoil. No
+/// answer needs 4,097 words: that has no divisor from 2 to 5, and 512 rows make
+/// no more than 512 lists of one.
+pub const OUTCOMES: [&str; 37] = [
     "design accepted",
     "design refused 1",
     "design refused 2",
@@ -35,7 +41,21 @@ pub const OUTCOMES: [&str; 26] = [
     "refused 9",
     "refused 10",
     "refused 11",
+    "over 10,000 commands",
+    "loaded in over 255 rounds",
+    "loaded 512 rows",
+    "answer of 4,095 words",
+    "answer of 4,096 words",
+    "refused 11 for 4,098 words",
+    "2^32 - 1 in a row",
+    "2^32 - 1 loaded with rows",
+    "2^32 - 1 dropped with rows",
+    "2^32 - 1 probed with a ground",
+    "2^32 - 1 queried with lists",
 ];
+
+/// The fewest words that are too many.
+const TOO_MANY_WORDS: usize = ANSWER_WORDS + 2;
 
 /// How often each outcome was reached.
 #[derive(Clone, Debug, Default)]
@@ -44,14 +64,31 @@ pub struct Tally {
 }
 
 impl Tally {
-    /// Counts what one report shows.
-    pub fn add(&mut self, report: &str) {
-        let mut lines = report.lines();
-        if let Some(head) = lines.next() {
-            self.count(head_outcome(head), 1);
+    /// Counts what one script and its report show.
+    pub fn add(&mut self, script: &[u8], report: &str) {
+        let Some((head, operations)) = report.split_once('\n') else {
+            return;
+        };
+        let design = head_outcome(head);
+        let accepted = design == "design accepted";
+        self.count(design, 1);
+        if !accepted {
+            return;
         }
-        for outcome in lines.filter_map(line_outcome) {
-            self.count(outcome, 1);
+        let answers = answers(operations);
+        for answer in &answers {
+            self.count(answer.outcome(), 1);
+            self.count_answer_extremes(answer);
+        }
+        if answers.len() > 10_000 {
+            self.count("over 10,000 commands".into(), 1);
+        }
+        self.count_top_values(script, &answers);
+        if answers
+            .iter()
+            .any(|answer| answer.text.starts_with("refused 11 "))
+        {
+            self.count_few_words_too_many(script, &answers);
         }
     }
 
@@ -71,6 +108,58 @@ impl Tally {
     fn count(&mut self, outcome: String, count: u64) {
         *self.counts.entry(outcome).or_default() += count;
     }
+
+    fn count_answer_extremes(&mut self, answer: &Answer) {
+        if let ["loaded", rows, rounds] = answer.words()[..] {
+            if rows == "512" {
+                self.count("loaded 512 rows".into(), 1);
+            }
+            if rounds.parse().is_ok_and(|rounds: usize| rounds > 255) {
+                self.count("loaded in over 255 rounds".into(), 1);
+            }
+        }
+        match answer.list_words {
+            4_095 => self.count("answer of 4,095 words".into(), 1),
+            4_096 => self.count("answer of 4,096 words".into(), 1),
+            _ => {}
+        }
+    }
+
+    /// Counts where the largest value stands, for commands that did something
+    /// with it.
+    fn count_top_values(&mut self, script: &[u8], answers: &[Answer]) {
+        let pieces = split(script);
+        let is_end = |piece: &Piece| *piece == Piece::Command(Command::End);
+        let Some(end) = pieces.iter().position(is_end) else {
+            return;
+        };
+        let (design, operations) = pieces.split_at(end);
+        let in_a_row = |piece: &Piece| match piece {
+            Piece::Command(Command::Row(row)) => row.cells.contains(&u32::MAX),
+            _ => false,
+        };
+        if design.iter().any(in_a_row) {
+            self.count("2^32 - 1 in a row".into(), 1);
+        }
+        for (piece, answer) in operations[1..].iter().zip(answers) {
+            if let Some(outcome) = top_value_outcome(piece, answer) {
+                self.count(outcome.into(), 1);
+            }
+        }
+    }
+
+    /// Counts the answers that two more words would have been enough for.
+    fn count_few_words_too_many(&mut self, script: &[u8], expected: &[Answer]) {
+        let report = reference::report_lending(script, TOO_MANY_WORDS);
+        let operations = report.split_once('\n').map_or("", |(_, rest)| rest);
+        let lent_more = answers(operations);
+        let answered = expected.iter().zip(&lent_more);
+        let changed = answered.filter(|(one, other)| one.text != other.text);
+        let count = changed.count() as u64;
+        if count > 0 {
+            self.count("refused 11 for 4,098 words".into(), count);
+        }
+    }
 }
 
 impl fmt::Display for Tally {
@@ -80,6 +169,49 @@ impl fmt::Display for Tally {
             writeln!(out, "{count:>9}  {outcome}")?;
         }
         Ok(())
+    }
+}
+
+/// A command's line in a report, and the lists after it.
+struct Answer<'a> {
+    /// The line without the command's number.
+    text: &'a str,
+    /// The words of all its lists.
+    list_words: usize,
+}
+
+/// The answers of a report without its head.
+fn answers(operations: &str) -> Vec<Answer<'_>> {
+    let mut answers: Vec<Answer> = Vec::new();
+    for line in operations.lines() {
+        let (_, rest) = line.split_once(' ').unwrap_or((line, ""));
+        if rest.starts_with(char::is_alphabetic) {
+            answers.push(Answer {
+                text: rest,
+                list_words: 0,
+            });
+        } else if let Some(answer) = answers.last_mut() {
+            answer.list_words += line.split(' ').count();
+        }
+    }
+    answers
+}
+
+impl Answer<'_> {
+    fn words(&self) -> Vec<&str> {
+        self.text.split(' ').collect()
+    }
+
+    /// The outcome that the answer counts under.
+    fn outcome(&self) -> String {
+        match self.words()[..] {
+            ["answer", "0"] => "answer without lists".into(),
+            ["answer", _] => "answer with lists".into(),
+            ["refused", cause, _] => format!("refused {cause}"),
+            ["loaded", ..] => "loaded".into(),
+            ["dropped", ..] => "dropped".into(),
+            _ => self.text.into(),
+        }
     }
 }
 
@@ -95,28 +227,36 @@ fn head_outcome(line: &str) -> String {
     }
 }
 
-/// The outcome that a later line shows; a list of rows shows none.
-fn line_outcome(line: &str) -> Option<String> {
-    let words: Vec<&str> = line.split(' ').collect();
-    match words[1..] {
-        ["answer", "0"] => Some("answer without lists".into()),
-        ["answer", _] => Some("answer with lists".into()),
-        ["no", "candidate"] => Some("no candidate".into()),
-        ["ground", ground] => Some(format!("ground {ground}")),
-        ["refused", cause, _] => Some(format!("refused {cause}")),
-        [word @ ("loaded" | "held" | "dropped" | "sent"), ..] => Some(word.into()),
-        _ => None,
-    }
+/// The outcome of an operation on the largest value that did something.
+fn top_value_outcome(piece: &Piece, answer: &Answer) -> Option<&'static str> {
+    let Piece::Command(command) = piece else {
+        return None;
+    };
+    let outcome = match (command, &answer.words()[..]) {
+        (Command::Refer(pair), ["loaded", rows, _]) if *rows != "0" => {
+            (pair.value, "2^32 - 1 loaded with rows")
+        }
+        (Command::Drop(pair), ["dropped", rows]) if *rows != "0" => {
+            (pair.value, "2^32 - 1 dropped with rows")
+        }
+        (Command::Probe(probe), ["ground", _]) => (probe.value, "2^32 - 1 probed with a ground"),
+        (Command::Query(query), ["answer", lists]) if *lists != "0" => {
+            (query.value, "2^32 - 1 queried with lists")
+        }
+        _ => return None,
+    };
+    (outcome.0 == u32::MAX).then_some(outcome.1)
 }
 
 #[cfg(test)]
 mod tests {
     use super::*;
+    use notation::assemble;
 
     fn counted(reports: &[&str]) -> Vec<(String, u64)> {
         let mut tally = Tally::default();
         for report in reports {
-            tally.add(report);
+            tally.add(&[], report);
         }
         tally.counts.into_iter().collect()
     }
@@ -151,11 +291,49 @@ mod tests {
     }
 
     #[test]
+    fn extremes_of_answers_are_counted_too() {
+        let lists = |count| "1 2 3\n".repeat(count);
+        let report = format!(
+            "design 1 1 1 512\n0 loaded 512 256\n1 loaded 511 255\n2 answer 1365\n{}3 answer 1364\n{}",
+            lists(1_365),
+            lists(1_364)
+        );
+        let expected = [
+            ("answer of 4,095 words".into(), 1),
+            ("answer with lists".into(), 2),
+            ("design accepted".into(), 1),
+            ("loaded".into(), 2),
+            ("loaded 512 rows".into(), 1),
+            ("loaded in over 255 rounds".into(), 1),
+        ];
+        assert_eq!(counted(&[&report]), expected);
+        let report = format!("design 0 0 0 0\n{}", "7 refused 3 1\n".repeat(10_001));
+        let counted = counted(&[&report]);
+        assert!(counted.contains(&("over 10,000 commands".into(), 1)));
+    }
+
+    #[test]
+    fn the_largest_value_counts_where_it_does_something() {
+        let text = "table 1\nfilling 0.0 1..4294967295\nrow 0 4294967295\nend\n\
+            probe 0.0 = 4294967295\nrefer 0 4294967295\nrefer 0 4294967295\n\
+            probe 0.0 = 4294967295\nquery 0.0 = 4294967295\ndrop 0 4294967295\n";
+        let script = assemble(text).expect("a right text");
+        let mut tally = Tally::default();
+        tally.add(&script, &reference::report(&script));
+        let top = tally
+            .counts
+            .iter()
+            .filter(|(name, _)| name.starts_with("2^32"));
+        assert!(top.clone().all(|(_, &count)| count == 1), "{tally}");
+        assert_eq!(top.count(), 5);
+    }
+
+    #[test]
     fn what_was_not_reached_is_missing() {
         let mut tally = Tally::default();
         assert_eq!(tally.missing(), OUTCOMES);
         let mut other = Tally::default();
-        other.add("refused 6 3\n");
+        other.add(&[], "refused 6 3\n");
         tally.merge(other);
         let rest = OUTCOMES
             .into_iter()

@@ -49,7 +49,7 @@ fn a_wrong_ground_is_found_and_made_small() {
 #[test]
 fn a_wrong_place_is_found_and_made_small() {
     let reduced = difference(|report| report.replace("refused 3 ", "refused 3 1"));
-    assert!(reduced.script.len() <= 6, "{reduced}");
+    assert!(notation::split(&reduced.script).len() <= 3, "{reduced}");
 }
 
 #[test]
@@ -67,7 +67,12 @@ fn a_list_left_out_is_found() {
 
 #[test]
 fn a_desk_that_fails_to_answer_differs() {
-    for reply in [Reply::Killed(6), Reply::OutOfTime] {
+    for reply in [
+        Reply::Killed(6),
+        Reply::Failed(1),
+        Reply::Complaint(b"oh\n".to_vec()),
+        Reply::OutOfTime,
+    ] {
         let desk = |_: &[u8]| Ok(reply.clone());
         let outcome = compare(&desk, SEED, 10).expect("no failure");
         assert!(outcome.difference.is_some());

@@ -32,11 +32,15 @@ fn write_shell_programs() {
             "'{}' | sed 's/no candidate/held/'",
             reference_desk().display()
         );
+        let careless = format!("'{}' 2>/dev/null", reference_desk().display());
         for (name, body) in [
             ("wrong", wrong.as_str()),
             ("hasty", "echo refused 4 0"),
             ("echoing", "cat"),
             ("dying", "kill -6 $$"),
+            ("failing", "cat; exit 3"),
+            ("complaining", "cat; echo oh >&2"),
+            ("careless", careless.as_str()),
             ("endless", "exec sleep 60"),
         ] {
             let path = shell_program(name);
@@ -97,6 +101,74 @@ fn a_desk_with_one_wrong_line() {
 }
 
 #[test]
+fn several_seeds_are_printed_and_the_first_is_the_one_given() {
+    let output = Command::new(env!("CARGO_BIN_EXE_compare"))
+        .args(["--seed", "5", "--seeds", "2", "--scripts", "1500"])
+        .arg(reference_desk())
+        .output()
+        .expect("compare runs");
+    let text = String::from_utf8_lossy(&output.stdout);
+    let seeds: Vec<&str> = text
+        .lines()
+        .filter_map(|line| Some(line.split_once("1500 scripts of seed ")?.1))
+        .collect();
+    assert_eq!((seeds.len(), seeds[0]), (2, "5"), "{text}");
+    assert_ne!(seeds[1], "5", "{text}");
+    assert!(output.status.success(), "{text}");
+}
+
+fn run_examples(desk: &Path) -> (Output, String) {
+    write_shell_programs();
+    let examples = Path::new(env!("CARGO_MANIFEST_DIR")).join("../../examples");
+    let output = Command::new(env!("CARGO_BIN_EXE_compare"))
+        .args(["--scripts", "0", "--examples"])
+        .args([&examples, desk])
+        .output()
+        .expect("compare runs");
+    let text = String::from_utf8_lossy(&output.stdout).into_owned();
+    (output, text)
+}
+
+#[test]
+fn examples_hold_a_desk_to_their_reports() {
+    let (_, right) = run_examples(&reference_desk());
+    assert!(right.contains("examples, no difference"), "{right}");
+    let (output, wrong) = run_examples(&shell_program("hasty"));
+    assert!(wrong.contains("ward.desk differs"), "{wrong}");
+    assert_eq!(output.status.code(), Some(1));
+}
+
+/// What `faults` finds wrong with a program.
+fn faults(program: &Path) -> Vec<String> {
+    write_shell_programs();
+    let output = Command::new(env!("CARGO_BIN_EXE_faults"))
+        .arg(program)
+        .output()
+        .expect("faults runs");
+    let text = String::from_utf8_lossy(&output.stdout).into_owned();
+    let wrong = text.lines().filter_map(|line| line.strip_prefix("wrong  "));
+    let names = wrong.filter_map(|line| Some(line.split_once(':')?.0.to_string()));
+    let names: Vec<String> = names.collect();
+    assert_eq!(output.status.success(), names.is_empty(), "{text}");
+    names
+}
+
+/// Rust opens descriptors that are closed at the start, so that the second
+/// implementation doesn't see these two.
+#[test]
+fn the_second_implementation_has_two_faults() {
+    assert_eq!(faults(&reference_desk()), ["output closed", "input closed"]);
+}
+
+#[test]
+fn a_program_that_does_not_complain_has_more() {
+    let found = faults(&shell_program("careless"));
+    for name in ["a full device, a short report", "a directory as input"] {
+        assert!(found.iter().any(|found| found == name), "{found:?}");
+    }
+}
+
+#[test]
 fn a_desk_that_is_not_there() {
     let (output, _) = run_compare(Path::new("/no/such/desk"), "3");
     assert_eq!(output.status.code(), Some(2));
@@ -114,6 +186,19 @@ fn a_program_that_prints_while_it_reads() {
     assert_eq!(
         reply("echoing", &script, 60),
         Reply::Report(script.to_vec())
+    );
+}
+
+#[test]
+fn a_program_that_fails() {
+    assert_eq!(reply("failing", b"a", 60), Reply::Failed(3));
+}
+
+#[test]
+fn a_program_that_complains() {
+    assert_eq!(
+        reply("complaining", b"a", 60),
+        Reply::Complaint(b"oh\n".to_vec())
     );
 }
 

@@ -30,8 +30,8 @@ pub struct Database(Rc<Connection>);
 /// The connection, closed when the database and all its statements are gone.
 struct Connection {
     handle: *mut ffi::Connection,
-    /// The processor time at which the statement that is running began; SQLite
-    /// has its address.
+    /// The processor time at which the time limit began; SQLite has its
+    /// address.
     began: Box<Cell<Duration>>,
 }
 
@@ -55,6 +55,11 @@ impl Database {
         // until the connection is closed, and is only read by the handler.
         unsafe { ffi::sqlite3_progress_handler(handle, STEPS, Some(is_out_of_time), argument) };
         Database(Rc::new(connection))
+    }
+
+    /// Begins the time limit anew.
+    pub fn begin(&self) {
+        self.0.began.set(thread_time());
     }
 
     /// Prepares a statement.
@@ -101,7 +106,6 @@ impl Statement {
             let code = unsafe { ffi::sqlite3_bind_int64(self.handle, number, parameter) };
             self.connection.expect(code, ffi::OK);
         }
-        self.connection.began.set(thread_time());
         let done = self.step_through(&mut each);
         // SAFETY: the statement is prepared. The code is that of the last step,
         // which has been looked at.

@@ -1,6 +1,7 @@
 //! SQLite in memory as a contestant: loads and drops are recursive common table
 //! expressions, probes and queries are single statements, and every column has
-//! an index. All statements are prepared off the clock.
+//! an index. Statements are prepared when a design is opened, and those of queries
+//! off the clock.
 //!
 //! It does what the works need and no more: operands aren't checked, held values
 //! aren't counted and neither are rounds. Where that makes a difference, it is
@@ -11,11 +12,14 @@ mod ffi;
 mod sql;
 
 use std::collections::HashMap;
+use std::hint::black_box;
 
 use notation::{Column, Command, Design, Join, Pair, Probe, Query};
 use reference::ANSWER_WORDS;
 
-use crate::contestant::{Answer, Contestant, OpenDesk, Operation};
+use crate::contestant::{
+    run_one_by_one, Answer, Contestant, OpenDesk, Opening, Operation, Operations,
+};
 use database::{Database, OutOfTime, Statement};
 
 /// SQLite with a database in memory.
@@ -26,9 +30,14 @@ impl Contestant for Sqlite {
         "SQLite"
     }
 
-    fn open(&self, design: &Design) -> Box<dyn OpenDesk> {
+    fn open(&self, design: &Opening) -> Box<dyn OpenDesk> {
+        let design = &design.design;
         let database = Database::open();
-        for statement in sql::schema(design) {
+        for statement in sql::tables(design) {
+            database.execute(&statement);
+        }
+        insert_rows(&database, design);
+        for statement in sql::indexes(design) {
             database.execute(&statement);
         }
         Box::new(Desk::new(design, database))
@@ -49,24 +58,44 @@ struct Desk {
     database: Database,
 }
 
+/// Inserts the rows in one transaction, with a statement for each table.
+fn insert_rows(database: &Database, design: &Design) {
+    let inserts = (0..design.tables.len()).map(|table| sql::insert_row(design, table));
+    let mut inserts: Vec<_> = inserts.map(|sql| database.prepare(&sql)).collect();
+    database.execute("BEGIN");
+    for (number, row) in (0..).zip(&design.rows) {
+        let table = usize::from(row.table);
+        let columns = usize::from(design.tables[table].columns);
+        let cells = row.cells[..columns].iter().map(|&cell| i64::from(cell));
+        let values: Vec<i64> = [number].into_iter().chain(cells).collect();
+        let done = inserts[table].run(&values, |_| true);
+        assert_eq!(done, Ok(()), "rows are inserted in time");
+    }
+    database.execute("COMMIT");
+}
+
 impl OpenDesk for Desk {
-    fn prepare(&mut self, operation: &Operation) {
-        if let Command::Query(query) = operation.command {
-            let sql = sql::query(&self.design, &query);
-            self.queries
-                .insert(shape(&query), self.database.prepare(&sql));
+    fn prepare(&mut self, operations: &Operations) {
+        for operation in &operations.list {
+            if let Command::Query(query) = operation.command {
+                let (design, database) = (&self.design, &self.database);
+                self.queries
+                    .entry(shape(&query))
+                    .or_insert_with(|| database.prepare(&sql::query(design, &query)));
+            }
         }
     }
 
-    fn perform(&mut self, operation: &Operation) -> Answer {
-        let answer = match operation.command {
-            Command::Refer(pair) => self.refer(pair),
-            Command::Drop(pair) => self.drop(pair),
-            Command::Probe(probe) => self.probe(probe),
-            Command::Query(query) => self.query(&query),
-            command => unreachable!("{command} is no operation"),
-        };
-        answer.unwrap_or(Answer::OutOfTime)
+    fn answer(&mut self, operation: &Operation) -> Answer {
+        self.database.begin();
+        self.perform(operation).unwrap_or(Answer::OutOfTime)
+    }
+
+    fn run(&mut self, operations: &Operations) -> usize {
+        self.database.begin();
+        run_one_by_one(operations, |operation| {
+            black_box(self.perform(operation)).is_ok()
+        })
     }
 }
 
@@ -87,6 +116,16 @@ impl Desk {
             queries: HashMap::new(),
             design: design.clone(),
             database,
+        }
+    }
+
+    fn perform(&mut self, operation: &Operation) -> Result<Answer, OutOfTime> {
+        match operation.command {
+            Command::Refer(pair) => self.refer(pair),
+            Command::Drop(pair) => self.drop(pair),
+            Command::Probe(probe) => self.probe(probe),
+            Command::Query(query) => self.query(&query),
+            command => unreachable!("{command} is no operation"),
         }
     }
 

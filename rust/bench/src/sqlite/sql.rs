@@ -3,11 +3,10 @@
 //! which equals nothing. `held` has the held values and `cached` the numbers of
 //! the cached rows.
 
-use notation::{Column, Constraint, Design, Filling, Query, Row, Table};
+use notation::{Column, Constraint, Design, Filling, Query, Table};
 
-/// The statements that make a design's tables, fill them and index every
-/// column.
-pub fn schema(design: &Design) -> Vec<String> {
+/// The statements that make a design's tables.
+pub fn tables(design: &Design) -> Vec<String> {
     let mut statements = vec![
         "PRAGMA journal_mode = OFF".into(),
         "CREATE TABLE held (filling INTEGER, value INTEGER, PRIMARY KEY (filling, value)) \
@@ -15,12 +14,17 @@ pub fn schema(design: &Design) -> Vec<String> {
             .into(),
         "CREATE TABLE cached (row INTEGER PRIMARY KEY)".into(),
     ];
+    let tables = design.tables.iter().enumerate();
+    statements.extend(tables.map(|(number, table)| create_table(number, table)));
+    statements
+}
+
+/// The statements that index every column and take account of what is there.
+pub fn indexes(design: &Design) -> Vec<String> {
+    let mut statements = Vec::new();
     for (number, table) in design.tables.iter().enumerate() {
-        statements.push(create_table(number, table));
         statements.extend((0..table.columns).map(|column| create_index(number, table, column)));
     }
-    let rows = design.rows.iter().enumerate();
-    statements.extend(rows.map(|(number, row)| insert_row(design, number, row)));
     statements.push("ANALYZE".into());
     statements
 }
@@ -40,16 +44,11 @@ fn create_index(number: usize, table: &Table, column: u8) -> String {
     format!("CREATE {unique}INDEX t{number}c{column} ON t{number} (c{column})")
 }
 
-fn insert_row(design: &Design, number: usize, row: &Row) -> String {
-    let Table { columns, .. } = design.tables[usize::from(row.table)];
-    let cells: String = row.cells[..usize::from(columns)]
-        .iter()
-        .map(|cell| match cell {
-            0 => ", NULL".into(),
-            value => format!(", {value}"),
-        })
-        .collect();
-    format!("INSERT INTO t{} VALUES ({number}{cells})", row.table)
+/// Inserts a row of a table: its number and its cells, 0 being blank.
+pub fn insert_row(design: &Design, table: usize) -> String {
+    let columns = 0..design.tables[table].columns;
+    let cells: String = columns.map(|_| ", NULLIF(?, 0)").collect();
+    format!("INSERT INTO t{table} VALUES (?{cells})")
 }
 
 /// Holds value `?2` of filling `?1` unless it is held.

@@ -74,7 +74,7 @@ impl Values {
     }
 
     /// The value with the given place in the sequence, even past the count.
-    fn get(&self, place: usize) -> u32 {
+    pub fn get(&self, place: usize) -> u32 {
         let place = place as u32;
         if self.downwards {
             u32::MAX - place
@@ -136,10 +136,17 @@ impl Draft {
         draft
     }
 
-    /// A table linked to itself, whose rows form a ring that is broken here and
-    /// there.
+    /// A table linked to itself, whose up to 30 rows form a ring that is broken
+    /// here and there.
     pub fn chain(random: &mut Random) -> Draft {
-        let values = Values::new(random.within(1..=30), random.percent(20));
+        let rows = random.within(1..=30);
+        Draft::ring(random, rows, 5)
+    }
+
+    /// A table linked to itself, whose rows form a ring. In so many of a hundred
+    /// cases a row has no next one, and in as many, any other.
+    pub fn ring(random: &mut Random, rows: usize, broken: usize) -> Draft {
+        let values = Values::new(rows, random.percent(20));
         let [key, next] = [0, 1].map(|column| Column { table: 0, column });
         let mut design = Design {
             tables: vec![Table {
@@ -154,9 +161,9 @@ impl Draft {
             rows: Vec::new(),
         };
         for place in 0..values.count {
-            let next = match random.below(20) {
-                0 => 0,
-                1 => values.any(random),
+            let next = match random.below(100) {
+                chance if chance < broken => 0,
+                chance if chance < 2 * broken => values.any(random),
                 _ => values.get((place + 1) % values.count),
             };
             design.add_row(0, &[values.get(place), next]);

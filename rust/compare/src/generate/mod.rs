@@ -3,6 +3,7 @@
 
 mod damage;
 mod design;
+mod extremes;
 mod limits;
 mod operations;
 mod spoil;
@@ -17,7 +18,7 @@ use spoil::spoil;
 /// A way to make a script, with its share among all scripts.
 type Kind = (usize, fn(&mut Random) -> Vec<u8>);
 
-const KINDS: [Kind; 11] = [
+const KINDS: [Kind; 15] = [
     (40, |random| ordinary(random, &Shape::SPARSE)),
     (25, |random| ordinary(random, &Shape::DENSE)),
     (15, |random| worked(random, Draft::chain)),
@@ -29,6 +30,10 @@ const KINDS: [Kind; 11] = [
     (8, limits::answer_words),
     (4, limits::rows),
     (1, limits::script_length),
+    (5, extremes::words_around_the_limit),
+    (4, extremes::many_rounds),
+    (4, extremes::all_rows),
+    (2, extremes::many_commands),
 ];
 
 /// The script with the given number among those of a seed.

@@ -1,0 +1,156 @@
+//! The held values and the rows cached for them, and how a value is loaded.
+//!
+//! A row is cached if its mark is the current epoch, and a group is full if its
+//! own is: then all its rows are cached, and it needn't be walked again. A new
+//! epoch empties the cache at once.
+
+use crate::catalog::Catalog;
+use crate::design::{Design, Filling};
+use crate::desk::Answer;
+use crate::dropping::Doubt;
+use crate::{CELLS, CONSTRAINTS, NO_ROW, ROWS};
+
+/// The most held values.
+pub const MOST_HELD: usize = 64;
+
+/// What is held and cached. All zeros have to be emptied before the first use.
+pub struct Cache {
+    pub(crate) epoch: u32,
+    /// How many rows are cached.
+    pub(crate) rows: usize,
+    pub(crate) mark: [u32; ROWS],
+    /// For each group, by its head and column.
+    pub(crate) full: [u32; CELLS * ROWS],
+    /// Rows whose demands are still to be looked at, or have been.
+    pub(crate) queue: [u16; ROWS],
+    pub(crate) held_count: usize,
+    /// The held values in order of reference, each as one key.
+    pub(crate) held: [u64; MOST_HELD],
+    /// The head of each held value's group.
+    pub(crate) held_head: [u16; MOST_HELD],
+    /// For each group, by its head and column: whether a filling holds its
+    /// value.
+    pub(crate) holds: [bool; CELLS * ROWS],
+    pub(crate) doubt: Doubt,
+}
+
+/// A filling and a value as one number.
+#[inline(always)]
+pub fn key(filling: u8, value: u32) -> u64 {
+    u64::from(filling) << 32 | u64::from(value)
+}
+
+impl Cache {
+    /// Caches nothing from now on.
+    pub(crate) fn empty(&mut self) {
+        self.epoch += 1;
+    }
+
+    /// Whether the row is cached.
+    #[inline(always)]
+    pub fn has(&self, row: usize) -> bool {
+        self.mark[row] == self.epoch
+    }
+
+    /// Whether the pair is held.
+    #[inline(always)]
+    pub fn holds(&self, filling: u8, value: u32) -> bool {
+        self.held[..self.held_count].contains(&key(filling, value))
+    }
+
+    /// REFER.
+    pub fn refer(&mut self, design: &Design, catalog: &Catalog, filling: u8, value: u32) -> Answer {
+        if usize::from(filling) >= design.fillings {
+            return Answer::Refused(5);
+        }
+        if value == 0 {
+            return Answer::Refused(9);
+        }
+        let Filling { column, low, high } = design.filling[usize::from(filling)];
+        if !(low..=high).contains(&value) {
+            return Answer::NoCandidate;
+        }
+        if self.holds(filling, value) {
+            return Answer::Held;
+        }
+        if self.held_count == MOST_HELD {
+            return Answer::Refused(8);
+        }
+        let head = catalog.find(column, value);
+        self.held[self.held_count] = key(filling, value);
+        self.held_head[self.held_count] = head;
+        self.held_count += 1;
+        if head == NO_ROW {
+            return Answer::Loaded { rows: 0, rounds: 0 };
+        }
+        let place = usize::from(column.place);
+        self.holds[CELLS * usize::from(head) + place] = true;
+        self.load(design, catalog, head, place)
+    }
+
+    /// Caches a group and what it demands, round by round.
+    fn load(&mut self, design: &Design, catalog: &Catalog, head: u16, place: usize) -> Answer {
+        let (mut from, mut to, mut rounds) = (0, self.reach(catalog, head, place, 0), 0);
+        loop {
+            let mut end = to;
+            for at in from..to {
+                end = self.follow(design, catalog, at, end);
+            }
+            if end == to {
+                break;
+            }
+            rounds += 1;
+            (from, to) = (to, end);
+        }
+        self.rows += to;
+        Answer::Loaded { rows: to, rounds }
+    }
+
+    /// Caches the rows of a group and puts those that weren't cached at the
+    /// queue's end, which it gives.
+    #[inline(always)]
+    pub(crate) fn reach(
+        &mut self,
+        catalog: &Catalog,
+        head: u16,
+        place: usize,
+        mut end: usize,
+    ) -> usize {
+        let epoch = self.epoch;
+        let full = &mut self.full[CELLS * usize::from(head) + place];
+        if *full == epoch {
+            return end;
+        }
+        *full = epoch;
+        let mut row = usize::from(head);
+        while row < ROWS {
+            if self.mark[row] != epoch {
+                self.mark[row] = epoch;
+                self.queue[end % ROWS] = row as u16;
+                end += 1;
+            }
+            row = usize::from(catalog.next[CELLS * row + place]);
+        }
+        end
+    }
+
+    /// Caches the groups that the row at a place of the queue demands.
+    #[inline(always)]
+    pub(crate) fn follow(
+        &mut self,
+        design: &Design,
+        catalog: &Catalog,
+        at: usize,
+        mut end: usize,
+    ) -> usize {
+        let row = usize::from(self.queue[at % ROWS]);
+        let table = usize::from(design.row_table[row]) % CELLS;
+        for link in catalog.leaving[table].all() {
+            let head = catalog.first[CONSTRAINTS * row + usize::from(link.number)];
+            if head < NO_ROW {
+                end = self.reach(catalog, head, usize::from(link.place), end);
+            }
+        }
+        end
+    }
+}

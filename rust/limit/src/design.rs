@@ -1,0 +1,258 @@
+//! The design and its backend rows, read from the head of a script.
+//!
+//! Cause 6 isn't looked at here: a repeated value shows when the rows of a
+//! unique column are put into groups ([`crate::catalog`]).
+
+use crate::{CELLS, CONSTRAINTS, ROWS};
+
+const LONGEST_SCRIPT: usize = 65_536;
+const TABLES: usize = 8;
+const FILLINGS: usize = 8;
+
+/// The bytes of a ROW command.
+const ROW_WIDTH: usize = 34;
+
+/// A column of a table, both by number.
+#[derive(Clone, Copy, Default, PartialEq, Eq)]
+pub struct Column {
+    /// The table.
+    pub table: u8,
+    /// The column's place in it.
+    pub place: u8,
+}
+
+impl Column {
+    /// The column's number among 64: eight for each table.
+    #[inline(always)]
+    pub fn number(self) -> usize {
+        CELLS * usize::from(self.table) + usize::from(self.place)
+    }
+}
+
+/// A constraint.
+#[derive(Clone, Copy, Default, PartialEq, Eq)]
+pub struct Constraint {
+    /// Where the demand comes from.
+    pub source: Column,
+    /// Where the demanded rows are.
+    pub target: Column,
+}
+
+/// A filling column with its candidates, both ends counted.
+#[derive(Clone, Copy, Default)]
+pub struct Filling {
+    /// The filling column.
+    pub column: Column,
+    /// The lowest candidate.
+    pub low: u32,
+    /// The highest candidate.
+    pub high: u32,
+}
+
+/// A cause with the place of the faulty command.
+#[derive(Clone, Copy, Debug, PartialEq, Eq)]
+pub struct Refusal {
+    /// The cause's number.
+    pub cause: u8,
+    /// The byte at which the command begins.
+    pub place: usize,
+}
+
+/// A design, as far as it has been read: all zeros at first.
+pub struct Design {
+    /// How many tables there are.
+    pub tables: usize,
+    /// Each table's number of columns.
+    pub columns: [u8; TABLES],
+    /// Each table's unique columns, bit i for column i.
+    pub unique: [u8; TABLES],
+    /// How many constraints there are.
+    pub constraints: usize,
+    /// The constraints.
+    pub constraint: [Constraint; CONSTRAINTS],
+    /// How many fillings there are.
+    pub fillings: usize,
+    /// The fillings.
+    pub filling: [Filling; FILLINGS],
+    /// How many rows there are.
+    pub rows: usize,
+    /// Each row's table.
+    pub row_table: [u8; ROWS],
+    /// The cells, eight for each row.
+    pub cells: [u32; CELLS * ROWS],
+    /// The place of the first ROW.
+    first_row: usize,
+}
+
+/// A u32 of a script.
+#[inline(always)]
+pub fn u32_at(bytes: &[u8], place: usize) -> u32 {
+    let mut four = [0; 4];
+    four.copy_from_slice(&bytes[place..place + 4]);
+    u32::from_le_bytes(four)
+}
+
+/// How many bytes the command with this first byte has; 0 if there is none.
+#[inline]
+pub fn width(command: u8) -> usize {
+    match command {
+        0x01 => 3,
+        0x02 => 5,
+        0x03 => 11,
+        0x04 => ROW_WIDTH,
+        0x05 => 1,
+        0x10 | 0x11 => 6,
+        0x12 => 7,
+        0x13 => 16,
+        _ => 0,
+    }
+}
+
+impl Design {
+    /// Reads a design from the head of a script, up to END or the first cause
+    /// other than 6, and gives the place after END.
+    pub fn read(&mut self, script: &[u8]) -> Result<usize, Refusal> {
+        if script.len() > LONGEST_SCRIPT {
+            return Err(Refusal { cause: 4, place: 0 });
+        }
+        let (mut place, mut stage) = (0, 0x01);
+        loop {
+            let refused = |cause| Err(Refusal { cause, place });
+            let Some(&command) = script.get(place) else {
+                return refused(1);
+            };
+            let width = width(command);
+            if width == 0 {
+                return refused(2);
+            }
+            let Some(bytes) = script.get(place..place + width) else {
+                return refused(1);
+            };
+            if !(stage..=0x05).contains(&command) {
+                return refused(3);
+            }
+            if command == 0x04 && self.rows == 0 {
+                self.first_row = place;
+            }
+            match self.add(bytes) {
+                0 => {}
+                cause => return refused(cause),
+            }
+            place += width;
+            stage = command;
+            if command == 0x05 {
+                return Ok(place);
+            }
+        }
+    }
+
+    /// The refusal of a row that repeats a value of a unique column.
+    pub fn repeats(&self, row: usize) -> Refusal {
+        Refusal {
+            cause: 6,
+            place: self.first_row + ROW_WIDTH * row,
+        }
+    }
+
+    /// Whether the column's numbers name one.
+    #[inline(always)]
+    pub fn has(&self, column: Column) -> bool {
+        let table = usize::from(column.table);
+        table < self.tables && column.place < self.columns[table]
+    }
+
+    /// Whether the column is unique.
+    #[inline(always)]
+    pub fn is_unique(&self, column: Column) -> bool {
+        self.unique[usize::from(column.table)] >> column.place & 1 == 1
+    }
+
+    /// Adds what a design command says, or gives the cause of its refusal, or 0.
+    fn add(&mut self, bytes: &[u8]) -> u8 {
+        let column = |place: usize| Column {
+            table: bytes[place],
+            place: bytes[place + 1],
+        };
+        match bytes[0] {
+            0x01 => self.add_table(bytes[1], bytes[2]),
+            0x02 => self.add_constraint(Constraint {
+                source: column(1),
+                target: column(3),
+            }),
+            0x03 => self.add_filling(Filling {
+                column: column(1),
+                low: u32_at(bytes, 3),
+                high: u32_at(bytes, 7),
+            }),
+            0x04 => self.add_row(bytes),
+            _ => 0,
+        }
+    }
+
+    fn add_table(&mut self, columns: u8, unique: u8) -> u8 {
+        if self.tables == TABLES {
+            return 4;
+        }
+        if !(1..=CELLS as u8).contains(&columns) || u32::from(unique) >> columns != 0 {
+            return 5;
+        }
+        self.columns[self.tables] = columns;
+        self.unique[self.tables] = unique;
+        self.tables += 1;
+        0
+    }
+
+    fn add_constraint(&mut self, constraint: Constraint) -> u8 {
+        if self.constraints == CONSTRAINTS {
+            return 4;
+        }
+        let before = &self.constraint[..self.constraints];
+        if !self.has(constraint.source)
+            || !self.has(constraint.target)
+            || before.contains(&constraint)
+        {
+            return 5;
+        }
+        self.constraint[self.constraints] = constraint;
+        self.constraints += 1;
+        0
+    }
+
+    fn add_filling(&mut self, filling: Filling) -> u8 {
+        if self.fillings == FILLINGS {
+            return 4;
+        }
+        let mut before = self.filling[..self.fillings].iter();
+        if !self.has(filling.column)
+            || filling.low == 0
+            || filling.low > filling.high
+            || before.any(|other| other.column == filling.column)
+        {
+            return 5;
+        }
+        self.filling[self.fillings] = filling;
+        self.fillings += 1;
+        0
+    }
+
+    fn add_row(&mut self, bytes: &[u8]) -> u8 {
+        if self.rows == ROWS {
+            return 4;
+        }
+        let table = usize::from(bytes[1]);
+        if table >= self.tables {
+            return 5;
+        }
+        let columns = usize::from(self.columns[table]);
+        let cells = &mut self.cells[CELLS * self.rows..][..CELLS];
+        for (place, cell) in cells.iter_mut().enumerate() {
+            *cell = u32_at(bytes, 2 + 4 * place);
+            if place >= columns && *cell != 0 {
+                return 5;
+            }
+        }
+        self.row_table[self.rows] = bytes[1];
+        self.rows += 1;
+        0
+    }
+}

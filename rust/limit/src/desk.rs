@@ -1,0 +1,126 @@
+//! The desk: a design at work, and the commands of its script.
+
+use std::hint::black_box;
+
+use crate::cache::Cache;
+use crate::catalog::Catalog;
+use crate::design::{u32_at, width, Column, Design, Refusal};
+use crate::query::Listing;
+
+/// What a command answers.
+#[derive(Clone, Copy, Debug, PartialEq, Eq)]
+pub enum Answer {
+    /// A load.
+    Loaded {
+        /// Rows added.
+        rows: usize,
+        /// Later rounds that added a row.
+        rounds: usize,
+    },
+    /// The value is held already.
+    Held,
+    /// The value is none of the candidates.
+    NoCandidate,
+    /// Rows that went.
+    Dropped(usize),
+    /// A probe's ground.
+    Ground(u8),
+    /// The backend has to be asked.
+    Sent,
+    /// The number of a query's lists.
+    Lists(usize),
+    /// A cause of refusal.
+    Refused(u8),
+}
+
+/// A design at work.
+pub struct Desk {
+    design: Design,
+    catalog: Catalog,
+    cache: Cache,
+    listing: Listing,
+}
+
+impl Desk {
+    /// Reads a design from the head of a script; gives the place after it too.
+    pub fn open(script: &[u8]) -> Result<(Box<Desk>, usize), Refusal> {
+        let mut desk = Desk::zeros();
+        desk.catalog.clear();
+        desk.cache.empty();
+        let read = desk.design.read(script);
+        // A repeated value comes before whatever else the reading ended with.
+        let repeated = match read {
+            Ok(_) => desk.catalog.build(&desk.design),
+            Err(_) => desk.catalog.repeated_row(&desk.design),
+        };
+        match repeated {
+            Some(row) => Err(desk.design.repeats(row)),
+            None => read.map(|place| (desk, place)),
+        }
+    }
+
+    /// All zeros, which cost nothing until they are touched. Without `unsafe`
+    /// they would be made elsewhere and copied, or each array would stand by
+    /// itself behind a pointer, which makes queries slower.
+    #[allow(unsafe_code)]
+    fn zeros() -> Box<Desk> {
+        // SAFETY: a desk is made of whole numbers and bools alone, and for these
+        // all bytes 0 are a value.
+        unsafe { Box::new_zeroed().assume_init() }
+    }
+
+    /// The design.
+    pub fn design(&self) -> &Design {
+        &self.design
+    }
+
+    /// The words of the last answer's lists, and older ones behind them.
+    pub fn words(&self) -> &[u32] {
+        &self.listing.words[..]
+    }
+
+    /// Carries out the command that the bytes begin with, of which there is at
+    /// least one. Gives its answer and its width, or 0 for the width if it can't
+    /// be read, so that nothing tells where the next begins.
+    #[inline]
+    pub fn step(&mut self, bytes: &[u8]) -> (Answer, usize) {
+        let width = width(bytes[0]);
+        if width == 0 {
+            return (Answer::Refused(2), 0);
+        }
+        let Some(bytes) = bytes.get(..width) else {
+            return (Answer::Refused(1), 0);
+        };
+        let (design, catalog) = (&self.design, &self.catalog);
+        let answer = match bytes[0] {
+            0x10 => self
+                .cache
+                .refer(design, catalog, bytes[1], u32_at(bytes, 2)),
+            0x11 => self.cache.drop(design, catalog, bytes[1], u32_at(bytes, 2)),
+            0x12 => {
+                let column = Column {
+                    table: bytes[1],
+                    place: bytes[2],
+                };
+                let value = u32_at(bytes, 3);
+                self.cache.probe(design, catalog, column, value)
+            }
+            0x13 => self.listing.query(design, catalog, &self.cache, bytes),
+            _ => Answer::Refused(3),
+        };
+        (answer, width)
+    }
+
+    /// Carries out all commands from a place of a script on, and leaves their
+    /// answers behind.
+    pub fn run(&mut self, script: &[u8], mut place: usize) {
+        while place < script.len() {
+            let (answer, width) = self.step(&script[place..]);
+            black_box(answer);
+            if width == 0 {
+                return;
+            }
+            place += width;
+        }
+    }
+}
