@@ -1,6 +1,6 @@
 -- Demand 3 of any list of calls on a design just read, of each probe among them, and of a whole run: what the steps of a script leave of the state just
 -- read is what `Operated` says. Assumes nothing.
-use Prim.Native.Nat.{ℕ, _≤_}
+use Prim.Native.Nat.{ℕ, _+_, _≤_}
 use mathlib.Core.Path.{_≡_, sym, ap, subst, _∙_}
 use mathlib.Core.Bool.{true}
 use mathlib.Core.List.{List, [], _++_}
@@ -10,24 +10,32 @@ use Rattle.finite.specs.Finite.{tab}
 use Rattle.finite.proofs.Tables.{length-tab}
 use Rattle.model.specs.Cache.{RowSet, Smallest}
 use Rattle.model.specs.Rounds.{reached}
-use Rattle.model.specs.Runs.{Pair, Operation, heldFrom, heldIn, marks, marked, Cache, emptyCache, reloadLevels, cacheFrom}
+use Rattle.model.specs.Cell.{cellOf}
+use Rattle.model.specs.Runs.{Pair, Operation, probe, heldFrom, heldIn, marks, marked, Cache, emptyCache, reloadLevels, cacheFrom}
 use Rattle.model.specs.Demand.{Demand3}
 use Rattle.model.proofs.Exact.{exact}
 use Rattle.model.proofs.Marks.{marked-marks-is}
 use Rattle.model.proofs.RunLaws.{Sound, empty-sound, run-sound, pairs-smallest}
 use Rattle.model.proofs.Demand3.{run-holds}
+use Rattle.state.specs.declared.design.Column.{Column}
 use Rattle.state.specs.declared.held.Held.{Held}
-use Rattle.state.specs.Meaning.{schemeOf, databaseOf, pairsOf, heldOf}
-use Rattle.state.specs.Step.{State, lent, scheme, database, cache, sound}
+use Rattle.state.specs.Meaning.{columnOf, schemeOf, databaseOf, pairsOf, heldOf}
+use Rattle.state.specs.Step.{State, lent, scheme, database, cache, sound, answerAt}
 use Rattle.lawful.proofs.RowsLaws.{Stored}
 use Rattle.cache.proofs.SoundState.{parts, lawful-fresh}
+use Rattle.format.specs.declared.command.Command.{Command}
+use Rattle.format.specs.declared.command.Command.the-variants.{Probe}
+use Rattle.format.specs.Bytes.{byteAt}
+use Rattle.format.specs.Commands.{commandAt, widthOf}
 use Rattle.format.specs.Reading.{Draft, cellsAfter, mostBytes}
 use Rattle.format.specs.Reading.DesignRead.{accepted}
 use Rattle.format.proofs.Small.{Small}
-use Rattle.script.specs.Runs.{operationsAt, Left, leftFrom, Buffers, readingOf, justRead, rowsOf, heldBy, stateAfterAll, Called, ProbesExact, Operated}
+use Rattle.script.specs.Step as Steps
+use Rattle.script.specs.Step.{Stepped, carried, stepAt}
+use Rattle.script.specs.Runs.{operationsFrom, operationsAt, Left, leftFrom, Buffers, readingOf, justRead, rowsOf, heldBy, stateAfterAll, Called, ProbesExact, StepsExact, Operated}
 use Rattle.script.proofs.SameRows.{smallest-same}
 use Rattle.script.proofs.JustRead.{Begun, begun, none-held, none-pairs}
-use Rattle.script.proofs.StepLaws.{Tidy}
+use Rattle.script.proofs.StepLaws.{Tidy, step-carried}
 use Rattle.script.proofs.ExactProbes.{unrefused-exact}
 use Rattle.script.proofs.RunLaws.{Follows, calls-follow, left-follows}
 
@@ -109,6 +117,14 @@ module _ (script : List ℕ) (small : Small script) (b : Buffers) (p : Draft) (i
 
 -- ---- a whole script
 
+-- the step at a place where a PROBE stands answers what the probe does
+probe-step : (e : State) (words script : List ℕ) (j : ℕ) (k : Column) (v : ℕ) → sound e ≡ true → length script ≤ mostBytes → commandAt script j ≡ Probe k v →
+    stepAt e words script j .answer ≡ answerAt e (probe (columnOf k) (cellOf v))
+unfolding carried Steps.operated
+probe-step e words script j k v s l c =
+    ap (λ (r : Stepped). r .answer) (step-carried e words script j s l) ∙
+    ap (λ (d : Command). carried e words script j (j + widthOf (byteAt script j)) d .answer) c
+
 module _ (script : List ℕ) (short : length script ≤ mostBytes) (b : Buffers) (p : Draft) (i : ℕ) (w : Begun b p i) where
   abbrev pub left : Left
   left = leftFrom (length script) script (start b p i w) (b .words) i
@@ -116,8 +132,21 @@ module _ (script : List ℕ) (short : length script ≤ mostBytes) (b : Buffers)
   abbrev end : State
   end = left .state
 
+  -- what the first n commands leave
+  part : (n : ℕ) → Called p b (operationsFrom n script i) (leftFrom n script (start b p i w) (b .words) i .state)
+  part n = called b p i w (operationsFrom n script i) _ (left-follows script short n (start b p i w) (start-tidy b p i w) (b .words) i)
+
   all : Called p b (operationsAt script i) end
-  all = called b p i w (operationsAt script i) end (left-follows script short (length script) (start b p i w) (start-tidy b p i w) (b .words) i)
+  all = part (length script)
+
+  -- THEOREM: demand 3 of each probe that a script's steps make
+  pub steps-exact : StepsExact script p i b
+  steps-exact =
+      record {
+        exact = λ n j words k v c f e at x h on.
+            let d = subst (Called p b (operationsFrom n script i)) (sym at) (part n) in
+            unrefused-exact b p i w (operationsFrom n script i) e d (columnOf k) (cellOf v) x (h ∙ probe-step e words script j k v (d .sound) short c) on f;
+      }
 
   -- whatever the code leaves, if it is what the steps leave, it is what `Operated` says
   pub operated : (a : Buffers) (h : Held) → a .cells ≡ start b p i w .cells → a .tables ≡ start b p i w .tables →

@@ -14,6 +14,7 @@ use Rattle.model.specs.Cache.{RowSet, Complete, Alike}
 use Rattle.model.specs.Runs.{Pair, Operation, refer, drop, probe, heldFrom, heldIn, marks, marked}
 use Rattle.model.specs.Answers.{Answer, refused, ground}
 use Rattle.model.specs.Demand.{Demand3}
+use Rattle.state.specs.declared.design.Column as State-column
 use Rattle.state.specs.declared.held.Held.{Held}
 use Rattle.state.specs.Held.{noneHeld}
 use Rattle.state.specs.Meaning.{columnOf, schemeOf, databaseOf, heldOf}
@@ -149,6 +150,15 @@ pub record ProbesExact (p : Draft) (i : ℕ) (b : Buffers) (os : List Operation)
   pub exact : (earlier later : List Operation) (k : Column) (v : Cell) → os ≡ earlier ++ (probe k v ∷ later) → Fits v →
       (e : State) → e ≡ stateAfterAll (justRead (accepted p i) b) earlier → (x : Answer) → x ≡ answerAt e (probe k v) → ((n : ℕ) → x ≢ refused n) →
       ((g : ℕ) × (x ≡ ground g)) ↔ CompleteInAll p (heldFrom (schemeOf (p .design)) [] earlier) (marked (take 512 (e .marks))) k v
+
+-- The same for the steps of a script: e is the state behind the first n commands that stand behind the END of the design p, at place i, and the next
+-- step is asked for any place j where a PROBE stands.
+pub record StepsExact (script : List ℕ) (p : Draft) (i : ℕ) (b : Buffers) : Type 0 where
+  pub exact : (n j : ℕ) (words : List ℕ) (k : State-column.Column) (v : ℕ) → commandAt script j ≡ Probe k v → Fits (cellOf v) →
+      (e : State) → e ≡ leftFrom n script (justRead (accepted p i) b) (b .words) i .state → (x : Answer) → x ≡ stepAt e words script j .answer →
+      ((m : ℕ) → x ≢ refused m) →
+      ((g : ℕ) × (x ≡ ground g)) ↔
+      CompleteInAll p (heldFrom (schemeOf (p .design)) [] (operationsFrom n script i)) (marked (take 512 (e .marks))) (columnOf k) (cellOf v)
 
 -- ---- what a whole run gives
 
