@@ -1,6 +1,6 @@
 -- Searching, counting, tabulating and collecting over the numbers below n. One set of functions serves rows, columns, constraints,
 -- fillings and held values; the laws that a loop over these numbers needs are in `proofs/`. Assumes nothing.
-use Prim.Native.Nat.{ℕ, zero, suc, _+_}
+use Prim.Native.Nat.{ℕ, zero, suc, _+_, _-_}
 use mathlib.Core.Bool.{Bool, true, false, cond, _&&_, _||_}
 use mathlib.Core.List.{List, [], _∷_, _++_}
 
@@ -28,3 +28,16 @@ tab (suc n) f = f 0 ∷ tab n (λ i. f (suc i))
 unfoldable pub collect : {A : Type 0} → ℕ → (ℕ → Bool) → (ℕ → List A) → List A
 collect zero p f = []
 collect (suc n) p f = collect n p f ++ cond (p n) (f n) []
+
+-- the least of the m numbers from i on that passes the test; n if none does
+unfoldable pub firstOf : ℕ → ℕ → (ℕ → Bool) → ℕ → ℕ
+firstOf n zero p i = n
+firstOf n (suc m) p i = cond (p i) i (firstOf n m p (suc i))
+
+-- the least number from i on and below n that passes the test; n if none does
+unfoldable pub firstFrom : ℕ → (ℕ → Bool) → ℕ → ℕ
+firstFrom n p i = firstOf n (n - i) p i
+
+-- the least number below n that passes the test; n if none does
+abbrev pub first : ℕ → (ℕ → Bool) → ℕ
+first n p = firstFrom n p 0

@@ -13,9 +13,10 @@ use Rattle.model.specs.Cell.{Cell, isBlank}
 use Rattle.model.specs.Scheme.{Column, Scheme, isColumn}
 use Rattle.model.specs.Database.{Database, Lawful}
 use Rattle.model.specs.Probe as Probe
-use Rattle.model.specs.Runs.{probe, heldIn, marked, Cache}
+use Rattle.model.specs.Holding.{heldIn}
+use Rattle.model.specs.Runs.{probe, marked, Cache}
 use Rattle.model.specs.Query.{Query, operandsFit, wordsOf}
-use Rattle.model.specs.Answers.{Answer, sent, lists, ground, unless, orAnswer, groundOf, answer, queryGround, queryAnswer, queryWords, writtenWith, fullLists}
+use Rattle.model.specs.Answers.{Answer, sent, lists, ground, unless, orAnswer, groundOf, questionAnswer, queryGround, queryAnswer, queryWords, hasLists, shown, writtenWith, fullLists}
 use Rattle.model.specs.Demand.{Groundless, Unrefused, Demand2}
 use Rattle.model.proofs.ProbeLaws.{probe-sent}
 use Rattle.model.proofs.QueryLaws.{query-lists}
@@ -38,18 +39,18 @@ ground-of-none n e = ap groundOf e
 
 module _ (S : Scheme) (D : Database) (c : Cache) (k : Column) (v : Cell) where
   abbrev found : ℕ
-  found = Probe.probe S D (heldIn S (c .pairs)) (marked (c .marks)) k v
+  found = Probe.probe S D (heldIn S (c .held)) (marked (c .marks)) k v
 
   none-found : found ≡ 0 → Groundless S D c k v
-  none-found e = let p = probe-sent S D (heldIn S (c .pairs)) (marked (c .marks)) k v e in record { held = p .0; demanded = p .1; seen = p .2 }
+  none-found e = let p = probe-sent S D (heldIn S (c .held)) (marked (c .marks)) k v e in record { held = p .0; demanded = p .1; seen = p .2 }
 
   found-none : Groundless S D c k v → found ≡ 0
   unfolding Probe.probe
   found-none g = rw (g .held, g .demanded, g .seen)
 
   -- THEOREM: a probe that isn't refused is sent exactly if no ground applies
-  pub probe-sent-exactly : Unrefused (answer S D c (probe k v)) → (answer S D c (probe k v) ≡ sent) ↔ Groundless S D c k v
-  unfolding answer
+  pub probe-sent-exactly : Unrefused (questionAnswer S D c (probe k v)) → (questionAnswer S D c (probe k v) ≡ sent) ↔ Groundless S D c k v
+  unfolding questionAnswer
   probe-sent-exactly = go (isColumn S k) (isBlank v) found none-found found-none
     where
       go : (a b : Bool) (n : ℕ) → (n ≡ 0 → Groundless S D c k v) → (Groundless S D c k v → n ≡ 0) →
@@ -94,7 +95,7 @@ module _ {S : Scheme} {D : Database} (l : Lawful S D) (c : Cache) (s : Sound S D
 
   -- THEOREM: demand 2, in every sound cache of a lawful database, of a query that isn't refused
   pub demand2 : Demand2 S D c room q
-  unfolding queryGround queryWords writtenWith
+  unfolding queryGround queryWords writtenWith hasLists shown
   demand2 =
       record {
         backend = (no-ground, λ g. sent-without (found-none S D c (q .column) (q .value) g));

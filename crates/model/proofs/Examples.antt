@@ -8,14 +8,16 @@ use borrow.Author.Tests.{ltb-true}
 use lib.Dec.{eqb, ltb}
 use lib.ListN.{length, getD}
 use Rattle.finite.specs.Finite.{any, count, tab, collect}
-use Rattle.model.specs.Cell.{isBlank, equal, cellOf}
+use Rattle.model.specs.Cell.{isBlank, equal, numbered}
 use Rattle.model.specs.Scheme.{Column, sameColumn, Constraint, candidate, Scheme, isColumn}
 use Rattle.model.specs.Database.{Database, has}
 use Rattle.model.specs.Probe
 use Rattle.model.specs.Rounds.{leads, demands, start, reachedFrom, next, levels, reached, load, addedRows, laterRounds}
-use Rattle.model.specs.Runs.{Operation, refer, drop, probe, samePair, listed, remove, taken, one, heldIn, wanted, marks, marked, Cache, emptyCache, referLevels, reloadLevels, cacheAfter, cacheFrom}
+use Rattle.finite.specs.Sameness.{listed, remove}
+use Rattle.model.specs.Holding.{samePair, one, pairsHold, pairsWant}
+use Rattle.model.specs.Runs.{probe, Operation, refer, drop, ask, query, taken, marks, marked, Cache, emptyCache, referLevels, reloadLevels, cacheAfter, cacheFrom}
 use Rattle.model.specs.Query.{Join, Query, joinsFit, unused, operandsFit, joinValue, extend, fitting, wordsOf}
-use Rattle.model.specs.Answers.{Answer, loaded, dropped, ground, sent, lists, answer, queryGround, fullLists, queryAnswer, writtenWith, queryWords}
+use Rattle.model.specs.Answers.{Answer, loaded, dropped, ground, sent, lists, questionAnswer, queryGround, fullLists, queryAnswer, shown, hasLists, writtenWith, queryWords, answer, written}
 
 -- ---- what a case is, and when it passes
 
@@ -24,39 +26,35 @@ pub record Design : Type 0 where
   pub scheme : Scheme
   pub rows : Database
 
--- Operations before, then one operation with its answer, or one query with its answer and the words written.
-pub data Case : Type 0 where
-  operation : Design → List Operation → Operation → Answer → Case
-  query : Design → List Operation → Query → Answer → List ℕ → Case
-
--- how many words are lent for a query's lists
-abbrev pub lent : ℕ
-lent = 4096
-
--- the cache after the operations before
-abbrev pub cacheBefore : Design → List Operation → Cache
-cacheBefore d os = cacheFrom (d .scheme) (d .rows) (emptyCache (d .rows)) os
-
 -- an answer, and the words written with it
 pub record Result : Type 0 where
   pub answer : Answer
   pub words : List ℕ
 
--- what the definitions give, and what document 01 says
-unfoldable pub gives : Case → Result
-gives (operation d os o a) = record { answer = answer (d .scheme) (d .rows) (cacheBefore d os) o; words = [] }
-gives (query d os q a ws) =
-    record { answer = queryAnswer (d .scheme) (d .rows) (cacheBefore d os) lent q; words = queryWords (d .scheme) (d .rows) (cacheBefore d os) lent q }
+-- operations before, then one operation, and what document 01 says that it gives
+pub record Case : Type 0 where
+  pub design : Design
+  pub before : List Operation
+  pub operation : Operation
+  pub result : Result
 
-unfoldable pub expected : Case → Result
-expected (operation d os o a) = record { answer = a; words = [] }
-expected (query d os q a ws) = record { answer = a; words = ws }
+-- the cache after the operations before
+abbrev pub cacheBefore : Case → Cache
+cacheBefore c = cacheFrom (c .design .scheme) (c .design .rows) (emptyCache (c .design .rows)) (c .before)
+
+-- what the definitions give
+unfoldable pub gives : Case → Result
+gives c =
+    record {
+      answer = answer (c .design .scheme) (c .design .rows) (cacheBefore c) (c .operation);
+      words = written (c .design .scheme) (c .design .rows) (cacheBefore c) (c .operation);
+    }
 
 infixr 5 _and_
 -- each case of the list gives what is expected
 pub data AllPass : List Case → Type 0 where
   end : AllPass []
-  _and_ : {c : Case} {cs : List Case} → gives c ≡ expected c → AllPass cs → AllPass (c ∷ cs)
+  _and_ : {c : Case} {cs : List Case} → gives c ≡ c .result → AllPass cs → AllPass (c ∷ cs)
 
 -- ---- short names for what a script writes
 
@@ -71,16 +69,21 @@ abbrev join : ℕ → ℕ → Join
 join p c = record { position = p; constraint = c }
 
 abbrev REFER : ℕ → ℕ → Operation
-REFER f v = refer (record { filling = f; value = cellOf v })
+REFER f v = refer (record { filling = f; value = numbered v })
 
 abbrev DROP : ℕ → ℕ → Operation
-DROP f v = drop (record { filling = f; value = cellOf v })
+DROP f v = drop (record { filling = f; value = numbered v })
 
 abbrev PROBE : ℕ → ℕ → ℕ → Operation
-PROBE t c v = probe (col t c) (cellOf v)
+PROBE t c v = ask (probe (col t c) (numbered v))
 
-abbrev QUERY : ℕ → ℕ → ℕ → ℕ → List Join → Query
-QUERY t c v n js = record { column = col t c; value = cellOf v; joins = n; pairs = js }
+-- with 4,096 words lent
+abbrev QUERY : ℕ → ℕ → ℕ → ℕ → List Join → Operation
+QUERY t c v n js = query (record { column = col t c; value = numbered v; joins = n; pairs = js }) 4096
+
+-- an operation on a design behind others, its answer and its words
+abbrev case : Design → List Operation → Operation → Answer → List ℕ → Case
+case d os o a ws = record { design = d; before = os; operation = o; result = record { answer = a; words = ws } }
 
 -- a row: its table and its cells
 record Row : Type 0 where
@@ -99,7 +102,7 @@ database rs =
       size = length rs;
       live = λ r. ltb r (length rs);
       table = λ r. rowAt rs r .table;
-      cell = λ r c. cellOf (getD (rowAt rs r .cells) c 0);
+      cell = λ r c. numbered (getD (rowAt rs r .cells) c 0);
       finite = λ r e. ltb-true r (length rs) e;
     }
 
@@ -123,25 +126,25 @@ A =
     }
 
 a1 : Case
-a1 = operation A [] (REFER 0 3) (loaded 5 2)
+a1 = case A [] (REFER 0 3) (loaded 5 2) []
 
 a2 : Case
-a2 = operation A (REFER 0 3 ∷ []) (PROBE 1 1 8) (ground 2)
+a2 = case A (REFER 0 3 ∷ []) (PROBE 1 1 8) (ground 2) []
 
 a3 : Case
-a3 = operation A (REFER 0 3 ∷ PROBE 1 1 8 ∷ []) (PROBE 1 1 9) sent
+a3 = case A (REFER 0 3 ∷ PROBE 1 1 8 ∷ []) (PROBE 1 1 9) sent []
 
 a4 : Case
-a4 = query A (REFER 0 3 ∷ PROBE 1 1 8 ∷ PROBE 1 1 9 ∷ []) (QUERY 0 1 3 2 (join 0 0 ∷ join 1 1 ∷ join 0 0 ∷ join 0 0 ∷ [])) (lists 2) (0 ∷ 3 ∷ 5 ∷ 0 ∷ 3 ∷ 6 ∷ [])
+a4 = case A (REFER 0 3 ∷ PROBE 1 1 8 ∷ PROBE 1 1 9 ∷ []) (QUERY 0 1 3 2 (join 0 0 ∷ join 1 1 ∷ join 0 0 ∷ join 0 0 ∷ [])) (lists 2) (0 ∷ 3 ∷ 5 ∷ 0 ∷ 3 ∷ 6 ∷ [])
 
 a5 : Case
-a5 = operation A (REFER 0 3 ∷ PROBE 1 1 8 ∷ PROBE 1 1 9 ∷ []) (DROP 0 3) (dropped 5)
+a5 = case A (REFER 0 3 ∷ PROBE 1 1 8 ∷ PROBE 1 1 9 ∷ []) (DROP 0 3) (dropped 5) []
 
 a6 : Case
-a6 = operation A (REFER 0 3 ∷ []) (PROBE 1 0 20) (ground 3)
+a6 = case A (REFER 0 3 ∷ []) (PROBE 1 0 20) (ground 3) []
 
 a7 : Case
-a7 = query A (REFER 0 3 ∷ []) (QUERY 1 1 8 0 (join 0 0 ∷ join 0 0 ∷ join 0 0 ∷ join 0 0 ∷ [])) (lists 0) []
+a7 = case A (REFER 0 3 ∷ []) (QUERY 1 1 8 0 (join 0 0 ∷ join 0 0 ∷ join 0 0 ∷ join 0 0 ∷ [])) (lists 0) []
 
 -- ---- case B
 
@@ -161,19 +164,19 @@ B =
     }
 
 b1 : Case
-b1 = operation B [] (REFER 0 1) (loaded 3 2)
+b1 = case B [] (REFER 0 1) (loaded 3 2) []
 
 b2 : Case
-b2 = operation B (REFER 0 1 ∷ []) (PROBE 0 0 2) sent
+b2 = case B (REFER 0 1 ∷ []) (PROBE 0 0 2) sent []
 
 b3 : Case
-b3 = operation B (REFER 0 1 ∷ PROBE 0 0 2 ∷ []) (REFER 0 2) (loaded 0 0)
+b3 = case B (REFER 0 1 ∷ PROBE 0 0 2 ∷ []) (REFER 0 2) (loaded 0 0) []
 
 b4 : Case
-b4 = operation B (REFER 0 1 ∷ PROBE 0 0 2 ∷ REFER 0 2 ∷ []) (DROP 0 1) (dropped 0)
+b4 = case B (REFER 0 1 ∷ PROBE 0 0 2 ∷ REFER 0 2 ∷ []) (DROP 0 1) (dropped 0) []
 
 b5 : Case
-b5 = operation B (REFER 0 1 ∷ PROBE 0 0 2 ∷ REFER 0 2 ∷ DROP 0 1 ∷ []) (DROP 0 2) (dropped 3)
+b5 = case B (REFER 0 1 ∷ PROBE 0 0 2 ∷ REFER 0 2 ∷ DROP 0 1 ∷ []) (DROP 0 2) (dropped 3) []
 
 -- ---- all of them
 
@@ -182,10 +185,10 @@ cases = a1 ∷ a2 ∷ a3 ∷ a4 ∷ a5 ∷ a6 ∷ a7 ∷ b1 ∷ b2 ∷ b3 ∷ b4
 
 -- every case passes
 pub all-pass : AllPass cases
-unfolding gives expected cases a1 a2 a3 a4 a5 a6 a7 b1 b2 b3 b4 b5
-    answer cacheFrom cacheAfter emptyCache taken candidate listed samePair remove referLevels reloadLevels marks marked heldIn one wanted
+unfolding gives cases a1 a2 a3 a4 a5 a6 a7 b1 b2 b3 b4 b5
+    answer written questionAnswer cacheFrom cacheAfter emptyCache taken candidate listed samePair remove referLevels reloadLevels marks marked pairsHold one pairsWant
     load start levels next reachedFrom demands leads reached addedRows laterRounds
     Probe.probe Probe.demanded Probe.uniquelySeen Probe.seen has sameColumn isColumn isBlank equal
-    queryAnswer queryWords queryGround fullLists writtenWith operandsFit joinsFit unused fitting extend joinValue wordsOf
+    queryAnswer queryWords queryGround fullLists writtenWith hasLists shown operandsFit joinsFit unused fitting extend joinValue wordsOf
     any count tab collect
 all-pass = refl and refl and refl and refl and refl and refl and refl and refl and refl and refl and refl and refl and end

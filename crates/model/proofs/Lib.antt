@@ -1,5 +1,5 @@
 -- CellLaws, DatabaseLaws, ProbeLaws: the tests say what they are named for. Closed, RoundsLaws, Loads: rounds reach the smallest row set.
--- Exact: the probe. Marks, RunLaws, Demand3: runs. QueryLaws, ListLaws, Demand2: queries. Examples: the worked cases.
+-- Exact: the probe. Marks, HoldingLaws, RunLaws, Fresh, Demand3: runs. QueryLaws, ListLaws, Demand2: queries. Examples: the worked cases.
 pub mod CellLaws
 pub mod DatabaseLaws
 pub mod ProbeLaws
@@ -8,7 +8,9 @@ pub mod RoundsLaws
 pub mod Loads
 pub mod Exact
 pub mod Marks
+pub mod HoldingLaws
 pub mod RunLaws
+pub mod Fresh
 pub mod Demand3
 pub mod QueryLaws
 pub mod ListLaws

@@ -10,7 +10,7 @@ use Rattle.model.specs.Scheme.{Column, Scheme, sameColumn}
 use Rattle.model.specs.Database.{Database, Has, has}
 use Rattle.model.specs.Cache.{RowSet, Inside, Held, Complete, Holds, Meets, Smallest}
 use Rattle.model.specs.Rounds.{reached, load}
-use Rattle.model.specs.Runs.{one}
+use Rattle.model.specs.Holding.{one}
 use Rattle.model.proofs.CellLaws.{equal-same, equal-self}
 use Rattle.model.proofs.DatabaseLaws.{same-column, same-column-self, has-Has, Has-has, has-full}
 use Rattle.model.proofs.Closed.{Closed, closed-constraints, constraints-closed}

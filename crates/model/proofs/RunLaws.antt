@@ -1,5 +1,4 @@
--- Runs of operations: the pairs that a cache holds are those found from the operands alone, and a cache that is the smallest row set for its
--- pairs stays so. Assumes nothing.
+-- Runs of operations: what a cache holds is found from the operands alone, and a cache that is the smallest row set for what it holds stays so. Assumes nothing.
 use Prim.Native.Nat.{ℕ}
 use mathlib.Core.Path.{_≡_, refl, sym, ap, _∙_, fun-ext}
 use mathlib.Core.Bool.{Bool, true, false, cond, _||_, or-false, or-assoc}
@@ -9,68 +8,73 @@ use Rattle.model.specs.Scheme.{Column, Scheme}
 use Rattle.model.specs.Database.{Database}
 use Rattle.model.specs.Cache.{Smallest}
 use Rattle.model.specs.Rounds.{reached}
-use Rattle.model.specs.Runs.{Pair, Operation, refer, drop, probe, listed, remove, taken, heldAfter, heldFrom, one, heldIn, wanted, marks, marked, Cache, emptyCache, referLevels, reloadLevels, cacheAfter, cacheFrom}
+use Rattle.model.specs.Holding.{Pair, Holding, holds, withPair, withoutPair, one, pairsHold, pairsWant, heldIn, wanted}
+use Rattle.model.specs.Runs.{Operation, refer, drop, ask, query, taken, heldAfter, heldFrom, marked, Cache, emptyCache, referLevels, reloadLevels, reloaded, cacheAfter, cacheFrom}
 use Rattle.model.proofs.Loads.{one-smallest, Wants, load-smallest, reload-smallest, none-smallest, none-wants, one-wants, both-want}
 use Rattle.model.proofs.Marks.{marks-smallest}
 
 -- ---- what is held
 
-pairs-cond : (b : Bool) (c d : Cache) → cond b c d .pairs ≡ cond b (c .pairs) (d .pairs)
-pairs-cond true c d = refl
-pairs-cond false c d = refl
+held-cond : (b : Bool) (c d : Cache) → cond b c d .held ≡ cond b (c .held) (d .held)
+held-cond true c d = refl
+held-cond false c d = refl
 
--- the pairs after an operation are those found from the operands alone
-pub step-pairs : (S : Scheme) (D : Database) (c : Cache) (o : Operation) → cacheAfter S D c o .pairs ≡ heldAfter S (c .pairs) o
+-- what an operation leaves held is found from the operands alone
+pub step-held : (S : Scheme) (D : Database) (c : Cache) (o : Operation) → cacheAfter S D c o .held ≡ heldAfter S D (c .held) o
 unfolding cacheAfter heldAfter
-step-pairs S D c (refer p) = pairs-cond (taken S (c .pairs) p) _ c
-step-pairs S D c (drop p) = pairs-cond (listed p (c .pairs)) _ c
-step-pairs S D c (probe k v) = refl
+step-held S D c (refer p) = held-cond (taken S (c .held) p) _ c
+step-held S D c (drop p) = held-cond (holds (c .held) p) _ c
+step-held S D c (ask q) = refl
+step-held S D c (query q room) = refl
 
--- so are those after a run
-pub run-pairs : (S : Scheme) (D : Database) (c : Cache) (os : List Operation) → cacheFrom S D c os .pairs ≡ heldFrom S (c .pairs) os
+-- so is what a run leaves held
+pub run-held : (S : Scheme) (D : Database) (c : Cache) (os : List Operation) → cacheFrom S D c os .held ≡ heldFrom S D (c .held) os
 unfolding cacheFrom heldFrom
-run-pairs S D c [] = refl
-run-pairs S D c (o ∷ os) = run-pairs S D (cacheAfter S D c o) os ∙ ap (λ (ps : List Pair). heldFrom S ps os) (step-pairs S D c o)
+run-held S D c [] = refl
+run-held S D c (o ∷ os) = run-held S D (cacheAfter S D c o) os ∙ ap (λ (h : Holding). heldFrom S D h os) (step-held S D c o)
 
 -- a pair put at the end holds one value more
-pub held-more : (S : Scheme) (ps : List Pair) (p : Pair) →
-    heldIn S (ps ++ (p ∷ [])) ≡ (λ k v. heldIn S ps k v || one (S .filling (p .filling) .column) (p .value) k v)
-unfolding heldIn
-held-more S ps p = fun-ext (λ k. fun-ext (λ v. go ps k v))
+pub held-more : (S : Scheme) (h : Holding) (p : Pair) →
+    heldIn S (withPair h p) ≡ (λ k v. heldIn S h k v || one (S .filling (p .filling) .column) (p .value) k v)
+unfolding pairsHold
+held-more S h p = fun-ext (λ k. fun-ext (λ v. go (h .pairs) k v))
   where
-    go : (qs : List Pair) (k : Column) (v : Cell) → heldIn S (qs ++ (p ∷ [])) k v ≡ (heldIn S qs k v || one (S .filling (p .filling) .column) (p .value) k v)
+    go : (qs : List Pair) (k : Column) (v : Cell) → pairsHold S (qs ++ (p ∷ [])) k v ≡ (pairsHold S qs k v || one (S .filling (p .filling) .column) (p .value) k v)
     go [] k v = or-false (one (S .filling (p .filling) .column) (p .value) k v)
     go (q ∷ qs) k v =
         ap (λ (b : Bool). one (S .filling (q .filling) .column) (q .value) k v || b) (go qs k v) ∙
-        sym (or-assoc (one (S .filling (q .filling) .column) (q .value) k v) (heldIn S qs k v) (one (S .filling (p .filling) .column) (p .value) k v))
+        sym (or-assoc (one (S .filling (q .filling) .column) (q .value) k v) (pairsHold S qs k v) (one (S .filling (p .filling) .column) (p .value) k v))
 
--- the rows that what the pairs hold wants are those that have a value of a listed pair
-pub wanted-wants : (S : Scheme) (D : Database) (ps : List Pair) → Wants D (heldIn S ps) (wanted S D ps)
-unfolding heldIn wanted
-wanted-wants S D [] = none-wants D
-wanted-wants S D (p ∷ ps) = both-want (one-wants D (S .filling (p .filling) .column) (p .value)) (wanted-wants S D ps)
+-- the rows that held values want are those that have one of them
+pairs-want : (S : Scheme) (D : Database) (ps : List Pair) → Wants D (pairsHold S ps) (pairsWant S D ps)
+unfolding pairsHold pairsWant
+pairs-want S D [] = none-wants D
+pairs-want S D (p ∷ ps) = both-want (one-wants D (S .filling (p .filling) .column) (p .value)) (pairs-want S D ps)
+
+pub held-wants : (S : Scheme) (D : Database) (h : Holding) → Wants D (heldIn S h) (wanted S D h)
+held-wants S D h = pairs-want S D (h .pairs)
 
 -- ---- what is cached
 
--- the cached rows are the smallest row set for the pairs that are held
+-- the cached rows are the smallest row set for what is held
 abbrev pub Sound : Scheme → Database → Cache → Type 0
-Sound S D c = Smallest S D (heldIn S (c .pairs)) (marked (c .marks))
+Sound S D c = Smallest S D (heldIn S (c .held)) (marked (c .marks))
 
 -- the empty cache is sound
 pub empty-sound : (S : Scheme) (D : Database) → Sound S D (emptyCache D)
-unfolding emptyCache heldIn
+unfolding emptyCache pairsHold
 empty-sound S D = marks-smallest (none-smallest S D)
 
--- a load of one more value gives the smallest set for the pairs with it at the end
+-- a load of one more value gives the smallest set with it
 pub refer-smallest : {S : Scheme} {D : Database} (c : Cache) (p : Pair) → Sound S D c →
-    Smallest S D (heldIn S (c .pairs ++ (p ∷ []))) (reached (referLevels S D (marked (c .marks)) p))
+    Smallest S D (heldIn S (withPair (c .held) p)) (reached (referLevels S D (marked (c .marks)) p))
 unfolding referLevels
-refer-smallest {S} {D} c p m = rw (held-more S (c .pairs) p) (load-smallest m (one-wants D (S .filling (p .filling) .column) (p .value)))
+refer-smallest {S} {D} c p m = rw (held-more S (c .held) p) (load-smallest m (one-wants D (S .filling (p .filling) .column) (p .value)))
 
--- a reload gives the smallest set for any list of pairs
-pub pairs-smallest : (S : Scheme) (D : Database) (ps : List Pair) → Smallest S D (heldIn S ps) (reached (reloadLevels S D ps))
+-- a reload gives the smallest set for whatever is held
+pub held-smallest : (S : Scheme) (D : Database) (h : Holding) → Smallest S D (heldIn S h) (reached (reloadLevels S D h))
 unfolding reloadLevels
-pairs-smallest S D ps = reload-smallest (wanted-wants S D ps)
+held-smallest S D h = reload-smallest (held-wants S D h)
 
 cond-sound : {S : Scheme} {D : Database} (b : Bool) (d c : Cache) → Sound S D d → Sound S D c → Sound S D (cond b d c)
 cond-sound true d c m n = m
@@ -79,9 +83,10 @@ cond-sound false d c m n = n
 -- an operation leaves a sound cache sound
 pub step-sound : {S : Scheme} {D : Database} (c : Cache) (o : Operation) → Sound S D c → Sound S D (cacheAfter S D c o)
 unfolding cacheAfter
-step-sound {S} c (refer p) m = cond-sound (taken S (c .pairs) p) _ c (marks-smallest (refer-smallest c p m)) m
-step-sound {S} {D} c (drop p) m = cond-sound (listed p (c .pairs)) _ c (marks-smallest (pairs-smallest S D (remove p (c .pairs)))) m
-step-sound c (probe k v) m = m
+step-sound {S} c (refer p) m = cond-sound (taken S (c .held) p) _ c (marks-smallest (refer-smallest c p m)) m
+step-sound {S} {D} c (drop p) m = cond-sound (holds (c .held) p) _ c (marks-smallest (held-smallest S D (withoutPair (c .held) p))) m
+step-sound c (ask q) m = m
+step-sound c (query q room) m = m
 
 -- so does a run
 pub run-sound : {S : Scheme} {D : Database} (c : Cache) (os : List Operation) → Sound S D c → Sound S D (cacheFrom S D c os)
@@ -89,12 +94,12 @@ unfolding cacheFrom
 run-sound c [] m = m
 run-sound {S} {D} c (o ∷ os) m = run-sound (cacheAfter S D c o) os (step-sound c o m)
 
--- ---- a sound cache and the reload of its pairs
+-- ---- a sound cache and the reload of what it holds
 
 -- the marks of a reload make a sound cache
-pub reload-sound : (S : Scheme) (D : Database) (ps : List Pair) → Sound S D (record { pairs = ps; marks = marks D (reached (reloadLevels S D ps)) })
-reload-sound S D ps = marks-smallest (pairs-smallest S D ps)
+pub reload-sound : (S : Scheme) (D : Database) (h : Holding) → Sound S D (reloaded S D h)
+reload-sound S D h = marks-smallest (held-smallest S D h)
 
--- the rows that a sound cache marks are those that a reload of its pairs reaches
-pub sound-reloaded : {S : Scheme} {D : Database} (c : Cache) → Sound S D c → (r : ℕ) → marked (c .marks) r ≡ reached (reloadLevels S D (c .pairs)) r
-sound-reloaded {S} {D} c m = one-smallest m (pairs-smallest S D (c .pairs))
+-- the rows that a sound cache marks are those that a reload reaches
+pub sound-reloaded : {S : Scheme} {D : Database} (c : Cache) → Sound S D c → (r : ℕ) → marked (c .marks) r ≡ reached (reloadLevels S D (c .held)) r
+sound-reloaded {S} {D} c m = one-smallest m (held-smallest S D (c .held))

@@ -1,8 +1,8 @@
 -- What the operations answer, and the causes of refusal that an operation itself can have: 5, 9, then 10, 8 or 11 (01, "What the operations do"
 -- and "Causes of refusal"). Assumes nothing.
 use Prim.Native.Nat.{ℕ}
-use mathlib.Core.Bool.{Bool, true, false, not, _&&_}
-use mathlib.Core.List.{List, []}
+use mathlib.Core.Bool.{Bool, true, false, not, cond, _&&_}
+use mathlib.Core.List.{List, [], _∷_}
 use lib.Dec.{eqb, leb, ltb}
 use lib.ListN.{length}
 use Rattle.finite.specs.Finite.{count}
@@ -11,7 +11,8 @@ use Rattle.model.specs.Scheme.{candidate, Scheme, isColumn}
 use Rattle.model.specs.Database.{Database}
 use Rattle.model.specs.Probe
 use Rattle.model.specs.Rounds.{addedRows, laterRounds, reached}
-use Rattle.model.specs.Runs.{Operation, refer, drop, probe, listed, remove, places, heldIn, marked, Cache, referLevels, reloadLevels}
+use Rattle.model.specs.Holding.{holds, hasRoom, withoutPair, heldIn}
+use Rattle.model.specs.Runs.{Question, probe, Operation, refer, drop, ask, query, marked, Cache, referLevels, reloadLevels}
 use Rattle.model.specs.Query.{Query, joinsOf, operandsFit, fitting, wordsOf}
 
 -- `loaded` rows rounds, `held`, `no candidate`, `dropped` rows, `ground` g, `sent`, `answer` lists, `refused` number
@@ -23,6 +24,34 @@ pub data Answer : Type 0 where
   sent : Answer
   lists : ℕ → Answer
   refused : ℕ → Answer
+
+-- an answer as the report shows it: its word, by number, and the numbers behind it. Whatever depends on what an answer is goes through this
+pub record Shown : Type 0 where
+  pub word : ℕ
+  pub numbers : List ℕ
+
+abbrev pub listsWord : ℕ
+listsWord = 6
+
+abbrev pub refusedWord : ℕ
+refusedWord = 7
+
+unfoldable pub shown : Answer → Shown
+shown (loaded rows rounds) = record { word = 0; numbers = rows ∷ rounds ∷ [] }
+shown held = record { word = 1; numbers = [] }
+shown noCandidate = record { word = 2; numbers = [] }
+shown (dropped rows) = record { word = 3; numbers = rows ∷ [] }
+shown (ground g) = record { word = 4; numbers = g ∷ [] }
+shown sent = record { word = 5; numbers = [] }
+shown (lists n) = record { word = listsWord; numbers = n ∷ [] }
+shown (refused n) = record { word = refusedWord; numbers = n ∷ [] }
+
+-- the answer has lists; the answer is a refusal
+unfoldable pub hasLists : Answer → Bool
+hasLists a = eqb (shown a .word) listsWord
+
+unfoldable pub isRefusal : Answer → Bool
+isRefusal a = eqb (shown a .word) refusedWord
 
 -- the refusal where its cause applies, else what comes after it in the order of causes
 abbrev pub unless : Bool → ℕ → Answer → Answer
@@ -37,29 +66,18 @@ orAnswer false a b = b
 abbrev pub groundOf : ℕ → Answer
 groundOf n = orAnswer (ltb 0 n) (ground n) sent
 
-unfoldable pub answer : Scheme → Database → Cache → Operation → Answer
-answer S D c (refer p) =
-    unless (not (ltb (p .filling) (S .fillings))) 5
-    (unless (isBlank (p .value)) 9
-    (orAnswer (not (candidate (S .filling (p .filling)) (p .value))) noCandidate
-    (orAnswer (listed p (c .pairs)) held
-    (unless (not (ltb (length (c .pairs)) places)) 8
-    (let L = referLevels S D (marked (c .marks)) p in loaded (addedRows D L) (laterRounds D L))))))
-answer S D c (drop p) =
-    unless (not (ltb (p .filling) (S .fillings))) 5
-    (unless (isBlank (p .value)) 9
-    (unless (not (listed p (c .pairs))) 10
-    (let L = reloadLevels S D (remove p (c .pairs)) in dropped (count (D .size) (λ r. marked (c .marks) r && not (reached L r))))))
-answer S D c (probe k v) =
+-- what a question answers
+unfoldable pub questionAnswer : Scheme → Database → Cache → Question → Answer
+questionAnswer S D c (probe k v) =
     unless (not (isColumn S k)) 5
     (unless (isBlank v) 9
-    (groundOf (Probe.probe S D (heldIn S (c .pairs)) (marked (c .marks)) k v)))
+    (groundOf (Probe.probe S D (heldIn S (c .held)) (marked (c .marks)) k v)))
 
 -- ---- queries
 
 -- the probe of position 0
 unfoldable pub queryGround : Scheme → Database → Cache → Query → ℕ
-queryGround S D c q = Probe.probe S D (heldIn S (c .pairs)) (marked (c .marks)) (q .column) (q .value)
+queryGround S D c q = Probe.probe S D (heldIn S (c .held)) (marked (c .marks)) (q .column) (q .value)
 
 -- demand 2: the list from the full tables, as words
 unfoldable pub fullLists : Scheme → Database → Query → List (List ℕ)
@@ -76,14 +94,32 @@ queryAnswer S D c room q =
 
 -- the words that are written with an answer: ws with lists, and none with any other
 unfoldable pub writtenWith : Answer → List ℕ → List ℕ
-writtenWith (lists n) ws = ws
-writtenWith (loaded a b) ws = []
-writtenWith held ws = []
-writtenWith noCandidate ws = []
-writtenWith (dropped n) ws = []
-writtenWith (ground n) ws = []
-writtenWith sent ws = []
-writtenWith (refused n) ws = []
+writtenWith a ws = cond (hasLists a) ws []
 
 unfoldable pub queryWords : Scheme → Database → Cache → ℕ → Query → List ℕ
 queryWords S D c room q = writtenWith (queryAnswer S D c room q) (wordsOf (fullLists S D q))
+
+-- ---- all of them
+
+unfoldable pub answer : Scheme → Database → Cache → Operation → Answer
+answer S D c (refer p) =
+    unless (not (ltb (p .filling) (S .fillings))) 5
+    (unless (isBlank (p .value)) 9
+    (orAnswer (not (candidate (S .filling (p .filling)) (p .value))) noCandidate
+    (orAnswer (holds (c .held) p) held
+    (unless (not (hasRoom (c .held))) 8
+    (let L = referLevels S D (marked (c .marks)) p in loaded (addedRows D L) (laterRounds D L))))))
+answer S D c (drop p) =
+    unless (not (ltb (p .filling) (S .fillings))) 5
+    (unless (isBlank (p .value)) 9
+    (unless (not (holds (c .held) p)) 10
+    (let L = reloadLevels S D (withoutPair (c .held) p) in dropped (count (D .size) (λ r. marked (c .marks) r && not (reached L r))))))
+answer S D c (ask q) = questionAnswer S D c q
+answer S D c (query q room) = queryAnswer S D c room q
+
+-- the words that an operation writes
+unfoldable pub written : Scheme → Database → Cache → Operation → List ℕ
+written S D c (refer p) = []
+written S D c (drop p) = []
+written S D c (ask q) = []
+written S D c (query q room) = queryWords S D c room q

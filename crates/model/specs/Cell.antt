@@ -12,12 +12,12 @@ unfoldable pub Fits : Cell → Type 0
 Fits a = a .number < 2 ^ 32
 
 -- the cell with this number
-abbrev pub cellOf : ℕ → Cell
-cellOf n = record { number = n }
+abbrev pub numbered : ℕ → Cell
+numbered n = record { number = n }
 
 -- "0 is blank (SQL null)"
 unfoldable pub blank : Cell
-blank = cellOf 0
+blank = numbered 0
 
 unfoldable pub isBlank : Cell → Bool
 isBlank a = eqb (a .number) 0

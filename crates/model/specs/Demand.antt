@@ -1,22 +1,22 @@
--- Demand 2, of a question that isn't refused, and demand 3, of the pairs that are held and the rows that are cached. Assumes nothing.
+-- Demand 2, of a question that isn't refused, and demand 3, of what is held and the rows that are cached. Assumes nothing.
 use Prim.Native.Nat.{ℕ}
 use mathlib.Core.Path.{_≡_}
 use mathlib.Core.Logic.{_↔_, _≢_}
 use mathlib.Core.Bool.{false}
-use mathlib.Core.List.{List}
 use lib.ListN.{length}
 use Rattle.model.specs.Cell.{Cell, Fits, isBlank}
 use Rattle.model.specs.Scheme.{Column, Scheme, ColumnOf}
 use Rattle.model.specs.Database.{Database}
 use Rattle.model.specs.Cache.{RowSet, Complete, Smallest, Alike}
 use Rattle.model.specs.Probe.{demanded, uniquelySeen, probe}
-use Rattle.model.specs.Runs.{Pair, heldIn, marked, Cache}
+use Rattle.model.specs.Holding.{Holding, heldIn}
+use Rattle.model.specs.Runs.{marked, Cache}
 use Rattle.model.specs.Query.{Query, joinsOf, fitting, wordsOf}
 use Rattle.model.specs.Answers.{Answer, sent, lists, refused, fullLists, queryAnswer, queryWords}
 
 -- the probing rule finds no ground for v in column k: none of the three applies
 pub record Groundless (S : Scheme) (D : Database) (c : Cache) (k : Column) (v : Cell) : Type 0 where
-  pub held : heldIn S (c .pairs) k v ≡ false
+  pub held : heldIn S (c .held) k v ≡ false
   pub demanded : demanded S D (marked (c .marks)) k v ≡ false
   pub seen : uniquelySeen S D (marked (c .marks)) k v ≡ false
 
@@ -33,7 +33,7 @@ pub record Demand2 (S : Scheme) (D : Database) (c : Cache) (room : ℕ) (q : Que
 
 -- the cached rows are the smallest row set for the held values; and for each column of the design and each value other than blank, a probe says
 -- yes exactly when the value is complete in every lawful database, of any number of rows, from which the same rows would have been cached
-pub record Demand3 (S : Scheme) (D : Database) (ps : List Pair) (X : RowSet) : Type 0 where
-  pub smallest : Smallest S D (heldIn S ps) X
+pub record Demand3 (S : Scheme) (D : Database) (h : Holding) (X : RowSet) : Type 0 where
+  pub smallest : Smallest S D (heldIn S h) X
   pub probes : (k : Column) → ColumnOf S k → (v : Cell) → Fits v → isBlank v ≡ false →
-      (probe S D (heldIn S ps) X k v ≢ 0) ↔ ((E : Database) → Alike S D (heldIn S ps) X E → Complete E X k v)
+      (probe S D (heldIn S h) X k v ≢ 0) ↔ ((E : Database) → Alike S D (heldIn S h) X E → Complete E X k v)

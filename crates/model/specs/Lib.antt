@@ -5,7 +5,8 @@ pub mod Database
 pub mod Cache
 pub mod Probe
 pub mod Rounds
-pub mod Runs
+pub mod Holding
 pub mod Query
+pub mod Runs
 pub mod Answers
 pub mod Demand

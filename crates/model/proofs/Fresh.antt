@@ -1,0 +1,35 @@
+-- Caches whose marks are those of a reload: the smallest row set for what they hold. An operation keeps that. Assumes nothing.
+use Prim.Native.Nat.{ℕ}
+use mathlib.Core.Path.{_≡_, refl, sym, subst}
+use mathlib.Core.Bool.{Bool, true, false, cond}
+use mathlib.Core.List.{List}
+use Rattle.model.specs.Scheme.{Scheme}
+use Rattle.model.specs.Database.{Database}
+use Rattle.model.specs.Rounds.{reached}
+use Rattle.model.specs.Holding.{holds, withPair}
+use Rattle.model.specs.Runs.{Operation, refer, drop, ask, query, taken, marks, Cache, reloadLevels, cacheAfter}
+use Rattle.model.proofs.Loads.{one-smallest}
+use Rattle.model.proofs.Marks.{marks-same}
+use Rattle.model.proofs.RunLaws.{Sound, refer-smallest, held-smallest, reload-sound}
+
+-- the marks are those of a load of all pairs from nothing
+pub record Fresh (S : Scheme) (D : Database) (c : Cache) : Type 0 where
+  pub reloaded : c .marks ≡ marks D (reached (reloadLevels S D (c .held)))
+
+-- such a cache is sound
+pub fresh-sound : (S : Scheme) (D : Database) (c : Cache) → Fresh S D c → Sound S D c
+fresh-sound S D c f = subst (λ (m : List ℕ). Sound S D (record { held = c .held; marks = m })) (sym (f .reloaded)) (reload-sound S D (c .held))
+
+cond-fresh : {S : Scheme} {D : Database} (b : Bool) (c e : Cache) → Fresh S D c → Fresh S D e → Fresh S D (cond b c e)
+cond-fresh true c e m n = m
+cond-fresh false c e m n = n
+
+-- an operation leaves one: a load from the smallest set and a reload reach the same rows
+pub step-fresh : (S : Scheme) (D : Database) (c : Cache) (o : Operation) → Fresh S D c → Fresh S D (cacheAfter S D c o)
+unfolding cacheAfter
+step-fresh S D c (refer p) f =
+    cond-fresh (taken S (c .held) p) _ c
+    (record { reloaded = marks-same D _ _ (λ r l. one-smallest (refer-smallest c p (fresh-sound S D c f)) (held-smallest S D (withPair (c .held) p)) r) }) f
+step-fresh S D c (drop p) f = cond-fresh (holds (c .held) p) _ c (record { reloaded = refl }) f
+step-fresh S D c (ask q) f = f
+step-fresh S D c (query q room) f = f
