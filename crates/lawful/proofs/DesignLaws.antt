@@ -8,7 +8,7 @@ use borrow.Author.Tests.{ltb-true, lt-ltb, leb-true, le-leb, eqb-true, eq-eqb, n
 use lib.Dec.{lit<}
 use Rattle.finite.proofs.Bools.{both, clash, refute}
 use Rattle.finite.proofs.Search.{none-before, not-before}
-use Rattle.model.specs.Cell.{cellOf, isBlank}
+use Rattle.model.specs.Cell.{numbered, isBlank}
 use Rattle.model.specs.Scheme as Model
 use Rattle.model.specs.Scheme.{ColumnOf, Scheme, isColumn, sameColumn, candidate}
 use Rattle.model.proofs.DatabaseLaws.{same-column, same-column-self}
@@ -221,7 +221,7 @@ in-range d z e =
 
 -- a candidate is not blank
 pub low-full : (d : Design) → lawfulDesign d ≡ true → (f : ℕ) → f < d .fillings → (v : ℕ) →
-    candidate (fillingOf (fillingAt d f)) (cellOf v) ≡ true → isBlank (cellOf v) ≡ false
+    candidate (fillingOf (fillingAt d f)) (numbered v) ≡ true → isBlank (numbered v) ≡ false
 unfolding candidate isBlank
 low-full d e f l v c =
     let h : fillingAt d f .low ≤ v = leb-true _ _ (and-eq-true-iff _ _ .0 c .0) in

@@ -12,16 +12,17 @@ use Rattle.finite.specs.Finite.{all, tab}
 use Rattle.finite.proofs.Bools.{dec, both, clash, refute}
 use Rattle.finite.proofs.Search.{none-before, not-before}
 use Rattle.finite.proofs.Tables.{length-tab, tab-at, tab-past, tab-of}
-use Rattle.model.specs.Cell.{cellOf, isBlank}
+use Rattle.model.specs.Cell.{isBlank}
 use Rattle.model.specs.Scheme.{Scheme, candidate}
-use Rattle.model.specs.Runs.{Pair, samePair}
+use Rattle.model.specs.Holding.{Pair, samePair, Holding}
 use Rattle.model.proofs.CellLaws.{equal-same, equal-self}
+use Rattle.model.proofs.HoldingLaws.{noPair, pairAt, HoldingFits}
 use Rattle.state.specs.declared.design.Design.{Design}
 use Rattle.state.specs.declared.held.HeldValue.{HeldValue}
 use Rattle.state.specs.declared.held.Held.{Held}
 use Rattle.state.specs.Design.{fillingAt}
 use Rattle.state.specs.Held.{noValue, heldAt}
-use Rattle.state.specs.Meaning.{schemeOf, fillingOf, pairOf, pairsOf, heldOf}
+use Rattle.state.specs.Meaning.{cellOf, schemeOf, fillingOf, pairOf, pairBack, pairsOf, holdingOf, heldOf}
 use Rattle.state.specs.Lawful.{heldFits, zeroHeld, lawfulHeld, lawfulDesign}
 use Rattle.state.proofs.Places.{in-array, used-at, unused-at, all-places}
 use Rattle.lawful.specs.Parts.{heldLawful}
@@ -34,15 +35,11 @@ same-pair : (a b : HeldValue) → samePair (pairOf a) (pairOf b) ≡ true → a 
 unfolding samePair
 same-pair a b e =
     let h = and-eq-true-iff _ _ .0 e in
-    λ i. record { filling = eqb-true (a .filling) (b .filling) (h .0) i; value = equal-same (cellOf (a .value)) (cellOf (b .value)) (h .1) i .number }
+    λ i. record { filling = eqb-true (a .filling) (b .filling) (h .0) i; value = record { number = equal-same (cellOf (a .value)) (cellOf (b .value)) (h .1) i .number } }
 
 same-pair-self : (a : HeldValue) → isBlank (cellOf (a .value)) ≡ false → samePair (pairOf a) (pairOf a) ≡ true
 unfolding samePair
 same-pair-self a h = both (eq-eqb (a .filling) (a .filling) refl) (equal-self (cellOf (a .value)) h)
-
--- the held value that a pair stands for
-abbrev back : Pair → HeldValue
-back p = record { filling = p .filling; value = p .value .number }
 
 module _ (d : Design) (h : Held) (n : ℕ) (v : HeldValue) where
   -- its three tests: the filling exists, the value is a candidate, the pair is not held before
@@ -65,7 +62,7 @@ module _ (d : Design) (h : Held) (n : ℕ) (v : HeldValue) where
   pair-new : lawfulDesign d ≡ true → heldFits d h n v ≡ true → (i : ℕ) → i < n → heldAt h i ≡ v → ⊥
   pair-new w e i l p =
       let t = fits-tests e in
-      clash (ap (λ (a : HeldValue). samePair (pairOf a) (pairOf v)) p ∙ same-pair-self v (low-full d w (v .filling) (t .0) (v .value) (t .1))) (t .2 i l)
+      clash (ap (λ (a : HeldValue). samePair (pairOf a) (pairOf v)) p ∙ same-pair-self v (low-full d w (v .filling) (t .0) (v .value .number) (t .1))) (t .2 i l)
 
   pair-if : LawfulPair d v → ((i : ℕ) → i < n → heldAt h i ≡ v → ⊥) → heldFits d h n v ≡ true
   unfolding heldFits candidate
@@ -74,12 +71,15 @@ module _ (d : Design) (h : Held) (n : ℕ) (v : HeldValue) where
       (both (both (le-leb _ _ (w .low)) (le-leb _ _ (w .high))) (not-before n _ (λ i l. refute _ (λ e. f i l (same-pair _ _ e)))))
 
 zero-held : (v : HeldValue) → zeroHeld v ≡ true → v ≡ noValue
-unfolding zeroHeld
-zero-held v e = let h = and-eq-true-iff _ _ .0 e in λ i. record { filling = eqb-true (v .filling) 0 (h .0) i; value = eqb-true (v .value) 0 (h .1) i }
+unfolding zeroHeld isBlank
+zero-held v e = let h = and-eq-true-iff _ _ .0 e in λ i. record {
+  filling = eqb-true (v .filling) 0 (h .0) i;
+  value = record { number = eqb-true (v .value .number) 0 (h .1) i };
+}
 
 held-zero : (v : HeldValue) → v ≡ noValue → zeroHeld v ≡ true
-unfolding zeroHeld
-held-zero v e = both (eq-eqb _ _ (ap (λ (m : HeldValue). m .filling) e)) (eq-eqb _ _ (ap (λ (m : HeldValue). m .value) e))
+unfolding zeroHeld isBlank
+held-zero v e = both (eq-eqb _ _ (ap (λ (m : HeldValue). m .filling) e)) (eq-eqb _ _ (ap (λ (m : HeldValue). m .value .number) e))
 
 -- ---- all of them
 
@@ -121,19 +121,6 @@ held-filling d h w e z =
 
 -- ---- the held values as a list of pairs
 
-abbrev noPair : Pair
-noPair = pairOf noValue
-
-abbrev pub pairAt : List Pair → ℕ → Pair
-pairAt ps i = getD ps i noPair
-
--- at most 64 pairs of an existing filling and a candidate, none twice
-pub record PairsFit (S : Scheme) (ps : List Pair) : Type 0 where
-  pub few : length ps ≤ 64
-  pub filling : (i : ℕ) → i < length ps → pairAt ps i .filling < S .fillings
-  pub value : (i : ℕ) → i < length ps → candidate (S .filling (pairAt ps i .filling)) (pairAt ps i .value) ≡ true
-  pub once : (i j : ℕ) → i < j → j < length ps → samePair (pairAt ps i) (pairAt ps j) ≡ false
-
 length-pairs : (h : Held) → length (pairsOf h) ≡ h .count
 unfolding pairsOf
 length-pairs h = length-tab (h .count) _
@@ -147,23 +134,23 @@ unfolding pairsOf
 pairs-past h i l = tab-past noPair (h .count) _ i l
 
 -- a record with these pairs is the one that holds them
-pub held-back : (d : Design) (h : Held) → lawfulHeld d h ≡ true → length (h .values) ≡ 64 → heldOf (pairsOf h) ≡ h
+pub held-back : (d : Design) (h : Held) → lawfulHeld d h ≡ true → length (h .values) ≡ 64 → heldOf (holdingOf h) ≡ h
 unfolding heldOf
 held-back d h e z = λ i. record { count = length-pairs h i; values = sym values i }
   where
-    place : (i : ℕ) → i < 64 → heldAt h i ≡ record { filling = pairAt (pairsOf h) i .filling; value = pairAt (pairsOf h) i .value .number }
+    place : (i : ℕ) → i < 64 → heldAt h i ≡ pairBack (pairAt (pairsOf h) i)
     place i l =
-        ⊎-elim (λ (q : ltb i (h .count) ≡ true). sym (ap back (pairs-at h i (ltb-true _ _ q))))
-        (λ (q : ltb i (h .count) ≡ false). held-rest d h e i l (ltb-false _ _ q) ∙ sym (ap back (pairs-past h i (ltb-false _ _ q))))
+        ⊎-elim (λ (q : ltb i (h .count) ≡ true). sym (ap pairBack (pairs-at h i (ltb-true _ _ q))))
+        (λ (q : ltb i (h .count) ≡ false). held-rest d h e i l (ltb-false _ _ q) ∙ sym (ap pairBack (pairs-past h i (ltb-false _ _ q))))
         (dec (ltb i (h .count)))
 
-    values : h .values ≡ tab 64 (λ i. back (pairAt (pairsOf h) i))
+    values : h .values ≡ tab 64 (λ i. pairBack (pairAt (pairsOf h) i))
     values = tab-of noValue 64 _ (h .values) z place
 
--- the pairs of a lawful record fit
-pub pairs-fit : (d : Design) (h : Held) → lawfulHeld d h ≡ true → PairsFit (schemeOf d) (pairsOf h)
+-- what a lawful record holds fits
+pub holding-fits : (d : Design) (h : Held) → lawfulHeld d h ≡ true → HoldingFits (schemeOf d) (holdingOf h)
 unfolding schemeOf
-pairs-fit d h e =
+holding-fits d h e =
     record {
       few = rw (length-pairs h) (held-count d h e);
       filling = λ i l. rw (pairs-at h i (at l)) (tests i (at l) .0);
@@ -180,20 +167,20 @@ pairs-fit d h e =
     tests i l = fits-tests d h i (heldAt h i) (held-used d h e i l)
 
 -- what stands in the record that holds these pairs
-held-at : (ps : List Pair) (i : ℕ) → i < 64 → heldAt (heldOf ps) i ≡ back (pairAt ps i)
+held-at : (h : Holding) (i : ℕ) → i < 64 → heldAt (heldOf h) i ≡ pairBack (pairAt (h .pairs) i)
 unfolding heldOf
-held-at ps i l = tab-at noValue 64 _ i l
+held-at h i l = tab-at noValue 64 _ i l
 
--- that record's pairs are these
-pub pairs-back : (ps : List Pair) → length ps ≤ 64 → pairsOf (heldOf ps) ≡ ps
+-- that record holds this
+pub holding-back : (h : Holding) → length (h .pairs) ≤ 64 → holdingOf (heldOf h) ≡ h
 unfolding pairsOf heldOf
-pairs-back ps l = sym (tab-of noPair (length ps) _ ps refl (λ i m. sym (ap pairOf (held-at ps i (lt-of-lt-of-le m l)))))
+holding-back h l = λ x. record { pairs = sym (tab-of noPair (length (h .pairs)) _ (h .pairs) refl (λ i m. sym (ap pairOf (held-at h i (lt-of-lt-of-le m l))))) x }
 
--- pairs that fit are held by a lawful record
-pub fit-held : (d : Design) (ps : List Pair) → PairsFit (schemeOf d) ps → lawfulHeld d (heldOf ps) ≡ true
+-- what fits is held by a lawful record
+pub fit-held : (d : Design) (h : Holding) → HoldingFits (schemeOf d) h → lawfulHeld d (heldOf h) ≡ true
 unfolding lawfulHeld heldOf heldFits schemeOf
-fit-held d ps w =
+fit-held d h w =
     both (le-leb _ _ (w .few))
-    (all-places 64 (length ps) _ _ (λ j l m. rw (held-at ps j l)
-    (both (lt-ltb _ _ (w .filling j m)) (both (w .value j m) (not-before j _ (λ i b. rw (held-at ps i (lt-trans b l)) (w .once i j b m))))))
-    (λ i l m. held-zero _ (held-at ps i l ∙ ap back (List·getD-eq-default ps noPair m))))
+    (all-places 64 (length (h .pairs)) _ _ (λ j l m. rw (held-at h j l)
+    (both (lt-ltb _ _ (w .filling j m)) (both (w .value j m) (not-before j _ (λ i b. rw (held-at h i (lt-trans b l)) (w .once i j b m))))))
+    (λ i l m. held-zero _ (held-at h i l ∙ ap pairBack (List·getD-eq-default (h .pairs) noPair m))))

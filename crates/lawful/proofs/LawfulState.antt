@@ -13,12 +13,13 @@ use Rattle.finite.proofs.Bools.{dec, both, refute}
 use Rattle.finite.proofs.Search.{all-at, all-true}
 use Rattle.model.specs.Cache.{RowSet, Smallest}
 use Rattle.model.specs.Rounds.{reached}
-use Rattle.model.specs.Runs.{heldIn, marked, reloadLevels}
+use Rattle.model.specs.Holding.{heldIn}
+use Rattle.model.specs.Runs.{marked, reloadLevels}
 use Rattle.model.proofs.Loads.{one-smallest}
-use Rattle.model.proofs.RunLaws.{pairs-smallest}
-use Rattle.state.specs.Meaning.{pairsOf, databaseOf}
+use Rattle.model.proofs.RunLaws.{held-smallest}
+use Rattle.state.specs.Meaning.{holdingOf, databaseOf}
 use Rattle.state.specs.Lawful.{lawfulDesign, lawfulRows, lawfulHeld, lawfulMarks}
-use Rattle.state.specs.Step.{State, scheme, database, lawful}
+use Rattle.state.specs.Lent.{State, scheme, database, lawful}
 use Rattle.lawful.specs.LawfulState.{LawfulState}
 use Rattle.lawful.proofs.DesignLaws.{design-says, design-if}
 use Rattle.lawful.proofs.RowsLaws.{Stored, rows-say, rows-if}
@@ -55,10 +56,10 @@ module _ (m : List ℕ) where
 
 -- the rows that a load of all held values from nothing reaches
 abbrev smallestOf : State → RowSet
-smallestOf s = reached (reloadLevels (scheme s) (database s) (pairsOf (s .held)))
+smallestOf s = reached (reloadLevels (scheme s) (database s) (holdingOf (s .held)))
 
-is-smallest : (s : State) → Smallest (scheme s) (database s) (heldIn (scheme s) (pairsOf (s .held))) (smallestOf s)
-is-smallest s = pairs-smallest (scheme s) (database s) (pairsOf (s .held))
+is-smallest : (s : State) → Smallest (scheme s) (database s) (heldIn (scheme s) (holdingOf (s .held))) (smallestOf s)
+is-smallest s = held-smallest (scheme s) (database s) (holdingOf (s .held))
 
 below : (s : State) (r : ℕ) → smallestOf s r ≡ true → r < 512
 unfolding databaseOf
@@ -72,11 +73,11 @@ module _ (s : State) (e : lawfulMarks (s .design) (s .cells) (s .tables) (s .hel
   marks-bits : (r : ℕ) → r < 512 → getD (s .marks) r 0 ≤ 1
   marks-bits r l = mark-bit (smallestOf s r) _ (mark-at r l) .0
 
-  marks-smallest : Smallest (scheme s) (database s) (heldIn (scheme s) (pairsOf (s .held))) (marked (take 512 (s .marks)))
+  marks-smallest : Smallest (scheme s) (database s) (heldIn (scheme s) (holdingOf (s .held))) (marked (take 512 (s .marks)))
   marks-smallest = rw (marked-is (s .marks) (smallestOf s) (below s) mark-at) (is-smallest s)
 
 marks-if : (s : State) → ((r : ℕ) → r < 512 → getD (s .marks) r 0 ≤ 1) →
-    Smallest (scheme s) (database s) (heldIn (scheme s) (pairsOf (s .held))) (marked (take 512 (s .marks))) →
+    Smallest (scheme s) (database s) (heldIn (scheme s) (holdingOf (s .held))) (marked (take 512 (s .marks))) →
     lawfulMarks (s .design) (s .cells) (s .tables) (s .held) (s .marks) ≡ true
 unfolding lawfulMarks
 marks-if s b w =

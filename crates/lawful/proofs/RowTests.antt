@@ -2,9 +2,9 @@
 use Prim.Native.Nat.{ℕ, _+_, _*_, _≤_, _<_}
 use native.Mathlib.Omega.{arith}
 use mathlib.Core.Path.{_≡_, sym, ap, _∙_}
-use mathlib.Core.Bool.{Bool, false, _||_}
-use mathlib.Core.List.{List}
-use borrow.Author.Tests.{lt-ltb, le-ltb, eq-eqb, ne-eqb}
+use mathlib.Core.Bool.{Bool, true, false, _||_}
+use mathlib.Core.List.{List, []}
+use borrow.Author.Tests.{lt-ltb, le-ltb, eq-eqb, ne-eqb, ltb-true, ltb-false}
 use lib.Dec.{ltb}
 use lib.ListN.{getD}
 use Rattle.finite.specs.Finite.{all}
@@ -15,13 +15,21 @@ use Rattle.state.specs.declared.design.Design.{Design}
 use Rattle.state.specs.Design.{tableAt}
 use Rattle.state.specs.Meaning.{schemeOf, databaseOf}
 use Rattle.state.specs.Lawful.{rowFits, zeroRow}
-use Rattle.state.proofs.RowLaws.{cell-at}
+use Rattle.state.proofs.RowLaws.{cell-at, live-at}
 use Rattle.lawful.specs.Parts.{blankAt, blankFrom}
+
+-- ---- a number that has a row, or none
+
+module _ (rows r : ℕ) (b : Bool) (h : (cells tables : List ℕ) → b ≡ databaseOf rows cells tables .live r) (l : r < 512) where
+  pub live-says : b ≡ true → r < rows
+  live-says e = ltb-true r rows (sym (live-at rows [] [] r l) ∙ sym (h [] []) ∙ e)
+
+  pub not-live-says : b ≡ false → rows ≤ r
+  not-live-says e = ltb-false r rows (sym (live-at rows [] [] r l) ∙ sym (h [] []) ∙ e)
 
 -- the cells of a row, in the buffer and in the database
 pub blank-past : (rows : ℕ) (cells tables : List ℕ) (r n : ℕ) →
     blankFrom cells r n ≡ all 8 (λ c. ltb c n || isBlank (databaseOf rows cells tables .cell r c))
-unfolding isBlank
 blank-past rows cells tables r n = all-same 8 (blankAt cells r n) _ (λ c l. ap (λ (v : Cell). ltb c n || isBlank v) (sym (cell-at rows cells tables r c l)))
 
 pub blank-all : (rows : ℕ) (cells tables : List ℕ) (r : ℕ) → blankFrom cells r 0 ≡ all 8 (λ c. isBlank (databaseOf rows cells tables .cell r c))

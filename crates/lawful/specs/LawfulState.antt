@@ -8,7 +8,8 @@ use lib.ListN.{getD, take}
 use Rattle.model.specs.Scheme.{ColumnOf}
 use Rattle.model.specs.Database.{Lawful}
 use Rattle.model.specs.Cache.{Smallest}
-use Rattle.model.specs.Runs.{heldIn, marked}
+use Rattle.model.specs.Holding.{heldIn}
+use Rattle.model.specs.Runs.{marked}
 use Rattle.state.specs.declared.design.Table.{Table}
 use Rattle.state.specs.declared.design.Constraint.{Constraint}
 use Rattle.state.specs.declared.design.Filling.{Filling}
@@ -17,8 +18,8 @@ use Rattle.state.specs.declared.held.HeldValue.{HeldValue}
 use Rattle.state.specs.declared.held.Held.{Held}
 use Rattle.state.specs.Design.{noTable, noConstraint, noFilling, tableAt, constraintAt, fillingAt}
 use Rattle.state.specs.Held.{noValue, heldAt}
-use Rattle.state.specs.Meaning.{columnOf, schemeOf, databaseOf, pairsOf}
-use Rattle.state.specs.Step.{State, scheme, database}
+use Rattle.state.specs.Meaning.{columnOf, schemeOf, databaseOf, holdingOf}
+use Rattle.state.specs.Lent.{State, scheme, database}
 
 -- ---- the design
 
@@ -66,8 +67,8 @@ pub record LawfulRows (d : Design) (cells tables : List ℕ) : Type 0 where
 -- a pair of an existing filling and one of its candidates
 pub record LawfulPair (d : Design) (v : HeldValue) : Type 0 where
   pub filling : v .filling < d .fillings
-  pub low : fillingAt d (v .filling) .low ≤ v .value
-  pub high : v .value ≤ fillingAt d (v .filling) .high
+  pub low : fillingAt d (v .filling) .low ≤ v .value .number
+  pub high : v .value .number ≤ fillingAt d (v .filling) .high
 
 pub record LawfulHeld (d : Design) (h : Held) : Type 0 where
   pub count : h .count ≤ 64
@@ -84,4 +85,4 @@ pub record LawfulState (s : State) : Type 0 where
   pub held : LawfulHeld (s .design) (s .held)
   -- a mark is 0 or 1, and those that are 1 are the smallest row set for the held values
   pub marks : (r : ℕ) → r < 512 → getD (s .marks) r 0 ≤ 1
-  pub smallest : Smallest (scheme s) (database s) (heldIn (scheme s) (pairsOf (s .held))) (marked (take 512 (s .marks)))
+  pub smallest : Smallest (scheme s) (database s) (heldIn (scheme s) (holdingOf (s .held))) (marked (take 512 (s .marks)))

@@ -1,15 +1,15 @@
 -- The parts of a lawful state, place by place, as the loops over the places decide them. Assumes nothing.
-use Prim.Native.Nat.{ℕ, _+_, _*_}
+use Prim.Native.Nat.{ℕ}
 use mathlib.Core.Bool.{Bool, _||_}
 use mathlib.Core.List.{List}
-use lib.Dec.{eqb, ltb}
-use lib.ListN.{getD}
+use lib.Dec.{ltb}
 use Rattle.finite.specs.Finite.{all}
+use Rattle.model.specs.Cell.{isBlank}
 use Rattle.state.specs.declared.design.Design.{Design}
 use Rattle.state.specs.declared.held.Held.{Held}
 use Rattle.state.specs.Design.{tableAt, constraintAt, fillingAt}
 use Rattle.state.specs.Held.{heldAt}
-use Rattle.state.specs.Meaning.{schemeOf, databaseOf}
+use Rattle.state.specs.Meaning.{cellOf, cellAt, schemeOf, databaseOf}
 use Rattle.state.specs.Lawful.{usedOr, tableFits, zeroTable, constraintFits, zeroConstraint, fillingFits, zeroFilling}
 use Rattle.state.specs.Lawful.{rowFits, zeroRow, heldFits, zeroHeld}
 
@@ -37,7 +37,7 @@ fillingsLawful d = all 8 (fillingLawful d)
 
 -- cell c of row r is one of the first n, or blank
 abbrev pub blankAt : List ℕ → ℕ → ℕ → ℕ → Bool
-blankAt cells r n c = ltb c n || eqb (getD cells (8 * r + c) 0) 0
+blankAt cells r n c = ltb c n || isBlank (cellOf (cellAt cells r c))
 
 abbrev pub blankFrom : List ℕ → ℕ → ℕ → Bool
 blankFrom cells r n = all 8 (blankAt cells r n)

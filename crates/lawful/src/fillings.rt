@@ -2,27 +2,27 @@
 ghost use mathlib.Core.Path.{_≡_};
 ghost use Prim.Native.Nat.{_≤_, _<_};
 ghost use Rattle.finite.specs.Finite.{any};
-ghost use Rattle.model.specs.Cell.{cellOf};
 ghost use Rattle.model.specs.Scheme.{candidate, sameColumn};
 ghost use Rattle.state.specs.Design.{fillingAt};
-ghost use Rattle.state.specs.Meaning.{columnOf, fillingOf};
+ghost use Rattle.state.specs.Meaning.{cellOf, columnOf, fillingOf};
 ghost use Rattle.state.specs.Lawful.{fillingFits, zeroFilling};
 ghost use Rattle.lawful.specs.Parts.{fillingLawful, fillingsLawful};
 use crate::tables::is_column;
 use crate::tables::zero_column;
+use state::Cell;
 use state::Column;
 use state::Design;
 use state::Filling;
 use state::same_column;
 
 // Whether the value is a candidate of the filling. Constant time.
-pub fn is_candidate(f: Filling, v: u32) -> bool
+pub fn is_candidate(f: Filling, v: Cell) -> bool
     ensures { λ b. ⌜ b ≡ candidate (fillingOf f) (cellOf v) ⌝ }
 {
-    if v < f.low {
+    if v.number < f.low {
         return false;
     }
-    v <= f.high
+    v.number <= f.high
 }
 
 // Whether filling f's column is k. Constant time.

@@ -2,7 +2,7 @@
 ghost use mathlib.Core.Path.{_≡_};
 ghost use Prim.Native.Nat.{_≤_, _<_};
 ghost use Rattle.finite.specs.Finite.{any};
-ghost use Rattle.model.specs.Runs.{samePair};
+ghost use Rattle.model.specs.Holding.{samePair};
 ghost use Rattle.state.specs.Held.{heldAt};
 ghost use Rattle.state.specs.Meaning.{pairOf};
 ghost use Rattle.state.specs.Lawful.{heldFits, lawfulHeld, zeroHeld};
@@ -12,6 +12,7 @@ use state::Design;
 use state::Held;
 use state::HeldValue;
 use state::filling_at;
+use state::is_blank;
 use state::same_pair;
 
 // Whether one of the first n held values is v. One look at each.
@@ -51,7 +52,7 @@ fn zero_held(v: HeldValue) -> bool
     if v.filling != 0 {
         return false;
     }
-    v.value == 0
+    is_blank(v.value)
 }
 
 // Whether place i of the held values is lawful: a held value that fits there, or unused and 0. One look at each held value before it.

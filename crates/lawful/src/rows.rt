@@ -8,6 +8,9 @@ ghost use Rattle.state.specs.Meaning.{databaseOf, schemeOf};
 ghost use Rattle.state.specs.Lawful.{rowFits, zeroRow};
 ghost use Rattle.lawful.specs.Parts.{blankAt, blankFrom, rowStands, rowsStand};
 use state::Design;
+use state::cell_at;
+use state::is_blank;
+use state::is_live;
 use state::table_at;
 
 // Whether row r's cell c is one of the first n, or blank. Constant time.
@@ -19,7 +22,7 @@ fn blank_at(cells: &[u32], r: usize, n: u8, c: usize) -> bool
     if c < m {
         return true;
     }
-    cells[8 * r + c] == 0
+    is_blank(cell_at(cells, r, c))
 }
 
 // Whether row r is blank from cell n on. One look at each of its 8 cells.
@@ -64,7 +67,7 @@ fn row_stands(d: Design, cells: &[u32], tables: &[u8], r: usize) -> bool
     requires { ⌜ (r < 512) × Backed (now cells) (now tables) ⌝ }
     ensures { λ b. ⌜ b ≡ rowStands d (now (cells .entry)) (now (tables .entry)) r ⌝ }
 {
-    if d.rows <= r {
+    if !is_live(d.rows, r) {
         return zero_row(d.rows, cells, tables, r);
     }
     row_fits(d, cells, tables, r)

@@ -3,3 +3,4 @@
 pub mod RowLaws
 pub mod Places
 pub mod Arrays
+pub mod AnswerLaws

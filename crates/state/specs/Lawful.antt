@@ -12,7 +12,8 @@ use Rattle.model.specs.Scheme as Model
 use Rattle.model.specs.Scheme.{sameColumn, isColumn, candidate, Scheme}
 use Rattle.model.specs.Database.{Database, has}
 use Rattle.model.specs.Rounds.{reached}
-use Rattle.model.specs.Runs.{samePair, reloadLevels}
+use Rattle.model.specs.Holding.{samePair}
+use Rattle.model.specs.Runs.{reloadLevels}
 use Rattle.state.specs.declared.design.Table.{Table}
 use Rattle.state.specs.declared.design.Column.{Column}
 use Rattle.state.specs.declared.design.Constraint.{Constraint}
@@ -22,7 +23,7 @@ use Rattle.state.specs.declared.held.HeldValue.{HeldValue}
 use Rattle.state.specs.declared.held.Held.{Held}
 use Rattle.state.specs.Design.{tableAt, constraintAt, fillingAt}
 use Rattle.state.specs.Held.{heldAt}
-use Rattle.state.specs.Meaning.{columnOf, fillingOf, pairOf, pairsOf, schemeOf, databaseOf}
+use Rattle.state.specs.Meaning.{columnOf, fillingOf, pairOf, holdingOf, schemeOf, databaseOf}
 
 -- place i is used and passes the test, or is unused and 0
 abbrev pub usedOr : ℕ → ℕ → Bool → Bool → Bool
@@ -110,7 +111,7 @@ heldFits d h n v =
     not (any n (λ i. samePair (pairOf (heldAt h i)) (pairOf v))))
 
 unfoldable pub zeroHeld : HeldValue → Bool
-zeroHeld v = eqb (v .filling) 0 && eqb (v .value) 0
+zeroHeld v = eqb (v .filling) 0 && isBlank (pairOf v .value)
 
 unfoldable pub lawfulHeld : Design → Held → Bool
 lawfulHeld d h = leb (h .count) 64 && all 64 (λ i. usedOr i (h .count) (heldFits d h i (heldAt h i)) (zeroHeld (heldAt h i)))
@@ -121,5 +122,5 @@ lawfulHeld d h = leb (h .count) 64 && all 64 (λ i. usedOr i (h .count) (heldFit
 unfoldable pub lawfulMarks : Design → List ℕ → List ℕ → Held → List ℕ → Bool
 lawfulMarks d cells tables h marks =
     let D = databaseOf (d .rows) cells tables in
-    let L = reloadLevels (schemeOf d) D (pairsOf h) in
+    let L = reloadLevels (schemeOf d) D (holdingOf h) in
     all 512 (λ r. eqb (getD marks r 0) (cond (reached L r) 1 0))

@@ -1,7 +1,7 @@
 -- Design, Held: the empty values and how places are read. Meaning: the model's scheme, database, cache and answer behind the lent values.
--- Lawful: cause 12. Step: what an operation answers and leaves, for whatever is lent.
+-- Lawful: cause 12. Lent: a lent state, and what an operation answers and leaves, for whatever is lent.
 pub mod Design
 pub mod Held
 pub mod Meaning
 pub mod Lawful
-pub mod Step
+pub mod Lent

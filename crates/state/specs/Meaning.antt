@@ -1,16 +1,21 @@
 -- What the lent values mean in the model: nothing above this file looks at buffers. Assumes nothing.
 use Prim.Native.Nat.{ℕ, _+_, _*_, _/_, _%_, _^_}
 use mathlib.Core.Bool.{Bool, cond, _&&_, and-eq-true-iff}
-use mathlib.Core.List.{List}
+use mathlib.Core.List.{List, [], _∷_}
 use borrow.Author.Tests.{ltb-true}
 use lib.Dec.{eqb, ltb}
 use lib.ListN.{length, getD, take}
 use Rattle.finite.specs.Finite.{tab}
-use Rattle.model.specs.Cell.{cellOf, blank}
+use Rattle.model.specs.Cell as Model-cell
+use Rattle.model.specs.Cell.{blank}
 use Rattle.model.specs.Scheme as Model
 use Rattle.model.specs.Database.{Database}
-use Rattle.model.specs.Runs.{Pair, Cache}
+use Rattle.model.specs.Holding.{Pair, Holding, holding}
+use Rattle.model.specs.Query as Model-query
+use Rattle.model.specs.Runs as Runs
+use Rattle.model.specs.Runs.{Cache}
 use Rattle.model.specs.Answers as Answers
+use Rattle.state.specs.declared.cell.Cell.{Cell}
 use Rattle.state.specs.declared.design.Column.{Column}
 use Rattle.state.specs.declared.design.Constraint.{Constraint}
 use Rattle.state.specs.declared.design.Filling.{Filling}
@@ -19,8 +24,26 @@ use Rattle.state.specs.declared.held.HeldValue.{HeldValue}
 use Rattle.state.specs.declared.held.Held.{Held}
 use Rattle.state.specs.declared.answer.Answer.{Answer}
 use Rattle.state.specs.declared.answer.Answer.the-variants as A
+use Rattle.state.specs.declared.answer.Shown.{Shown}
+use Rattle.state.specs.declared.operation.Join.{Join}
+use Rattle.state.specs.declared.operation.Query.{Query}
+use Rattle.state.specs.declared.operation.Operation.{Operation}
+use Rattle.state.specs.declared.operation.Operation.the-variants as O
 use Rattle.state.specs.Design.{tableAt, constraintAt, fillingAt}
-use Rattle.state.specs.Held.{heldAt}
+use Rattle.state.specs.Held.{noValue, heldAt}
+
+-- ---- cells
+
+abbrev pub cellOf : Cell → Model-cell.Cell
+cellOf a = record { number = a .number }
+
+-- the cell that stands for this one
+abbrev pub cellBack : Model-cell.Cell → Cell
+cellBack a = record { number = a .number }
+
+-- column c of row r, whose cells begin at cell 8 times r
+abbrev pub cellAt : List ℕ → ℕ → ℕ → Cell
+cellAt cells r c = record { number = getD cells (8 * r + c) 0 }
 
 -- ---- the design
 
@@ -51,14 +74,14 @@ schemeOf d =
 
 -- ---- the rows
 
--- row r's cells begin at cell 8 times r; the first `rows` numbers have a row
+-- the first `rows` numbers have a row
 unfoldable pub databaseOf : ℕ → List ℕ → List ℕ → Database
 databaseOf rows cells tables =
     record {
       size = 512;
       live = λ r. ltb r 512 && ltb r rows;
       table = λ r. getD tables r 0;
-      cell = λ r c. cond (ltb c 8) (cellOf (getD cells (8 * r + c) 0)) blank;
+      cell = λ r c. cond (ltb c 8) (cellOf (cellAt cells r c)) blank;
       finite = λ r e. ltb-true r 512 (and-eq-true-iff (ltb r 512) (ltb r rows) .0 e .0);
     }
 
@@ -67,19 +90,47 @@ databaseOf rows cells tables =
 abbrev pub pairOf : HeldValue → Pair
 pairOf v = record { filling = v .filling; value = cellOf (v .value) }
 
+-- the held value that stands for a pair
+abbrev pub pairBack : Pair → HeldValue
+pairBack p = record { filling = p .filling; value = cellBack (p .value) }
+
 unfoldable pub pairsOf : Held → List Pair
 pairsOf h = tab (h .count) (λ i. pairOf (heldAt h i))
 
--- the record that holds these pairs, unused places 0
-unfoldable pub heldOf : List Pair → Held
-heldOf ps =
+-- what the record holds
+abbrev pub holdingOf : Held → Holding
+holdingOf h = holding (pairsOf h)
+
+-- the record that holds this, unused places 0
+unfoldable pub heldOf : Holding → Held
+heldOf h =
     record {
-      count = length ps;
-      values = tab 64 (λ i. let p = getD ps i (record { filling = 0; value = cellOf 0 }) in record { filling = p .filling; value = p .value .number });
+      count = length (h .pairs);
+      values = tab 64 (λ i. pairBack (getD (h .pairs) i (pairOf noValue)));
     }
 
 abbrev pub cacheOf : Held → List ℕ → Cache
-cacheOf h marks = record { pairs = pairsOf h; marks = take 512 marks }
+cacheOf h marks = record { held = holdingOf h; marks = take 512 marks }
+
+-- ---- operations, with `room` answer words lent
+
+abbrev pub joinOf : Join → Model-query.Join
+joinOf j = record { position = j .position; constraint = j .constraint }
+
+abbrev pub queryOf : Query → Model-query.Query
+queryOf q =
+    record {
+      column = columnOf (q .column);
+      value = cellOf (q .value);
+      joins = q .joins;
+      pairs = joinOf (q .first) ∷ joinOf (q .second) ∷ joinOf (q .third) ∷ joinOf (q .fourth) ∷ [];
+    }
+
+abbrev pub operationOf : Operation → ℕ → Runs.Operation
+operationOf (O.Refer v) room = Runs.refer (pairOf v)
+operationOf (O.Drop v) room = Runs.drop (pairOf v)
+operationOf (O.Probe k v) room = Runs.ask (Runs.probe (columnOf k) (cellOf v))
+operationOf (O.Query q) room = Runs.query (queryOf q) room
 
 -- ---- answers: document 01's word, number and values for each case
 
@@ -92,3 +143,7 @@ answerOf (A.Ground g) = Answers.ground g
 answerOf A.Sent = Answers.sent
 answerOf (A.Lists n) = Answers.lists n
 answerOf (A.Refused n) = Answers.refused n
+
+-- a word with its numbers
+abbrev pub shownOf : Shown → Answers.Shown
+shownOf s = record { word = s .word; numbers = take (s .numbers) (s .first ∷ s .second ∷ []) }

@@ -1,8 +1,9 @@
 // Whether two columns, or two held values, are the same. Constant time.
 ghost use mathlib.Core.Path.{_≡_};
-ghost use Rattle.model.specs.Runs.{samePair};
+ghost use Rattle.model.specs.Holding.{samePair};
 ghost use Rattle.model.specs.Scheme.{sameColumn};
 ghost use Rattle.state.specs.Meaning.{columnOf, pairOf};
+use crate::cell::same_cell;
 use crate::design::Column;
 use crate::held::HeldValue;
 
@@ -23,8 +24,5 @@ pub fn same_pair(a: HeldValue, b: HeldValue) -> bool
     if a.filling != b.filling {
         return false;
     }
-    if a.value == 0 {
-        return false;
-    }
-    a.value == b.value
+    same_cell(a.value, b.value)
 }

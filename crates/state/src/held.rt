@@ -1,11 +1,12 @@
 // The held values: a small record, in order of reference. Unused places are 0.
 ghost use mathlib.Core.Path.{_≡_};
 ghost use Rattle.state.specs.Held.{noneHeld};
+use crate::cell::Cell;
 
 // A filling's number and a value.
 pub struct HeldValue {
     pub filling: u8,
-    pub value: u32,
+    pub value: Cell,
 }
 
 pub struct Held {
@@ -21,7 +22,7 @@ impl Held {
     {
         let v = HeldValue {
             filling: 0,
-            value: 0,
+            value: Cell { number: 0 },
         };
         Held {
             count: 0,

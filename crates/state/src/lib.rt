@@ -1,15 +1,25 @@
-// The values that everything above works on: the design, the held values, the answer of an operation; and the leaves that compare them and
+// The values that everything above works on: cells, the design, the held values, an operation and its answer; and the leaves that compare them and
 // read their places and lent rows.
 // What they mean as the model's scheme, database and cache is in specs/Meaning.antt, when a lent state is lawful in specs/Lawful.antt, and what
-// an operation answers and leaves in specs/Step.antt.
+// an operation answers and leaves in specs/Lent.antt.
 mod answer;
+mod cell;
 mod design;
 mod equality;
 mod held;
 mod lookup;
+mod operation;
 mod rows;
 
 pub use answer::Answer;
+pub use answer::Shown;
+pub use answer::has_lists;
+pub use answer::is_refusal;
+pub use answer::show;
+pub use cell::Cell;
+pub use cell::cell_at;
+pub use cell::is_blank;
+pub use cell::same_cell;
 pub use design::Column;
 pub use design::Constraint;
 pub use design::Design;
@@ -21,4 +31,8 @@ pub use held::Held;
 pub use held::HeldValue;
 pub use lookup::filling_at;
 pub use lookup::table_at;
+pub use operation::Join;
+pub use operation::Operation;
+pub use operation::Query;
+pub use rows::is_live;
 pub use rows::row_has;

@@ -12,7 +12,7 @@ returns c = and-stop _ _ (lt-leb _ _ (c .if1 .taken))
 
 returns-2 : tie.Need-returns-2
 unfolding candidate
-returns-2 c = and-go _ _ (le-leb _ _ (c .before .if1 .left)) refl
+returns-2 c = and-go _ _ (le-leb _ _ (c .before .before .if1 .left)) refl
 
 pub is-candidate-spec : {M : Type 1} → statement M
 is-candidate-spec = tie.close (tie.spec returns returns-2)

@@ -7,7 +7,7 @@ use borrow.Author.Needs.{needs}
 use lib.ListN.{getD}
 use Rattle.finite.proofs.Search.{any-end, any-hit, any-more, any-start}
 use Rattle.finite.specs.Finite.{any}
-use Rattle.model.specs.Runs.{samePair}
+use Rattle.model.specs.Holding.{samePair}
 use Rattle.state.specs.Held.{noValue}
 use Rattle.state.specs.Meaning.{pairOf}
 use Rattle.lawful.proofs.held.held_before.Statement.{statement}

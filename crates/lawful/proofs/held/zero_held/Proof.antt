@@ -1,5 +1,5 @@
 -- `lawful::held::zero_held` meets its contract. Assumes nothing.
-use mathlib.Core.Path.{refl}
+use borrow.Author.Needs.{needs}
 use borrow.Author.Tests.{eq-eqb, ne-eqb}
 use Rattle.finite.proofs.Bools.{and-go, and-stop}
 use Rattle.state.specs.Lawful.{zeroHeld}
@@ -10,9 +10,12 @@ returns : tie.Need-returns
 unfolding zeroHeld
 returns c = and-stop _ _ (ne-eqb _ _ (c .if1 .taken))
 
+is-blank-requires : tie.Need-is-blank-requires
+is-blank-requires c κs = search needs
+
 returns-2 : tie.Need-returns-2
 unfolding zeroHeld
-returns-2 c = and-go _ _ (eq-eqb _ _ (c .before .if1 .left)) refl
+returns-2 c = and-go _ _ (eq-eqb _ _ (c .before .if1 .left)) (c .is-blank .ensures)
 
 pub zero-held-spec : {M : Type 1} → statement M
-zero-held-spec = tie.close (tie.spec returns returns-2)
+zero-held-spec = tie.close (tie.spec returns is-blank-requires returns-2)

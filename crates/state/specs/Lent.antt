@@ -1,16 +1,16 @@
 -- A lent state, and what an operation answers and leaves, for whatever is lent (01, "Causes of refusal": order 7, 12, then the operation's own).
 -- Assumes nothing.
 use Prim.Native.Nat.{ℕ}
+use mathlib.Core.Path.{_≡_}
 use mathlib.Core.Bool.{Bool, not, cond, _&&_}
-use mathlib.Core.List.{List, _++_}
+use mathlib.Core.List.{List, [], _++_}
 use lib.Dec.{leb}
 use lib.ListN.{length, drop}
+use lib.Seq.{sets}
 use Rattle.model.specs.Scheme.{Scheme}
 use Rattle.model.specs.Database.{Database}
 use Rattle.model.specs.Runs.{Operation, Cache, cacheAfter}
-use Rattle.model.specs.Query.{Query}
-use Rattle.model.specs.Answers.{Answer, unless, answer, queryAnswer, writtenWith, fullLists}
-use Rattle.model.specs.Query.{wordsOf}
+use Rattle.model.specs.Answers.{Answer, unless, answer, written}
 use Rattle.state.specs.declared.design.Design.{Design}
 use Rattle.state.specs.declared.held.Held.{Held}
 use Rattle.state.specs.Meaning.{schemeOf, databaseOf, cacheOf, heldOf}
@@ -52,18 +52,22 @@ lawful s =
 abbrev pub sound : State → Bool
 sound s = longEnough s && lawful s
 
+-- cause 7 or 12, whichever keeps the state from being worked on; 0 if neither applies
+unfoldable pub causeAt : State → ℕ
+causeAt s = cond (not (longEnough s)) 7 (cond (not (lawful s)) 12 0)
+
 -- the answer that a sound state gets, behind causes 7 and 12
 abbrev pub guarded : State → Answer → Answer
 guarded s a = unless (not (longEnough s)) 7 (unless (not (lawful s)) 12 a)
 
--- ---- REFER, DROP and PROBE
+-- ---- an operation
 
 unfoldable pub answerAt : State → Operation → Answer
 answerAt s o = guarded s (answer (scheme s) (database s) (cache s) o)
 
 -- the held values afterwards
 unfoldable pub heldAfterAt : State → Operation → Held
-heldAfterAt s o = cond (sound s) (heldOf (cacheAfter (scheme s) (database s) (cache s) o .pairs)) (s .held)
+heldAfterAt s o = cond (sound s) (heldOf (cacheAfter (scheme s) (database s) (cache s) o .held)) (s .held)
 
 -- the marks afterwards, with whatever lies past them
 unfoldable pub marksAfterAt : State → Operation → List ℕ
@@ -73,11 +77,18 @@ marksAfterAt s o = cond (sound s) (cacheAfter (scheme s) (database s) (cache s) 
 abbrev pub stateAfter : State → Operation → State
 stateAfter s o = lent (s .design) (s .cells) (s .tables) (marksAfterAt s o) (heldAfterAt s o)
 
--- ---- QUERY, with `room` words lent
+-- the answer words that it writes, from the first on
+unfoldable pub wordsAt : State → Operation → List ℕ
+wordsAt s o = cond (sound s) (written (scheme s) (database s) (cache s) o) []
 
-unfoldable pub queryAnswerAt : State → ℕ → Query → Answer
-queryAnswerAt s room q = guarded s (queryAnswer (scheme s) (database s) (cache s) room q)
+-- ---- what the code promises of an operation
 
--- the words that it writes, from the first on
-unfoldable pub queryWordsAt : State → ℕ → Query → List ℕ
-queryWordsAt s room q = writtenWith (queryAnswerAt s room q) (wordsOf (fullLists (scheme s) (database s) q))
+-- the operation on the state s answers a and leaves the state s′
+pub record Answered (s : State) (o : Operation) (a : Answer) (s′ : State) : Type 0 where
+  pub answer : a ≡ answerAt s o
+  pub state : s′ ≡ stateAfter s o
+
+-- and, of the answer words w that it is lent, w′: those that it writes from the first on, and all others as they were
+pub record Performed (s : State) (w : List ℕ) (o : Operation) (a : Answer) (s′ : State) (w′ : List ℕ) : Type 0 where
+  pub answered : Answered s o a s′
+  pub words : w′ ≡ sets w 0 (wordsAt s o)

@@ -1,0 +1,124 @@
+-- `state::answer::show` meets its contract: case by case. Assumes nothing.
+use mathlib.Core.Path.{refl}
+use borrow.Author.Needs.{needs}
+use Rattle.model.specs.Answers.{shown}
+use Rattle.state.proofs.AnswerLaws.{shows-case}
+use Rattle.state.proofs.answer.show.Statement.{statement}
+use Rattle.state.proofs.answer.show.Tie as tie
+
+enum-known-answer : tie.Need-enum-known-answer
+enum-known-answer c = search needs
+
+words-requires : tie.Need-words-requires
+words-requires c κs = search needs
+
+enum-told : tie.Need-enum-told
+enum-told c = search needs
+
+words-requires-2 : tie.Need-words-requires-2
+words-requires-2 c κs = search needs
+
+enum-told-2 : tie.Need-enum-told-2
+enum-told-2 c = search needs
+
+words-requires-3 : tie.Need-words-requires-3
+words-requires-3 c κs = search needs
+
+enum-known-answer-2 : tie.Need-enum-known-answer-2
+enum-known-answer-2 c = search needs
+
+words-requires-4 : tie.Need-words-requires-4
+words-requires-4 c κs = search needs
+
+enum-known-answer-3 : tie.Need-enum-known-answer-3
+enum-known-answer-3 c = search needs
+
+cast-words : tie.Need-cast-words
+cast-words c = search needs
+
+words-requires-5 : tie.Need-words-requires-5
+words-requires-5 c κs = search needs
+
+enum-told-3 : tie.Need-enum-told-3
+enum-told-3 c = search needs
+
+words-requires-6 : tie.Need-words-requires-6
+words-requires-6 c κs = search needs
+
+enum-known-answer-4 : tie.Need-enum-known-answer-4
+enum-known-answer-4 c = search needs
+
+words-requires-7 : tie.Need-words-requires-7
+words-requires-7 c κs = search needs
+
+enum-known-answer-5 : tie.Need-enum-known-answer-5
+enum-known-answer-5 c = search needs
+
+cast-words-2 : tie.Need-cast-words-2
+cast-words-2 c = search needs
+
+words-requires-8 : tie.Need-words-requires-8
+words-requires-8 c κs = search needs
+
+returns : tie.Need-returns
+unfolding shown
+returns c = shows-case (c .words .ensures) (c .before .before .answer .given .1) refl
+
+returns-2 : tie.Need-returns-2
+unfolding shown
+returns-2 c = shows-case (c .words2 .ensures) (c .before .enum-told .given .1) refl
+
+returns-3 : tie.Need-returns-3
+unfolding shown
+returns-3 c = shows-case (c .words3 .ensures) (c .before .enum-told2 .given .1) refl
+
+returns-4 : tie.Need-returns-4
+unfolding shown
+returns-4 c = shows-case (c .words4 .ensures) (c .before .before .answer2 .given .1) refl
+
+returns-5 : tie.Need-returns-5
+unfolding shown
+returns-5 c = shows-case (c .words5 .ensures) (c .before .before .answer3 .given .1) refl
+
+returns-6 : tie.Need-returns-6
+unfolding shown
+returns-6 c = shows-case (c .words6 .ensures) (c .before .enum-told3 .given .1) refl
+
+returns-7 : tie.Need-returns-7
+unfolding shown
+returns-7 c = shows-case (c .words7 .ensures) (c .before .before .answer4 .given .1) refl
+
+returns-8 : tie.Need-returns-8
+unfolding shown
+returns-8 c = shows-case (c .words8 .ensures) (c .before .before .answer5 .given .1) refl
+
+pub show-spec : {M : Type 1} → statement M
+show-spec =
+    tie.close
+    (tie.spec
+    enum-known-answer
+    words-requires
+    enum-told
+    words-requires-2
+    enum-told-2
+    words-requires-3
+    enum-known-answer-2
+    words-requires-4
+    enum-known-answer-3
+    cast-words
+    words-requires-5
+    enum-told-3
+    words-requires-6
+    enum-known-answer-4
+    words-requires-7
+    enum-known-answer-5
+    cast-words-2
+    words-requires-8
+    returns
+    returns-2
+    returns-3
+    returns-4
+    returns-5
+    returns-6
+    returns-7
+    returns-8)

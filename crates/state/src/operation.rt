@@ -1,0 +1,28 @@
+// The operations with their operands, as they stand in a script. specs/Meaning.antt sets out the model's operation for each (`operationOf`).
+use crate::cell::Cell;
+use crate::design::Column;
+use crate::held::HeldValue;
+
+// An earlier position of a query, and the constraint by which a row is joined to it.
+pub struct Join {
+    pub position: u8,
+    pub constraint: u8,
+}
+
+// A query's operands. Of its four pairs the first `joins` are used; an enum holds no array, so they are four fields.
+pub struct Query {
+    pub column: Column,
+    pub value: Cell,
+    pub joins: u8,
+    pub first: Join,
+    pub second: Join,
+    pub third: Join,
+    pub fourth: Join,
+}
+
+pub enum Operation {
+    Refer(HeldValue),
+    Drop(HeldValue),
+    Probe(Column, Cell),
+    Query(Query),
+}
