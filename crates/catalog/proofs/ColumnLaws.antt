@@ -4,7 +4,7 @@ use native.Mathlib.Nat.{suc-mul, mul-le-mul-right, add-zero}
 use native.Mathlib.Numerals.{add-one}
 use native.Mathlib.Omega.{arith}
 use mathlib.Core.Path.{_≡_, refl, sym, ap, subst, _∙_}
-use mathlib.Core.Bool.{cond}
+use mathlib.Core.Bool.{true, cond}
 use mathlib.Core.List.{List}
 use mathlib.Core.Logic.{_⊎_, inl, inr}
 use borrow.Author.Tests.{lt-ltb, le-ltb, eq-eqb, ne-eqb}
@@ -89,9 +89,9 @@ module _ (D : Database) where
 
 -- ---- the loop
 
-module _ (D : Database) (rows : ℕ) where
+module _ (D : Database) where
   pub columns-start : (keys heads starts next : List ℕ) → length keys ≡ 4096 → length heads ≡ 4096 → length starts ≡ 65 → length next ≡ 4096
-      → Columns D rows 0 0 keys heads (set starts 0 0) next
+      → Columns D 0 0 keys heads (set starts 0 0) next
   columns-start keys heads starts next kl hl sl nl =
       record {
         keys-long = kl;
@@ -108,12 +108,12 @@ module _ (D : Database) (rows : ℕ) where
       ends : (j : ℕ) → j ≡ 0 → getD (set starts 0 0) j 0 ≤ 0
       ends j e = omega (arith, ap (λ (z : ℕ). getD (set starts 0 0) z 0) e, getD-set-same starts 0 0 0 (omega arith))
 
-  module _ (n m : ℕ) (keys heads starts next : List ℕ) (x : Columns D rows n m keys heads starts next) (l : n < 64) where
+  module _ (n m : ℕ) (keys heads starts next : List ℕ) (x : Columns D n m keys heads starts next) (l : n < 64) where
     -- as the next column's turn finds it
     pub columns-room : m + count 512 (inTable D (n / 8)) ≤ 4096
     columns-room = omega (arith, x .room, used-room D n l, size-is D (n / 8))
 
-    module _ (m′ : ℕ) (keys′ heads′ next′ : List ℕ) (y : Added D (columnNo n) rows 0 m keys heads next m′ keys′ heads′ next′) where
+    module _ (m′ : ℕ) (keys′ heads′ next′ : List ℕ) (y : Added D (columnNo n) 0 m keys heads next m′ keys′ heads′ next′) where
       abbrev starts′ : List ℕ
       starts′ = set starts (n + 1) m′
 
@@ -145,14 +145,14 @@ module _ (D : Database) (rows : ℕ) where
       lists j (inl e) h = subst (λ (z : ℕ). Lists D (columnNo z) (getD starts′ z 0) (getD starts′ (z + 1) 0) keys′ heads′) (sym e) own
       lists j (inr e) h = old j (omega (arith, e))
 
-      linked : (s c : ℕ) → c < 8 → s < rows → 8 * D .table s + c < n + 1 → (8 * D .table s + c ≡ n) ⊎ (8 * D .table s + c ≡ n → ⊥)
+      linked : (s c : ℕ) → c < 8 → D .live s ≡ true → 8 * D .table s + c < n + 1 → (8 * D .table s + c ≡ n) ⊎ (8 * D .table s + c ≡ n → ⊥)
           → getD next′ (8 * s + c) 0 ≡ nextOf D s c
       linked s c a b h (inl e) =
           let q : c ≡ n % 8 = omega arith in
           subst (λ (z : ℕ). getD next′ (8 * s + z) 0 ≡ nextOf D s z) (sym q) (y .done s (omega arith) b (omega arith))
       linked s c a b h (inr e) = y .others s c a (λ w. e (omega (arith, w .0, w .1))) ∙ x .linked s c a b (omega (arith, e))
 
-      pub columns-turn : Columns D rows (n + 1) m′ keys′ heads′ (set starts (n + 1) m′) next′
+      pub columns-turn : Columns D (n + 1) m′ keys′ heads′ (set starts (n + 1) m′) next′
       columns-turn =
           record {
             keys-long = y .keys-long ∙ x .keys-long;
@@ -167,10 +167,10 @@ module _ (D : Database) (rows : ℕ) where
           }
 
   module _ (m : ℕ) (keys heads starts next : List ℕ) where
-    pub columns-end : (n : ℕ) → n ≤ 64 → 64 ≤ n → Columns D rows n m keys heads starts next → Columns D rows 64 m keys heads starts next
-    columns-end n a b x = let e : n ≡ 64 = omega arith in subst (λ (z : ℕ). Columns D rows z m keys heads starts next) e x
+    pub columns-end : (n : ℕ) → n ≤ 64 → 64 ≤ n → Columns D n m keys heads starts next → Columns D 64 m keys heads starts next
+    columns-end n a b x = let e : n ≡ 64 = omega arith in subst (λ (z : ℕ). Columns D z m keys heads starts next) e x
 
-    pub columns-directory : Columns D rows 64 m keys heads starts next → Directory D keys heads starts
+    pub columns-directory : Columns D 64 m keys heads starts next → Directory D keys heads starts
     columns-directory x = record { keys-long = x .keys-long; heads-long = x .heads-long; starts-long = x .starts-long; column = λ t c a b. column t c a b }
       where
         column : (t c : ℕ) → t < 8 → c < 8 → Lists D (record { table = t; place = c }) (getD starts (8 * t + c) 0) (getD starts (8 * t + c + 1) 0) keys heads

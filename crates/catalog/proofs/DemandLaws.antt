@@ -3,27 +3,27 @@ use Prim.Native.Nat.{ℕ, _+_, _*_, _/_, _%_, _-_, _≤_, _<_}
 use native.Mathlib.Decide.{decLt}
 use native.Mathlib.Omega.{arith}
 use mathlib.Core.Path.{_≡_, sym, ap, _∙_}
-use mathlib.Core.Bool.{Bool, cond, _&&_}
+use mathlib.Core.Bool.{Bool, true, false, cond, _&&_}
 use mathlib.Core.List.{List}
 use borrow.Author.Tests.{lt-ltb, le-ltb, eq-eqb, ne-eqb}
 use lib.Dec.{eqb, ltb}
 use lib.ListN.{length, getD, replicate, length-replicate}
 use lib.Seq.{sets, length-sets}
-use Rattle.finite.specs.Finite.{tab}
+use Rattle.finite.specs.Finite.{tab, firstFrom}
 use Rattle.finite.proofs.Bools.{and-left, and-right, cond-true, cond-false}
 use Rattle.finite.proofs.Tables.{length-tab, tab-at, tab-of, replicate-tab, Upto}
 use Rattle.finite.proofs.Stores.{sets-below, sets-above, sets-at}
-use Rattle.model.specs.Cell.{Cell, cellOf}
+use Rattle.model.specs.Cell.{Cell}
 use Rattle.model.specs.Scheme.{Scheme}
 use Rattle.model.specs.Database.{Database, has}
 use Rattle.model.specs.Rounds.{leads}
 use Rattle.model.specs.Scheme as Model
-use Rattle.state.specs.Meaning.{databaseOf}
-use Rattle.state.proofs.RowLaws.{cell-at, live-at}
-use Rattle.catalog.specs.First.{firstFrom}
+use Rattle.state.specs.declared.cell.Cell as State
+use Rattle.state.specs.Meaning.{cellOf, cellAt, databaseOf}
+use Rattle.state.proofs.RowLaws.{cell-at}
 use Rattle.catalog.specs.Catalog.{demandedFirst}
-use Rattle.catalog.proofs.FirstLaws.{first-none, first-same}
-use Rattle.catalog.proofs.Rows.{table-is, dead-at}
+use Rattle.finite.proofs.First.{first-none, first-same}
+use Rattle.catalog.proofs.Rows.{table-is}
 
 -- ---- one row
 
@@ -31,28 +31,28 @@ module _ (rows : ℕ) (cells tables : List ℕ) (j : Model.Constraint) (s : ℕ)
   abbrev D : Database
   D = databaseOf rows cells tables
 
-  pub demanded-absent : rows ≤ s → 512 ≡ firstFrom (leads D j s) 0
+  pub demanded-absent : D .live s ≡ false → 512 ≡ firstFrom 512 (leads D j s) 0
   unfolding leads
-  demanded-absent h = sym (first-none (leads D j s) 0 (λ r _ _. and-left (D .live s) _ (dead-at rows cells tables s h)))
+  demanded-absent h = sym (first-none 512 (leads D j s) 0 (λ r _ _. and-left (D .live s) _ h))
 
-  pub demanded-elsewhere : (getD tables s 0 ≡ j .source .table → ⊥) → 512 ≡ firstFrom (leads D j s) 0
+  pub demanded-elsewhere : (getD tables s 0 ≡ j .source .table → ⊥) → 512 ≡ firstFrom 512 (leads D j s) 0
   unfolding leads
   demanded-elsewhere h =
-      sym (first-none (leads D j s) 0
+      sym (first-none 512 (leads D j s) 0
       (λ r _ _. and-right (D .live s) _ (and-left (eqb (D .table s) (j .source .table)) _ (ne-eqb _ _ (λ e. h (sym (table-is rows cells tables s) ∙ e))))))
 
-  pub demanded-value : s < 512 → s < rows → j .source .place < 8 → getD tables s 0 ≡ j .source .table → (n : ℕ)
-      → n ≡ firstFrom (has D (j .target) (cellOf (getD cells (8 * s + j .source .place) 0))) 0 → n ≡ firstFrom (leads D j s) 0
+  pub demanded-value : D .live s ≡ true → j .source .place < 8 → getD tables s 0 ≡ j .source .table → (v : State.Cell)
+      → v ≡ cellAt cells s (j .source .place) → (n : ℕ) → n ≡ firstFrom 512 (has D (j .target) (cellOf v)) 0 → n ≡ firstFrom 512 (leads D j s) 0
   unfolding leads
-  demanded-value l h p e n q = q ∙ first-same _ (leads D j s) 0 (λ r _ _. sym (same r))
+  demanded-value h p e v w n q = q ∙ first-same 512 _ (leads D j s) 0 (λ r _ _. sym (same r))
     where
       same : (r : ℕ) → D .live s && (eqb (D .table s) (j .source .table) && has D (j .target) (D .cell s (j .source .place)) r)
-          ≡ has D (j .target) (cellOf (getD cells (8 * s + j .source .place) 0)) r
+          ≡ has D (j .target) (cellOf v) r
       same r =
           ap (λ (b : Bool). b && (eqb (D .table s) (j .source .table) && has D (j .target) (D .cell s (j .source .place)) r))
-          (live-at rows cells tables s l ∙ lt-ltb s rows h)
+          h
           ∙ ap (λ (b : Bool). b && has D (j .target) (D .cell s (j .source .place)) r) (eq-eqb _ _ (table-is rows cells tables s ∙ e))
-          ∙ ap (λ (a : Cell). has D (j .target) a r) (cell-at rows cells tables s (j .source .place) p)
+          ∙ ap (λ (a : Cell). has D (j .target) a r) (cell-at rows cells tables s (j .source .place) p ∙ ap cellOf (sym w))
 
 -- ---- constraint by constraint
 
@@ -70,9 +70,9 @@ module _ (S : Scheme) (D : Database) where
 
   module _ (i : ℕ) (xs ys : List ℕ) (u : Upto 0 8192 (512 * i) new (λ _. 512) xs) (l : i < 16) (h : i < S .constraints) where
     abbrev row : ℕ → ℕ
-    row s = firstFrom (leads D (S .constraint i) s) 0
+    row s = firstFrom 512 (leads D (S .constraint i) s) 0
 
-    pub firsts-turn : ys ≡ sets xs (512 * i) (tab 512 (λ s. firstFrom (leads D (S .constraint i) s) 0)) → Upto 0 8192 (512 * (i + 1)) new (λ _. 512) ys
+    pub firsts-turn : ys ≡ sets xs (512 * i) (tab 512 (λ s. firstFrom 512 (leads D (S .constraint i) s) 0)) → Upto 0 8192 (512 * (i + 1)) new (λ _. 512) ys
     unfolding demandedFirst
     firsts-turn e = record { long = ap length e ∙ length-sets xs (512 * i) (tab 512 row) ∙ u .long; at = λ r b. there r b (decLt r (512 * i)) (decLt r (512 * (i + 1))) }
       where
@@ -108,4 +108,4 @@ module _ (S : Scheme) (D : Database) where
       there r h (yes c) = u .at r h ∙ cond-true (ltb r (512 * i)) (new r) 512 (lt-ltb r (512 * i) c)
       there r h (no c) =
           u .at r h ∙ cond-false (ltb r (512 * i)) (new r) 512 (le-ltb r (512 * i) (omega arith))
-          ∙ sym (cond-false (ltb (r / 512) (S .constraints)) (firstFrom (leads D (S .constraint (r / 512)) (r % 512)) 0) 512 (le-ltb (r / 512) (S .constraints) (omega arith)))
+          ∙ sym (cond-false (ltb (r / 512) (S .constraints)) (firstFrom 512 (leads D (S .constraint (r / 512)) (r % 512)) 0) 512 (le-ltb (r / 512) (S .constraints) (omega arith)))

@@ -8,10 +8,10 @@ use borrow.Author.Tests.{ltb-true, eqb-true, lt-ltb, eq-eqb}
 use lib.Dec.{eqb, ltb}
 use lib.ListN.{getD}
 use Rattle.finite.proofs.Bools.{both, clash}
-use Rattle.model.specs.Cell.{cellOf}
+use Rattle.model.specs.Cell.{Cell, numbered}
 use Rattle.model.specs.Database.{Database, has}
 use Rattle.model.specs.Scheme as Model
-use Rattle.catalog.specs.First.{firstFrom}
+use Rattle.finite.specs.Finite.{firstFrom}
 use Rattle.catalog.specs.Catalog.{Falls, Lists, Directory}
 use Rattle.catalog.specs.Listing.{Searched}
 use Rattle.catalog.proofs.Searching.{searched-only}
@@ -38,26 +38,30 @@ module _ (D : Database) (keys heads starts : List ℕ) (d : Directory D keys hea
   abbrev k : Model.Column
   k = record { table = t; place = c }
 
-  pub find-none : (v : ℕ) → 4096 < to → 512 ≡ firstFrom (has D k (cellOf v)) 0
+  pub find-none : (v : Cell) → 4096 < to → 512 ≡ firstFrom 512 (has D k v) 0
   find-none v h = absurd (omega (arith, d .column t c p q .bound))
 
-  module _ (from v a : ℕ) (y : from ≡ getD starts (8 * t + c) 0) (s : from ≤ to → Falls from to keys → Searched from to v a a keys) (b : Bool)
-      (e : b ≡ ltb a to && eqb (getD keys a 0) v) where
+  -- place a is the seat of x, the value's key
+  module _ (v : Cell) (x : ℕ) (key : x ≡ v .number) (from a : ℕ) (y : from ≡ getD starts (8 * t + c) 0)
+      (s : from ≤ to → Falls from to keys → Searched from to x a a keys) (b : Bool) (e : b ≡ ltb a to && eqb (getD keys a 0) x) where
     lists : Lists D k from to keys heads
     lists =
         subst (λ (n : ℕ). Lists D k n to keys heads) (sym y)
         (subst (λ (n : ℕ). Lists D k (getD starts (8 * t + c) 0) n keys heads) (sym z) (d .column t c p q))
 
-    seat-is : Searched from to v a a keys
+    seat-is : Searched from to x a a keys
     seat-is = s (lists .order) (lists .falls)
 
-    pub find-hit : (r : ℕ) → r ≡ getD heads a 0 → b ≡ true → r ≡ firstFrom (has D k (cellOf v)) 0
-    find-hit r w h =
-        let u = stands-here b keys to a v e h in
-        w ∙ listed-hit D k 0 from to keys heads lists v a (seat-is .start) (u .0) (u .1)
+    value-is : firstFrom 512 (has D k (numbered x)) 0 ≡ firstFrom 512 (has D k v) 0
+    value-is = ap (λ (z : ℕ). firstFrom 512 (has D k (numbered z)) 0) key
 
-    pub find-miss : b ≡ false → 512 ≡ firstFrom (has D k (cellOf v)) 0
+    pub find-hit : (r : ℕ) → r ≡ getD heads a 0 → b ≡ true → r ≡ firstFrom 512 (has D k v) 0
+    find-hit r w h =
+        let u = stands-here b keys to a x e h in
+        w ∙ listed-hit D k 0 from to keys heads lists x a (seat-is .start) (u .0) (u .1) ∙ value-is
+
+    pub find-miss : b ≡ false → 512 ≡ firstFrom 512 (has D k v) 0
     find-miss h =
-        sym (listed-miss D k 0 from to keys heads lists v
-        (λ i m n w. let o = searched-only from to v keys a (lists .falls) seat-is i m n w in
-        stands-not b keys to a v e h (omega arith) (ap (λ (x : ℕ). getD keys x 0) (sym o) ∙ w)))
+        sym (listed-miss D k 0 from to keys heads lists x
+        (λ i m n w. let o = searched-only from to x keys a (lists .falls) seat-is i m n w in
+        stands-not b keys to a x e h (omega arith) (ap (λ (z : ℕ). getD keys z 0) (sym o) ∙ w))) ∙ value-is

@@ -9,16 +9,16 @@ use mathlib.Core.Logic.{_⊎_, inl, inr, ⊎-elim}
 use lib.ListN.{length, getD, set}
 use lib.Seq.{getD-set-same, getD-set-other}
 use Rattle.finite.proofs.Bools.{clash, refute, same-number, order}
-use Rattle.model.specs.Cell.{Cell, cellOf, isBlank}
+use Rattle.model.specs.Cell.{Cell, numbered, isBlank}
 use Rattle.model.specs.Database.{Database, has}
-use Rattle.model.proofs.CellLaws.{equal-same}
 use Rattle.model.proofs.DatabaseLaws.{has-Has, has-full}
 use Rattle.model.specs.Scheme as Model
-use Rattle.catalog.specs.First.{firstFrom}
+use Rattle.finite.specs.Finite.{firstFrom}
 use Rattle.catalog.specs.Catalog.{Falls, Listed}
 use Rattle.catalog.specs.Listing.{Known, New, Entered}
-use Rattle.catalog.proofs.FirstLaws.{first-here, first-skip, first-none}
+use Rattle.finite.proofs.First.{first-here, first-skip, first-none}
 use Rattle.catalog.proofs.Searching.{searched-only}
+use Rattle.catalog.proofs.CatalogLaws.{has-cell}
 
 -- falling keys differ
 one-place : (from to : ℕ) (keys : List ℕ) → Falls from to keys → (i j : ℕ) → from ≤ i → i < to → from ≤ j → j < to → getD keys i 0 ≡ getD keys j 0 → i ≡ j
@@ -30,39 +30,36 @@ one-place from to keys f i j a b c d e = go (order i j)
     go (inr (inr h)) = absurd (omega (arith, f j i c h b))
 
 module _ (D : Database) (k : Model.Column) where
-  -- a row's cell is the value that it has
-  pub has-cell : (v : Cell) (s : ℕ) → has D k v s ≡ true → D .cell s (k .place) ≡ v
-  has-cell v s e = equal-same _ v (has-Has D k v s e .value)
-
+  -- a row has its own cell
   pub has-own : (v : Cell) (s : ℕ) → has D k v s ≡ true → has D k (D .cell s (k .place)) s ≡ true
-  has-own v s e = subst (λ (w : Cell). has D k w s ≡ true) (sym (has-cell v s e)) e
+  has-own v s e = subst (λ (w : Cell). has D k w s ≡ true) (sym (has-cell D k v s e)) e
 
-  -- ... and not 0
-  pub has-above : (x s : ℕ) → has D k (cellOf x) s ≡ true → 0 < x
+  -- ... which is not 0
+  pub has-above : (x s : ℕ) → has D k (numbered x) s ≡ true → 0 < x
   unfolding isBlank
-  has-above x s e = ⊎-elim (λ (q : x ≡ 0). clash (blank q) (has-full (has-Has D k (cellOf x) s e))) (λ (q : x ≡ 0 → ⊥). omega (arith, q)) (same-number x 0)
+  has-above x s e = ⊎-elim (λ (q : x ≡ 0). clash (blank q) (has-full (has-Has D k (numbered x) s e))) (λ (q : x ≡ 0 → ⊥). omega (arith, q)) (same-number x 0)
     where
-      blank : x ≡ 0 → isBlank (cellOf x) ≡ true
-      blank q = ap (λ (y : ℕ). isBlank (cellOf y)) q
+      blank : x ≡ 0 → isBlank (numbered x) ≡ true
+      blank q = ap (λ (y : ℕ). isBlank (numbered y)) q
 
   -- a row has one value
-  pub has-other : (x y s : ℕ) → has D k (cellOf x) s ≡ true → (y ≡ x → ⊥) → has D k (cellOf y) s ≡ false
+  pub has-other : (x y s : ℕ) → has D k (numbered x) s ≡ true → (y ≡ x → ⊥) → has D k (numbered y) s ≡ false
   has-other x y s e ne =
-      refute (has D k (cellOf y) s) (λ h. ne (ap (λ (a : Cell). a .number) (sym (has-cell (cellOf y) s h) ∙ has-cell (cellOf x) s e)))
+      refute (has D k (numbered y) s) (λ h. ne (ap (λ (a : Cell). a .number) (sym (has-cell D k (numbered y) s h) ∙ has-cell D k (numbered x) s e)))
 
   module _ (r from to : ℕ) (keys heads : List ℕ) (t : Listed D k r from to keys heads) where
     -- what is not there no row has
-    pub listed-miss : (x : ℕ) → ((i : ℕ) → from ≤ i → i < to → getD keys i 0 ≡ x → ⊥) → firstFrom (has D k (cellOf x)) r ≡ 512
-    listed-miss x absent = first-none _ r (λ s a b. refute (has D k (cellOf x) s) (λ e. out s a e))
+    pub listed-miss : (x : ℕ) → ((i : ℕ) → from ≤ i → i < to → getD keys i 0 ≡ x → ⊥) → firstFrom 512 (has D k (numbered x)) r ≡ 512
+    listed-miss x absent = first-none 512 _ r (λ s a b. refute (has D k (numbered x) s) (λ e. out s a e))
       where
-        out : (s : ℕ) → r ≤ s → has D k (cellOf x) s ≡ true → ⊥
+        out : (s : ℕ) → r ≤ s → has D k (numbered x) s ≡ true → ⊥
         out s a e =
-            let w = t .there s a (has-own (cellOf x) s e) in
-            absent (w .0) (w .1) (w .2) (w .3 ∙ ap (λ (a : Cell). a .number) (has-cell (cellOf x) s e))
+            let w = t .there s a (has-own (numbered x) s e) in
+            absent (w .0) (w .1) (w .2) (w .3 ∙ ap (λ (a : Cell). a .number) (has-cell D k (numbered x) s e))
 
     -- what is there has its first row
-    pub listed-hit : (x i : ℕ) → from ≤ i → i < to → getD keys i 0 ≡ x → getD heads i 0 ≡ firstFrom (has D k (cellOf x)) r
-    listed-hit x i a b e = t .head i a b ∙ ap (λ (y : ℕ). firstFrom (has D k (cellOf y)) r) e
+    pub listed-hit : (x i : ℕ) → from ≤ i → i < to → getD keys i 0 ≡ x → getD heads i 0 ≡ firstFrom 512 (has D k (numbered x)) r
+    listed-hit x i a b e = t .head i a b ∙ ap (λ (y : ℕ). firstFrom 512 (has D k (numbered y)) r) e
 
     -- a list with the same keys and heads
     pub listed-same : (keys′ heads′ : List ℕ) → ((i : ℕ) → i < to → getD keys′ i 0 ≡ getD keys i 0) → ((i : ℕ) → i < to → getD heads′ i 0 ≡ getD heads i 0)
@@ -73,7 +70,7 @@ module _ (D : Database) (k : Model.Column) where
           bound = t .bound;
           falls = λ i j a b c. omega (arith, p i (omega arith), p j c, t .falls i j a b c);
           value = λ i a b. omega (arith, p i b, t .value i a b);
-          head = λ i a b. q i b ∙ t .head i a b ∙ ap (λ (y : ℕ). firstFrom (has D k (cellOf y)) r) (sym (p i b));
+          head = λ i a b. q i b ∙ t .head i a b ∙ ap (λ (y : ℕ). firstFrom 512 (has D k (numbered y)) r) (sym (p i b));
           there = λ s a e. let w = t .there s a e in (w .0, w .1, w .2, p (w .0) (w .2) ∙ w .3);
         }
 
@@ -100,7 +97,7 @@ module _ (D : Database) (k : Model.Column) where
           bound = t .bound;
           falls = t .falls;
           value = t .value;
-          head = λ i a b. t .head i a b ∙ sym (first-skip _ r (none _));
+          head = λ i a b. t .head i a b ∙ sym (first-skip 512 _ r (none _));
           there = λ s a e. there s a e (same-number s r);
         }
       where
@@ -110,24 +107,24 @@ module _ (D : Database) (k : Model.Column) where
         there s a e (inr q) = t .there s (omega (arith, q)) e
 
     -- a row that has x, with x there or not
-    module _ (x : ℕ) (l : r < 512) (e : has D k (cellOf x) r ≡ true) where
+    module _ (x : ℕ) (l : r < 512) (e : has D k (numbered x) r ≡ true) where
       abbrev firstIs : ℕ → ℕ → Type 0
-      firstIs h y = h ≡ firstFrom (has D k (cellOf y)) r
+      firstIs h y = h ≡ firstFrom 512 (has D k (numbered y)) r
 
       here : (h y : ℕ) → h ≡ r → y ≡ x → firstIs h y
       here h y p q =
-          p ∙ sym (first-here (has D k (cellOf x)) r l e) ∙ ap (λ (z : ℕ). firstFrom (has D k (cellOf z)) r) (sym q)
+          p ∙ sym (first-here 512 (has D k (numbered x)) r l e) ∙ ap (λ (z : ℕ). firstFrom 512 (has D k (numbered z)) r) (sym q)
 
       other : (i h y : ℕ) → from ≤ i → i < m → h ≡ getD heads i 0 → y ≡ getD keys i 0 → (y ≡ x → ⊥) → firstIs h y
       other i h y a b p q ne =
-          p ∙ t .head i a b ∙ ap (λ (z : ℕ). firstFrom (has D k (cellOf z)) (r + 1)) (sym q) ∙ sym (first-skip (has D k (cellOf y)) r (has-other x y r e ne))
+          p ∙ t .head i a b ∙ ap (λ (z : ℕ). firstFrom 512 (has D k (numbered z)) (r + 1)) (sym q) ∙ sym (first-skip 512 (has D k (numbered y)) r (has-other x y r e ne))
 
       number : (s : ℕ) → s ≡ r → D .cell s (k .place) .number ≡ x
-      number s q = ap (λ (z : ℕ). D .cell z (k .place) .number) q ∙ ap (λ (a : Cell). a .number) (has-cell (cellOf x) r e)
+      number s q = ap (λ (z : ℕ). D .cell z (k .place) .number) q ∙ ap (λ (a : Cell). a .number) (has-cell D k (numbered x) r e)
 
       -- the value's first row before
       module _ (keys′ heads′ : List ℕ) (to next : ℕ) where
-        known-next : Known x r from m keys heads keys′ heads′ to next → next ≡ firstFrom (has D k (cellOf x)) (r + 1)
+        known-next : Known x r from m keys heads keys′ heads′ to next → next ≡ firstFrom 512 (has D k (numbered x)) (r + 1)
         known-next w = w .next-is ∙ listed-hit (r + 1) from m keys heads t x (w .at) (w .start) (w .end) (w .here)
 
         new-none : New x r from m keys heads keys′ heads′ to next → (i : ℕ) → from ≤ i → i < m → getD keys i 0 ≡ x → ⊥
@@ -135,10 +132,10 @@ module _ (D : Database) (k : Model.Column) where
             let p = searched-only from m x keys (w .at) (t .falls) (w .seat) i a b q in
             w .other (omega (arith, p)) (ap (λ (z : ℕ). getD keys z 0) (sym p) ∙ q)
 
-        new-next : New x r from m keys heads keys′ heads′ to next → next ≡ firstFrom (has D k (cellOf x)) (r + 1)
+        new-next : New x r from m keys heads keys′ heads′ to next → next ≡ firstFrom 512 (has D k (numbered x)) (r + 1)
         new-next w = w .next-is ∙ sym (listed-miss (r + 1) from m keys heads t x (new-none w))
 
-        pub entered-next : Entered x r from m keys heads keys′ heads′ to next → next ≡ firstFrom (has D k (cellOf x)) (r + 1)
+        pub entered-next : Entered x r from m keys heads keys′ heads′ to next → next ≡ firstFrom 512 (has D k (numbered x)) (r + 1)
         entered-next w = ⊎-elim known-next new-next w
 
         -- row r is in

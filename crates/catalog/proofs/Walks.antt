@@ -5,21 +5,20 @@ use native.Mathlib.Omega.{arith}
 use mathlib.Core.Path.{_≡_, refl, sym, subst, _∙_}
 use mathlib.Core.Bool.{Bool, true, false, _&&_}
 use mathlib.Core.List.{List, [], _++_}
-use Rattle.finite.specs.Finite.{any, count, collect}
+use Rattle.finite.specs.Finite.{any, count, collect, firstFrom}
 use Rattle.finite.proofs.Bools.{and-left, and-right}
 use Rattle.finite.proofs.Search.{any-start, any-more}
 use Rattle.finite.proofs.Counting.{count-start, count-hit, count-miss}
 use Rattle.finite.proofs.Tables.{Upto}
 use Rattle.finite.proofs.Collecting.{collect-start, collect-hit, collect-miss}
 use Rattle.finite.proofs.Skipping.{onward, any-skip, count-skip, collect-skip, upto-skip}
-use Rattle.catalog.specs.First.{firstFrom}
-use Rattle.catalog.proofs.FirstLaws.{First, first-from}
+use Rattle.finite.proofs.First.{First, first-from}
 
 -- ---- from i to j, the first from i on that passes p
 
-module _ (p : ℕ → Bool) (i j : ℕ) (l : i ≤ 512) (e : j ≡ firstFrom p i) where
-  pub first-at : First p i j
-  first-at = subst (First p i) (sym e) (first-from p i l)
+module _ (p : ℕ → Bool) (i j : ℕ) (l : i ≤ 512) (e : j ≡ firstFrom 512 p i) where
+  pub first-at : First 512 p i j
+  first-at = subst (First 512 p i) (sym e) (first-from 512 p i l)
 
   -- any fact that a number that fails takes one further
   pub walk : (P : ℕ → Type 0) → ((r : ℕ) → i ≤ r → r < 512 → p r ≡ false → P r → P (r + 1)) → P i → P j
@@ -46,7 +45,7 @@ module _ (p q : ℕ → Bool) (r : ℕ) (e : p r ≡ false) where
   only-right = and-right (q r) (p r) e
 
 module _ (p f : ℕ → Bool) (only : (r : ℕ) → p r ≡ false → f r ≡ false) where
-  module _ (i j : ℕ) (l : i ≤ 512) (e : j ≡ firstFrom p i) where
+  module _ (i j : ℕ) (l : i ≤ 512) (e : j ≡ firstFrom 512 p i) where
     none : (r : ℕ) → i ≤ r → r < j → f r ≡ false
     none r a b = only r (first-at p i j l e .none r a b)
 
@@ -59,7 +58,7 @@ module _ (p f : ℕ → Bool) (only : (r : ℕ) → p r ≡ false → f r ≡ fa
     pub walk-collect : {A : Type 0} (g : ℕ → List A) (xs : List A) → xs ≡ collect i f g → xs ≡ collect j f g
     walk-collect = collect-skip f i j (first-at p i j l e .start) none
 
-  module _ (j : ℕ) (e : j ≡ firstFrom p 0) where
+  module _ (j : ℕ) (e : j ≡ firstFrom 512 p 0) where
     pub any-first : any j f ≡ false
     any-first = walk-any 0 j (omega arith) e (any-start f)
 
@@ -69,7 +68,7 @@ module _ (p f : ℕ → Bool) (only : (r : ℕ) → p r ≡ false → f r ≡ fa
     pub collect-first : {A : Type 0} (g : ℕ → List A) → [] ≡ collect j f g
     collect-first g = walk-collect 0 j (omega arith) e g [] (collect-start f g)
 
-  module _ (r j : ℕ) (l : r < 512) (e : j ≡ firstFrom p (r + 1)) where
+  module _ (r j : ℕ) (l : r < 512) (e : j ≡ firstFrom 512 p (r + 1)) where
     pub any-next : any r f ≡ false → f r ≡ false → any j f ≡ false
     any-next h m = walk-any (r + 1) j (omega arith) e (any-more r f h m)
 

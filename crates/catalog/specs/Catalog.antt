@@ -7,15 +7,14 @@ use mathlib.Core.Bool.{true, cond}
 use mathlib.Core.List.{List}
 use lib.Dec.{ltb}
 use lib.ListN.{length, getD}
-use Rattle.finite.specs.Finite.{tab}
-use Rattle.model.specs.Cell.{cellOf}
+use Rattle.finite.specs.Finite.{tab, firstFrom}
+use Rattle.model.specs.Cell.{numbered}
 use Rattle.model.specs.Scheme as Model
 use Rattle.model.specs.Scheme.{Scheme}
 use Rattle.model.specs.Database.{Database, has}
 use Rattle.model.specs.Rounds.{leads}
 use Rattle.state.specs.declared.design.Design.{Design}
 use Rattle.state.specs.Meaning.{databaseOf, schemeOf}
-use Rattle.catalog.specs.First.{firstFrom}
 
 -- row r's column c
 abbrev pub columnAt : Database → ℕ → ℕ → Model.Column
@@ -23,11 +22,11 @@ columnAt D r c = record { table = D .table r; place = c }
 
 -- the next row after r that has r's cell c in the same column; 512 if there is none, or r is no row or blank there
 unfoldable pub nextOf : Database → ℕ → ℕ → ℕ
-nextOf D r c = cond (has D (columnAt D r c) (D .cell r c) r) (firstFrom (has D (columnAt D r c) (D .cell r c)) (r + 1)) 512
+nextOf D r c = cond (has D (columnAt D r c) (D .cell r c) r) (firstFrom 512 (has D (columnAt D r c) (D .cell r c)) (r + 1)) 512
 
 -- the first row that constraint i demands of row s; 512 if there is none
 unfoldable pub demandedFirst : Scheme → Database → ℕ → ℕ → ℕ
-demandedFirst S D i s = cond (ltb i (S .constraints)) (firstFrom (leads D (S .constraint i) s) 0) 512
+demandedFirst S D i s = cond (ltb i (S .constraints)) (firstFrom 512 (leads D (S .constraint i) s) 0) 512
 
 abbrev pub nexts : Database → List ℕ
 nexts D = tab 4096 (λ x. nextOf D (x / 8) (x % 8))
@@ -46,7 +45,7 @@ pub record Listed (D : Database) (k : Model.Column) (r from to : ℕ) (keys head
   pub bound : to ≤ 4096
   pub falls : Falls from to keys
   pub value : (i : ℕ) → from ≤ i → i < to → 0 < getD keys i 0
-  pub head : (i : ℕ) → from ≤ i → i < to → getD heads i 0 ≡ firstFrom (has D k (cellOf (getD keys i 0))) r
+  pub head : (i : ℕ) → from ≤ i → i < to → getD heads i 0 ≡ firstFrom 512 (has D k (numbered (getD keys i 0))) r
   pub there : (s : ℕ) → r ≤ s → has D k (D .cell s (k .place)) s ≡ true
       → (i : ℕ) × (from ≤ i) × (i < to) × (getD keys i 0 ≡ D .cell s (k .place) .number)
 

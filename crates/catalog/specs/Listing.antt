@@ -1,7 +1,7 @@
 -- A column's values while its rows are put in, from the last row to the first. Assumes nothing.
 use Prim.Native.Nat.{ℕ, _+_, _*_, _≤_, _<_}
 use mathlib.Core.Path.{_≡_}
-use mathlib.Core.Bool.{Bool}
+use mathlib.Core.Bool.{Bool, true}
 use mathlib.Core.List.{List}
 use mathlib.Core.Logic.{_⊎_}
 use lib.Dec.{eqb}
@@ -76,8 +76,8 @@ pub record Put (D : Database) (k : Model.Column) (r from m : ℕ) (keys heads ne
   pub own : D .table r ≡ k .table → getD next′ (8 * r + k .place) 0 ≡ nextOf D r (k .place)
   pub others : (s c : ℕ) → c < 8 → ((D .table r ≡ k .table) × (c ≡ k .place) × (s ≡ r) → ⊥) → getD next′ (8 * s + c) 0 ≡ getD next (8 * s + c) 0
 
--- the rows from r on, of `rows` rows, are in
-pub record Added (D : Database) (k : Model.Column) (rows r from : ℕ) (keys heads next : List ℕ) (to : ℕ) (keys′ heads′ next′ : List ℕ) : Type 0 where
+-- the rows from r on are in
+pub record Added (D : Database) (k : Model.Column) (r from : ℕ) (keys heads next : List ℕ) (to : ℕ) (keys′ heads′ next′ : List ℕ) : Type 0 where
   pub listed : Listed D k r from to keys′ heads′
   pub room : to + count r (inTable D (k .table)) ≤ from + count 512 (inTable D (k .table))
   pub keys-long : length keys′ ≡ length keys
@@ -85,5 +85,5 @@ pub record Added (D : Database) (k : Model.Column) (rows r from : ℕ) (keys hea
   pub next-long : length next′ ≡ length next
   pub keys-kept : (i : ℕ) → i < from → getD keys′ i 0 ≡ getD keys i 0
   pub heads-kept : (i : ℕ) → i < from → getD heads′ i 0 ≡ getD heads i 0
-  pub done : (s : ℕ) → r ≤ s → s < rows → D .table s ≡ k .table → getD next′ (8 * s + k .place) 0 ≡ nextOf D s (k .place)
+  pub done : (s : ℕ) → r ≤ s → D .live s ≡ true → D .table s ≡ k .table → getD next′ (8 * s + k .place) 0 ≡ nextOf D s (k .place)
   pub others : (s c : ℕ) → c < 8 → ((D .table s ≡ k .table) × (c ≡ k .place) → ⊥) → getD next′ (8 * s + c) 0 ≡ getD next (8 * s + c) 0

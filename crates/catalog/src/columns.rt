@@ -20,7 +20,7 @@ pub(crate) fn add_columns(
 )
     requires { ⌜ Backed (now cells) (now tables) ⌝ }
     requires { ⌜ (rows ≤ 512) × (length (now keys) ≡ 4096) × (length (now heads) ≡ 4096) × (length (now starts) ≡ 65) × (length (now next) ≡ 4096) ⌝ }
-    ensures { λ _. ⌜ ((m : ℕ) × Columns (databaseOf rows (now (cells .entry)) (now (tables .entry))) rows 64 m (now (keys .exit)) (now (heads .exit))
+    ensures { λ _. ⌜ ((m : ℕ) × Columns (databaseOf rows (now (cells .entry)) (now (tables .entry))) 64 m (now (keys .exit)) (now (heads .exit))
         (now (starts .exit)) (now (next .exit))) ⌝ }
 {
     starts[0] = 0;

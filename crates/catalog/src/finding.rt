@@ -4,14 +4,21 @@ ghost use mathlib.Core.Bool.{_&&_};
 ghost use Prim.Native.Nat.{_≤_, _<_};
 ghost use lib.Dec.{eqb, ltb};
 ghost use lib.ListN.{getD};
-ghost use Rattle.model.specs.Cell.{cellOf};
 ghost use Rattle.model.specs.Database.{Database, has};
-ghost use Rattle.state.specs.Meaning.{columnOf};
-ghost use Rattle.catalog.specs.First.{firstFrom};
+ghost use Rattle.state.specs.Meaning.{cellOf, columnOf};
+ghost use Rattle.finite.specs.Finite.{firstFrom};
 ghost use Rattle.catalog.specs.Catalog.{Falls, Directory};
 ghost use Rattle.catalog.specs.Listing.{Searched};
+use state::Cell;
 use state::Column;
 use state::Design;
+
+// The key of a value. Here alone values are ordered: by their numbers.
+pub(crate) fn key_of(v: Cell) -> u32
+    ensures { λ x. ⌜ x ≡ v .number ⌝ }
+{
+    v.number
+}
 
 // Where x stands or belongs among the falling keys from place `from` to place `to`. A step for each halving: at most 13.
 pub(crate) fn seat(keys: &[u32; 4096], from: usize, to: usize, x: u32) -> usize
@@ -51,18 +58,25 @@ fn wide(x: u16) -> usize
 
 // The first row that has the value v in column k, in any database whose directory this is; 512 if none has, as for a blank. A step for each halving
 // of the column's values: at most 10.
-pub fn find(keys: &[u32; 4096], heads: &[u16; 4096], starts: &[u16; 65], k: Column, v: u32) -> usize
+pub fn find(
+    keys: &[u32; 4096],
+    heads: &[u16; 4096],
+    starts: &[u16; 65],
+    k: Column,
+    v: Cell,
+) -> usize
     requires { ⌜ (k .table < 8) × (k .place < 8) ⌝ }
     ensures { λ r. ⌜ ((D : Database) → Directory D (now (keys .entry)) (now (heads .entry)) (now (starts .entry))
-        → r ≡ firstFrom (has D (columnOf k) (cellOf v)) 0) ⌝ }
+        → r ≡ firstFrom 512 (has D (columnOf k) (cellOf v)) 0) ⌝ }
 {
     let i = 8 * k.table as usize + k.place as usize;
     let to = wide(starts[i + 1]);
     if Design::CELLS < to {
         return Design::ROWS;
     }
-    let a = seat(keys, wide(starts[i]), to, v);
-    if stands(keys, to, a, v) {
+    let x = key_of(v);
+    let a = seat(keys, wide(starts[i]), to, x);
+    if stands(keys, to, a, x) {
         return wide(heads[a]);
     }
     Design::ROWS

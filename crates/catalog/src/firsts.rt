@@ -2,15 +2,16 @@
 ghost use mathlib.Core.Path.{_≡_};
 ghost use Prim.Native.Nat.{_*_, _<_};
 ghost use lib.Seq.{sets};
-ghost use Rattle.finite.specs.Finite.{tab};
+ghost use Rattle.finite.specs.Finite.{tab, firstFrom};
 ghost use Rattle.model.specs.Rounds.{leads};
 ghost use Rattle.state.specs.Design.{InRange, Backed};
 ghost use Rattle.state.specs.Meaning.{constraintOf, databaseOf, schemeOf};
-ghost use Rattle.catalog.specs.First.{firstFrom};
 ghost use Rattle.catalog.specs.Catalog.{Directory, firsts};
 use crate::finding::find;
 use state::Constraint;
 use state::Design;
+use state::cell_at;
+use state::is_live;
 
 // The first row that constraint j demands of row s; 512 if there is none. The cost is that of `find`.
 fn demanded(
@@ -26,16 +27,16 @@ fn demanded(
     requires { ⌜ Backed (now cells) (now tables) ⌝ }
     requires { ⌜ (s < 512) × (j .source .place < 8) × (j .target .table < 8) × (j .target .place < 8) ⌝ }
     requires { ⌜ Directory (databaseOf rows (now cells) (now tables)) (now keys) (now heads) (now starts) ⌝ }
-    ensures { λ n. ⌜ n ≡ firstFrom (leads (databaseOf rows (now (cells .entry)) (now (tables .entry))) (constraintOf j) s) 0 ⌝ }
+    ensures { λ n. ⌜ n ≡ firstFrom 512 (leads (databaseOf rows (now (cells .entry)) (now (tables .entry))) (constraintOf j) s) 0 ⌝ }
 {
-    if rows <= s {
+    if !is_live(rows, s) {
         return 512;
     }
     let k = j.source;
     if tables[s] != k.table {
         return 512;
     }
-    let v = cells[8 * s + k.place as usize];
+    let v = cell_at(cells, s, k.place as usize);
     let t = j.target;
     find(keys, heads, starts, t, v) as u16
 }
@@ -56,7 +57,7 @@ fn add_firsts(
     requires { ⌜ (i < 16) × (j .source .place < 8) × (j .target .table < 8) × (j .target .place < 8) ⌝ }
     requires { ⌜ Directory (databaseOf rows (now cells) (now tables)) (now keys) (now heads) (now starts) ⌝ }
     ensures { λ _. ⌜ now (first .exit) ≡ sets (now (first .entry)) (512 * i)
-        (tab 512 (λ s. firstFrom (leads (databaseOf rows (now (cells .entry)) (now (tables .entry))) (constraintOf j) s) 0)) ⌝ }
+        (tab 512 (λ s. firstFrom 512 (leads (databaseOf rows (now (cells .entry)) (now (tables .entry))) (constraintOf j) s) 0)) ⌝ }
 {
     for s in 0..Design::ROWS {
         first[Design::ROWS * i + s] = demanded(rows, cells, tables, keys, heads, starts, j, s);

@@ -1,5 +1,6 @@
 // The next rows of all cells.
 ghost use mathlib.Core.Path.{_≡_};
+ghost use mathlib.Core.Bool.{true};
 ghost use Prim.Native.Nat.{_/_, _%_, _<_};
 ghost use lib.ListN.{length, getD};
 ghost use Rattle.state.specs.Design.{Backed};
@@ -9,29 +10,33 @@ ghost use Rattle.catalog.specs.Columns.{Linked};
 use crate::scanning::scan;
 use state::Column;
 use state::Design;
+use state::cell_at;
+use state::is_blank;
+use state::is_live;
 
 // The next row of cell number x, where it is known for the rows of the first 8 tables. Constant time for those.
 fn settled(rows: usize, cells: &[u32], tables: &[u8], x: usize, known: u16) -> u16
     requires { ⌜ (x < 4096) × Backed (now cells) (now tables) ⌝ }
-    ensures { λ n. ⌜ ((x / 8 < rows → getD (now (tables .entry)) (x / 8) 0 < 8
+    ensures { λ n. ⌜ ((databaseOf rows (now (cells .entry)) (now (tables .entry)) .live (x / 8) ≡ true → getD (now (tables .entry)) (x / 8) 0 < 8
         → known ≡ nextOf (databaseOf rows (now (cells .entry)) (now (tables .entry))) (x / 8) (x % 8))
         → n ≡ nextOf (databaseOf rows (now (cells .entry)) (now (tables .entry))) (x / 8) (x % 8)) ⌝ }
 {
     let r = x / 8;
-    if rows <= r {
+    let c = x % 8;
+    if !is_live(rows, r) {
         return 512;
     }
     let t = tables[r];
     if t < 8 {
         return known;
     }
-    let v = cells[x];
-    if v == 0 {
+    let v = cell_at(cells, r, c);
+    if is_blank(v) {
         return 512;
     }
     let k = Column {
         table: t,
-        place: (x % 8) as u8,
+        place: c as u8,
     };
     scan(rows, cells, tables, k, v, r + 1) as u16
 }
@@ -39,7 +44,7 @@ fn settled(rows: usize, cells: &[u32], tables: &[u8], x: usize, known: u16) -> u
 // Sets the next rows of the cells that are in no column of the directory. One step for each cell.
 pub(crate) fn settle(rows: usize, cells: &[u32], tables: &[u8], next: &mut [u16; 4096])
     requires { ⌜ Backed (now cells) (now tables) × (length (now next) ≡ 4096) ⌝ }
-    requires { ⌜ Linked (databaseOf rows (now cells) (now tables)) rows 64 (now next) ⌝ }
+    requires { ⌜ Linked (databaseOf rows (now cells) (now tables)) 64 (now next) ⌝ }
     ensures { λ _. ⌜ now (next .exit) ≡ nexts (databaseOf rows (now (cells .entry)) (now (tables .entry))) ⌝ }
 {
     for x in 0..Design::CELLS {

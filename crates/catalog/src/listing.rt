@@ -1,5 +1,6 @@
 // Listing the values of one column.
 ghost use mathlib.Core.Path.{_≡_};
+ghost use mathlib.Core.Bool.{true};
 ghost use Prim.Native.Nat.{_+_, _≤_, _<_};
 ghost use lib.ListN.{length};
 ghost use Rattle.finite.specs.Finite.{count};
@@ -7,10 +8,13 @@ ghost use Rattle.state.specs.Design.{Backed};
 ghost use Rattle.state.specs.Meaning.{columnOf, databaseOf};
 ghost use Rattle.catalog.specs.Catalog.{Falls, Listed};
 ghost use Rattle.catalog.specs.Listing.{Moved, Entered, inTable, Put, Added};
+use crate::finding::key_of;
 use crate::finding::seat;
 use crate::finding::stands;
 use state::Column;
 use state::Design;
+use state::cell_at;
+use state::is_blank;
 
 // Moves the elements from place a to place m one place on. A step for each.
 fn make_room(keys: &mut [u32; 4096], heads: &mut [u16; 4096], a: usize, m: usize)
@@ -31,7 +35,7 @@ pub(crate) struct Entry {
     pub next: u16,
 }
 
-// Enters row r, before all rows that are in, at its value x, which is new or not. A binary search, and a step for each value below a new one.
+// Enters row r, before all rows that are in, at its key x, which is new or not. A binary search, and a step for each value below a new one.
 fn enter(
     keys: &mut [u32; 4096],
     heads: &mut [u16; 4096],
@@ -73,7 +77,7 @@ fn put(
     r: usize,
 ) -> usize
     requires { ⌜ Backed (now cells) (now tables) ⌝ }
-    requires { ⌜ (k .place < 8) × (r < rows) × (r < 512) × (length (now keys) ≡ 4096) × (length (now heads) ≡ 4096) × (length (now next) ≡ 4096) ⌝ }
+    requires { ⌜ (k .place < 8) × (databaseOf rows (now cells) (now tables) .live r ≡ true) × (r < 512) × (length (now keys) ≡ 4096) × (length (now heads) ≡ 4096) × (length (now next) ≡ 4096) ⌝ }
     requires { ⌜ Listed (databaseOf rows (now cells) (now tables)) (columnOf k) (r + 1) from m (now keys) (now heads) ⌝ }
     requires { ⌜ m + count (r + 1) (inTable (databaseOf rows (now cells) (now tables)) (k .table)) ≤ 4096 ⌝ }
     ensures { λ to. ⌜ Put (databaseOf rows (now (cells .entry)) (now (tables .entry))) (columnOf k) r from m (now (keys .entry)) (now (heads .entry))
@@ -82,13 +86,14 @@ fn put(
     if tables[r] != k.table {
         return m;
     }
-    let i = 8 * r + k.place as usize;
-    let x = cells[i];
-    if x == 0 {
+    let c = k.place as usize;
+    let v = cell_at(cells, r, c);
+    let i = 8 * r + c;
+    if is_blank(v) {
         next[i] = 512;
         return m;
     }
-    let e = enter(keys, heads, from, m, x, r);
+    let e = enter(keys, heads, from, m, key_of(v), r);
     next[i] = e.next;
     e.to
 }
@@ -108,7 +113,7 @@ pub(crate) fn add_column(
     requires { ⌜ Backed (now cells) (now tables) ⌝ }
     requires { ⌜ (rows ≤ 512) × (k .place < 8) × (length (now keys) ≡ 4096) × (length (now heads) ≡ 4096) × (length (now next) ≡ 4096) ⌝ }
     requires { ⌜ from + count 512 (inTable (databaseOf rows (now cells) (now tables)) (k .table)) ≤ 4096 ⌝ }
-    ensures { λ to. ⌜ Added (databaseOf rows (now (cells .entry)) (now (tables .entry))) (columnOf k) rows 0 from (now (keys .entry)) (now (heads .entry))
+    ensures { λ to. ⌜ Added (databaseOf rows (now (cells .entry)) (now (tables .entry))) (columnOf k) 0 from (now (keys .entry)) (now (heads .entry))
         (now (next .entry)) to (now (keys .exit)) (now (heads .exit)) (now (next .exit)) ⌝ }
 {
     let mut m = from;

@@ -1,11 +1,11 @@
 // Finding a value row by row: for rows and columns of tables that no design has.
 ghost use mathlib.Core.Path.{_≡_};
 ghost use Prim.Native.Nat.{_≤_, _<_};
-ghost use Rattle.model.specs.Cell.{cellOf};
 ghost use Rattle.model.specs.Database.{has};
 ghost use Rattle.state.specs.Design.{Backed};
-ghost use Rattle.state.specs.Meaning.{columnOf, databaseOf};
-ghost use Rattle.catalog.specs.First.{firstFrom};
+ghost use Rattle.state.specs.Meaning.{cellOf, columnOf, databaseOf};
+ghost use Rattle.finite.specs.Finite.{firstFrom};
+use state::Cell;
 use state::Column;
 use state::Design;
 use state::row_has;
@@ -16,11 +16,11 @@ pub(crate) fn scan(
     cells: &[u32],
     tables: &[u8],
     k: Column,
-    v: u32,
+    v: Cell,
     from: usize,
 ) -> usize
     requires { ⌜ (from ≤ 512) × (k .place < 8) × Backed (now cells) (now tables) ⌝ }
-    ensures { λ s. ⌜ (s ≡ firstFrom (has (databaseOf rows (now (cells .entry)) (now (tables .entry))) (columnOf k) (cellOf v)) from) × (s ≤ 512) ⌝ }
+    ensures { λ s. ⌜ (s ≡ firstFrom 512 (has (databaseOf rows (now (cells .entry)) (now (tables .entry))) (columnOf k) (cellOf v)) from) × (s ≤ 512) ⌝ }
 {
     let mut r = from;
     while r < Design::ROWS {

@@ -18,9 +18,9 @@ use Rattle.model.specs.Scheme as Model
 use Rattle.model.specs.Database.{Database, has}
 use Rattle.model.specs.Rounds.{leads}
 use Rattle.model.proofs.CellLaws.{blank-is}
-use Rattle.catalog.specs.First.{firstFrom}
+use Rattle.finite.specs.Finite.{firstFrom}
 use Rattle.catalog.specs.Catalog.{columnAt, nextOf, nexts}
-use Rattle.catalog.proofs.FirstLaws.{First, first-from, first-same, first-none}
+use Rattle.finite.proofs.First.{First, first-from, first-same, first-none}
 use Rattle.catalog.proofs.CatalogLaws.{next-from, same-rows, has-no-blank}
 use Rattle.load.specs.Walked.{alike, Begins, along}
 
@@ -40,28 +40,28 @@ module _ (D : Database) (p r : ℕ) where
   along-start s t = ltb-true r 512 (and-eq-true-iff (ltb r 512) (alike D r p s) .0 t .0)
 
   -- where it begins
-  pub begins-first : Begins D p r → r ≡ firstFrom (along D p r) 0
+  pub begins-first : Begins D p r → r ≡ firstFrom 512 (along D p r) 0
   begins-first b = go (decLt r 512)
     where
-      go : Dec (r < 512) → r ≡ firstFrom (along D p r) 0
-      go (yes l) = b .first l ∙ first-same (alike D r p) (along D p r) 0 (λ s _ _. sym (along-alike l s))
+      go : Dec (r < 512) → r ≡ firstFrom 512 (along D p r) 0
+      go (yes l) = b .first l ∙ first-same 512 (alike D r p) (along D p r) 0 (λ s _ _. sym (along-alike l s))
       go (no h) =
           let e : r ≡ 512 = omega (arith, b .bound) in
-          e ∙ sym (first-none (along D p r) 0 (λ s _ _. along-none (omega arith) s))
+          e ∙ sym (first-none 512 (along D p r) 0 (λ s _ _. along-none (omega arith) s))
 
   -- where it goes on
   pub along-next : (next : List ℕ) → next ≡ nexts D → p < 8 → (x : ℕ) → x < 512 → along D p r x ≡ true →
-      getD next (8 * x + p) 0 ≡ firstFrom (along D p r) (x + 1)
+      getD next (8 * x + p) 0 ≡ firstFrom 512 (along D p r) (x + 1)
   unfolding alike
   along-next next e l x m t =
       let s = along-start x t in
       next-from D (columnAt D r p) (D .cell r p) x (sym (along-alike s x) ∙ t) next e m l ∙
-      first-same (alike D r p) (along D p r) (x + 1) (λ y _ _. sym (along-alike s y))
+      first-same 512 (alike D r p) (along D p r) (x + 1) (λ y _ _. sym (along-alike s y))
 
 -- every link is a row number, or 512
 next-most : (D : Database) (r c : ℕ) → r < 512 → nextOf D r c ≤ 512
 unfolding nextOf
-next-most D r c l = cond-case (λ (n : ℕ). n ≤ 512) (has D (columnAt D r c) (D .cell r c) r) _ 512 (λ _. first-from _ (r + 1) (omega arith) .bound) (λ _. omega arith)
+next-most D r c l = cond-case (λ (n : ℕ). n ≤ 512) (has D (columnAt D r c) (D .cell r c) r) _ 512 (λ _. first-from 512 _ (r + 1) (omega arith) .bound) (λ _. omega arith)
 
 pub next-fits : (D : Database) (next : List ℕ) → next ≡ nexts D → (i : ℕ) → Fits w64 (getD next i 0)
 next-fits D next e i = go (decLt i 4096)
@@ -74,16 +74,16 @@ next-fits D next e i = go (decLt i 4096)
 
 -- ---- from the first row that has a value
 
-module _ (D : Database) (k : Model.Column) (v : Cell) (r : ℕ) (e : r ≡ firstFrom (has D k v) 0) where
-  first : First (has D k v) 0 r
-  first = subst (First (has D k v) 0) (sym e) (first-from (has D k v) 0 (omega arith))
+module _ (D : Database) (k : Model.Column) (v : Cell) (r : ℕ) (e : r ≡ firstFrom 512 (has D k v) 0) where
+  first : First 512 (has D k v) 0 r
+  first = subst (First 512 (has D k v) 0) (sym e) (first-from 512 (has D k v) 0 (omega arith))
 
   alike-has : r < 512 → (s : ℕ) → alike D r (k .place) s ≡ has D k v s
   unfolding alike
   alike-has l s = same-rows D k v r (first .here l) s
 
   pub begins-has : Begins D (k .place) r
-  begins-has = record { bound = first .bound; first = λ l. e ∙ first-same (has D k v) (alike D r (k .place)) 0 (λ s _ _. sym (alike-has l s)) }
+  begins-has = record { bound = first .bound; first = λ l. e ∙ first-same 512 (has D k v) (alike D r (k .place)) 0 (λ s _ _. sym (alike-has l s)) }
 
   pub along-has : (s : ℕ) → s < 512 → along D (k .place) r s ≡ has D k v s
   along-has s m = go (decLt r 512)
@@ -104,9 +104,9 @@ leads-cell D j s = go (D .live s) (eqb (D .table s) (j .source .table)) (D .cell
     go true false c = (blank, has-no-blank D (j .target) blank blank-is)
     go false b c = (blank, has-no-blank D (j .target) blank blank-is)
 
-module _ (D : Database) (j : Model.Constraint) (s r : ℕ) (e : r ≡ firstFrom (leads D j s) 0) (p : ℕ) (at : p ≡ j .target .place) where
-  first-target : r ≡ firstFrom (has D (j .target) (leads-cell D j s .0)) 0
-  first-target = let f = leads-cell D j s in e ∙ first-same (leads D j s) (has D (j .target) (f .0)) 0 (λ x _ _. sym (f .1 x))
+module _ (D : Database) (j : Model.Constraint) (s r : ℕ) (e : r ≡ firstFrom 512 (leads D j s) 0) (p : ℕ) (at : p ≡ j .target .place) where
+  first-target : r ≡ firstFrom 512 (has D (j .target) (leads-cell D j s .0)) 0
+  first-target = let f = leads-cell D j s in e ∙ first-same 512 (leads D j s) (has D (j .target) (f .0)) 0 (λ x _ _. sym (f .1 x))
 
   pub begins-leads : Begins D p r
   begins-leads = subst (λ (q : ℕ). Begins D q r) (sym at) (begins-has D (j .target) (leads-cell D j s .0) r first-target)

@@ -24,24 +24,17 @@ use Rattle.state.specs.Meaning.{databaseOf}
 use Rattle.load.specs.Queue.{added}
 use Rattle.load.specs.Ended.{Enough, Ended, Covers, Within, Reaches}
 use Rattle.load.proofs.RaisedLaws.{orElse-kept}
+use Rattle.load.proofs.RoundsEnd.{next-at, next-past}
 use Rattle.load.proofs.StartLaws.{load-is}
 
 -- ---- a round
 
 module _ (S : Scheme) (D : Database) (n : ℕ) (L : List ℕ) where
-  next-at : (r : ℕ) → r < D .size → level (next S D n L) r ≡ orElse (level L r) (cond (reachedFrom S D n L r) (suc (suc (suc n))) 0)
-  unfolding next
-  next-at r h = tab-at 0 (D .size) (λ i. orElse (level L i) (cond (reachedFrom S D n L i) (suc (suc (suc n))) 0)) r h
-
-  next-past : (r : ℕ) → D .size ≤ r → level (next S D n L) r ≡ 0
-  unfolding next
-  next-past r h = tab-past 0 (D .size) (λ i. orElse (level L i) (cond (reachedFrom S D n L i) (suc (suc (suc n))) 0)) r h
-
   -- what is reached stays so
   next-rises : (r : ℕ) → r < D .size → reached L r ≡ true → reached (next S D n L) r ≡ true
   next-rises r l t =
       let h = reached-level L r t in
-      level-reached (next S D n L) r (omega (arith, h, next-at r l ∙ orElse-kept (level L r) _ h))
+      level-reached (next S D n L) r (omega (arith, h, next-at S D n L r l ∙ orElse-kept (level L r) _ h))
 
   -- a row set that has what its rows demand keeps the rows that the round adds
   next-inside : (X : RowSet) → ((s r : ℕ) → X s ≡ true → demands S D s r ≡ true → X r ≡ true) → Inside (reached L) X → Inside (reached (next S D n L)) X
@@ -61,8 +54,8 @@ module _ (S : Scheme) (D : Database) (n : ℕ) (L : List ℕ) where
 
       at-row : Dec (r < D .size) → X r ≡ true
       at-row (yes l) =
-          go (level L r) (reachedFrom S D n L r) _ (next-at r l) (reached-level (next S D n L) r t) (λ h. i r (level-reached L r h)) asked
-      at-row (no l) = absurd (omega (arith, reached-level (next S D n L) r t, next-past r (omega arith)))
+          go (level L r) (reachedFrom S D n L r) _ (next-at S D n L r l) (reached-level (next S D n L) r t) (λ h. i r (level-reached L r h)) asked
+      at-row (no l) = absurd (omega (arith, reached-level (next S D n L) r t, next-past S D n L r (omega arith)))
 
   -- no row gets level 1
   next-fresh : ((r : ℕ) → level L r ≡ 1 → ⊥) → (r : ℕ) → level (next S D n L) r ≡ 1 → ⊥
@@ -74,8 +67,8 @@ module _ (S : Scheme) (D : Database) (n : ℕ) (L : List ℕ) where
       go (suc l) b k w = k w
 
       at-row : Dec (r < D .size) → ⊥
-      at-row (yes l) = go (level L r) (reachedFrom S D n L r) (h r) (sym (next-at r l) ∙ e)
-      at-row (no l) = omega (arith, next-past r (omega arith))
+      at-row (yes l) = go (level L r) (reachedFrom S D n L r) (h r) (sym (next-at S D n L r l) ∙ e)
+      at-row (no l) = omega (arith, next-past S D n L r (omega arith))
 
 -- ---- rounds
 

@@ -10,16 +10,16 @@ use Rattle.model.specs.Rounds.{leads}
 use Rattle.state.specs.declared.design.Design.{Design}
 use Rattle.state.specs.Design.{InRange, constraintAt}
 use Rattle.state.specs.Meaning.{constraintOf, schemeOf}
-use Rattle.catalog.specs.First.{firstFrom}
+use Rattle.finite.specs.Finite.{firstFrom}
 use Rattle.catalog.specs.Catalog.{firsts}
-use Rattle.catalog.proofs.CatalogLaws.{first-at}
+use Rattle.catalog.proofs.Entries.{first-demanded}
 use Rattle.load.specs.Targets.{targetPlaces}
 
 -- the first row that constraint i demands of row s
 pub demanded-at : (d : Design) (D : Database) (first : List ℕ) → first ≡ firsts (schemeOf d) D → InRange d → (i s : ℕ) → i < d .constraints → s < 512 →
-    getD first (512 * i + s) 0 ≡ firstFrom (leads D (constraintOf (constraintAt d i)) s) 0
+    getD first (512 * i + s) 0 ≡ firstFrom 512 (leads D (constraintOf (constraintAt d i)) s) 0
 unfolding schemeOf
-demanded-at d D first e h i s l m = first-at (schemeOf d) D first e i s (omega (arith, h .constraints)) m l
+demanded-at d D first e h i s l m = first-demanded (schemeOf d) D first e i s (omega (arith, h .constraints)) m l
 
 -- where constraint i ends
 pub target-at : (d : Design) (places : List ℕ) → places ≡ targetPlaces d → (i : ℕ) → i < 16 → getD places i 0 ≡ constraintAt d i .target .place

@@ -24,9 +24,14 @@ unfoldable pub someAt : ℕ → List ℕ → ℕ → Bool
 someAt size L m = any size (λ r. eqb (level L r) m)
 
 module _ (S : Scheme) (D : Database) (n : ℕ) (L : List ℕ) where
-  next-at : (r : ℕ) → r < D .size → level (next S D n L) r ≡ orElse (level L r) (cond (reachedFrom S D n L r) (suc (suc (suc n))) 0)
+  -- what a round leaves of a row's level
+  pub next-at : (r : ℕ) → r < D .size → level (next S D n L) r ≡ orElse (level L r) (cond (reachedFrom S D n L r) (suc (suc (suc n))) 0)
   unfolding next
   next-at r h = tab-at 0 (D .size) (λ i. orElse (level L i) (cond (reachedFrom S D n L i) (suc (suc (suc n))) 0)) r h
+
+  pub next-past : (r : ℕ) → D .size ≤ r → level (next S D n L) r ≡ 0
+  unfolding next
+  next-past r h = tab-past 0 (D .size) (λ i. orElse (level L i) (cond (reachedFrom S D n L i) (suc (suc (suc n))) 0)) r h
 
   pub length-next : length (next S D n L) ≡ D .size
   unfolding next
@@ -44,7 +49,7 @@ module _ (S : Scheme) (D : Database) (n : ℕ) (L : List ℕ) where
 
       at-row : Dec (r < D .size) → level (next S D n L) r ≤ n + 3
       at-row (yes l) = go (level L r) (reachedFrom S D n L r) _ (h r) (next-at r l)
-      at-row (no l) = omega (arith, tab-past {A = ℕ} 0 (D .size) (λ i. orElse (level L i) (cond (reachedFrom S D n L i) (suc (suc (suc n))) 0)) r (omega arith))
+      at-row (no l) = omega (arith, next-past r (omega arith))
 
   -- a level that some row has stays
   next-some : (m : ℕ) → someAt (D .size) L (m + 3) ≡ true → someAt (D .size) (next S D n L) (m + 3) ≡ true

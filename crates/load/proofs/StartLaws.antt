@@ -10,14 +10,13 @@ use lib.ListN.{length, replicate, getD-replicate}
 use Rattle.finite.specs.Finite.{any, tab}
 use Rattle.finite.proofs.Search.{any-front}
 use Rattle.finite.proofs.Tables.{length-tab, tab-at, tab-past, tab-same}
-use Rattle.model.specs.Cell.{cellOf}
 use Rattle.model.specs.Scheme.{Scheme}
 use Rattle.model.specs.Database.{Database, has}
 use Rattle.model.specs.Cache.{RowSet}
 use Rattle.model.specs.Rounds.{level, orElse, start, levels, load}
-use Rattle.model.specs.Runs.{Pair, wanted}
+use Rattle.model.specs.Holding.{Pair, pairsWant, wanted}
 use Rattle.state.specs.declared.held.Held.{Held}
-use Rattle.state.specs.Meaning.{databaseOf, pairsOf, pairOf}
+use Rattle.state.specs.Meaning.{cellOf, databaseOf, pairOf, pairsOf, holdingOf}
 use Rattle.state.specs.Held.{heldAt}
 use Rattle.load.specs.Raised.{raised}
 use Rattle.load.specs.Queue.{added, Listed}
@@ -89,27 +88,27 @@ module _ (old : RowSet) (L : List ℕ) (e : L ≡ tab 512 (λ r. cond (old r) 1 
 -- ---- round 0 of a load of all held values
 
 -- a row is wanted if it has one of the values in its filling's column
-wanted-tab : (S : Scheme) (D : Database) (r n : ℕ) (f : ℕ → Pair) → wanted S D (tab n f) r ≡ any n (λ i. has D (S .filling (f i .filling) .column) (f i .value) r)
-unfolding wanted tab any
+wanted-tab : (S : Scheme) (D : Database) (r n : ℕ) (f : ℕ → Pair) → pairsWant S D (tab n f) r ≡ any n (λ i. has D (S .filling (f i .filling) .column) (f i .value) r)
+unfolding pairsWant tab any
 wanted-tab S D r zero f = refl
 wanted-tab S D r (suc n) f =
     ap (λ (b : Bool). has D (S .filling (f 0 .filling) .column) (f 0 .value) r || b) (wanted-tab S D r n (λ i. f (suc i))) ∙
     sym (any-front n (λ i. has D (S .filling (f i .filling) .column) (f i .value) r))
 
 wanted-any : (S : Scheme) (D : Database) (h : Held) (r : ℕ) →
-    any (h .count) (λ i. has D (S .filling (pairOf (heldAt h i) .filling) .column) (pairOf (heldAt h i) .value) r) ≡ wanted S D (pairsOf h) r
+    any (h .count) (λ i. has D (S .filling (pairOf (heldAt h i) .filling) .column) (pairOf (heldAt h i) .value) r) ≡ wanted S D (holdingOf h) r
 unfolding pairsOf
 wanted-any S D h r = sym (wanted-tab S D r (h .count) (λ i. pairOf (heldAt h i)))
 
 -- from nothing, by steps for the held values
 pub start-all : (S : Scheme) (rows : ℕ) (cells tables : List ℕ) (h : Held) (L : List ℕ) → let D = databaseOf rows cells tables in
     L ≡ raised (replicate 512 0) 2 (λ r. any (h .count) (λ i. has D (S .filling (heldAt h i .filling) .column) (cellOf (heldAt h i .value)) r)) →
-    L ≡ start D (λ _. false) (wanted S D (pairsOf h))
+    L ≡ start D (λ _. false) (wanted S D (holdingOf h))
 unfolding start raised databaseOf
 start-all S rows cells tables h L e =
     let D = databaseOf rows cells tables in
-    e ∙ raised-same (replicate 512 0) 2 _ (wanted S D (pairsOf h)) (λ r l. wanted-any S D h r) ∙
-    tab-same 512 _ _ (λ r l. ap (λ (m : ℕ). orElse m (cond (wanted S D (pairsOf h) r) 2 0)) (zeros r l))
+    e ∙ raised-same (replicate 512 0) 2 _ (wanted S D (holdingOf h)) (λ r l. wanted-any S D h r) ∙
+    tab-same 512 _ _ (λ r l. ap (λ (m : ℕ). orElse m (cond (wanted S D (holdingOf h) r) 2 0)) (zeros r l))
   where
     zeros : (r : ℕ) → r < 512 → level (replicate 512 0) r ≡ 0
     zeros r l = getD-replicate {A = ℕ} 512 r 0 0 l

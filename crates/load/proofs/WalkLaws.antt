@@ -13,8 +13,10 @@ use lib.ListN.{length}
 use Rattle.finite.proofs.Bools.{clash, or-cases, or-left, bool-ext}
 use Rattle.model.specs.Cache.{RowSet}
 use Rattle.model.specs.Rounds.{level}
-use Rattle.catalog.specs.First.{firstFrom, Hit}
-use Rattle.catalog.proofs.FirstLaws.{First, first-from, first-hit}
+use Rattle.finite.specs.Finite.{firstFrom}
+use Rattle.catalog.specs.Hits.{Hit}
+use Rattle.finite.proofs.First.{First, first-from}
+use Rattle.catalog.proofs.HitLaws.{first-hit}
 use Rattle.load.specs.Queue.{added, Listed, Grown}
 use Rattle.load.proofs.QueueLaws.{below, below-all, grown-none, grown-same, grown-again}
 
@@ -26,7 +28,7 @@ is-below : (b : ℕ) (P : RowSet) (x : ℕ) → x < b → P x ≡ true → below
 is-below b P x l h = below-all b P x l ∙ h
 
 -- the rows below the next one of P after r: those below r, and r
-below-next : (P : RowSet) (r s : ℕ) → First P (r + 1) s → P r ≡ true → (x : ℕ) → below r P x || eqb x r ≡ below s P x
+below-next : (P : RowSet) (r s : ℕ) → First 512 P (r + 1) s → P r ≡ true → (x : ℕ) → below r P x || eqb x r ≡ below s P x
 below-next P r s f h x = bool-ext (below r P x || eqb x r) (below s P x) (λ t. ⊎-elim earlier here (or-cases (below r P x) (eqb x r) t)) back
   where
     earlier : below r P x ≡ true → below s P x ≡ true
@@ -49,24 +51,24 @@ pub record Walking (n : ℕ) (P : RowSet) (L q : List ℕ) (end r : ℕ) (L′ q
   pub grown : Grown n (below r P) L q end L′ q′ end′
 
 module _ (n : ℕ) (P : RowSet) (L q : List ℕ) (end r : ℕ) where
-  pub walk-start : length L ≡ 512 → Listed (added L) q end → r ≡ firstFrom P 0 → Walking n P L q end r L q end
+  pub walk-start : length L ≡ 512 → Listed (added L) q end → r ≡ firstFrom 512 P 0 → Walking n P L q end r L q end
   walk-start e u f = record { stands = first-hit P 0 r f; grown = grown-none n L q end (below r P) e u none }
     where
-      first : First P 0 r
-      first = subst (First P 0) (sym f) (first-from P 0 (omega arith))
+      first : First 512 P 0 r
+      first = subst (First 512 P 0) (sym f) (first-from 512 P 0 (omega arith))
 
       none : (x : ℕ) → x < 512 → below r P x ≡ true → 0 < level L x
       none x l t = let b = below-is r P x t in clash (b .1) (first .none x (omega arith) (b .0))
 
   module _ (L′ q′ : List ℕ) (end′ : ℕ) (w : Walking n P L q end r L′ q′ end′) where
-    pub walk-next : (s : ℕ) (L″ q″ : List ℕ) (end″ : ℕ) → 0 < n → r < 512 → Grown n (λ x. eqb x r) L′ q′ end′ L″ q″ end″ → s ≡ firstFrom P (r + 1) →
+    pub walk-next : (s : ℕ) (L″ q″ : List ℕ) (end″ : ℕ) → 0 < n → r < 512 → Grown n (λ x. eqb x r) L′ q′ end′ L″ q″ end″ → s ≡ firstFrom 512 P (r + 1) →
         Walking n P L q end s L″ q″ end″
     walk-next s L″ q″ end″ o l g f =
         record {
           stands = first-hit P (r + 1) s f;
           grown =
               grown-same n _ L q end L″ q″ end″ (grown-again n (below r P) (λ x. eqb x r) L q end L′ q′ end′ L″ q″ end″ o (w .grown) g) (below s P)
-              (λ x k. below-next P r s (subst (First P (r + 1)) (sym f) (first-from P (r + 1) (omega arith))) (w .stands .here l) x);
+              (λ x k. below-next P r s (subst (First 512 P (r + 1)) (sym f) (first-from 512 P (r + 1) (omega arith))) (w .stands .here l) x);
         }
 
     pub walk-end : 512 ≤ r → Grown n P L q end L′ q′ end′

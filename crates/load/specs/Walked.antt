@@ -10,7 +10,7 @@ use lib.ListN.{getD}
 use Rattle.model.specs.Database.{Database, has}
 use Rattle.model.specs.Cache.{RowSet}
 use Rattle.model.specs.Rounds.{level}
-use Rattle.catalog.specs.First.{firstFrom}
+use Rattle.finite.specs.Finite.{firstFrom}
 use Rattle.catalog.specs.Catalog.{columnAt}
 
 -- the rows of row r's table that have the value of row r's cell p in the same column
@@ -20,7 +20,7 @@ alike D r p = has D (columnAt D r p) (D .cell r p)
 -- a walk along place p can begin at r: at the first row that has its value, or at 512
 pub record Begins (D : Database) (p r : ℕ) : Type 0 where
   pub bound : r ≤ 512
-  pub first : r < 512 → r ≡ firstFrom (alike D r p) 0
+  pub first : r < 512 → r ≡ firstFrom 512 (alike D r p) 0
 
 -- the rows that it passes: those alike row r, and none from 512
 unfoldable pub along : Database → ℕ → ℕ → RowSet

@@ -2,20 +2,21 @@
 ghost use mathlib.Core.Path.{_≡_};
 ghost use Prim.Native.Nat.{ℕ, _≤_, _<_};
 ghost use lib.ListN.{length};
-ghost use Rattle.model.specs.Cell.{cellOf};
 ghost use Rattle.model.specs.Database.{has};
 ghost use Rattle.model.specs.Rounds as Rounds;
 ghost use Rattle.model.specs.Rounds.{addedRows, laterRounds};
-ghost use Rattle.model.specs.Runs.{marked, wanted, reloadLevels};
+ghost use Rattle.model.specs.Holding.{wanted};
+ghost use Rattle.model.specs.Runs.{marked, reloadLevels};
 ghost use Rattle.state.specs.Design.{InRange};
 ghost use Rattle.state.specs.Held.{heldAt};
-ghost use Rattle.state.specs.Meaning.{columnOf, databaseOf, schemeOf, pairsOf};
+ghost use Rattle.state.specs.Meaning.{cellOf, columnOf, databaseOf, schemeOf, holdingOf};
 ghost use Rattle.catalog.specs.Catalog.{Catalogued};
 ghost use Rattle.load.specs.Ended.{Within, Reaches};
 use crate::outcome::Growth;
 use crate::rounds::close;
 use crate::start::start_held;
 use crate::start::start_value;
+use state::Cell;
 use state::Column;
 use state::Design;
 use state::Held;
@@ -33,7 +34,7 @@ pub fn load_value(
     starts: &[u16; 65],
     marks: &[u8],
     k: Column,
-    v: u32,
+    v: Cell,
     levels: &mut [u16; 512],
 ) -> Growth
     requires { ⌜ InRange d × (k .table < 8) × (k .place < 8) × (512 ≤ length (now marks)) × (length (now levels) ≡ 512) ⌝ }
@@ -89,9 +90,9 @@ pub fn load_held(
     requires { ⌜ InRange d × (held .count ≤ 64) × ((i : ℕ) → heldAt held i .filling < 8) ⌝ }
     requires { ⌜ Catalogued d (now cells) (now tables) (now next) (now first) (now keys) (now heads) (now starts) ⌝ }
     requires { ⌜ Within (schemeOf d) (databaseOf (d .rows) (now cells) (now tables))
-        (wanted (schemeOf d) (databaseOf (d .rows) (now cells) (now tables)) (pairsOf held)) most ⌝ }
+        (wanted (schemeOf d) (databaseOf (d .rows) (now cells) (now tables)) (holdingOf held)) most ⌝ }
     ensures { λ n. ⌜ Reaches (now (levels .exit))
-        (reloadLevels (schemeOf d) (databaseOf (d .rows) (now (cells .entry)) (now (tables .entry))) (pairsOf held)) n ⌝ }
+        (reloadLevels (schemeOf d) (databaseOf (d .rows) (now (cells .entry)) (now (tables .entry))) (holdingOf held)) n ⌝ }
 {
     let mut queue = [0u16; 512];
     let end = start_held(

@@ -5,17 +5,18 @@ ghost use Prim.Native.Nat.{ℕ, _≤_, _<_};
 ghost use lib.Dec.{eqb};
 ghost use lib.ListN.{length};
 ghost use Rattle.finite.specs.Finite.{tab};
-ghost use Rattle.model.specs.Cell.{cellOf};
 ghost use Rattle.model.specs.Database.{has};
 ghost use Rattle.model.specs.Rounds.{start};
-ghost use Rattle.model.specs.Runs.{marked, wanted};
+ghost use Rattle.model.specs.Holding.{wanted};
+ghost use Rattle.model.specs.Runs.{marked};
 ghost use Rattle.state.specs.Design.{InRange};
 ghost use Rattle.state.specs.Held.{heldAt};
-ghost use Rattle.state.specs.Meaning.{columnOf, databaseOf, schemeOf, pairsOf};
+ghost use Rattle.state.specs.Meaning.{cellOf, columnOf, databaseOf, schemeOf, holdingOf};
 ghost use Rattle.catalog.specs.Catalog.{nexts, Directory};
 ghost use Rattle.load.specs.Queue.{Listed, added};
 use crate::walking::walk;
 use catalog::find;
+use state::Cell;
 use state::Column;
 use state::Design;
 use state::Held;
@@ -49,7 +50,7 @@ pub(crate) fn start_value(
     starts: &[u16; 65],
     marks: &[u8],
     k: Column,
-    v: u32,
+    v: Cell,
     levels: &mut [u16; 512],
     queue: &mut [u16; 512],
 ) -> usize
@@ -84,7 +85,7 @@ pub(crate) fn start_held(
     requires { ⌜ (now next ≡ nexts (databaseOf (d .rows) (now cells) (now tables)))
         × Directory (databaseOf (d .rows) (now cells) (now tables)) (now keys) (now heads) (now starts) ⌝ }
     ensures { λ e. ⌜ (now (levels .exit) ≡ start (databaseOf (d .rows) (now (cells .entry)) (now (tables .entry))) (λ _. false)
-        (wanted (schemeOf d) (databaseOf (d .rows) (now (cells .entry)) (now (tables .entry))) (pairsOf held)))
+        (wanted (schemeOf d) (databaseOf (d .rows) (now (cells .entry)) (now (tables .entry))) (holdingOf held)))
         × Listed (added (now (levels .exit))) (now (queue .exit)) e ⌝ }
 {
     *levels = [0u16; 512];

@@ -1,53 +1,48 @@
 -- The grounds as searches below a count, and over row sets that have the same rows. Assumes nothing.
 use Prim.Native.Nat.{ℕ, zero, suc, _<_}
 use mathlib.Core.Path.{_≡_, refl, sym, ap, ap₂, _∙_}
-use mathlib.Core.Bool.{Bool, true, false, not, _&&_, _||_}
+use mathlib.Core.Bool.{Bool, true, false, _&&_, _||_}
 use mathlib.Core.List.{List}
-use borrow.Author.Tests.{eq-eqb, ne-eqb}
 use lib.Dec.{eqb}
 use lib.ListN.{take}
 use lib.Seq.{getD-take}
 use Rattle.finite.specs.Finite.{any, tab}
-use Rattle.finite.proofs.Bools.{both, and-left, and-right, ne-not, eq-not}
+use Rattle.finite.proofs.Bools.{and-right}
 use Rattle.finite.proofs.Search.{any-same, any-front}
-use Rattle.model.specs.Cell.{Cell, cellOf, isBlank, equal}
+use Rattle.model.specs.Cell.{Cell, equal}
 use Rattle.model.specs.Scheme.{Column, Scheme, sameColumn}
 use Rattle.model.specs.Database.{Database, has}
 use Rattle.model.specs.Cache.{RowSet, Held}
 use Rattle.model.specs.Probe.{seen, demanded, uniquelySeen, lowest, probe}
-use Rattle.model.specs.Runs.{Pair, one, heldIn, marked}
+use Rattle.model.specs.Holding.{Pair, one, pairsHold}
+use Rattle.model.specs.Runs.{marked}
 use Rattle.state.specs.Meaning.{databaseOf}
 
 -- ---- ground 1
 
 -- pair p holds v in column k
-abbrev pub holds : Scheme → Column → Cell → Pair → Bool
-holds S k v p = one (S .filling (p .filling) .column) (p .value) k v
+abbrev pub pairHolds : Scheme → Column → Cell → Pair → Bool
+pairHolds S k v p = one (S .filling (p .filling) .column) (p .value) k v
 
-pub held-any : (S : Scheme) (k : Column) (v : Cell) (n : ℕ) (f : ℕ → Pair) → heldIn S (tab n f) k v ≡ any n (λ i. holds S k v (f i))
-unfolding heldIn tab any
+pub held-any : (S : Scheme) (k : Column) (v : Cell) (n : ℕ) (f : ℕ → Pair) → pairsHold S (tab n f) k v ≡ any n (λ i. pairHolds S k v (f i))
+unfolding pairsHold tab any
 held-any S k v zero f = refl
 held-any S k v (suc n) f =
-    ap (λ (b : Bool). holds S k v (f 0) || b) (held-any S k v n (λ i. f (suc i))) ∙ sym (any-front n (λ i. holds S k v (f i)))
+    ap (λ (b : Bool). pairHolds S k v (f 0) || b) (held-any S k v n (λ i. f (suc i))) ∙ sym (any-front n (λ i. pairHolds S k v (f i)))
 
--- one held value, test by test
-module _ (j k : Column) (w v : ℕ) where
-  pub one-other : (w ≡ v → ⊥) → false ≡ one j (cellOf w) k (cellOf v)
-  unfolding one equal isBlank
-  one-other ne = sym (and-right (sameColumn j k) _ (and-right (not (eqb w 0)) (eqb w v) (ne-eqb w v ne)))
+-- one held value: the value, then the column
+module _ (j k : Column) (w v : Cell) where
+  pub one-other : equal w v ≡ false → false ≡ one j w k v
+  unfolding one
+  one-other e = sym (and-right (sameColumn j k) (equal w v) e)
 
-  module _ (e : w ≡ v) where
-    pub one-blank : v ≡ 0 → false ≡ one j (cellOf w) k (cellOf v)
-    unfolding one equal isBlank
-    one-blank z = sym (and-right (sameColumn j k) _ (and-left (not (eqb w 0)) (eqb w v) (eq-not w 0 (e ∙ z))))
-
-    pub one-column : (v ≡ 0 → ⊥) → sameColumn j k ≡ one j (cellOf w) k (cellOf v)
-    unfolding one equal isBlank
-    one-column z = rest (sameColumn j k) _ (both (ne-not w 0 (λ (q : w ≡ 0). z (sym e ∙ q))) (eq-eqb w v e))
-      where
-        rest : (a b : Bool) → b ≡ true → a ≡ a && b
-        rest true b h = sym h
-        rest false b h = refl
+  pub one-column : equal w v ≡ true → sameColumn j k ≡ one j w k v
+  unfolding one
+  one-column e = go (sameColumn j k) (equal w v) e
+    where
+      go : (a b : Bool) → b ≡ true → a ≡ a && b
+      go true b h = sym h
+      go false b h = refl
 
 -- ---- grounds 2 and 3 look at the row set below the database's size alone
 

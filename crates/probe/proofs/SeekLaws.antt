@@ -3,7 +3,7 @@ use Prim.Native.Nat.{ℕ, _+_, _≤_, _<_}
 use mathlib.Core.Path.{_≡_}
 use mathlib.Core.Bool.{true, false, _&&_}
 use mathlib.Core.List.{List}
-use Rattle.finite.specs.Finite.{any}
+use Rattle.finite.specs.Finite.{any, firstFrom}
 use Rattle.finite.proofs.Bools.{and-left, both}
 use Rattle.finite.proofs.Search.{any-hit, any-end}
 use Rattle.model.specs.Cell.{Cell}
@@ -12,8 +12,8 @@ use Rattle.model.specs.Database.{Database, has}
 use Rattle.model.specs.Cache.{RowSet}
 use Rattle.model.specs.Probe.{seen}
 use Rattle.state.specs.Meaning.{databaseOf}
-use Rattle.catalog.specs.First.{firstFrom, Hit}
-use Rattle.catalog.proofs.FirstLaws.{first-hit}
+use Rattle.catalog.specs.Hits.{Hit}
+use Rattle.catalog.proofs.HitLaws.{first-hit}
 use Rattle.catalog.proofs.Walks.{any-first, any-next, only-right}
 
 -- the search stands at r, and has found none below
@@ -22,7 +22,7 @@ pub record Seeking (D : Database) (X : RowSet) (k : Column) (v : Cell) (r : ℕ)
   pub none : any r (λ i. X i && has D k v i) ≡ false
 
 module _ (D : Database) (X : RowSet) (k : Column) (v : Cell) (r : ℕ) where
-  pub seek-start : r ≡ firstFrom (has D k v) 0 → Seeking D X k v r
+  pub seek-start : r ≡ firstFrom 512 (has D k v) 0 → Seeking D X k v r
   seek-start e =
       record {
         stands = first-hit (has D k v) 0 r e;
@@ -30,7 +30,7 @@ module _ (D : Database) (X : RowSet) (k : Column) (v : Cell) (r : ℕ) where
       }
 
   -- row r is not cached
-  pub seek-next : Seeking D X k v r → r < 512 → X r ≡ false → (s : ℕ) → s ≡ firstFrom (has D k v) (r + 1) → Seeking D X k v s
+  pub seek-next : Seeking D X k v r → r < 512 → X r ≡ false → (s : ℕ) → s ≡ firstFrom 512 (has D k v) (r + 1) → Seeking D X k v s
   seek-next w l h s e =
       record {
         stands = first-hit (has D k v) (r + 1) s e;

@@ -2,12 +2,12 @@
 ghost use Prim.Native.Nat.{_<_, _≤_};
 ghost use mathlib.Core.Path.{_≡_};
 ghost use lib.ListN.{length};
-ghost use Rattle.model.specs.Cell.{cellOf};
 ghost use Rattle.model.specs.Probe as Probe;
 ghost use Rattle.model.specs.Runs.{marked};
-ghost use Rattle.state.specs.Meaning.{columnOf, databaseOf};
+ghost use Rattle.state.specs.Meaning.{cellOf, columnOf, databaseOf};
 ghost use Rattle.catalog.specs.Catalog.{nexts, Directory};
 use catalog::find;
+use state::Cell;
 use state::Column;
 use state::Design;
 
@@ -23,7 +23,7 @@ pub(crate) fn seen(
     starts: &[u16; 65],
     marks: &[u8],
     k: Column,
-    v: u32,
+    v: Cell,
 ) -> bool
     requires { ⌜ (k .table < 8) × (k .place < 8) × (512 ≤ length (now marks)) ⌝ }
     requires { ⌜ (now next ≡ nexts (databaseOf rows (now cells) (now tables)))

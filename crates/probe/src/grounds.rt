@@ -3,17 +3,18 @@ ghost use Prim.Native.Nat.{ℕ, _<_, _≤_};
 ghost use mathlib.Core.Bool.{_&&_};
 ghost use mathlib.Core.Path.{_≡_};
 ghost use lib.ListN.{length, take};
-ghost use Rattle.model.specs.Cell.{cellOf};
 ghost use Rattle.model.specs.Probe as Probe;
-ghost use Rattle.model.specs.Runs.{heldIn, marked};
+ghost use Rattle.model.specs.Holding.{heldIn};
+ghost use Rattle.model.specs.Runs.{marked};
 ghost use Rattle.model.specs.Scheme.{sameColumn};
 ghost use Rattle.state.specs.Design.{InRange};
 ghost use Rattle.state.specs.Held.{heldAt};
-ghost use Rattle.state.specs.Meaning.{columnOf, constraintOf, pairsOf, schemeOf, databaseOf};
+ghost use Rattle.state.specs.Meaning.{cellOf, columnOf, constraintOf, holdingOf, schemeOf, databaseOf};
 ghost use Rattle.catalog.specs.Catalog.{nexts, Directory};
 use crate::cached::seen;
 use crate::held::is_held;
 use lawful::is_unique;
+use state::Cell;
 use state::Column;
 use state::Constraint;
 use state::Design;
@@ -33,7 +34,7 @@ fn is_demanded_by(
     marks: &[u8],
     c: Constraint,
     k: Column,
-    v: u32,
+    v: Cell,
 ) -> bool
     requires { ⌜ (c .source .table < 8) × (c .source .place < 8) × (512 ≤ length (now marks)) ⌝ }
     requires { ⌜ (now next ≡ nexts (databaseOf rows (now cells) (now tables)))
@@ -72,7 +73,7 @@ fn is_demanded(
     starts: &[u16; 65],
     marks: &[u8],
     k: Column,
-    v: u32,
+    v: Cell,
 ) -> bool
     requires { ⌜ InRange d × (512 ≤ length (now marks)) ⌝ }
     requires { ⌜ (now next ≡ nexts (databaseOf (d .rows) (now cells) (now tables)))
@@ -115,7 +116,7 @@ fn is_uniquely_seen(
     starts: &[u16; 65],
     marks: &[u8],
     k: Column,
-    v: u32,
+    v: Cell,
 ) -> bool
     requires { ⌜ (k .table < 8) × (k .place < 8) × (512 ≤ length (now marks)) ⌝ }
     requires { ⌜ (now next ≡ nexts (databaseOf (d .rows) (now cells) (now tables)))
@@ -153,14 +154,14 @@ pub fn ground(
     marks: &[u8],
     held: Held,
     k: Column,
-    v: u32,
+    v: Cell,
 ) -> u8
     requires { ⌜ InRange d × (512 ≤ length (now marks)) × (held .count ≤ 64) × (k .table < 8) × (k .place < 8)
         × ((i : ℕ) → heldAt held i .filling < 8) ⌝ }
     requires { ⌜ (now next ≡ nexts (databaseOf (d .rows) (now cells) (now tables)))
         × Directory (databaseOf (d .rows) (now cells) (now tables)) (now keys) (now heads) (now starts) ⌝ }
     ensures { λ g. ⌜ g ≡ Probe.probe (schemeOf d) (databaseOf (d .rows) (now (cells .entry)) (now (tables .entry)))
-        (heldIn (schemeOf d) (pairsOf held)) (marked (take 512 (now (marks .entry)))) (columnOf k) (cellOf v) ⌝ }
+        (heldIn (schemeOf d) (holdingOf held)) (marked (take 512 (now (marks .entry)))) (columnOf k) (cellOf v) ⌝ }
 {
     if is_held(d, held, k, v) {
         return 1;

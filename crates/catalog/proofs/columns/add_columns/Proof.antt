@@ -9,7 +9,7 @@ use Rattle.catalog.proofs.columns.add_columns.Statement.{statement}
 use Rattle.catalog.proofs.columns.add_columns.Tie as tie
 
 abbrev Inv-loop : tie.InvT-loop
-Inv-loop rows cells tables keys₀ heads₀ starts₀ next₀ m₀ n₀ keys heads starts next m n = (n ≤ 64) × Columns (databaseOf rows cells tables) rows n m keys heads starts next
+Inv-loop rows cells tables keys₀ heads₀ starts₀ next₀ m₀ n₀ keys heads starts next m n = (n ≤ 64) × Columns (databaseOf rows cells tables) n m keys heads starts next
 
 abbrev μ-loop : tie.MeasureT-loop
 μ-loop rows cells tables keys₀ heads₀ starts₀ next₀ m₀ n₀ keys heads starts next m n = 64 - n
@@ -18,7 +18,7 @@ element-write-starts : tie.Need-element-write-starts Inv-loop μ-loop
 element-write-starts c = omega arith
 
 loop-holds : tie.Need-loop-holds Inv-loop μ-loop
-loop-holds c = let b = c .before .before .pre .1 in (omega arith, columns-start _ _ _ _ (c .before .before .args .starts .now) _ (b .1) (b .2) (b .3) (b .4))
+loop-holds c = let b = c .before .before .pre .1 in (omega arith, columns-start _ _ _ (c .before .before .args .starts .now) _ (b .1) (b .2) (b .3) (b .4))
 
 cast-t15 : tie.Need-cast-t15 Inv-loop μ-loop
 cast-t15 c = omega arith
@@ -30,7 +30,7 @@ add-column-requires : tie.Need-add-column-requires Inv-loop μ-loop
 add-column-requires c κs =
     let s = c .before .before .before .before .before .before .before in
     let x = c .before .before .before .before .loop .inv .1 in
-    (s .pre .0, ((s .pre .1 .0, omega arith, x .keys-long, x .heads-long, x .next-long), columns-room _ _ _ _ _ _ _ _ x (c .before .before .before .loop-test .taken)))
+    (s .pre .0, ((s .pre .1 .0, omega arith, x .keys-long, x .heads-long, x .next-long), columns-room _ _ _ _ _ _ _ x (c .before .before .before .loop-test .taken)))
 
 cast-starts : tie.Need-cast-starts Inv-loop μ-loop
 cast-starts c = omega (arith, c .add-column .ensures .listed .bound)
@@ -51,10 +51,10 @@ loop-less : tie.Need-loop-less Inv-loop μ-loop
 loop-less c = omega arith
 
 loop-again : tie.Need-loop-again Inv-loop μ-loop
-loop-again c = (omega arith, columns-turn _ _ _ _ _ _ _ _ (c .before .before .before .before .before .loop .inv .1) (c .before .before .before .before .loop-test .taken) _ _ _ _ (c .add-column .ensures))
+loop-again c = (omega arith, columns-turn _ _ _ _ _ _ _ (c .before .before .before .before .before .loop .inv .1) (c .before .before .before .before .loop-test .taken) _ _ _ _ (c .add-column .ensures))
 
 returns : tie.Need-returns Inv-loop μ-loop
-returns c = (_, columns-end _ _ _ _ _ _ _ _ (c .before .loop .inv .0) (c .loop-test .left) (c .before .loop .inv .1))
+returns c = (_, columns-end _ _ _ _ _ _ _ (c .before .loop .inv .0) (c .loop-test .left) (c .before .loop .inv .1))
 
 pub add-columns-spec : {M : Type 1} → statement M
 add-columns-spec =

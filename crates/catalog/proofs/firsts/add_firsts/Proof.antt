@@ -5,12 +5,12 @@ use borrow.Author.Needs.{needs}
 use Rattle.finite.proofs.Stores.{Tabled, tabled-start, tabled-more, tabled-end}
 use Rattle.model.specs.Rounds.{leads}
 use Rattle.state.specs.Meaning.{constraintOf, databaseOf}
-use Rattle.catalog.specs.First.{firstFrom}
+use Rattle.finite.specs.Finite.{firstFrom}
 use Rattle.catalog.proofs.firsts.add_firsts.Statement.{statement}
 use Rattle.catalog.proofs.firsts.add_firsts.Tie as tie
 
 abbrev Inv-loop : tie.InvT-loop
-Inv-loop rows cells tables keys heads starts j i first₀ s₀ first s = (s ≤ 512) × Tabled (λ r. firstFrom (leads (databaseOf rows cells tables) (constraintOf j) r) 0) first₀ (512 * i) s first
+Inv-loop rows cells tables keys heads starts j i first₀ s₀ first s = (s ≤ 512) × Tabled (λ r. firstFrom 512 (leads (databaseOf rows cells tables) (constraintOf j) r) 0) first₀ (512 * i) s first
 
 abbrev μ-loop : tie.MeasureT-loop
 μ-loop rows cells tables keys heads starts j i first₀ s₀ first s = 512 - s

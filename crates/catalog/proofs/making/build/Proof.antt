@@ -11,14 +11,14 @@ settle-requires : tie.Need-settle-requires
 settle-requires c κs = search needs
 
 make-firsts-requires : tie.Need-make-firsts-requires
-make-firsts-requires c κs = (c .before .before .before .before .before .before .before .before .before .before .before .before .before .before .before .before .before .pre, columns-directory _ _ _ _ _ _ _ (c .before .before .before .before .before .before .add-columns .ensures .1))
+make-firsts-requires c κs = (c .before .before .before .before .before .before .before .before .before .before .before .before .before .before .before .before .before .pre, columns-directory _ _ _ _ _ _ (c .before .before .before .before .before .before .add-columns .ensures .1))
 
 returns : tie.Need-returns
 returns c =
     record {
       next-is = c .before .before .before .before .before .settle .ensures;
       first-is = c .make-firsts .ensures;
-      directory = columns-directory _ _ _ _ _ _ _ (c .before .before .before .before .before .before .before .add-columns .ensures .1);
+      directory = columns-directory _ _ _ _ _ _ (c .before .before .before .before .before .before .before .add-columns .ensures .1);
     }
 
 pub build-spec : {M : Type 1} → statement M

@@ -3,16 +3,15 @@ use Prim.Native.Nat.{_≤_, _-_}
 use native.Mathlib.Omega.{arith}
 use mathlib.Core.Path.{_≡_, refl, sym, _∙_}
 use borrow.Author.Needs.{needs}
-use Rattle.model.specs.Cell.{cellOf}
 use Rattle.model.specs.Database.{has}
-use Rattle.state.specs.Meaning.{columnOf, databaseOf}
-use Rattle.catalog.specs.First.{firstFrom}
-use Rattle.catalog.proofs.FirstLaws.{first-here, first-skip, first-end}
+use Rattle.state.specs.Meaning.{cellOf, columnOf, databaseOf}
+use Rattle.finite.specs.Finite.{firstFrom}
+use Rattle.finite.proofs.First.{first-here, first-skip, first-end}
 use Rattle.catalog.proofs.scanning.scan.Statement.{statement}
 use Rattle.catalog.proofs.scanning.scan.Tie as tie
 
 abbrev Inv-loop : tie.InvT-loop
-Inv-loop rows cells tables k v from r₀ r = (r ≤ 512) × (firstFrom (has (databaseOf rows cells tables) (columnOf k) (cellOf v)) r ≡ firstFrom (has (databaseOf rows cells tables) (columnOf k) (cellOf v)) from)
+Inv-loop rows cells tables k v from r₀ r = (r ≤ 512) × (firstFrom 512 (has (databaseOf rows cells tables) (columnOf k) (cellOf v)) r ≡ firstFrom 512 (has (databaseOf rows cells tables) (columnOf k) (cellOf v)) from)
 
 abbrev μ-loop : tie.MeasureT-loop
 μ-loop rows cells tables k v from r₀ r = 512 - r
@@ -26,7 +25,7 @@ row-has-requires c κs = search needs
 returns : tie.Need-returns Inv-loop μ-loop
 returns c =
     let i = c .before .before .before .loop .inv in
-    (sym (first-here _ _ (omega arith) (sym (c .before .row-has .ensures) ∙ c .if1 .taken)) ∙ i .1, omega arith)
+    (sym (first-here 512 _ _ (omega arith) (sym (c .before .row-has .ensures) ∙ c .if1 .taken)) ∙ i .1, omega arith)
 
 add-r : tie.Need-add-r Inv-loop μ-loop
 add-r c = omega arith
@@ -37,10 +36,10 @@ loop-less c = omega arith
 loop-again : tie.Need-loop-again Inv-loop μ-loop
 loop-again c =
     let i = c .before .before .before .loop .inv in
-    (omega arith, sym (first-skip _ _ (sym (c .before .row-has .ensures) ∙ c .if1 .left)) ∙ i .1)
+    (omega arith, sym (first-skip 512 _ _ (sym (c .before .row-has .ensures) ∙ c .if1 .left)) ∙ i .1)
 
 returns-2 : tie.Need-returns-2 Inv-loop μ-loop
-returns-2 c = (first-end _ _ (omega arith) (c .loop-test .left) ∙ c .before .loop .inv .1, omega arith)
+returns-2 c = (first-end 512 _ _ (omega arith) (c .loop-test .left) ∙ c .before .loop .inv .1, omega arith)
 
 pub scan-spec : {M : Type 1} → statement M
 scan-spec =

@@ -6,7 +6,7 @@ use Rattle.finite.proofs.Search.{any-start}
 use Rattle.model.specs.Rounds.{demands, leads}
 use Rattle.state.specs.Design.{constraintAt}
 use Rattle.state.specs.Meaning.{constraintOf, databaseOf, schemeOf}
-use Rattle.catalog.proofs.FirstLaws.{first-hit}
+use Rattle.catalog.proofs.HitLaws.{first-hit}
 use Rattle.load.specs.Queue.{Grown}
 use Rattle.load.specs.Walked.{Walked}
 use Rattle.load.proofs.AlongLaws.{along-leads, begins-leads}

@@ -5,11 +5,10 @@ use borrow.Author.Needs.{needs}
 use lib.ListN.{getD, length-replicate}
 use Rattle.finite.specs.Finite.{any}
 use Rattle.finite.proofs.Search.{any-start}
-use Rattle.model.specs.Cell.{cellOf}
 use Rattle.model.specs.Database.{has}
 use Rattle.state.specs.Design.{fillingAt}
 use Rattle.state.specs.Held.{noValue}
-use Rattle.state.specs.Meaning.{columnOf, databaseOf, schemeOf}
+use Rattle.state.specs.Meaning.{cellOf, columnOf, databaseOf, schemeOf}
 use Rattle.load.specs.Queue.{Grown}
 use Rattle.load.proofs.AlongLaws.{along-has, begins-has}
 use Rattle.load.proofs.QueueLaws.{grown-end, grown-start, grown-turn}

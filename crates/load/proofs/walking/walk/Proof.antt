@@ -3,7 +3,7 @@ use Prim.Native.Nat.{_-_}
 use native.Mathlib.Omega.{arith}
 use borrow.Author.Needs.{needs}
 use Rattle.state.specs.Meaning.{databaseOf}
-use Rattle.catalog.proofs.FirstLaws.{first-after}
+use Rattle.finite.proofs.First.{first-after}
 use Rattle.load.specs.Walked.{along}
 use Rattle.load.proofs.AlongLaws.{along-next, begins-first, next-fits}
 use Rattle.load.proofs.WalkLaws.{Walking, walk-end, walk-next, walk-start}
@@ -48,7 +48,7 @@ loop-less c =
     let p = h .before .before .before .before .pre in
     let t = h .loop-test .taken in
     let f = along-next _ _ _ _ (p .0) (p .1 .0 .0) _ t (h .before .loop .inv .stands .here t) in
-    omega (arith, first-after _ _ _ t f)
+    omega (arith, first-after 512 _ _ _ t f)
 
 loop-again : tie.Need-loop-again Inv-loop μ-loop
 loop-again c =

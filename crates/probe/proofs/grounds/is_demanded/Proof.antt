@@ -6,19 +6,19 @@ use mathlib.Core.Bool.{Bool, false, _&&_}
 use mathlib.Core.List.{List}
 use Rattle.finite.specs.Finite.{any}
 use Rattle.finite.proofs.Search.{any-start, any-more, any-hit, any-end}
-use Rattle.model.specs.Cell.{cellOf}
 use Rattle.model.specs.Probe.{seen, demanded}
 use Rattle.model.specs.Runs.{marked}
 use Rattle.model.specs.Scheme.{sameColumn}
+use Rattle.state.specs.declared.cell.Cell.{Cell}
 use Rattle.state.specs.declared.design.Design.{Design}
 use Rattle.state.specs.declared.design.Column.{Column}
 use Rattle.state.specs.Design.{constraintAt}
-use Rattle.state.specs.Meaning.{columnOf, constraintOf, schemeOf, databaseOf}
+use Rattle.state.specs.Meaning.{cellOf, columnOf, constraintOf, schemeOf, databaseOf}
 use Rattle.probe.proofs.grounds.is_demanded.Statement.{statement}
 use Rattle.probe.proofs.grounds.is_demanded.Tie as tie
 
 -- constraint i demands v in column k
-abbrev by : Design → List ℕ → List ℕ → List ℕ → Column → ℕ → ℕ → Bool
+abbrev by : Design → List ℕ → List ℕ → List ℕ → Column → Cell → ℕ → Bool
 by d cells tables marks k v i =
     sameColumn (constraintOf (constraintAt d i) .target) (columnOf k) &&
     seen (databaseOf (d .rows) cells tables) (marked marks) (constraintOf (constraintAt d i) .source) (cellOf v)

@@ -8,19 +8,19 @@ use borrow.Author.Needs.{needs}
 use lib.ListN.{getD}
 use Rattle.finite.specs.Finite.{any}
 use Rattle.finite.proofs.Search.{any-start, any-more, any-hit, any-end}
-use Rattle.model.specs.Cell.{cellOf}
+use Rattle.state.specs.declared.cell.Cell.{Cell}
 use Rattle.state.specs.declared.design.Design.{Design}
 use Rattle.state.specs.declared.design.Column.{Column}
 use Rattle.state.specs.declared.held.HeldValue.{HeldValue}
 use Rattle.state.specs.Held.{noValue}
-use Rattle.state.specs.Meaning.{columnOf, schemeOf, pairOf, pairsOf}
-use Rattle.probe.proofs.GroundLaws.{holds, held-any}
+use Rattle.state.specs.Meaning.{cellOf, columnOf, schemeOf, pairOf, pairsOf}
+use Rattle.probe.proofs.GroundLaws.{pairHolds, held-any}
 use Rattle.probe.proofs.held.is_held.Statement.{statement}
 use Rattle.probe.proofs.held.is_held.Tie as tie
 
 -- the held value at i is v, in column k
-abbrev at : Design → List HeldValue → Column → ℕ → ℕ → Bool
-at d values k v i = holds (schemeOf d) (columnOf k) (cellOf v) (pairOf (getD values i noValue))
+abbrev at : Design → List HeldValue → Column → Cell → ℕ → Bool
+at d values k v i = pairHolds (schemeOf d) (columnOf k) (cellOf v) (pairOf (getD values i noValue))
 
 abbrev Inv-loop : tie.InvT-loop
 Inv-loop d k v n values i₀ i = (i ≤ n) × (any i (at d values k v) ≡ false)
