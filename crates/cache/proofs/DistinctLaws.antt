@@ -21,9 +21,9 @@ use Rattle.state.specs.Meaning.{bit, schemeOf, databaseOf}
 use Rattle.state.specs.Lawful.{lawfulRows}
 use Rattle.lawful.specs.Parts.{rowsStand}
 use Rattle.lawful.proofs.RowsLaws.{cell-past, unique-says, stand-lawful}
-use Rattle.catalog.specs.First.{firstFrom}
+use Rattle.finite.specs.Finite.{firstFrom}
 use Rattle.catalog.specs.Catalog.{columnAt, nextOf, nexts}
-use Rattle.catalog.proofs.FirstLaws.{first-from}
+use Rattle.finite.proofs.First.{first-from}
 use Rattle.catalog.proofs.CatalogLaws.{next-at, next-has}
 use Rattle.cache.specs.Distinct.{linkedAt, distinct}
 
@@ -51,13 +51,13 @@ module _ (d : Design) (cells tables next : List ℕ) (n : next ≡ nexts (databa
   next-row r c l h = ⊎-elim there gone (dec (has D (columnAt D r c) (D .cell r c) r))
     where
       gone : has D (columnAt D r c) (D .cell r c) r ≡ false → Later r c
-      gone f = absurd (omega (arith, h, cond-false _ (firstFrom (has D (columnAt D r c) (D .cell r c)) (r + 1)) 512 f))
+      gone f = absurd (omega (arith, h, cond-false _ (firstFrom 512 (has D (columnAt D r c) (D .cell r c)) (r + 1)) 512 f))
 
       there : has D (columnAt D r c) (D .cell r c) r ≡ true → Later r c
       there t =
-          let s = firstFrom (has D (columnAt D r c) (D .cell r c)) (r + 1) in
+          let s = firstFrom 512 (has D (columnAt D r c) (D .cell r c)) (r + 1) in
           let e : nextOf D r c ≡ s = next-has D (columnAt D r c) (D .cell r c) r t in
-          let f = first-from (has D (columnAt D r c) (D .cell r c)) (r + 1) (omega arith) in
+          let f = first-from 512 (has D (columnAt D r c) (D .cell r c)) (r + 1) (omega arith) in
           (s, omega (arith, f .start), has-Has D _ _ r t, has-Has D _ _ s (f .here (omega (arith, e, h))))
 
   -- lawful rows have none
@@ -85,11 +85,11 @@ module _ (d : Design) (cells tables next : List ℕ) (n : next ≡ nexts (databa
         inside : ltb (k .place) 8 ≡ true → ⊥
         inside p =
             let l = row-low r (a .live) in
-            let f = first-from (has D k v) (r + 1) (omega arith) in
-            let e : nextOf D r (k .place) ≡ firstFrom (has D k v) (r + 1) = next-has D k v r (Has-has a) in
-            let m : firstFrom (has D k v) (r + 1) ≤ s = ⊎-elim (λ (w : ltb s (firstFrom (has D k v) (r + 1)) ≡ true).
-            clash (Has-has b) (f .none s (omega arith) (ltb-true _ _ w))) (λ (w : ltb s (firstFrom (has D k v) (r + 1)) ≡ false). ltb-false _ _ w)
-            (dec (ltb s (firstFrom (has D k v) (r + 1)))) in
+            let f = first-from 512 (has D k v) (r + 1) (omega arith) in
+            let e : nextOf D r (k .place) ≡ firstFrom 512 (has D k v) (r + 1) = next-has D k v r (Has-has a) in
+            let m : firstFrom 512 (has D k v) (r + 1) ≤ s = ⊎-elim (λ (w : ltb s (firstFrom 512 (has D k v) (r + 1)) ≡ true).
+            clash (Has-has b) (f .none s (omega arith) (ltb-true _ _ w))) (λ (w : ltb s (firstFrom 512 (has D k v) (r + 1)) ≡ false). ltb-false _ _ w)
+            (dec (ltb s (firstFrom 512 (has D k v) (r + 1)))) in
             let z = row-low s (b .live) in
             clash (any-true 8 (linkedAt (tableAt d (getD tables r 0) .unique) next r) (k .place) (ltb-true _ _ p)
             (linked-at r (k .place) l (ltb-true _ _ p) ∙

@@ -1,4 +1,4 @@
--- The held record and the list of pairs that it holds: each is found from the other, and what one more pair or one fewer does to both.
+-- The held record and what it holds: each is found from the other, and what one more pair or one fewer does to both.
 -- Assumes nothing.
 use Prim.Native.Nat.{ℕ, _+_, _-_, _≤_, _<_}
 use native.Mathlib.Decide.{decLt}
@@ -8,25 +8,22 @@ use mathlib.Core.Path.{_≡_, refl, sym, ap, ap₂, _∙_}
 use mathlib.Core.Logic.{⊎-elim}
 use mathlib.Core.Bool.{Bool, true, false, cond}
 use mathlib.Core.List.{List, [], _∷_, _++_}
-use borrow.Author.Tests.{le-ltb}
+use borrow.Author.Tests.{lt-ltb, le-ltb}
 use lib.Dec.{ltb}
 use lib.ListN.{length, getD, set, length-set, List·getD-eq-default}
 use lib.Seq.{getD-set-same, getD-set-other}
 use Rattle.finite.specs.Finite.{tab}
+use Rattle.finite.specs.Sameness.{placeOf}
 use Rattle.finite.proofs.Bools.{same-number, cond-false}
+use Rattle.finite.proofs.Sameness.{listed-place, end-length, end-before, end-last, end-past, skip, skip-behind, remove-length, remove-at}
 use Rattle.finite.proofs.Tables.{length-tab, tab-at, tab-of, Upto, upto-set, upto-end}
-use Rattle.model.specs.Runs.{Pair, listed, remove}
+use Rattle.model.specs.Holding.{Pair, samePair, Holding, holds, withPair, withoutPair}
+use Rattle.model.proofs.HoldingLaws.{noPair, pairAt}
 use Rattle.state.specs.declared.held.HeldValue.{HeldValue}
 use Rattle.state.specs.declared.held.Held.{Held}
-use Rattle.state.specs.Held.{noValue, heldAt}
-use Rattle.state.specs.Meaning.{pairOf, pairsOf, heldOf}
-use Rattle.lawful.proofs.HeldLaws.{pairAt}
-use Rattle.cache.specs.Places.{Tidy, placeOf, keptAt, without}
-use Rattle.cache.proofs.Pairs.{noPair, listed-place, end-length, end-before, end-last, end-past, skip, skip-behind, remove-none, remove-length, remove-at}
-
--- the value that stands for a pair
-abbrev pub valueOf : Pair → HeldValue
-valueOf p = record { filling = p .filling; value = p .value .number }
+use Rattle.state.specs.Held.{noValue, heldAt, Tidy}
+use Rattle.state.specs.Meaning.{pairOf, pairBack, pairsOf, holdingOf, heldOf}
+use Rattle.cache.specs.Places.{keptAt, without}
 
 -- ---- the pairs of a record
 
@@ -34,16 +31,22 @@ pub pairs-length : (h : Held) → length (pairsOf h) ≡ h .count
 unfolding pairsOf
 pairs-length h = length-tab (h .count) _
 
-pub pairs-at : (h : Held) (i : ℕ) → i < h .count → pairAt (pairsOf h) i ≡ pairOf (heldAt h i)
+pairs-at : (h : Held) (i : ℕ) → i < h .count → pairAt (pairsOf h) i ≡ pairOf (heldAt h i)
 unfolding pairsOf
 pairs-at h i l = tab-at noPair (h .count) (λ j. pairOf (heldAt h j)) i l
 
 -- a pair is held if its place is one of the record's
-pub listed-is : (h : Held) (p : Pair) (at : ℕ) → at ≡ placeOf p (pairsOf h) → ltb at (h .count) ≡ listed p (pairsOf h)
-listed-is h p at e = ap₂ ltb e (sym (pairs-length h)) ∙ listed-place p (pairsOf h)
+pub listed-is : (h : Held) (p : Pair) (at : ℕ) → at ≡ placeOf samePair p (pairsOf h) → ltb at (h .count) ≡ holds (holdingOf h) p
+listed-is h p at e = ap₂ ltb e (sym (pairs-length h)) ∙ listed-place samePair noPair p (pairsOf h)
 
--- with unused places 0, that holds of every place
-pub pairs-all : (h : Held) → Tidy h → length (h .values) ≡ 64 → (i : ℕ) → pairAt (pairsOf h) i ≡ pairOf (heldAt h i)
+pub held-there : (h : Held) (p : Pair) (at : ℕ) → at ≡ placeOf samePair p (pairsOf h) → at < h .count → holds (holdingOf h) p ≡ true
+held-there h p at e l = sym (listed-is h p at e) ∙ lt-ltb at (h .count) l
+
+pub held-nowhere : (h : Held) (p : Pair) (at : ℕ) → at ≡ placeOf samePair p (pairsOf h) → h .count ≤ at → holds (holdingOf h) p ≡ false
+held-nowhere h p at e l = sym (listed-is h p at e) ∙ le-ltb at (h .count) l
+
+-- with unused places 0, what a place holds is known of every place
+pairs-all : (h : Held) → Tidy h → length (h .values) ≡ 64 → (i : ℕ) → pairAt (pairsOf h) i ≡ pairOf (heldAt h i)
 pairs-all h t l i = go (decLt i (h .count)) (decLt i 64)
   where
     go : Dec (i < h .count) → Dec (i < 64) → pairAt (pairsOf h) i ≡ pairOf (heldAt h i)
@@ -52,28 +55,19 @@ pairs-all h t l i = go (decLt i (h .count)) (decLt i 64)
     go (no k) (no m) = List·getD-eq-default (pairsOf h) noPair (omega (arith, pairs-length h)) ∙
         ap pairOf (sym (List·getD-eq-default (h .values) noValue (omega arith)))
 
--- ---- the record of a list of pairs
+-- ---- a record with this count and these values holds this
 
-pub held-at : (ps : List Pair) (i : ℕ) → i < 64 → heldAt (heldOf ps) i ≡ valueOf (pairAt ps i)
+held-is : (h : Held) (g : Holding) → h .count ≡ length (g .pairs) → length (h .values) ≡ 64 →
+    ((i : ℕ) → i < 64 → heldAt h i ≡ pairBack (pairAt (g .pairs) i)) → h ≡ heldOf g
 unfolding heldOf
-held-at ps i l = tab-at noValue 64 (λ j. valueOf (pairAt ps j)) i l
-
--- a record with this count and these values
-pub held-is : (h : Held) (ps : List Pair) → h .count ≡ length ps → length (h .values) ≡ 64 → ((i : ℕ) → i < 64 → heldAt h i ≡ valueOf (pairAt ps i)) →
-    h ≡ heldOf ps
-unfolding heldOf
-held-is h ps n l at = λ i. record { count = n i; values = tab-of noValue 64 (λ j. valueOf (pairAt ps j)) (h .values) l at i }
-
--- a record whose unused places are 0 is read back
-pub record-back : (h : Held) → Tidy h → length (h .values) ≡ 64 → heldOf (pairsOf h) ≡ h
-record-back h t l = sym (held-is h (pairsOf h) (sym (pairs-length h)) l (λ i k. ap valueOf (sym (pairs-all h t l i))))
+held-is h g n l at = λ i. record { count = n i; values = tab-of noValue 64 (λ j. pairBack (pairAt (g .pairs) j)) (h .values) l at i }
 
 -- ---- one more
 
 module _ (h : Held) (t : Tidy h) (room : h .count < 64) (l : length (h .values) ≡ 64) (v : HeldValue) where
-  ends : (i : ℕ) → i < 64 → getD (set (h .values) (h .count) v) i noValue ≡ valueOf (pairAt (pairsOf h ++ (pairOf v ∷ [])) i)
+  ends : (i : ℕ) → i < 64 → getD (set (h .values) (h .count) v) i noValue ≡ pairBack (pairAt (pairsOf h ++ (pairOf v ∷ [])) i)
   ends i k = ⊎-elim
-      (λ (e : i ≡ h .count). rw e (getD-set-same (h .values) (h .count) v noValue (omega arith)) ∙ ap valueOf (sym (end-last (pairsOf h) (pairOf v) i (e ∙
+      (λ (e : i ≡ h .count). rw e (getD-set-same (h .values) (h .count) v noValue (omega arith)) ∙ ap pairBack (sym (end-last samePair noPair (pairsOf h) (pairOf v) i (e ∙
       sym (pairs-length h)))))
       (λ (ne : i ≡ h .count → ⊥). getD-set-other (h .values) (h .count) i v noValue ne ∙ other ne (decLt i (h .count)))
       (same-number i (h .count))
@@ -81,18 +75,19 @@ module _ (h : Held) (t : Tidy h) (room : h .count < 64) (l : length (h .values) 
       above : (i ≡ h .count → ⊥) → h .count ≤ i → h .count < i
       above ne m = ⊎-elim (λ (e : h .count ≡ i). absurd (ne (sym e))) (λ (b : h .count < i). b) (eq-or-lt-of-le m)
 
-      other : (i ≡ h .count → ⊥) → Dec (i < h .count) → heldAt h i ≡ valueOf (pairAt (pairsOf h ++ (pairOf v ∷ [])) i)
-      other ne (yes b) = ap valueOf (sym (end-before (pairsOf h) (pairOf v) i (omega (arith, pairs-length h)) ∙ pairs-at h i b))
-      other ne (no b) = t .unused i (omega arith) k ∙ ap valueOf (sym (end-past (pairsOf h) (pairOf v) i (omega (
+      other : (i ≡ h .count → ⊥) → Dec (i < h .count) → heldAt h i ≡ pairBack (pairAt (pairsOf h ++ (pairOf v ∷ [])) i)
+      other ne (yes b) = ap pairBack (sym (end-before samePair noPair (pairsOf h) (pairOf v) i (omega (arith, pairs-length h)) ∙ pairs-at h i b))
+      other ne (no b) = t .unused i (omega arith) k ∙ ap pairBack (sym (end-past samePair noPair (pairsOf h) (pairOf v) i (omega (
         arith,
         pairs-length h,
         above ne
             (omega arith),
       ))))
 
-  pub append-is : _≡_ {A = Held} (record { count = h .count + 1; values = set (h .values) (h .count) v }) (heldOf (pairsOf h ++ (pairOf v ∷ [])))
-  append-is = held-is _ (pairsOf h ++ (pairOf v ∷ [])) (omega (arith, pairs-length h, end-length (pairsOf h) (pairOf v))) (length-set (h .values)
-      (h .count) v ∙ l) ends
+  pub append-is : _≡_ {A = Held} (record { count = h .count + 1; values = set (h .values) (h .count) v }) (heldOf (withPair (holdingOf h) (pairOf v)))
+  append-is =
+      held-is _ (withPair (holdingOf h) (pairOf v)) (omega (arith, pairs-length h, end-length samePair noPair (pairsOf h) (pairOf v)))
+      (length-set (h .values) (h .count) v ∙ l) ends
 
 -- ---- one fewer
 
@@ -123,17 +118,14 @@ pub closed-is : (h : Held) (gap : ℕ) (values : List HeldValue) → values ≡ 
 unfolding without
 closed-is h gap values e = λ i. record { count = h .count - 1; values = e i }
 
-module _ (h : Held) (t : Tidy h) (l : length (h .values) ≡ 64) (p : Pair) (at : ℕ) (e : at ≡ placeOf p (pairsOf h)) where
-  -- the pair is at a place of the record: the value goes and the gap closes
-  pub without-is : at < h .count → without h at ≡ heldOf (remove p (pairsOf h))
-  unfolding without
-  without-is inside =
-      held-is _ (remove p (pairsOf h)) (omega (arith, remove-length p (pairsOf h) inside′, pairs-length h)) (length-tab 64 _)
-      (λ i k. tab-at noValue 64 (keptAt h at) i k ∙ ap valueOf (sym (remove-at p (pairsOf h) inside′ i ∙ rw (← e) (pairs-all h t l (skip at i)))))
-    where
-      inside′ : placeOf p (pairsOf h) < length (pairsOf h)
-      inside′ = omega (arith, pairs-length h)
-
-  -- it is at none: the record stays
-  pub stays-is : h .count ≤ at → h ≡ heldOf (remove p (pairsOf h))
-  stays-is past = sym (ap heldOf (remove-none p (pairsOf h) (omega (arith, pairs-length h))) ∙ record-back h t l)
+-- the pair is at a place of the record: the value goes and the gap closes
+pub without-is : (h : Held) → Tidy h → length (h .values) ≡ 64 → (p : Pair) (at : ℕ) → at ≡ placeOf samePair p (pairsOf h) → at < h .count →
+    without h at ≡ heldOf (withoutPair (holdingOf h) p)
+unfolding without
+without-is h t l p at e inside =
+    held-is _ (withoutPair (holdingOf h) p) (omega (arith, remove-length samePair noPair p (pairsOf h) inside′, pairs-length h)) (length-tab 64 _)
+    (λ i k. tab-at noValue 64 (keptAt h at) i k ∙
+    ap pairBack (sym (remove-at samePair noPair p (pairsOf h) inside′ i ∙ rw (← e) (pairs-all h t l (skip at i)))))
+  where
+    inside′ : placeOf samePair p (pairsOf h) < length (pairsOf h)
+    inside′ = omega (arith, pairs-length h)

@@ -1,18 +1,12 @@
--- Pairs: where a pair stands in a list, and the list without it. HeldRecord: the record and the pairs that it holds.
--- LoadLaws: the levels of a load over lent rows. PairsFit, Fresh, SoundState: what holds of the pairs, the marks and the state that an operation leaves.
--- Covered: why a drop adds no row. DistinctLaws: when rows have no value twice in a unique column.
-pub mod Pairs
+-- HeldRecord: the record and what it holds. LoadLaws: the levels of a load over lent rows. Covered: why a drop adds no row.
+-- DistinctLaws: when rows have no value twice in a unique column. Answering: the answers along the order of causes. Steps, ProbeSteps: what the
+-- code's tests say of the answer and of the state afterwards. ThinForm, Thin: the wrappers over a record that is lent.
 pub mod HeldRecord
-pub mod PairsFit
 pub mod LoadLaws
-pub mod Fresh
-pub mod SoundState
 pub mod Covered
 pub mod DistinctLaws
-pub mod Asked
 pub mod Answering
 pub mod Steps
 pub mod ProbeSteps
-pub mod Local
+pub mod ThinForm
 pub mod Thin
-pub mod Owned

@@ -13,16 +13,17 @@ use Rattle.finite.proofs.Counting.{count-le, count-same}
 use Rattle.finite.proofs.Tables.{tab-same}
 use Rattle.model.specs.Answers as Answers
 use Rattle.model.specs.Cache.{RowSet, Inside}
-use Rattle.model.specs.Cell.{cellOf}
 use Rattle.model.specs.Scheme.{Scheme}
 use Rattle.model.specs.Database.{Database, has}
 use Rattle.model.specs.Rounds.{reached, load, addedRows, laterRounds}
-use Rattle.model.specs.Runs.{wanted, marks, marked, reloadLevels}
+use Rattle.model.specs.Holding.{wanted}
+use Rattle.model.specs.Runs.{marks, marked, reloadLevels}
 use Rattle.model.proofs.RoundsLaws.{levels-length}
+use Rattle.state.specs.declared.cell.Cell.{Cell}
 use Rattle.state.specs.declared.design.Column.{Column}
 use Rattle.state.specs.declared.design.Design.{Design}
 use Rattle.state.specs.declared.held.Held.{Held}
-use Rattle.state.specs.Meaning.{columnOf, schemeOf, databaseOf, pairsOf}
+use Rattle.state.specs.Meaning.{cellOf, columnOf, schemeOf, databaseOf, holdingOf}
 use Rattle.state.specs.Lawful.{lawfulMarks}
 use Rattle.load.specs.Ended.{Covers, Within, Reaches}
 use Rattle.load.proofs.EndedLaws.{load-covered}
@@ -57,12 +58,12 @@ within-all S D seed =
 module _ (d : Design) (cells tables : List ℕ) where
   -- ---- a load of one value more
 
-  pub value-is : (m : List ℕ) (k : Column) (v : ℕ) (K : List ℕ) →
+  pub value-is : (m : List ℕ) (k : Column) (v : Cell) (K : List ℕ) →
       K ≡ load (schemeOf d) (rowsOf d cells tables) (marked m) (has (rowsOf d cells tables) (columnOf k) (cellOf v)) → K ≡ valueLevels d cells tables m k v
   unfolding valueLevels
   value-is m k v K e = e
 
-  pub value-long : (m : List ℕ) (k : Column) (v : ℕ) (K : List ℕ) →
+  pub value-long : (m : List ℕ) (k : Column) (v : Cell) (K : List ℕ) →
       K ≡ load (schemeOf d) (rowsOf d cells tables) (marked m) (has (rowsOf d cells tables) (columnOf k) (cellOf v)) → length K ≡ 512
   unfolding load databaseOf
   value-long m k v K e = ap length e ∙ levels-length (schemeOf d) (rowsOf d cells tables) _ _ 512
@@ -87,7 +88,7 @@ module _ (d : Design) (cells tables : List ℕ) where
 
   -- ---- the load of all held values
 
-  module _ (h : Held) (K : List ℕ) (rows : ℕ) (u : Reaches K (reloadLevels (schemeOf d) (rowsOf d cells tables) (pairsOf h)) rows) where
+  module _ (h : Held) (K : List ℕ) (rows : ℕ) (u : Reaches K (reloadLevels (schemeOf d) (rowsOf d cells tables) (holdingOf h)) rows) where
     pub held-same : (r : ℕ) → r < 512 → reached K r ≡ reached (heldLevels d cells tables h) r
     unfolding heldLevels
     held-same = u .same
@@ -97,7 +98,7 @@ module _ (d : Design) (cells tables : List ℕ) where
     agree-is m = all-same 512 _ _ (λ r l. ap (λ (b : Bool). eqb (getD m r 0) (cond b 1 0)) (u .same r l))
 
     module _ (m : List ℕ) (cached : ℕ) (e : cached ≡ count 512 (marked m)) (c : Covers (schemeOf d) (rowsOf d cells tables) (wanted (schemeOf d)
-        (rowsOf d cells tables) (pairsOf h)) (marked m)) where
+        (rowsOf d cells tables) (holdingOf h)) (marked m)) where
       all-marked : Inside (reached (heldLevels d cells tables h)) (marked m)
       unfolding heldLevels reloadLevels
       all-marked = load-covered (schemeOf d) (rowsOf d cells tables) _ (marked m) c

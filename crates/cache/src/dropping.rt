@@ -2,17 +2,18 @@
 ghost use mathlib.Core.Bool.{true};
 ghost use mathlib.Core.Path.{_≡_};
 ghost use Rattle.model.specs.Runs as Runs;
-ghost use Rattle.state.specs.Step.{lent, sound};
+ghost use Rattle.state.specs.Meaning.{pairOf, answerOf};
+ghost use Rattle.state.specs.Lent.{lent, sound, Answered};
 ghost use Rattle.catalog.specs.Catalog.{Catalogued};
-ghost use Rattle.cache.specs.Places.{pair};
-ghost use Rattle.cache.specs.Stepped.{SoundStep};
 use crate::loads::mark_held;
 use crate::outcome::Outcome;
-use crate::values::listed;
-use crate::values::removed;
+use crate::values::closed;
+use crate::values::place;
 use state::Answer;
 use state::Design;
 use state::Held;
+use state::HeldValue;
+use state::is_blank;
 
 // Lets the value go, and the cached rows become the smallest set for the values left. One look at each held value, then one reload: a
 // step for each row that is reached and each constraint.
@@ -27,28 +28,29 @@ pub fn drop_lawful(
     starts: &[u16; 65],
     marks: &mut [u8],
     held: Held,
-    filling: u8,
-    value: u32,
+    v: HeldValue,
 ) -> Outcome
     requires { ⌜ (sound (lent design (now cells) (now tables) (now marks) held) ≡ true)
         × Catalogued design (now cells) (now tables) (now next) (now first) (now keys) (now heads) (now starts) ⌝ }
-    ensures { λ o. ⌜ SoundStep (lent design (now (cells .entry)) (now (tables .entry)) (now (marks .entry)) held)
-        (Runs.drop (pair filling value)) o (now (marks .exit)) ⌝ }
+    ensures { λ o. ⌜ Answered (lent design (now (cells .entry)) (now (tables .entry)) (now (marks .entry)) held)
+        (Runs.drop (pairOf v)) (answerOf (o .answer))
+        (lent design (now (cells .entry)) (now (tables .entry)) (now (marks .exit)) (o .held)) ⌝ }
 {
-    let f = filling as usize;
+    let f = v.filling as usize;
     if design.fillings <= f {
         let answer = Answer::Refused(5);
         return Outcome { held, answer };
     }
-    if value == 0 {
+    if is_blank(v.value) {
         let answer = Answer::Refused(9);
         return Outcome { held, answer };
     }
-    if !listed(held, filling, value) {
+    let gap = place(held, v);
+    if held.count <= gap {
         let answer = Answer::Refused(10);
         return Outcome { held, answer };
     }
-    let fewer = removed(held, filling, value);
+    let fewer = closed(held, gap);
     let answer = mark_held(
         design,
         cells,

@@ -1,9 +1,8 @@
-// The operations REFER, DROP and PROBE for whatever is lent, and the test for cause 12.
+// REFER, DROP and PROBE over a sound state, and the test for causes 7 and 12 that stands before them.
 mod distinct;
 mod dropping;
 mod lending;
 mod loads;
-mod operations;
 mod outcome;
 mod probing;
 mod referring;
@@ -12,15 +11,8 @@ mod values;
 
 pub use dropping::drop_lawful;
 pub use lending::drop;
-pub use lending::drop_held;
 pub use lending::refer;
-pub use lending::refer_held;
-pub use operations::dropped;
-pub use operations::probed;
-pub use operations::referred;
 pub use outcome::Outcome;
 pub use probing::probe_lawful;
 pub use referring::refer_lawful;
-pub use tests::is_lawful;
-pub use tests::is_lawful_catalog;
-pub use tests::is_long_enough;
+pub use tests::cause;

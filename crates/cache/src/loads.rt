@@ -4,10 +4,11 @@ ghost use mathlib.Core.Path.{_≡_};
 ghost use lib.ListN.{length};
 ghost use Rattle.model.specs.Answers as Answers;
 ghost use Rattle.model.specs.Rounds.{addedRows, laterRounds};
-ghost use Rattle.model.specs.Runs.{marked, wanted};
+ghost use Rattle.model.specs.Holding.{wanted};
+ghost use Rattle.model.specs.Runs.{marked};
 ghost use Rattle.state.specs.Design.{InRange};
 ghost use Rattle.state.specs.Held.{heldAt};
-ghost use Rattle.state.specs.Meaning.{answerOf, schemeOf, pairsOf};
+ghost use Rattle.state.specs.Meaning.{answerOf, schemeOf, holdingOf};
 ghost use Rattle.catalog.specs.Catalog.{Catalogued};
 ghost use Rattle.load.specs.Ended.{Covers};
 ghost use Rattle.cache.specs.Loads.{rowsOf, valueLevels, heldLevels, settled, goneRows};
@@ -16,6 +17,7 @@ use load::load_value;
 use load::rows_marked;
 use load::settle;
 use state::Answer;
+use state::Cell;
 use state::Column;
 use state::Design;
 use state::Held;
@@ -33,7 +35,7 @@ pub(crate) fn mark_value(
     starts: &[u16; 65],
     marks: &mut [u8],
     column: Column,
-    value: u32,
+    value: Cell,
 ) -> Answer
     requires { ⌜ InRange design × (512 ≤ length (now marks)) × (column .table < 8) × (column .place < 8) ⌝ }
     requires { ⌜ Catalogued design (now cells) (now tables) (now next) (now first) (now keys) (now heads) (now starts) ⌝ }
@@ -82,7 +84,7 @@ pub(crate) fn mark_held(
     requires { ⌜ InRange design × (512 ≤ length (now marks)) × (held .count ≤ 64) × ((i : ℕ) → heldAt held i .filling < 8) ⌝ }
     requires { ⌜ Catalogued design (now cells) (now tables) (now next) (now first) (now keys) (now heads) (now starts) ⌝ }
     requires { ⌜ Covers (schemeOf design) (rowsOf design (now cells) (now tables))
-        (wanted (schemeOf design) (rowsOf design (now cells) (now tables)) (pairsOf held)) (marked (now marks)) ⌝ }
+        (wanted (schemeOf design) (rowsOf design (now cells) (now tables)) (holdingOf held)) (marked (now marks)) ⌝ }
     ensures { λ a. ⌜ (answerOf a ≡ Answers.dropped (goneRows (rowsOf design (now (cells .entry)) (now (tables .entry)))
         (heldLevels design (now (cells .entry)) (now (tables .entry)) held) (now (marks .entry))))
         × (now (marks .exit) ≡ settled (rowsOf design (now (cells .entry)) (now (tables .entry)))

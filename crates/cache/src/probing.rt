@@ -1,17 +1,18 @@
 // PROBE over a sound state.
 ghost use mathlib.Core.Bool.{true};
 ghost use mathlib.Core.Path.{_≡_};
-ghost use Rattle.model.specs.Cell.{cellOf};
 ghost use Rattle.model.specs.Runs as Runs;
-ghost use Rattle.state.specs.Meaning.{answerOf, databaseOf};
-ghost use Rattle.state.specs.Step.{lent, sound, answerAt};
+ghost use Rattle.state.specs.Meaning.{answerOf, cellOf, columnOf, databaseOf};
+ghost use Rattle.state.specs.Lent.{lent, sound, answerAt};
 ghost use Rattle.catalog.specs.Catalog.{nexts, Directory};
 use lawful::is_column;
 use probe::ground;
 use state::Answer;
+use state::Cell;
 use state::Column;
 use state::Design;
 use state::Held;
+use state::is_blank;
 
 // A yes is the lowest ground. Held values, and a look for the value for each constraint that ends at the column and once more if it
 // is unique.
@@ -25,24 +26,19 @@ pub fn probe_lawful(
     starts: &[u16; 65],
     marks: &[u8],
     held: Held,
-    table: u8,
-    column: u8,
-    value: u32,
+    k: Column,
+    v: Cell,
 ) -> Answer
     requires { ⌜ sound (lent design (now cells) (now tables) (now marks) held) ≡ true ⌝ }
     requires { ⌜ (now next ≡ nexts (databaseOf (design .rows) (now cells) (now tables)))
         × Directory (databaseOf (design .rows) (now cells) (now tables)) (now keys) (now heads) (now starts) ⌝ }
     ensures { λ a. ⌜ answerOf a ≡ answerAt (lent design (now (cells .entry)) (now (tables .entry)) (now (marks .entry)) held)
-        (Runs.probe (record { table = table; place = column }) (cellOf value)) ⌝ }
+        (Runs.ask (Runs.probe (columnOf k) (cellOf v))) ⌝ }
 {
-    let k = Column {
-        table: table,
-        place: column,
-    };
     if !is_column(design, k) {
         return Answer::Refused(5);
     }
-    if value == 0 {
+    if is_blank(v) {
         return Answer::Refused(9);
     }
     let g = ground(
@@ -56,7 +52,7 @@ pub fn probe_lawful(
         marks,
         held,
         k,
-        value,
+        v,
     );
     if g == 0 {
         return Answer::Sent;

@@ -2,10 +2,9 @@
 ghost use mathlib.Core.Bool.{true};
 ghost use mathlib.Core.Path.{_≡_};
 ghost use Rattle.model.specs.Runs as Runs;
-ghost use Rattle.state.specs.Step.{lent, sound};
+ghost use Rattle.state.specs.Meaning.{pairOf, answerOf};
+ghost use Rattle.state.specs.Lent.{lent, sound, Answered};
 ghost use Rattle.catalog.specs.Catalog.{Catalogued};
-ghost use Rattle.cache.specs.Places.{pair};
-ghost use Rattle.cache.specs.Stepped.{SoundStep};
 use crate::loads::mark_value;
 use crate::outcome::Outcome;
 use crate::values::appended;
@@ -14,6 +13,8 @@ use lawful::is_candidate;
 use state::Answer;
 use state::Design;
 use state::Held;
+use state::HeldValue;
+use state::is_blank;
 
 // Holds the value from now on and loads it, unless it is refused, no candidate, or held already. One look at each held value, then one load:
 // a step for each row that is added and each constraint.
@@ -28,29 +29,29 @@ pub fn refer_lawful(
     starts: &[u16; 65],
     marks: &mut [u8],
     held: Held,
-    filling: u8,
-    value: u32,
+    v: HeldValue,
 ) -> Outcome
     requires { ⌜ (sound (lent design (now cells) (now tables) (now marks) held) ≡ true)
         × Catalogued design (now cells) (now tables) (now next) (now first) (now keys) (now heads) (now starts) ⌝ }
-    ensures { λ o. ⌜ SoundStep (lent design (now (cells .entry)) (now (tables .entry)) (now (marks .entry)) held)
-        (Runs.refer (pair filling value)) o (now (marks .exit)) ⌝ }
+    ensures { λ o. ⌜ Answered (lent design (now (cells .entry)) (now (tables .entry)) (now (marks .entry)) held)
+        (Runs.refer (pairOf v)) (answerOf (o .answer))
+        (lent design (now (cells .entry)) (now (tables .entry)) (now (marks .exit)) (o .held)) ⌝ }
 {
-    let f = filling as usize;
+    let f = v.filling as usize;
     if design.fillings <= f {
         let answer = Answer::Refused(5);
         return Outcome { held, answer };
     }
-    if value == 0 {
+    if is_blank(v.value) {
         let answer = Answer::Refused(9);
         return Outcome { held, answer };
     }
     let candidates = design.filling[f];
-    if !is_candidate(candidates, value) {
+    if !is_candidate(candidates, v.value) {
         let answer = Answer::NoCandidate;
         return Outcome { held, answer };
     }
-    if listed(held, filling, value) {
+    if listed(held, v) {
         let answer = Answer::Held;
         return Outcome { held, answer };
     }
@@ -70,9 +71,9 @@ pub fn refer_lawful(
         starts,
         marks,
         column,
-        value,
+        v.value,
     );
-    let more = appended(held, filling, value);
+    let more = appended(held, v);
     Outcome {
         held: more,
         answer: answer,

@@ -6,7 +6,7 @@ ghost use lib.ListN.{length};
 ghost use Rattle.state.specs.declared.design.Design.{Design};
 ghost use Rattle.state.specs.declared.held.Held.{Held};
 ghost use Rattle.state.specs.Design.{Backed};
-ghost use Rattle.state.specs.Step.{lent, longEnough, lawful};
+ghost use Rattle.state.specs.Lent.{lent, longEnough, lawful, causeAt};
 ghost use Rattle.catalog.specs.Catalog.{Catalogued};
 use crate::distinct::is_distinct;
 use catalog::build;
@@ -19,7 +19,7 @@ use state::Design;
 use state::Held;
 
 // Whether the buffers have room for 512 rows. Constant time.
-pub fn is_long_enough(cells: &[u32], tables: &[u8], marks: &[u8]) -> bool
+fn is_long_enough(cells: &[u32], tables: &[u8], marks: &[u8]) -> bool
     ensures { λ b. ⌜ ((d : Design) (h : Held) → b ≡ longEnough (lent d (now (cells .entry)) (now (tables .entry)) (now (marks .entry)) h)) ⌝ }
 {
     if cells.len() < Design::CELLS {
@@ -33,7 +33,7 @@ pub fn is_long_enough(cells: &[u32], tables: &[u8], marks: &[u8]) -> bool
 
 // Whether cause 12 does not apply; where it does not, the arrays have the catalog of the rows then, whatever stood there. One look at the design, at each
 // cell and at each held value, then the catalog, off which it is read whether unique columns have a value twice, and one load of all held values.
-pub fn is_lawful_catalog(
+fn is_lawful_catalog(
     design: Design,
     cells: &[u32],
     tables: &[u8],
@@ -80,26 +80,40 @@ pub fn is_lawful_catalog(
     marks_agree(marks, &levels)
 }
 
-// Whether cause 12 does not apply. The cost of `is_lawful_catalog`.
-pub fn is_lawful(design: Design, cells: &[u32], tables: &[u8], marks: &[u8], held: Held) -> bool
-    requires { ⌜ Backed (now cells) (now tables) × (512 ≤ length (now marks)) ⌝ }
-    ensures { λ b. ⌜ b ≡ lawful (lent design (now (cells .entry)) (now (tables .entry)) (now (marks .entry)) held) ⌝ }
+// Cause 7 or 12, whichever keeps the lent state from being worked on, and 0 if neither applies; then the arrays have the catalog of the rows. The cost of
+// `is_lawful_catalog`.
+pub fn cause(
+    design: Design,
+    cells: &[u32],
+    tables: &[u8],
+    next: &mut [u16; 4096],
+    first: &mut [u16; 8192],
+    keys: &mut [u32; 4096],
+    heads: &mut [u16; 4096],
+    starts: &mut [u16; 65],
+    marks: &[u8],
+    held: Held,
+) -> u8
+    ensures { λ c. ⌜ (c ≡ causeAt (lent design (now (cells .entry)) (now (tables .entry)) (now (marks .entry)) held))
+        × (c ≡ 0 → Catalogued design (now (cells .entry)) (now (tables .entry)) (now (next .exit)) (now (first .exit)) (now (keys .exit))
+        (now (heads .exit)) (now (starts .exit))) ⌝ }
 {
-    let mut next = [512u16; 4096];
-    let mut first = [512u16; 8192];
-    let mut keys = [0u32; 4096];
-    let mut heads = [512u16; 4096];
-    let mut starts = [0u16; 65];
-    is_lawful_catalog(
+    if !is_long_enough(cells, tables, marks) {
+        return 7;
+    }
+    if !is_lawful_catalog(
         design,
         cells,
         tables,
-        &mut next,
-        &mut first,
-        &mut keys,
-        &mut heads,
-        &mut starts,
+        next,
+        first,
+        keys,
+        heads,
+        starts,
         marks,
         held,
-    )
+    ) {
+        return 12;
+    }
+    0
 }

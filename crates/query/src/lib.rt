@@ -13,7 +13,4 @@ mod ways;
 
 pub use listing::list_fitting;
 pub use operands::operands_fit;
-pub use operations::query;
 pub use operations::query_lawful;
-pub use plan::Join;
-pub use plan::Query;

@@ -1,20 +1,18 @@
-// The operation QUERY: in a state known to be lawful, and for whatever is lent.
+// The operation QUERY.
 ghost use mathlib.Core.Path.{_≡_};
 ghost use mathlib.Core.Bool.{true};
-ghost use Rattle.state.specs.Meaning.{answerOf};
-ghost use Rattle.state.specs.Step.{lent, sound};
+ghost use Rattle.state.specs.Meaning.{answerOf, queryOf};
+ghost use Rattle.state.specs.Lent.{lent, sound};
 ghost use Rattle.catalog.specs.Catalog.{Catalogued};
-ghost use Rattle.query.specs.Plan.{queryOf};
 ghost use Rattle.query.specs.Queried.{Queried};
 use crate::listing::list_fitting;
 use crate::operands::operands_fit;
-use crate::plan::Query;
-use cache::is_lawful_catalog;
-use cache::is_long_enough;
 use probe::ground;
 use state::Answer;
 use state::Design;
 use state::Held;
+use state::Query;
+use state::is_blank;
 
 // QUERY in a state known to be lawful: causes 5 and 9, then "sent" if the probe of position 0 has no ground, else the fitting lists, or cause 11.
 // The last four tables are working memory: whatever stands there before, and nothing is said of it after. The cost of the probe, of counting the
@@ -45,7 +43,7 @@ pub fn query_lawful(
     if !operands_fit(design, q) {
         return Answer::Refused(5);
     }
-    if q.value == 0 {
+    if is_blank(q.value) {
         return Answer::Refused(9);
     }
     let k = q.column;
@@ -81,64 +79,5 @@ pub fn query_lawful(
         sums,
         froms,
         links,
-    )
-}
-
-// QUERY. The test for cause 12 (rows × rows × unique columns at most, the catalog, and a reload), then the cost of `query_lawful`.
-pub fn query(
-    design: Design,
-    cells: &[u32],
-    tables: &[u8],
-    marks: &[u8],
-    held: Held,
-    q: Query,
-    words: &mut [u32],
-) -> Answer
-    ensures { λ a. ⌜ Queried (lent design (now (cells .entry)) (now (tables .entry)) (now (marks .entry)) held)
-        (queryOf q) (now (words .entry)) (now (words .exit)) (answerOf a) ⌝ }
-{
-    if !is_long_enough(cells, tables, marks) {
-        return Answer::Refused(7);
-    }
-    let mut next = [512u16; 4096];
-    let mut first = [512u16; 8192];
-    let mut keys = [0u32; 4096];
-    let mut heads = [512u16; 4096];
-    let mut starts = [0u16; 65];
-    if !is_lawful_catalog(
-        design,
-        cells,
-        tables,
-        &mut next,
-        &mut first,
-        &mut keys,
-        &mut heads,
-        &mut starts,
-        marks,
-        held,
-    ) {
-        return Answer::Refused(12);
-    }
-    let mut weights = [0u64; 2560];
-    let mut sums = [0u64; 2560];
-    let mut froms = [0u16; 2560];
-    let mut links = [0u16; 2560];
-    query_lawful(
-        design,
-        cells,
-        tables,
-        &next,
-        &first,
-        &keys,
-        &heads,
-        &starts,
-        marks,
-        held,
-        q,
-        words,
-        &mut weights,
-        &mut sums,
-        &mut froms,
-        &mut links,
     )
 }

@@ -3,8 +3,8 @@ use contract.Running.{givenOf, tables, tablesOf}
 use denote.Triple.Spec.{tripleOf}
 use denote.Triple.Table.{entered, cited}
 use Rattle.model.specs.Runs.{refer}
-use Rattle.cache.specs.Places.{pair}
-use Rattle.cache.proofs.Thin.{thin, G}
+use Rattle.cache.proofs.Thin.{thin}
+use Rattle.cache.proofs.ThinForm.{G}
 use Rattle.cache.proofs.referring.refer_lawful.Symbol as g-def
 use Rattle.cache.proofs.referring.refer_lawful.Symbol.{name as #refer-lawful}
 use Rattle.cache.proofs.referring.refer_lawful.Met as g-thm
@@ -18,5 +18,5 @@ unfolding code.routine tablesOf
 refer-spec 𝓤 H 𝓜 𝓖 𝓡 =
     entered 𝓤 H (tripleOf 𝓤 H (𝓖 .A) f.signature (f.spec 𝓤 H (𝓖 .A) (𝓜 .mem) (𝓡 .run)))
     (tables 𝓤 H 𝓜 𝓡 code.env .C) (tables 𝓤 H 𝓜 𝓡 code.env .Λ) #refer code.function (code.unfolded 𝓤 H 𝓜 𝓡)
-    (thin (λ n v. refer (pair n v)) #refer-lawful 𝓤 H (𝓖 .A) (givenOf 𝓤 H 𝓜 𝓖) (tablesOf 𝓤 H 𝓜 (tables 𝓤 H 𝓜 𝓡 code.env))
-    (cited 𝓤 H (G (λ n v. refer (pair n v)) 𝓤 H (𝓖 .A)) 𝓜 𝓡 code.env #refer-lawful g-def.routine code.calls-cache·referring·refer-lawful (g-thm.met 𝓤 H 𝓜 𝓖 𝓡)))
+    (thin refer #refer-lawful 𝓤 H (𝓖 .A) (givenOf 𝓤 H 𝓜 𝓖) (tablesOf 𝓤 H 𝓜 (tables 𝓤 H 𝓜 𝓡 code.env))
+    (cited 𝓤 H (G refer 𝓤 H (𝓖 .A)) 𝓜 𝓡 code.env #refer-lawful g-def.routine code.calls-cache·referring·refer-lawful (g-thm.met 𝓤 H 𝓜 𝓖 𝓡)))

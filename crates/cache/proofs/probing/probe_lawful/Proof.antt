@@ -3,7 +3,7 @@ use mathlib.Core.Path.{sym, _∙_}
 use borrow.Author.Needs.{needs}
 use borrow.Author.Tests.{not-true, not-false}
 use Rattle.state.proofs.Arrays.{sized, held-sized}
-use Rattle.cache.proofs.Asked.{sound-range, sound-marks, sound-tidy, sound-filling, sound-table, sound-column}
+use Rattle.lawful.proofs.Asked.{sound-range, sound-marks, sound-tidy, sound-filling, sound-table, sound-column}
 use Rattle.cache.proofs.ProbeSteps.{probe-5, probe-9, probe-sent, probe-ground}
 use Rattle.cache.proofs.probing.probe_lawful.Statement.{statement}
 use Rattle.cache.proofs.probing.probe_lawful.Tie as tie
@@ -14,15 +14,17 @@ is-column-requires c κs = search needs
 returns : tie.Need-returns
 returns c = probe-5 _ (c .before .before .before .before .before .pre .0) _ _ (sym (c .before .is-column .ensures) ∙ not-true _ (c .if1 .taken))
 
+is-blank-requires : tie.Need-is-blank-requires
+is-blank-requires c κs = search needs
+
 returns-2 : tie.Need-returns-2
 returns-2 c =
-    probe-9 _ (c .before .before .before .before .before .before .pre .0) _ _ (sym (c .before .before .is-column .ensures) ∙
-    not-false _ (c .before .if1 .left)) (c .if2 .taken)
+    probe-9 _ (c .before .before .before .before .before .before .before .pre .0) _ _ (sym (c .before .before .before .is-column .ensures) ∙ not-false _ (c .before .before .if1 .left)) (sym (c .before .is-blank .ensures) ∙ c .if2 .taken)
 
 ground-requires : tie.Need-ground-requires
 ground-requires c κs =
-    let s = c .before .before .before .before .before .before in
-    let k = sym (c .before .before .is-column .ensures) ∙ not-false _ (c .before .if1 .left) in (
+    let s = c .before .before .before .before .before .before .before in
+    let k = sym (c .before .before .before .is-column .ensures) ∙ not-false _ (c .before .before .if1 .left) in (
       (
         sound-range _ (s .pre .0) (sized (s .args .design) _ (s .good .0)),
         sound-marks _ (s .pre .0),
@@ -36,16 +38,16 @@ ground-requires c κs =
 
 returns-3 : tie.Need-returns-3
 returns-3 c =
-    let p = c .before .before .before .before in
-    probe-sent _ (p .before .before .before .before .pre .0) _ _ (sym (p .is-column .ensures) ∙
-    not-false _ (c .before .before .before .if1 .left)) (c .before .before .if2 .left) _ (c .before .ground .ensures) (c .if3 .taken)
+    let p = c .before .before .before .before .before in
+    probe-sent _ (p .before .before .before .before .pre .0) _ _ (sym (p .is-column .ensures) ∙ not-false _ (c .before .before .before .before .if1 .left)) (sym (c .before .before .before .is-blank .ensures) ∙ c .before .before .if2 .left) _
+    (c .before .ground .ensures) (c .if3 .taken)
 
 returns-4 : tie.Need-returns-4
 returns-4 c =
-    let p = c .before .before .before .before in
-    probe-ground _ (p .before .before .before .before .pre .0) _ _ (sym (p .is-column .ensures) ∙
-    not-false _ (c .before .before .before .if1 .left)) (c .before .before .if2 .left) _ (c .before .ground .ensures) (c .if3 .left)
+    let p = c .before .before .before .before .before in
+    probe-ground _ (p .before .before .before .before .pre .0) _ _ (sym (p .is-column .ensures) ∙ not-false _ (c .before .before .before .before .if1 .left)) (sym (c .before .before .before .is-blank .ensures) ∙ c .before .before .if2 .left) _
+    (c .before .ground .ensures) (c .if3 .left)
 
 pub probe-lawful-spec : {M : Type 1} → statement M
 probe-lawful-spec =
-    tie.close (tie.spec is-column-requires returns returns-2 ground-requires returns-3 returns-4)
+    tie.close (tie.spec is-column-requires returns is-blank-requires returns-2 ground-requires returns-3 returns-4)

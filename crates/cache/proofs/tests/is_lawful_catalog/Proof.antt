@@ -4,14 +4,14 @@ use mathlib.Core.Path.{refl, sym, _∙_}
 use borrow.Author.Needs.{needs}
 use borrow.Author.Tests.{not-true, not-false}
 use Rattle.finite.proofs.Bools.{clash, refute, and-go, and-stop}
-use Rattle.state.specs.Step.{lawful}
+use Rattle.state.specs.Lent.{lawful}
 use Rattle.state.proofs.Arrays.{sized, held-sized}
 use Rattle.lawful.proofs.DesignLaws.{in-range}
 use Rattle.lawful.proofs.HeldLaws.{held-count, held-filling}
 use Rattle.lawful.proofs.RowsLaws.{lawful-stand, stand-table}
+use Rattle.lawful.proofs.SoundState.{held-unlawful}
 use Rattle.cache.proofs.DistinctLaws.{distinct-is}
 use Rattle.cache.proofs.LoadLaws.{agree-is, within-all}
-use Rattle.cache.proofs.SoundState.{held-unlawful}
 use Rattle.cache.proofs.tests.is_lawful_catalog.Statement.{statement}
 use Rattle.cache.proofs.tests.is_lawful_catalog.Tie as tie
 

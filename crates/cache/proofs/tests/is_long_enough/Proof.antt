@@ -2,7 +2,7 @@
 use mathlib.Core.Path.{refl}
 use borrow.Author.Tests.{le-leb, lt-leb}
 use Rattle.finite.proofs.Bools.{and-go, and-stop}
-use Rattle.state.specs.Step.{longEnough}
+use Rattle.state.specs.Lent.{longEnough}
 use Rattle.cache.proofs.tests.is_long_enough.Statement.{statement}
 use Rattle.cache.proofs.tests.is_long_enough.Tie as tie
 

@@ -6,20 +6,20 @@ use mathlib.Core.Bool.{false}
 use borrow.Author.Needs.{needs}
 use lib.ListN.{getD}
 use Rattle.finite.specs.Finite.{any}
+use Rattle.finite.proofs.Sameness.{place-found, place-none}
 use Rattle.finite.proofs.Search.{any-start, any-more, any-none}
-use Rattle.model.specs.Runs.{samePair}
+use Rattle.model.specs.Holding.{samePair}
+use Rattle.model.proofs.HoldingLaws.{noPair}
 use Rattle.state.specs.Held.{noValue}
 use Rattle.state.specs.Meaning.{pairOf, pairsOf}
-use Rattle.cache.specs.Places.{pair}
-use Rattle.cache.proofs.Pairs.{place-found, place-none}
 use Rattle.cache.proofs.values.place.Statement.{statement}
 use Rattle.cache.proofs.values.place.Tie as tie
 
 abbrev Inv-loop : tie.InvT-loop
-Inv-loop filling value n values i₀ i = (i ≤ n) × (any i (λ j. samePair (pairOf (getD values j noValue)) (pair filling value)) ≡ false)
+Inv-loop v n values i₀ i = (i ≤ n) × (any i (λ j. samePair (pairOf (getD values j noValue)) (pairOf v)) ≡ false)
 
 abbrev μ-loop : tie.MeasureT-loop
-μ-loop filling value n values i₀ i = n - i
+μ-loop v n values i₀ i = n - i
 
 loop-holds : tie.Need-loop-holds Inv-loop μ-loop
 loop-holds c = (omega arith, any-start _)
@@ -36,7 +36,7 @@ same-pair-requires c κs = search needs
 returns : tie.Need-returns Inv-loop μ-loop
 unfolding pairsOf
 returns c =
-    place-found _ _ _ _ (c .before .before .before .loop-test .taken) (any-none _ _ (c .before .before .before .before .loop .inv .1)) (sym
+    place-found samePair noPair _ _ _ _ (c .before .before .before .loop-test .taken) (any-none _ _ (c .before .before .before .before .loop .inv .1)) (sym
     (c .before .same-pair .ensures) ∙ c .if1 .taken)
 
 add-i : tie.Need-add-i Inv-loop μ-loop
@@ -50,7 +50,7 @@ loop-again c = (omega arith, any-more _ _ (c .before .before .before .before .lo
 
 returns-2 : tie.Need-returns-2 Inv-loop μ-loop
 unfolding pairsOf
-returns-2 c = place-none _ _ _ (λ j l. any-none _ _ (c .before .loop .inv .1) j (omega arith))
+returns-2 c = place-none samePair noPair _ _ _ (λ j l. any-none _ _ (c .before .loop .inv .1) j (omega arith))
 
 pub place-spec : {M : Type 1} → statement M
 place-spec =

@@ -3,9 +3,9 @@ use native.Mathlib.Omega.{arith}
 use mathlib.Core.Path.{sym, _∙_}
 use borrow.Author.Tests.{not-true, not-false}
 use Rattle.state.proofs.Arrays.{sized, held-sized}
-use Rattle.cache.proofs.Asked.{sound-range, sound-backed, sound-marks, sound-tidy, sound-filling}
-use Rattle.query.proofs.QueryCases.{query-misfit}
-use Rattle.query.proofs.LawfulQuery.{sound-place, query-9, query-no-ground, query-ground}
+use Rattle.lawful.proofs.Asked.{sound-range, sound-backed, sound-marks, sound-tidy, sound-filling}
+use Rattle.query.proofs.QueryCases.{query-misfit, query-blank}
+use Rattle.query.proofs.LawfulQuery.{sound-place, query-no-ground, query-ground}
 use Rattle.query.proofs.PlanLaws.{column-fits}
 use borrow.Author.Needs.{needs}
 use Rattle.query.proofs.operations.query_lawful.Statement.{statement}
@@ -18,9 +18,12 @@ returns : tie.Need-returns
 returns c = query-misfit _ (c .before .before .before .before .before .before .pre .0) _ _ (sym (c .before .operands-fit .ensures) ∙ not-true _
     (c .if1 .taken))
 
+is-blank-requires : tie.Need-is-blank-requires
+is-blank-requires c κs = search needs
+
 returns-2 : tie.Need-returns-2
-returns-2 c = query-9 _ (c .before .before .before .before .before .before .before .before .pre .0) _ _
-    (sym (c .before .before .before .operands-fit .ensures) ∙ not-false _ (c .before .before .if1 .left)) (c .if2 .taken)
+returns-2 c = query-blank _ (c .before .before .before .before .before .before .before .before .pre .0) _ _
+    (sym (c .before .before .before .operands-fit .ensures) ∙ not-false _ (c .before .before .if1 .left)) (sym (c .before .is-blank .ensures) ∙ c .if2 .taken)
 
 ground-requires : tie.Need-ground-requires
 ground-requires c κs =
@@ -42,7 +45,7 @@ returns-3 : tie.Need-returns-3
 returns-3 c =
     query-no-ground _ (c .before .before .before .before .before .before .before .before .before .before .before .pre .0) _ _
     (sym (c .before .before .before .before .before .before .operands-fit .ensures) ∙ not-false _
-    (c .before .before .before .before .before .if1 .left)) (c .before .before .before .if2 .left) _
+    (c .before .before .before .before .before .if1 .left)) (sym (c .before .before .before .before .is-blank .ensures) ∙ c .before .before .before .if2 .left) _
     (c .before .ground .ensures) (c .if3 .taken)
 
 list-fitting-requires : tie.Need-list-fitting-requires
@@ -68,7 +71,7 @@ returns-4 c =
     let o = t .before .before .before .before .before .before in
     let s = o .before .before .before .before .before in
     query-ground _ (s .pre .0) _ (s .args .q) (sym (o .operands-fit .ensures) ∙ not-false _ (t .before .before .before .before .before .if1 .left))
-    (t .before .before .before .if2 .left) _
+    (sym (t .before .before .before .before .is-blank .ensures) ∙ t .before .before .before .if2 .left) _
     (t .before .ground .ensures) (t .if3 .left) (λ i. omega (arith, o .before .before .before .before .shared-slice-known .given i)) _ _
     (c .before .before .list-fitting .ensures)
 
@@ -78,6 +81,7 @@ query-lawful-spec =
     (tie.spec
     operands-fit-requires
     returns
+    is-blank-requires
     returns-2
     ground-requires
     returns-3

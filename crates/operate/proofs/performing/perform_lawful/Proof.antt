@@ -1,0 +1,86 @@
+-- `operate::performing::perform_lawful` meets its contract: what the operation's own function gives. Assumes nothing.
+use borrow.Author.Needs.{needs}
+use Rattle.state.proofs.Arrays.{held-sized}
+use Rattle.operate.proofs.Performed.{refer-performs, drop-performs, ask-performs, query-performs, in-case}
+use Rattle.operate.proofs.performing.perform_lawful.Statement.{statement}
+use Rattle.operate.proofs.performing.perform_lawful.Tie as tie
+
+enum-known-op : tie.Need-enum-known-op
+enum-known-op c = search needs
+
+refer-lawful-requires : tie.Need-refer-lawful-requires
+refer-lawful-requires c κs = search needs
+
+enum-known-op-2 : tie.Need-enum-known-op-2
+enum-known-op-2 c = search needs
+
+drop-lawful-requires : tie.Need-drop-lawful-requires
+drop-lawful-requires c κs = search needs
+
+enum-known-op-3 : tie.Need-enum-known-op-3
+enum-known-op-3 c = search needs
+
+probe-lawful-requires : tie.Need-probe-lawful-requires
+probe-lawful-requires c κs = search needs
+
+enum-known-op-4 : tie.Need-enum-known-op-4
+enum-known-op-4 c = search needs
+
+query-lawful-requires : tie.Need-query-lawful-requires
+query-lawful-requires c κs = search needs
+
+same-length : tie.Need-same-length
+same-length c = search needs
+
+returns : tie.Need-returns
+returns c = in-case _ _ _ _ _ _ _ _ (c .before .before .before .before .before .op .given .1) (refer-performs _ (c .before .before .before .before .before .before .before .before .before .before .before .pre .0) _ _ _ _ (c .before .before .refer-lawful .ensures))
+
+same-length-2 : tie.Need-same-length-2
+same-length-2 c = search needs
+
+returns-2 : tie.Need-returns-2
+returns-2 c = in-case _ _ _ _ _ _ _ _ (c .before .before .before .before .before .op2 .given .1) (drop-performs _ (c .before .before .before .before .before .before .before .before .before .before .before .pre .0) _ _ _ _ (c .before .before .drop-lawful .ensures))
+
+same-length-3 : tie.Need-same-length-3
+same-length-3 c = search needs
+
+returns-3 : tie.Need-returns-3
+returns-3 c =
+    let b = c .before .before .before .before .before .before .before .before .before in
+    in-case _ _ _ _ _ _ _ _ (c .before .before .before .op3 .given .1) (ask-performs _ (b .pre .0) _ (held-sized (b .args .held) _ (b .good .1 .1 .1 .1 .1 .1 .1 .1 .1 .1 .0)) _ _ (c .probe-lawful .ensures))
+
+same-length-4 : tie.Need-same-length-4
+same-length-4 c = search needs
+
+same-length-5 : tie.Need-same-length-5
+same-length-5 c = search needs
+
+returns-4 : tie.Need-returns-4
+returns-4 c =
+    let q = c .before .before in
+    let o = q .before .before .before .before .before .before .before .before in
+    let b = o .before .before .before .before .before .before in
+    in-case _ _ _ _ _ _ _ _ (o .op4 .given .1)
+    (query-performs _ (b .pre .0) _ (held-sized (b .args .held) _ (b .good .1 .1 .1 .1 .1 .1 .1 .1 .1 .1 .0)) _ _ _ _ (q .query-lawful .ensures .answer) (q .query-lawful .ensures .words))
+
+pub perform-lawful-spec : {M : Type 1} → statement M
+perform-lawful-spec =
+    tie.close
+    (tie.spec
+    enum-known-op
+    refer-lawful-requires
+    enum-known-op-2
+    drop-lawful-requires
+    enum-known-op-3
+    probe-lawful-requires
+    enum-known-op-4
+    query-lawful-requires
+    same-length
+    returns
+    same-length-2
+    returns-2
+    same-length-3
+    returns-3
+    same-length-4
+    same-length-5
+    returns-4)

@@ -1,0 +1,1 @@
+-- No definitions of its own: what an operation answers and leaves is in state (specs/Lent.antt).

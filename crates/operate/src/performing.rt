@@ -1,0 +1,171 @@
+// REFER, DROP, PROBE and QUERY: over a state known sound with the catalog of its rows, and for whatever is lent.
+ghost use mathlib.Core.Path.{_≡_};
+ghost use mathlib.Core.Bool.{true};
+ghost use lib.ListN.{length};
+ghost use Rattle.state.specs.Meaning.{answerOf, operationOf};
+ghost use Rattle.state.specs.Lent.{lent, sound, Performed};
+ghost use Rattle.catalog.specs.Catalog.{Catalogued};
+use cache::Outcome;
+use cache::cause;
+use cache::drop_lawful;
+use cache::probe_lawful;
+use cache::refer_lawful;
+use query::query_lawful;
+use state::Answer;
+use state::Design;
+use state::Held;
+use state::Operation;
+
+// The operation on a state known sound, with the catalog of its rows: no test for causes 7 and 12. The last four arrays are working memory, whatever
+// stands in them. REFER costs one load, DROP one reload, PROBE a look for the value for each constraint that ends at the column, and QUERY the probe
+// of its first position, the counting of its lists and the writing of their words.
+pub fn perform_lawful(
+    op: Operation,
+    design: Design,
+    cells: &[u32],
+    tables: &[u8],
+    next: &[u16; 4096],
+    first: &[u16; 8192],
+    keys: &[u32; 4096],
+    heads: &[u16; 4096],
+    starts: &[u16; 65],
+    marks: &mut [u8],
+    held: Held,
+    words: &mut [u32],
+    weights: &mut [u64; 2560],
+    sums: &mut [u64; 2560],
+    froms: &mut [u16; 2560],
+    links: &mut [u16; 2560],
+) -> Outcome
+    requires { ⌜ (sound (lent design (now cells) (now tables) (now marks) held) ≡ true)
+        × Catalogued design (now cells) (now tables) (now next) (now first) (now keys) (now heads) (now starts) ⌝ }
+    ensures { λ o. ⌜ Performed (lent design (now (cells .entry)) (now (tables .entry)) (now (marks .entry)) held) (now (words .entry))
+        (operationOf op (length (now (words .entry))))
+        (answerOf (o .answer)) (lent design (now (cells .entry)) (now (tables .entry)) (now (marks .exit)) (o .held)) (now (words .exit)) ⌝ }
+{
+    match op {
+        Operation::Refer(v) => refer_lawful(
+            design,
+            cells,
+            tables,
+            next,
+            first,
+            keys,
+            heads,
+            starts,
+            marks,
+            held,
+            v,
+        ),
+        Operation::Drop(v) => drop_lawful(
+            design,
+            cells,
+            tables,
+            next,
+            first,
+            keys,
+            heads,
+            starts,
+            marks,
+            held,
+            v,
+        ),
+        Operation::Probe(k, v) => {
+            let answer = probe_lawful(
+                design,
+                cells,
+                tables,
+                next,
+                keys,
+                heads,
+                starts,
+                marks,
+                held,
+                k,
+                v,
+            );
+            Outcome { held, answer }
+        }
+        Operation::Query(q) => {
+            let answer = query_lawful(
+                design,
+                cells,
+                tables,
+                next,
+                first,
+                keys,
+                heads,
+                starts,
+                marks,
+                held,
+                q,
+                words,
+                weights,
+                sums,
+                froms,
+                links,
+            );
+            Outcome { held, answer }
+        }
+    }
+}
+
+// The operation on whatever is lent: causes 7 and 12 first, which leave everything as it was. The test for cause 12 (one look at the design, at each
+// cell and at each held value, the catalog, and a reload), then the cost of `perform_lawful`, by that catalog.
+pub fn perform(
+    op: Operation,
+    design: Design,
+    cells: &[u32],
+    tables: &[u8],
+    marks: &mut [u8],
+    held: Held,
+    words: &mut [u32],
+) -> Outcome
+    ensures { λ o. ⌜ Performed (lent design (now (cells .entry)) (now (tables .entry)) (now (marks .entry)) held) (now (words .entry))
+        (operationOf op (length (now (words .entry))))
+        (answerOf (o .answer)) (lent design (now (cells .entry)) (now (tables .entry)) (now (marks .exit)) (o .held)) (now (words .exit)) ⌝ }
+{
+    let mut next = [512u16; 4096];
+    let mut first = [512u16; 8192];
+    let mut keys = [0u32; 4096];
+    let mut heads = [512u16; 4096];
+    let mut starts = [0u16; 65];
+    let why = cause(
+        design,
+        cells,
+        tables,
+        &mut next,
+        &mut first,
+        &mut keys,
+        &mut heads,
+        &mut starts,
+        marks,
+        held,
+    );
+    if why != 0 {
+        let answer = Answer::Refused(why);
+        return Outcome { held, answer };
+    }
+    let mut weights = [0u64; 2560];
+    let mut sums = [0u64; 2560];
+    let mut froms = [0u16; 2560];
+    let mut links = [0u16; 2560];
+    perform_lawful(
+        op,
+        design,
+        cells,
+        tables,
+        &next,
+        &first,
+        &keys,
+        &heads,
+        &starts,
+        marks,
+        held,
+        words,
+        &mut weights,
+        &mut sums,
+        &mut froms,
+        &mut links,
+    )
+}
