@@ -9,27 +9,24 @@ use Rattle.finite.proofs.Bools.{clash}
 use Rattle.state.specs.Meaning.{schemeOf, databaseOf}
 use Rattle.state.specs.Lawful.{rowFits}
 use Rattle.format.specs.declared.command.Command.{Command}
-use Rattle.format.specs.declared.command.Command.the-variants.{Table, Constraint, Filling, Row, End, Refer, Drop, Probe, Query, Unknown, Short}
+use Rattle.format.specs.declared.command.Command.the-variants.{Table, Constraint, Filling, Row, End, Operate, Unknown, Short}
 use Rattle.format.specs.Commands.{commandAt}
-use Rattle.format.specs.Reading.{Draft, Taken, unless, taken, rowTaken, withRow}
-use Rattle.format.specs.Reading.Taken.{on, refused}
+use Rattle.format.specs.Reading.{Draft, Advanced, refusedIf, advanced, rowAdvanced, withRow}
+use Rattle.format.specs.Reading.Advanced.{on, refused}
 use Rattle.format.specs.Admitting.{admitted, again}
-use Rattle.format.proofs.TakenLaws.{not-on, on-same, unless-on, none}
+use Rattle.format.proofs.AdvancedLaws.{not-on, on-same, unless-on, none}
 use Rattle.format.proofs.ReadingLaws.{Whole, whole-or}
 
 -- ---- no row
 
-pub no-row : (p : Draft) (s : List ℕ) (i : ℕ) (c : Command) → ((t : ℕ) → c ≡ Row t → ⊥) → admitted p s i c ≡ taken p s i c
+pub no-row : (p : Draft) (s : List ℕ) (i : ℕ) (c : Command) → ((t : ℕ) → c ≡ Row t → ⊥) → admitted p s i c ≡ advanced p s i c
 unfolding admitted
 no-row p s i (Row t) h = absurd (h t refl)
 no-row p s i (Table t) h = refl
 no-row p s i (Constraint c) h = refl
 no-row p s i (Filling f) h = refl
 no-row p s i End h = refl
-no-row p s i (Refer f v) h = refl
-no-row p s i (Drop f v) h = refl
-no-row p s i (Probe k v) h = refl
-no-row p s i (Query k v n) h = refl
+no-row p s i (Operate o) h = refl
 no-row p s i Unknown h = refl
 no-row p s i Short h = refl
 
@@ -39,19 +36,19 @@ admitted-whole s i p q e = whole-or s i (λ n h k. not-on n q (sym (h p) ∙ sym
 -- ---- a row
 
 -- causes 4 and 5 of a row, and cause 6 behind them
-not-refused : (a b : Bool) (q x : Draft) → unless a 4 (unless b 5 (on q)) ≡ on x → (a ≡ false) × (b ≡ false) × (q ≡ x)
+not-refused : (a b : Bool) (q x : Draft) → refusedIf a 4 (refusedIf b 5 (on q)) ≡ on x → (a ≡ false) × (b ≡ false) × (q ≡ x)
 not-refused a b q x e =
-    let y = unless-on a 4 (unless b 5 (on q)) x e in
+    let y = unless-on a 4 (refusedIf b 5 (on q)) x e in
     let z = unless-on b 5 (on q) x (y .1) in
     (y .0, z .0, on-same q x (z .1))
 
-stopped : (a b c : Bool) (q : Draft) (r : Taken) → ((x : Draft) → on x ≡ r → ⊥) → unless a 4 (unless b 5 (on q)) ≡ r
-    → unless a 4 (unless b 5 (unless c 6 (on q))) ≡ r
+stopped : (a b c : Bool) (q : Draft) (r : Advanced) → ((x : Draft) → on x ≡ r → ⊥) → refusedIf a 4 (refusedIf b 5 (on q)) ≡ r
+    → refusedIf a 4 (refusedIf b 5 (refusedIf c 6 (on q))) ≡ r
 stopped true b c q r never e = e
 stopped false true c q r never e = e
 stopped false false c q r never e = absurd (never q e)
 
-then-twice : (a b c : Bool) (q : Draft) → a ≡ false → b ≡ false → c ≡ true → unless a 4 (unless b 5 (unless c 6 (on q))) ≡ refused 6
+then-twice : (a b c : Bool) (q : Draft) → a ≡ false → b ≡ false → c ≡ true → refusedIf a 4 (refusedIf b 5 (refusedIf c 6 (on q))) ≡ refused 6
 then-twice true b c q e f g = clash refl e
 then-twice false true c q e f g = clash refl f
 then-twice false false true q e f g = refl
@@ -61,11 +58,11 @@ then-twice false false false q e f g = clash g refl
 pub record Admitted (p : Draft) (s : List ℕ) (i t : ℕ) (q : Draft) : Type 0 where
   pub room : p .design .rows < 512
   pub is : withRow p s i t ≡ q
-  pub once : again (q .design) (q .cells) (q .tables) (p .design .rows) ≡ false → taken p s i (Row t) ≡ on q
-  pub twice : again (q .design) (q .cells) (q .tables) (p .design .rows) ≡ true → taken p s i (Row t) ≡ refused 6
+  pub once : again (q .design) (q .cells) (q .tables) (p .design .rows) ≡ false → advanced p s i (Row t) ≡ on q
+  pub twice : again (q .design) (q .cells) (q .tables) (p .design .rows) ≡ true → advanced p s i (Row t) ≡ refused 6
 
 pub row-admitted : (p : Draft) (s : List ℕ) (i t : ℕ) (q : Draft) → admitted p s i (Row t) ≡ on q → Admitted p s i t q
-unfolding admitted taken rowTaken
+unfolding admitted advanced rowAdvanced
 row-admitted p s i t q e =
     let x = withRow p s i t in
     let n = p .design .rows in
@@ -78,8 +75,8 @@ row-admitted p s i t q e =
 
 -- ---- where the reading stops, the definition's stops alike
 
-pub stops : (p : Draft) (s : List ℕ) (i : ℕ) (c : Command) (r : Taken) → ((x : Draft) → on x ≡ r → ⊥) → admitted p s i c ≡ r → taken p s i c ≡ r
-unfolding admitted taken rowTaken
+pub stops : (p : Draft) (s : List ℕ) (i : ℕ) (c : Command) (r : Advanced) → ((x : Draft) → on x ≡ r → ⊥) → admitted p s i c ≡ r → advanced p s i c ≡ r
+unfolding admitted advanced rowAdvanced
 stops p s i (Row t) r never e =
     let x = withRow p s i t in
     let n = p .design .rows in
@@ -89,9 +86,6 @@ stops p s i (Table t) r never e = e
 stops p s i (Constraint c) r never e = e
 stops p s i (Filling f) r never e = e
 stops p s i End r never e = e
-stops p s i (Refer f v) r never e = e
-stops p s i (Drop f v) r never e = e
-stops p s i (Probe k v) r never e = e
-stops p s i (Query k v n) r never e = e
+stops p s i (Operate o) r never e = e
 stops p s i Unknown r never e = e
 stops p s i Short r never e = e

@@ -17,7 +17,7 @@ use Rattle.model.specs.Database.{Database, has}
 use Rattle.model.specs.Rounds.{leads}
 use Rattle.state.specs.declared.design.Design.{Design}
 use Rattle.state.specs.Meaning.{schemeOf, databaseOf}
-use Rattle.catalog.specs.First.{firstFrom}
+use Rattle.finite.specs.Finite.{firstFrom}
 use Rattle.catalog.specs.Catalog.{columnAt, nextOf, demandedFirst, Listed, Directory, Catalogued}
 use Rattle.format.proofs.LawfulLaws.{SameRow, same-row}
 
@@ -50,8 +50,8 @@ module _ (D E : Database) (live : (r : ℕ) → D .live r ≡ E .live r) (dead :
   unfolding nextOf
   next-alike r c l =
       ap (λ (h : Test).
-      cond (h (columnAt D r c) (D .cell r c) r) (firstFrom (h (columnAt D r c) (D .cell r c)) (r + 1)) 512) has-is ∙
-      ap₂ (λ (t : ℕ) (v : Cell). cond (has E (record { table = t; place = c }) v r) (firstFrom (has E (record { table = t; place = c }) v) (r + 1)) 512)
+      cond (h (columnAt D r c) (D .cell r c) r) (firstFrom 512 (h (columnAt D r c) (D .cell r c)) (r + 1)) 512) has-is ∙
+      ap₂ (λ (t : ℕ) (v : Cell). cond (has E (record { table = t; place = c }) v r) (firstFrom 512 (has E (record { table = t; place = c }) v) (r + 1)) 512)
       (same r l .table) (same r l .cell c)
 
   leads-alike : (j : Model.Constraint) (s : ℕ) → s < 512 → leads D j s ≡ leads E j s
@@ -63,7 +63,7 @@ module _ (D E : Database) (live : (r : ℕ) → D .live r ≡ E .live r) (dead :
 
   first-alike : (S : Scheme) (i s : ℕ) → s < 512 → demandedFirst S D i s ≡ demandedFirst S E i s
   unfolding demandedFirst
-  first-alike S i s l = ap (λ (p : ℕ → Bool). cond (ltb i (S .constraints)) (firstFrom p 0) 512) (leads-alike (S .constraint i) s l)
+  first-alike S i s l = ap (λ (p : ℕ → Bool). cond (ltb i (S .constraints)) (firstFrom 512 p 0) 512) (leads-alike (S .constraint i) s l)
 
   directory-alike : (keys heads starts : List ℕ) → Directory D keys heads starts → Directory E keys heads starts
   directory-alike keys heads starts f =
@@ -81,7 +81,7 @@ module _ (D E : Database) (live : (r : ℕ) → D .live r ≡ E .live r) (dead :
             bound = g .bound;
             falls = g .falls;
             value = g .value;
-            head = λ i a b. g .head i a b ∙ ap (λ (h : Test). firstFrom (h k (record { number = getD keys i 0 })) 0) has-is;
+            head = λ i a b. g .head i a b ∙ ap (λ (h : Test). firstFrom 512 (h k (record { number = getD keys i 0 })) 0) has-is;
             there = λ s a h. there s h (decLt s 512);
           }
         where

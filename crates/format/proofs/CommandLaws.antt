@@ -2,76 +2,133 @@
 use Prim.Native.Nat.{ℕ, _≤_, _<_, _-_, _+_}
 use native.Mathlib.Omega.{arith}
 use mathlib.Core.Path.{_≡_, sym, ap, ap₂, _∙_}
+use mathlib.Core.Bool.{Bool, true, false, cond}
 use mathlib.Core.Logic.{⊎-elim}
 use mathlib.Core.List.{List}
 use borrow.Author.Tests.{ne-eqb, le-leb, lt-leb, lt-ltb, le-ltb, eq-eqb}
-use lib.ListN.{length}
+use lib.Dec.{eqb, ltb}
+use lib.ListN.{length, List·getD-eq-default}
 use Rattle.finite.proofs.Bools.{same-number}
+use Rattle.state.specs.declared.cell.Cell.{Cell}
 use Rattle.state.specs.declared.design.Table as State-table
 use Rattle.state.specs.declared.design.Constraint as State-constraint
 use Rattle.state.specs.declared.design.Filling as State-filling
 use Rattle.state.specs.declared.design.Column.{Column}
-use Rattle.format.specs.declared.command.Command.the-variants.{Table, Constraint, Filling, Row, End, Refer, Drop, Probe, Query, Unknown, Short}
+use Rattle.state.specs.declared.held.HeldValue.{HeldValue}
+use Rattle.state.specs.declared.operation.Query.{Query}
+use Rattle.state.specs.declared.operation.Operation.the-variants as O
+use Rattle.format.specs.declared.command.Command.the-variants.{Table, Constraint, Filling, Row, End, Operate, Unknown, Short}
 use Rattle.format.specs.Bytes.{byteAt, u32At}
-use Rattle.format.specs.Commands.{widthOf, columnAt, operandsAt, commandAt}
+use Rattle.format.specs.Commands.{designWidth, operationWidth, widthOf, columnAt, valueAt, heldValueAt, queryAt, designCommandAt, operationAt, operandsAt, commandAt}
 
-pub width-none : (b : ℕ) → (b ≡ 1 → ⊥) → (b ≡ 2 → ⊥) → (b ≡ 3 → ⊥) → (b ≡ 4 → ⊥) → (b ≡ 5 → ⊥)
-    → (b ≡ 16 → ⊥) → (b ≡ 17 → ⊥) → (b ≡ 18 → ⊥) → (b ≡ 19 → ⊥) → widthOf b ≡ 0
+-- ---- widths
+
+module _ (b : ℕ) where
+  pub width-design : b < 16 → widthOf b ≡ designWidth b
+  unfolding widthOf
+  width-design l = rw (lt-ltb b 16 l)
+
+  pub width-operation : 16 ≤ b → widthOf b ≡ operationWidth b
+  unfolding widthOf
+  width-operation l = rw (le-ltb b 16 l)
+
+  -- a command that has its bytes
+  module _ (i n : ℕ) (some : widthOf b ≡ 0 → ⊥) (room : i + widthOf b ≤ n) where
+    pub design-room : b < 16 → (designWidth b ≡ 0 → ⊥) × (i + designWidth b ≤ n)
+    design-room l = (λ e. some (width-design l ∙ e), omega (arith, width-design l))
+
+    pub operation-room : 16 ≤ b → (operationWidth b ≡ 0 → ⊥) × (i + operationWidth b ≤ n)
+    operation-room l = (λ e. some (width-operation l ∙ e), omega (arith, width-operation l))
+
+  pub design-width-none : (b ≡ 1 → ⊥) → (b ≡ 2 → ⊥) → (b ≡ 3 → ⊥) → (b ≡ 4 → ⊥) → (b ≡ 5 → ⊥) → designWidth b ≡ 0
+  unfolding designWidth
+  design-width-none h₁ h₂ h₃ h₄ h₅ = rw (ne-eqb b 1 h₁, ne-eqb b 2 h₂, ne-eqb b 3 h₃, ne-eqb b 4 h₄, ne-eqb b 5 h₅)
+
+  pub operation-width-none : (b ≡ 16 → ⊥) → (b ≡ 17 → ⊥) → (b ≡ 18 → ⊥) → (b ≡ 19 → ⊥) → operationWidth b ≡ 0
+  unfolding operationWidth
+  operation-width-none h₁ h₂ h₃ h₄ = rw (ne-eqb b 16 h₁, ne-eqb b 17 h₂, ne-eqb b 18 h₃, ne-eqb b 19 h₄)
+
+  -- what is left of the design's bytes is END's, and of the operations' QUERY's
+  pub is-end : (designWidth b ≡ 0 → ⊥) → (b ≡ 1 → ⊥) → (b ≡ 2 → ⊥) → (b ≡ 3 → ⊥) → (b ≡ 4 → ⊥) → b ≡ 5
+  is-end w h₁ h₂ h₃ h₄ = ⊎-elim (λ (e : b ≡ 5). e) (λ (n : b ≡ 5 → ⊥). absurd (w (design-width-none h₁ h₂ h₃ h₄ n))) (same-number b 5)
+
+  pub is-query : (operationWidth b ≡ 0 → ⊥) → (b ≡ 16 → ⊥) → (b ≡ 17 → ⊥) → (b ≡ 18 → ⊥) → b ≡ 19
+  is-query w h₁ h₂ h₃ = ⊎-elim (λ (e : b ≡ 19). e) (λ (n : b ≡ 19 → ⊥). absurd (w (operation-width-none h₁ h₂ h₃ n))) (same-number b 19)
+
+-- a command takes at most 34 bytes
+pick : (x : Bool) (m n : ℕ) → m ≤ 34 → n ≤ 34 → cond x m n ≤ 34
+pick true m n k l = k
+pick false m n k l = l
+
+design-most : (b : ℕ) → designWidth b ≤ 34
+unfolding designWidth
+design-most b =
+    pick (eqb b 1) 3 _ (omega arith) (pick (eqb b 2) 5 _ (omega arith) (pick (eqb b 3) 11 _ (omega arith) (pick (eqb b 4) 34 _ (omega arith)
+    (pick (eqb b 5) 1 0 (omega arith) (omega arith)))))
+
+operation-most : (b : ℕ) → operationWidth b ≤ 34
+unfolding operationWidth
+operation-most b =
+    pick (eqb b 16) 6 _ (omega arith) (pick (eqb b 17) 6 _ (omega arith) (pick (eqb b 18) 7 _ (omega arith)
+    (pick (eqb b 19) 16 0 (omega arith) (omega arith))))
+
+pub width-most : (b : ℕ) → widthOf b ≤ 34
 unfolding widthOf
-width-none b h₁ h₂ h₃ h₄ h₅ h₆ h₇ h₈ h₉ =
-    rw (ne-eqb b 1 h₁, ne-eqb b 2 h₂, ne-eqb b 3 h₃, ne-eqb b 4 h₄, ne-eqb b 5 h₅, ne-eqb b 16 h₆, ne-eqb b 17 h₇, ne-eqb b 18 h₈, ne-eqb b 19 h₉)
+width-most b = pick (ltb b 16) _ _ (design-most b) (operation-most b)
 
--- what is left of the bytes of a design is END's, and of the operations' QUERY's
-pub is-end : (b : ℕ) → b < 16 → (widthOf b ≡ 0 → ⊥) → (b ≡ 1 → ⊥) → (b ≡ 2 → ⊥) → (b ≡ 3 → ⊥) → (b ≡ 4 → ⊥) → b ≡ 5
-is-end b l w h₁ h₂ h₃ h₄ =
-    ⊎-elim (λ (e : b ≡ 5). e)
-    (λ (n : b ≡ 5 → ⊥). absurd (w (width-none b h₁ h₂ h₃ h₄ n (λ e. omega arith) (λ e. omega arith) (λ e. omega arith) (λ e. omega arith))))
-    (same-number b 5)
-
-pub is-query : (b : ℕ) → 16 ≤ b → (widthOf b ≡ 0 → ⊥) → (b ≡ 16 → ⊥) → (b ≡ 17 → ⊥) → (b ≡ 18 → ⊥) → b ≡ 19
-is-query b l w h₆ h₇ h₈ =
-    ⊎-elim (λ (e : b ≡ 19). e)
-    (λ (n : b ≡ 19 → ⊥). absurd (w (width-none b (λ e. omega arith) (λ e. omega arith) (λ e. omega arith) (λ e. omega arith) (λ e. omega arith) h₆ h₇ h₈ n)))
-    (same-number b 19)
+-- past the end there is nothing to move over
+pub width-past : (s : List ℕ) (i : ℕ) → length s ≤ i → widthOf (byteAt s i) ≡ 0
+unfolding widthOf designWidth
+width-past s i l = ap widthOf (List·getD-eq-default s 0 l)
 
 -- ---- the operands of each command
 
 module _ (b : ℕ) (s : List ℕ) (i : ℕ) where
-  pub operands-table : (t : State-table.Table) → t ≡ record { columns = byteAt s (i + 1); unique = byteAt s (i + 2) } → b ≡ 1 → Table t ≡ operandsAt b s i
+  pub operands-design : b < 16 → designCommandAt b s i ≡ operandsAt b s i
   unfolding operandsAt
-  operands-table t p e = ap Table p ∙ ap (λ (k : ℕ). operandsAt k s i) (sym e)
+  operands-design l = sym (rw (lt-ltb b 16 l))
 
-  pub operands-constraint : (c : State-constraint.Constraint) → c ≡ record { source = columnAt s (i + 1); target = columnAt s (i + 3) } → b ≡ 2 → Constraint c ≡ operandsAt b s i
+  pub operands-operation : 16 ≤ b → Operate (operationAt b s i) ≡ operandsAt b s i
   unfolding operandsAt
-  operands-constraint c p e = ap Constraint p ∙ ap (λ (k : ℕ). operandsAt k s i) (sym e)
+  operands-operation l = sym (rw (le-ltb b 16 l))
 
-  pub operands-filling : (f : State-filling.Filling) → f ≡ record { column = columnAt s (i + 1); low = u32At s (i + 3); high = u32At s (i + 7) } → b ≡ 3 → Filling f ≡ operandsAt b s i
-  unfolding operandsAt
-  operands-filling f p e = ap Filling p ∙ ap (λ (k : ℕ). operandsAt k s i) (sym e)
+  pub command-table : (t : State-table.Table) → t ≡ record { columns = byteAt s (i + 1); unique = byteAt s (i + 2) } → b ≡ 1 → Table t ≡ designCommandAt b s i
+  unfolding designCommandAt
+  command-table t p e = ap Table p ∙ ap (λ (k : ℕ). designCommandAt k s i) (sym e)
 
-  pub operands-row : b ≡ 4 → Row (byteAt s (i + 1)) ≡ operandsAt b s i
-  unfolding operandsAt
-  operands-row e = ap (λ (k : ℕ). operandsAt k s i) (sym e)
+  pub command-constraint : (c : State-constraint.Constraint) → c ≡ record { source = columnAt s (i + 1); target = columnAt s (i + 3) } → b ≡ 2
+      → Constraint c ≡ designCommandAt b s i
+  unfolding designCommandAt
+  command-constraint c p e = ap Constraint p ∙ ap (λ (k : ℕ). designCommandAt k s i) (sym e)
 
-  pub operands-end : b ≡ 5 → End ≡ operandsAt b s i
-  unfolding operandsAt
-  operands-end e = ap (λ (k : ℕ). operandsAt k s i) (sym e)
+  pub command-filling : (f : State-filling.Filling) → f ≡ record { column = columnAt s (i + 1); low = u32At s (i + 3); high = u32At s (i + 7) } → b ≡ 3
+      → Filling f ≡ designCommandAt b s i
+  unfolding designCommandAt
+  command-filling f p e = ap Filling p ∙ ap (λ (k : ℕ). designCommandAt k s i) (sym e)
 
-  pub operands-refer : (v : ℕ) → v ≡ u32At s (i + 2) → b ≡ 16 → Refer (byteAt s (i + 1)) v ≡ operandsAt b s i
-  unfolding operandsAt
-  operands-refer v p e = ap (Refer (byteAt s (i + 1))) p ∙ ap (λ (k : ℕ). operandsAt k s i) (sym e)
+  pub command-row : b ≡ 4 → Row (byteAt s (i + 1)) ≡ designCommandAt b s i
+  unfolding designCommandAt
+  command-row e = ap (λ (k : ℕ). designCommandAt k s i) (sym e)
 
-  pub operands-drop : (v : ℕ) → v ≡ u32At s (i + 2) → b ≡ 17 → Drop (byteAt s (i + 1)) v ≡ operandsAt b s i
-  unfolding operandsAt
-  operands-drop v p e = ap (Drop (byteAt s (i + 1))) p ∙ ap (λ (k : ℕ). operandsAt k s i) (sym e)
+  pub command-end : b ≡ 5 → End ≡ designCommandAt b s i
+  unfolding designCommandAt
+  command-end e = ap (λ (k : ℕ). designCommandAt k s i) (sym e)
 
-  pub operands-probe : (k : Column) (v : ℕ) → k ≡ columnAt s (i + 1) → v ≡ u32At s (i + 3) → b ≡ 18 → Probe k v ≡ operandsAt b s i
-  unfolding operandsAt
-  operands-probe k v p q e = ap₂ Probe p q ∙ ap (λ (j : ℕ). operandsAt j s i) (sym e)
+  pub operation-refer : (v : HeldValue) → v ≡ heldValueAt s i → b ≡ 16 → O.Refer v ≡ operationAt b s i
+  unfolding operationAt
+  operation-refer v p e = ap O.Refer p ∙ ap (λ (k : ℕ). operationAt k s i) (sym e)
 
-  pub operands-query : (k : Column) (v : ℕ) → k ≡ columnAt s (i + 1) → v ≡ u32At s (i + 3) → b ≡ 19 → Query k v (byteAt s (i + 7)) ≡ operandsAt b s i
-  unfolding operandsAt
-  operands-query k v p q e = ap₂ (λ j u. Query j u (byteAt s (i + 7))) p q ∙ ap (λ (j : ℕ). operandsAt j s i) (sym e)
+  pub operation-drop : (v : HeldValue) → v ≡ heldValueAt s i → b ≡ 17 → O.Drop v ≡ operationAt b s i
+  unfolding operationAt
+  operation-drop v p e = ap O.Drop p ∙ ap (λ (k : ℕ). operationAt k s i) (sym e)
+
+  pub operation-probe : (k : Column) (v : Cell) → k ≡ columnAt s (i + 1) → v ≡ valueAt s (i + 3) → b ≡ 18 → O.Probe k v ≡ operationAt b s i
+  unfolding operationAt
+  operation-probe k v p q e = ap₂ O.Probe p q ∙ ap (λ (j : ℕ). operationAt j s i) (sym e)
+
+  pub operation-query : (q : Query) → q ≡ queryAt s i → b ≡ 19 → O.Query q ≡ operationAt b s i
+  unfolding operationAt
+  operation-query q p e = ap O.Query p ∙ ap (λ (j : ℕ). operationAt j s i) (sym e)
 
 -- ---- the command at a place, test by test
 

@@ -15,7 +15,7 @@ use Rattle.finite.proofs.Bools.{dec, cond-true, cond-false, order}
 use Rattle.finite.proofs.Search.{all-at}
 use Rattle.finite.proofs.Tables.{tab-at, tab-of, tab-same, length-tab}
 use Rattle.finite.proofs.Stores.{sets-below, sets-at, sets-above}
-use Rattle.model.specs.Cell.{cellOf, blank, isBlank}
+use Rattle.model.specs.Cell.{numbered, blank, isBlank}
 use Rattle.state.specs.declared.design.Table.{Table}
 use Rattle.state.specs.declared.design.Column.{Column}
 use Rattle.state.specs.declared.design.Constraint.{Constraint}
@@ -109,10 +109,10 @@ zero-filling f h =
 zero-row : (n : ℕ) (cells tables : List ℕ) (r : ℕ) → zeroRow (databaseOf n cells tables) r ≡ true → (getD tables r 0 ≡ 0) × ((c : ℕ) → c < 8 → getD cells (8 * r + c) 0 ≡ 0)
 unfolding zeroRow databaseOf isBlank
 zero-row n cells tables r h =
-    let blanks = all 8 (λ c. isBlank (cond (ltb c 8) (cellOf (getD cells (8 * r + c) 0)) blank)) in
+    let blanks = all 8 (λ c. isBlank (cond (ltb c 8) (numbered (getD cells (8 * r + c) 0)) blank)) in
     let x = and-eq-true-iff (eqb (getD tables r 0) 0) blanks .0 h in (
       eqb-true _ _ (x .0),
-      λ c l. eqb-true _ _ (ap (λ (b : Bool). isBlank (cond b (cellOf (getD cells (8 * r + c) 0)) blank)) (sym (lt-ltb c 8 l)) ∙ all-at 8 (λ c. isBlank (cond (ltb c 8) (cellOf (getD cells (8 * r + c) 0)) blank)) (x .1) c l),
+      λ c l. eqb-true _ _ (ap (λ (b : Bool). isBlank (cond b (numbered (getD cells (8 * r + c) 0)) blank)) (sym (lt-ltb c 8 l)) ∙ all-at 8 (λ c. isBlank (cond (ltb c 8) (numbered (getD cells (8 * r + c) 0)) blank)) (x .1) c l),
     )
 
 -- ---- unused places of a lawful design with its rows

@@ -22,7 +22,7 @@ use Rattle.format.specs.Commands.{rowCellAt}
 use Rattle.format.specs.Reading.{Draft, emptyDraft, withTable, withConstraint, withFilling, withRows, withRow}
 use Rattle.format.proofs.LawfulLaws.{Parts, RowParts, SameRow, rowTest, constraint-fits-same, filling-fits-same, same-row, live-same, row-test-same}
 use Rattle.format.proofs.Cut.{cutList, cut-at, cut-none, cut-more, cut-whole, cut-eight, unused-table, unused-constraint, unused-filling, unused-member, unused-cell}
-use Rattle.format.proofs.TakenLaws.{TookTable, TookConstraint, TookFilling, TookRow}
+use Rattle.format.proofs.AdvancedLaws.{TookTable, TookConstraint, TookFilling, TookRow}
 
 abbrev noCells : List ℕ
 noCells = tab 4096 (λ _. 0)
@@ -124,7 +124,7 @@ all-rows d cells tables p a b =
     (cut-whole 0 4096 (λ i. getD cells i 0) (8 * d .rows) cells a (λ i l. refl) (unused-cell d cells tables p))
     (cut-whole 0 512 (λ i. getD tables i 0) (d .rows) tables b (λ i l. refl) (unused-member d cells tables p))
 
--- ---- each item is taken
+-- ---- each item is read
 
 module _ (d : Design) (p : Parts d) (k : ℕ) where
   pub next-table : k < d .tables → TookTable (withTables d k) (withTables d (k + 1)) (tableAt d k)

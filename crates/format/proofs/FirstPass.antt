@@ -24,20 +24,20 @@ use Rattle.format.specs.declared.verdict.Verdict.{Verdict}
 use Rattle.format.specs.declared.verdict.Verdict.the-variants.{Accepted, Refused}
 use Rattle.format.specs.declared.reading.Outcome.{Outcome}
 use Rattle.format.specs.declared.reading.Outcome.the-variants.{On, Complete, Cause}
-use Rattle.format.specs.declared.reading.Step.{Step}
+use Rattle.format.specs.declared.reading.Advance.{Advance}
 use Rattle.format.specs.Bytes.{byteAt}
 use Rattle.format.specs.Commands.{widthOf, commandAt}
-use Rattle.format.specs.Reading.{Draft, draft, Taken, taken, withTable, withConstraint, withFilling, withRow, withRows, DesignRead, readFrom}
-use Rattle.format.specs.Reading.Taken.{on, complete, refused}
+use Rattle.format.specs.Reading.{Draft, draft, Advanced, advanced, withTable, withConstraint, withFilling, withRow, withRows, DesignRead, readFrom}
+use Rattle.format.specs.Reading.Advanced.{on, complete, refused}
 use Rattle.format.specs.Reading.DesignRead.{accepted, refusedAt}
-use Rattle.format.specs.Admitting.{admitted, outcomeOf, causeOf, Kept, Took, again, None, Earliest, readAs, rowPlace, Stopped}
+use Rattle.format.specs.Admitting.{admitted, outcomeOf, causeOf, Kept, Advances, again, None, Earliest, readAs, rowPlace, Stopped}
 use Rattle.format.proofs.reading.Outcome.{the-type}
 use Rattle.format.proofs.LawfulLaws.{whole, SameRow, same-row, live-same, repeats-same}
 use Rattle.format.proofs.Seen.{Seen, seen-table, seen-constraint, seen-filling, seen-row, seen-end, seen-refused, seen}
 use Rattle.format.proofs.Seen.{table-no-row, constraint-no-row, filling-no-row}
-use Rattle.format.proofs.TakenLaws.{not-on, on-complete, end-on, took-table, took-constraint, took-filling}
+use Rattle.format.proofs.AdvancedLaws.{not-on, on-complete, end-on, took-table, took-constraint, took-filling}
 use Rattle.format.proofs.ReadingLaws.{readAll, all-on, all-complete, all-refused, Whole, Ends, taken-complete}
-use Rattle.format.proofs.TookLaws.{kept-put}
+use Rattle.format.proofs.AdvancesLaws.{kept-put}
 use Rattle.format.proofs.AdmittedLaws.{no-row, Admitted, row-admitted, admitted-whole, stops}
 use Rattle.format.proofs.Reached.{Sizes, Fitting, fit-table, fit-constraint, fit-filling, fit-row, fit-empty}
 
@@ -80,7 +80,7 @@ along-start s cells tables d e a b =
 
 module _ (s : List ℕ) (w : DesignRead) (p : Draft) (i : ℕ) (a : Along s w p i) (q : Draft) where
   -- before the first row
-  along-early : p .design .rows ≡ 0 → q .design .rows ≡ 0 → Fitting q → taken p s i (commandAt s i) ≡ on q → Along s w q (i + widthOf (byteAt s i))
+  along-early : p .design .rows ≡ 0 → q .design .rows ≡ 0 → Fitting q → advanced p s i (commandAt s i) ≡ on q → Along s w q (i + widthOf (byteAt s i))
   along-early z y f e =
       record {
         fitting = f;
@@ -94,7 +94,7 @@ module _ (s : List ℕ) (w : DesignRead) (p : Draft) (i : ℕ) (a : Along s w p 
   along-row t c wide h more same =
       record {
         fitting = subst Fitting (h .is) (fit-row p (a .fitting) s i t (h .room));
-        once = λ none. a .once (λ r l. sym (same r l) ∙ none r (omega arith)) ∙ all-on s p i q (ap (taken p s i) c ∙ h .once (none n (omega arith)));
+        once = λ none. a .once (λ r l. sym (same r l) ∙ none r (omega arith)) ∙ all-on s p i q (ap (advanced p s i) c ∙ h .once (none n (omega arith)));
         twice = λ r g. ⊎-elim (here r g) (before r g) (below-suc (let z = g .below in omega arith));
       }
     where
@@ -112,7 +112,7 @@ module _ (s : List ℕ) (w : DesignRead) (p : Draft) (i : ℕ) (a : Along s w p 
           → (34 * (q .design .rows - r) ≤ i + widthOf (byteAt s i)) × (w ≡ refusedAt 6 (rowPlace (i + widthOf (byteAt s i)) (q .design .rows) r))
       here r g e =
           let z : i ≡ rowPlace (i + widthOf (byteAt s i)) (q .design .rows) r = omega arith in
-          let f : taken p s i (commandAt s i) ≡ refused 6 = ap (taken p s i) c ∙ h .twice (subst (λ (x : ℕ). twiceIn q x ≡ true) e (g .here)) in
+          let f : advanced p s i (commandAt s i) ≡ refused 6 = ap (advanced p s i) c ∙ h .twice (subst (λ (x : ℕ). twiceIn q x ≡ true) e (g .here)) in
           (omega arith, a .once (λ j l. sym (same j l) ∙ g .before j (omega arith)) ∙ all-refused s p i 6 f ∙ ap (refusedAt 6) z)
 
 -- the rows before a row that is put in
@@ -168,23 +168,23 @@ is-cause On e f = absurd (⊎-elim (λ z. omega arith) (λ z. omega arith) f)
 is-cause Complete e f = absurd (⊎-elim (λ z. omega arith) (λ z. omega arith) e)
 is-cause (Cause n) e f = refl
 
-on-is : (t : Taken) → outcomeOf t ≡ On → (q : Draft) × (t ≡ on q)
+on-is : (t : Advanced) → outcomeOf t ≡ On → (q : Draft) × (t ≡ on q)
 on-is (on q) e = (q, refl)
 on-is complete e = absurd (let z : _≡_ {A = ℕ} 0 1 = cc in omega arith)
 on-is (refused n) e = absurd (let z : _≡_ {A = ℕ} 0 1 = cc in omega arith)
 
-complete-is : (t : Taken) → outcomeOf t ≡ Complete → t ≡ complete
+complete-is : (t : Advanced) → outcomeOf t ≡ Complete → t ≡ complete
 complete-is (on q) e = absurd (let z : _≡_ {A = ℕ} 0 1 = cc in omega arith)
 complete-is complete e = refl
 complete-is (refused n) e = absurd (let z : _≡_ {A = ℕ} 0 1 = cc in omega arith)
 
-cause-is : (t : Taken) (n : ℕ) → outcomeOf t ≡ Cause n → t ≡ refused n
+cause-is : (t : Advanced) (n : ℕ) → outcomeOf t ≡ Cause n → t ≡ refused n
 cause-is (on q) n e = absurd (let z : _≡_ {A = ℕ} 0 1 = cc in omega arith)
 cause-is complete n e = absurd (let z : _≡_ {A = ℕ} 0 1 = cc in omega arith)
 cause-is (refused m) n e = let z : m ≡ n = cc in ap refused z
 
-module _ (s : List ℕ) (w : DesignRead) (p : Draft) (i : ℕ) (a : Along s w p i) (c : Command) (r : Step) (cells tables : List ℕ)
-    (at : c ≡ commandAt s i) (t : Took p s i c r cells tables) where
+module _ (s : List ℕ) (w : DesignRead) (p : Draft) (i : ℕ) (a : Along s w p i) (c : Command) (r : Advance) (cells tables : List ℕ)
+    (at : c ≡ commandAt s i) (t : Advances p s i c r cells tables) where
   told : (o : Outcome) → r .outcome ≡ o → outcomeOf (admitted p s i (commandAt s i)) ≡ o
   told o e = ap (λ (x : Command). outcomeOf (admitted p s i x)) (sym at) ∙ sym (t .outcome) ∙ e
 

@@ -9,7 +9,7 @@ use lib.ListN.{getD}
 use Rattle.finite.specs.Finite.{any, all}
 use Rattle.finite.proofs.Bools.{both, cond-false}
 use Rattle.finite.proofs.Search.{any-same, all-same, all-at, all-true}
-use Rattle.model.specs.Cell.{Cell, cellOf, blank, isBlank, equal}
+use Rattle.model.specs.Cell.{Cell, numbered, blank, isBlank, equal}
 use Rattle.model.specs.Scheme as Model
 use Rattle.model.specs.Scheme.{isColumn, sameColumn, Scheme}
 use Rattle.model.specs.Database.{Database, has}
@@ -109,9 +109,9 @@ unfolding databaseOf
 same-row m n cells cells′ tables tables′ r t h = record { table = t; cell = λ c. go c (ltb c 8) (λ e. h c (ltb-true c 8 e)) refl }
   where
     go : (c : ℕ) (b : Bool) → (b ≡ true → getD cells (8 * r + c) 0 ≡ getD cells′ (8 * r + c) 0) → ltb c 8 ≡ b
-        → cond (ltb c 8) (cellOf (getD cells (8 * r + c) 0)) blank ≡ cond (ltb c 8) (cellOf (getD cells′ (8 * r + c) 0)) blank
-    go c true g e = ap (λ (x : ℕ). cond (ltb c 8) (cellOf x) blank) (g refl)
-    go c false g e = cond-false (ltb c 8) (cellOf (getD cells (8 * r + c) 0)) blank e ∙ sym (cond-false (ltb c 8) (cellOf (getD cells′ (8 * r + c) 0)) blank e)
+        → cond (ltb c 8) (numbered (getD cells (8 * r + c) 0)) blank ≡ cond (ltb c 8) (numbered (getD cells′ (8 * r + c) 0)) blank
+    go c true g e = ap (λ (x : ℕ). cond (ltb c 8) (numbered x) blank) (g refl)
+    go c false g e = cond-false (ltb c 8) (numbered (getD cells (8 * r + c) 0)) blank e ∙ sym (cond-false (ltb c 8) (numbered (getD cells′ (8 * r + c) 0)) blank e)
 
 pub live-same : (m n : ℕ) (cells cells′ tables tables′ : List ℕ) (r : ℕ) → r < m → r < n → databaseOf m cells tables .live r ≡ databaseOf n cells′ tables′ .live r
 unfolding databaseOf

@@ -11,7 +11,7 @@ use Rattle.finite.proofs.Bools.{both, and-left, and-right, cond-true, cond-fals
 use Rattle.finite.proofs.Tables.{replicate-tab}
 use Rattle.state.specs.Design.{emptyDesign}
 use Rattle.state.specs.Held.{noneHeld}
-use Rattle.state.specs.Step.{lent, longEnough}
+use Rattle.state.specs.Lent.{lent, longEnough}
 use Rattle.format.specs.declared.verdict.DesignReading.{DesignReading}
 use Rattle.format.specs.declared.verdict.Verdict.the-variants.{Accepted, Refused}
 use Rattle.format.specs.Reading.{Draft, draft, emptyDraft, DesignRead, Read, Leaves, verdictOf, designOf, cellsAfter, tablesAfter, marksAfter, mostBytes, readFrom, readDesign, readInto}

@@ -18,7 +18,7 @@ use Rattle.finite.proofs.Tables.{length-tab, tab-at, tab-past}
 use Rattle.state.specs.declared.design.Table as State-table
 use Rattle.state.specs.declared.design.Constraint as State-constraint
 use Rattle.state.specs.declared.design.Filling as State-filling
-use Rattle.model.specs.Cell.{cellOf, blank, isBlank}
+use Rattle.model.specs.Cell.{numbered, blank, isBlank}
 use Rattle.state.specs.Design.{noTable, noConstraint, noFilling, tableAt, constraintAt, fillingAt, emptyDesign}
 use Rattle.state.specs.Meaning.{schemeOf, databaseOf}
 use Rattle.state.specs.Lawful.{tableFits, zeroTable, zeroColumn, constraintFits, zeroConstraint, fillingFits, zeroFilling, zeroRow, lawfulDesign, lawfulRows}
@@ -26,15 +26,15 @@ use Rattle.state.proofs.Places.{unused-is}
 use Rattle.format.specs.declared.command.Command.the-variants.{Table, Constraint, Filling}
 use Rattle.format.specs.Bytes.{byteAt, u32Bytes}
 use Rattle.format.specs.Commands.{widthOf, commandAt, rowCellAt}
-use Rattle.format.specs.Reading.{Draft, draft, emptyDraft, Taken, taken, redesigned, withTable, withConstraint, withFilling, withRows, withRow, DesignRead, readOn, readFrom, readDesign, mostBytes}
-use Rattle.format.specs.Reading.Taken.{on, complete, refused}
+use Rattle.format.specs.Reading.{Draft, draft, emptyDraft, Advanced, advanced, redesigned, withTable, withConstraint, withFilling, withRows, withRow, DesignRead, readOn, readFrom, readDesign, mostBytes}
+use Rattle.format.specs.Reading.Advanced.{on, complete, refused}
 use Rattle.format.specs.Reading.DesignRead.{accepted, refusedAt}
 use Rattle.format.specs.Writing.{tableBytes, constraintBytes, fillingBytes, designBytes}
 use Rattle.format.proofs.LawfulLaws.{Parts, RowParts, whole, whole-rows}
 use Rattle.format.proofs.Growing.{grow-table, grow-constraint, grow-filling, count-rows, grow-row, no-rows}
 use Rattle.format.proofs.Items.{itemsBytes, design-items, more-table, more-constraint, more-filling, more-row, table-part, constraint-part, filling-part, row-part}
 use Rattle.format.proofs.Seen.{Seen, seen-table, seen-constraint, seen-filling, seen-row, seen-end, seen-refused, seen}
-use Rattle.format.proofs.TakenLaws.{TookTable, TookConstraint, TookFilling, TookRow, took-table, took-constraint, took-filling, took-row, not-on, end-on}
+use Rattle.format.proofs.AdvancedLaws.{TookTable, TookConstraint, TookFilling, TookRow, took-table, took-constraint, took-filling, took-row, not-on, end-on}
 use Rattle.format.proofs.ReadingLaws.{Ends, taken-complete}
 
 -- the arrays of a draft have the sizes of their types
@@ -137,18 +137,18 @@ module _ (s : List ℕ) (p q : Draft) (i : ℕ) (r : Reached s p i) where
       })
 
 module _ (s : List ℕ) (small : (j : ℕ) → byteAt s j < 256) where
-  reach-on : (p q : Draft) (i : ℕ) → Reached s p i → taken p s i (commandAt s i) ≡ on q → Reached s q (i + widthOf (byteAt s i))
+  reach-on : (p q : Draft) (i : ℕ) → Reached s p i → advanced p s i (commandAt s i) ≡ on q → Reached s q (i + widthOf (byteAt s i))
   reach-on p q i r e = go (seen s i)
     where
       at : (w : ℕ) → widthOf (byteAt s i) ≡ w → Reached s q (i + w) → Reached s q (i + widthOf (byteAt s i))
       at w h x = subst (λ (k : ℕ). Reached s q (i + k)) (sym h) x
 
       go : Seen s i (commandAt s i) (widthOf (byteAt s i)) → Reached s q (i + widthOf (byteAt s i))
-      go (seen-table a w f c) = at 3 w (reach-table s p q i r _ (table-part s i a f) (took-table p q s i _ (ap (taken p s i) (sym c) ∙ e)))
-      go (seen-constraint a w f c) = at 5 w (reach-constraint s p q i r _ (constraint-part s i a f) (took-constraint p q s i _ (ap (taken p s i) (sym c) ∙ e)))
-      go (seen-filling a w f c) = at 11 w (reach-filling s p q i r _ (filling-part s i small a f) (took-filling p q s i _ (ap (taken p s i) (sym c) ∙ e)))
-      go (seen-row a w f c) = at 34 w (reach-row s p q i r _ (row-part s i small a f) (took-row p q s i _ (ap (taken p s i) (sym c) ∙ e)))
-      go (seen-end a w f c) = absurd (end-on p s i q (ap (taken p s i) (sym c) ∙ e))
+      go (seen-table a w f c) = at 3 w (reach-table s p q i r _ (table-part s i a f) (took-table p q s i _ (ap (advanced p s i) (sym c) ∙ e)))
+      go (seen-constraint a w f c) = at 5 w (reach-constraint s p q i r _ (constraint-part s i a f) (took-constraint p q s i _ (ap (advanced p s i) (sym c) ∙ e)))
+      go (seen-filling a w f c) = at 11 w (reach-filling s p q i r _ (filling-part s i small a f) (took-filling p q s i _ (ap (advanced p s i) (sym c) ∙ e)))
+      go (seen-row a w f c) = at 34 w (reach-row s p q i r _ (row-part s i small a f) (took-row p q s i _ (ap (advanced p s i) (sym c) ∙ e)))
+      go (seen-end a w f c) = absurd (end-on p s i q (ap (advanced p s i) (sym c) ∙ e))
       go (seen-refused n h k) = absurd (not-on n q (sym (h p) ∙ e))
 
 -- ---- the start
@@ -173,7 +173,7 @@ empty-row : (n r : ℕ) → zeroRow (databaseOf n (tab 4096 (λ _. 0)) (tab 512 
 unfolding zeroRow databaseOf isBlank
 empty-row n r =
     both (eq-eqb (getD (tab 512 (λ _. 0)) r 0) 0 (no-number 512 r))
-    (all-true 8 _ (λ c h. ap (λ (b : Bool). isBlank (cond b (cellOf (getD (tab 4096 (λ _. 0)) (8 * r + c) 0)) blank)) (lt-ltb c 8 h) ∙ eq-eqb (getD (tab 4096 (λ _. 0)) (8 * r + c) 0) 0 (no-number 4096 (8 * r + c))))
+    (all-true 8 _ (λ c h. ap (λ (b : Bool). isBlank (cond b (numbered (getD (tab 4096 (λ _. 0)) (8 * r + c) 0)) blank)) (lt-ltb c 8 h) ∙ eq-eqb (getD (tab 4096 (λ _. 0)) (8 * r + c) 0) 0 (no-number 4096 (8 * r + c))))
 
 pub fit-empty : (cells tables : List ℕ) → length cells ≡ 4096 → length tables ≡ 512 → Fitting (draft emptyDesign cells tables)
 unfolding emptyDesign
@@ -202,7 +202,7 @@ pub record Accepted (s : List ℕ) (p : Draft) (j : ℕ) : Type 0 where
   pub bytes : designBytes (p .design) (p .cells) (p .tables) ≡ take j s
 
 -- how a reading is accepted: further on, or here
-accepted-how : (go : Draft → ℕ → DesignRead) (p : Draft) (i w : ℕ) (t : Taken) (q : Draft) (j : ℕ) → readOn go p i w t ≡ accepted q j
+accepted-how : (go : Draft → ℕ → DesignRead) (p : Draft) (i w : ℕ) (t : Advanced) (q : Draft) (j : ℕ) → readOn go p i w t ≡ accepted q j
     → ((x : Draft) × (t ≡ on x) × (go x (i + w) ≡ accepted q j)) ⊎ ((t ≡ complete) × (p ≡ q) × (i + w ≡ j))
 accepted-how go p i w (on x) q j e = inl (x, refl, e)
 accepted-how go p i w complete q j e = inr (refl, cc, cc)
@@ -225,11 +225,11 @@ module _ (s : List ℕ) (small : (j : ℕ) → byteAt s j < 256) where
   unfolding readFrom
   reads zero p i q j r e = absurd (let z : _≡_ {A = ℕ} 0 1 = cc in omega arith)
   reads (suc n) p i q j r e =
-      ⊎-elim (λ (h : (x : Draft) × (taken p s i (commandAt s i) ≡ on x) × (readFrom n s x (i + widthOf (byteAt s i)) ≡ accepted q j)).
+      ⊎-elim (λ (h : (x : Draft) × (advanced p s i (commandAt s i) ≡ on x) × (readFrom n s x (i + widthOf (byteAt s i)) ≡ accepted q j)).
       reads n (h .0) (i + widthOf (byteAt s i)) q j (reach-on s small p (h .0) i r (h .1)) (h .2))
-      (λ (h : (taken p s i (commandAt s i) ≡ complete) × (p ≡ q) × (i + widthOf (byteAt s i) ≡ j)).
+      (λ (h : (advanced p s i (commandAt s i) ≡ complete) × (p ≡ q) × (i + widthOf (byteAt s i) ≡ j)).
       subst (λ (x : Draft). Accepted s x j) (h .1) (subst (λ (k : ℕ). Accepted s p k) (h .2) (ended p i r (taken-complete s i p (h .0)))))
-      (accepted-how (readFrom n s) p i (widthOf (byteAt s i)) (taken p s i (commandAt s i)) q j e)
+      (accepted-how (readFrom n s) p i (widthOf (byteAt s i)) (advanced p s i (commandAt s i)) q j e)
 
   pub reads-lawful : (p : Draft) (i : ℕ) → readDesign s ≡ accepted p i → Accepted s p i
   unfolding readDesign

@@ -10,14 +10,14 @@ use Rattle.state.specs.declared.design.Design.{Design}
 use Rattle.state.specs.Design.{tableAt, constraintAt, fillingAt}
 use Rattle.format.specs.Bytes.{byteAt}
 use Rattle.format.specs.Commands.{widthOf, commandAt}
-use Rattle.format.specs.Reading.{Draft, emptyDraft, taken}
-use Rattle.format.specs.Reading.Taken.{on}
+use Rattle.format.specs.Reading.{Draft, emptyDraft, advanced}
+use Rattle.format.specs.Reading.Advanced.{on}
 use Rattle.format.specs.Reading.DesignRead.{accepted}
 use Rattle.format.specs.Writing.{tableBytes, constraintBytes, fillingBytes, rowBytes, designBytes}
 use Rattle.format.proofs.WritingLaws.{length-table, length-constraint, length-filling, length-row}
 use Rattle.format.proofs.LawfulLaws.{Parts, RowParts}
 use Rattle.format.proofs.Items.{tablesBytes, constraintsBytes, fillingsBytes, rowsBytes}
-use Rattle.format.proofs.TakenLaws.{take-table, take-constraint, take-filling, take-row, end-completes}
+use Rattle.format.proofs.AdvancedLaws.{take-table, take-constraint, take-filling, take-row, end-completes}
 use Rattle.format.proofs.ReadingLaws.{readAll, all-on, all-complete}
 use Rattle.format.proofs.Reached.{Sizes}
 use Rattle.format.proofs.Drafts.{withTables, withConstraints, withFillings, withAllRows, draft-start, all-tables, all-constraints, all-fillings, all-rows, next-table, next-constraint, next-filling, next-row}
@@ -27,7 +27,7 @@ use Rattle.format.proofs.Standing.{Stands, stands-part, stands-piece, r
 
 -- item k of width w is read where it stands, into the draft that has k of its kind
 pub record Turn (s : List ℕ) (p : ℕ → Draft) (i w k : ℕ) : Type 0 where
-  pub taken : taken (p k) s (i + w * k) (commandAt s (i + w * k)) ≡ on (p (k + 1))
+  pub advanced : advanced (p k) s (i + w * k) (commandAt s (i + w * k)) ≡ on (p (k + 1))
   pub width : widthOf (byteAt s (i + w * k)) ≡ w
 
 turns : (s : List ℕ) (p : ℕ → Draft) (i w n : ℕ) → ((k : ℕ) → k < n → Turn s p i w k) → readAll s (p 0) i ≡ readAll s (p n) (i + w * n)
@@ -35,7 +35,7 @@ turns s p i w zero h = let e : i + w * 0 ≡ i = omega arith in ap (readAll s (p
 turns s p i w (suc n) h =
     let t = h n (omega arith) in
     let e : i + w * n + w ≡ i + w * suc n = omega arith in
-    turns s p i w n (λ k l. h k (omega arith)) ∙ all-on s (p n) (i + w * n) (p (n + 1)) (t .taken) ∙
+    turns s p i w n (λ k l. h k (omega arith)) ∙ all-on s (p n) (i + w * n) (p (n + 1)) (t .advanced) ∙
     ap (λ (m : ℕ). readAll s (p (n + 1)) (i + w * n + m)) (t .width) ∙ ap₂ (λ (q : Draft) (m : ℕ). readAll s q m) (ap p (add-one n)) e
 
 -- ---- a lawful design that stands at the beginning of a script
@@ -107,17 +107,17 @@ module _ (d : Design) (cells tables : List ℕ) (p : Parts d) (r : RowParts d ce
   turn-table : (k : ℕ) → k < d .tables → Turn s (withTables d) 0 3 k
   turn-table k l =
       let x = reads-table s (0 + 3 * k) (tableAt d k) (stands-piece s 0 3 (λ i. tableBytes (tableAt d i)) (λ i. length-table _) (d .tables) stand-tables k l) in
-      record { taken = ap (taken (withTables d k) s (0 + 3 * k)) (x .command) ∙ take-table _ _ s (0 + 3 * k) (tableAt d k) (next-table d p k l); width = x .width }
+      record { advanced = ap (advanced (withTables d k) s (0 + 3 * k)) (x .command) ∙ take-table _ _ s (0 + 3 * k) (tableAt d k) (next-table d p k l); width = x .width }
 
   turn-constraint : (k : ℕ) → k < d .constraints → Turn s (withConstraints d) (constraintsFrom d) 5 k
   turn-constraint k l =
       let x = reads-constraint s (constraintsFrom d + 5 * k) (constraintAt d k) (stands-piece s (constraintsFrom d) 5 (λ i. constraintBytes (constraintAt d i)) (λ i. length-constraint _) (d .constraints) stand-constraints k l) in
-      record { taken = ap (taken (withConstraints d k) s (constraintsFrom d + 5 * k)) (x .command) ∙ take-constraint _ _ s (constraintsFrom d + 5 * k) (constraintAt d k) (next-constraint d p k l); width = x .width }
+      record { advanced = ap (advanced (withConstraints d k) s (constraintsFrom d + 5 * k)) (x .command) ∙ take-constraint _ _ s (constraintsFrom d + 5 * k) (constraintAt d k) (next-constraint d p k l); width = x .width }
 
   turn-filling : (k : ℕ) → k < d .fillings → Turn s (withFillings d) (fillingsFrom d) 11 k
   turn-filling k l =
       let x = reads-filling s (fillingsFrom d + 11 * k) (fillingAt d k) (n .low k) (n .high k) (stands-piece s (fillingsFrom d) 11 (λ i. fillingBytes (fillingAt d i)) (λ i. length-filling _) (d .fillings) stand-fillings k l) in
-      record { taken = ap (taken (withFillings d k) s (fillingsFrom d + 11 * k)) (x .command) ∙ take-filling _ _ s (fillingsFrom d + 11 * k) (fillingAt d k) (next-filling d p k l); width = x .width }
+      record { advanced = ap (advanced (withFillings d k) s (fillingsFrom d + 11 * k)) (x .command) ∙ take-filling _ _ s (fillingsFrom d + 11 * k) (fillingAt d k) (next-filling d p k l); width = x .width }
 
   turn-row : (k : ℕ) → k < d .rows → Turn s (withAllRows d cells tables) (rowsFrom d) 34 k
   turn-row k l =
@@ -125,8 +125,8 @@ module _ (d : Design) (cells tables : List ℕ) (p : Parts d) (r : RowParts d ce
       let y = stands-piece s (rowsFrom d) 34 (rowBytes cells tables) (length-row cells tables) (d .rows) stand-rows k l in
       let x = reads-row s i cells tables k y in
       record {
-        taken =
-            ap (taken (withAllRows d cells tables k) s i) (x .command) ∙
+        advanced =
+            ap (advanced (withAllRows d cells tables k) s i) (x .command) ∙
             take-row _ _ s i (byteAt s (i + 1))
             (next-row d cells tables r (p .rows) k l s i (byteAt s (i + 1)) (row-table s i cells tables k y) (row-cells s i cells tables k y (n .cell)));
         width = x .width;
@@ -141,4 +141,4 @@ module _ (d : Design) (cells tables : List ℕ) (p : Parts d) (r : RowParts d ce
       ap (λ (a : Draft). readAll s a (fillingsFrom d)) (all-constraints d p (z .table) (z .constraint) (z .filling)) ∙ turns s (withFillings d) (fillingsFrom d) 11 (d .fillings) turn-filling ∙
       ap (λ (a : Draft). readAll s a (rowsFrom d)) (all-fillings d p (z .table) (z .constraint) (z .filling) cells tables) ∙ turns s (withAllRows d cells tables) (rowsFrom d) 34 (d .rows) turn-row ∙
       ap (λ (a : Draft). readAll s a (endFrom d)) (all-rows d cells tables r (z .cells) (z .tables)) ∙
-      all-complete s q (endFrom d) (ap (taken q s (endFrom d)) (x .command) ∙ end-completes q s (endFrom d)) ∙ ap (λ (m : ℕ). accepted q (endFrom d + m)) (x .width)
+      all-complete s q (endFrom d) (ap (advanced q s (endFrom d)) (x .command) ∙ end-completes q s (endFrom d)) ∙ ap (λ (m : ℕ). accepted q (endFrom d + m)) (x .width)

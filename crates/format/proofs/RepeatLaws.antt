@@ -23,9 +23,9 @@ use Rattle.model.proofs.DatabaseLaws.{has-Has, Has-has, has-full}
 use Rattle.state.specs.declared.design.Design.{Design}
 use Rattle.state.specs.Meaning.{schemeOf, databaseOf}
 use Rattle.state.specs.Lawful.{repeatsAt, repeats}
-use Rattle.catalog.specs.First.{firstFrom}
+use Rattle.finite.specs.Finite.{firstFrom}
 use Rattle.catalog.specs.Catalog.{columnAt, nextOf, nexts}
-use Rattle.catalog.proofs.FirstLaws.{first-from}
+use Rattle.finite.proofs.First.{first-from}
 use Rattle.catalog.proofs.CatalogLaws.{has-table, has-cell, next-from}
 use Rattle.format.specs.Admitting.{again, None, Earliest, uniqueNext, lower, lowest}
 
@@ -111,10 +111,10 @@ next-says D q c r a b e = go (dec (has D (columnAt D q c) (D .cell q c) q))
 
     go : (has D (columnAt D q c) (D .cell q c) q ≡ true) ⊎ (has D (columnAt D q c) (D .cell q c) q ≡ false)
         → (has D (columnAt D q c) (D .cell q c) q ≡ true) × (has D (columnAt D q c) (D .cell q c) r ≡ true) × (q < r)
-    go (inr h) = absurd (let z = cond-false (p q) (firstFrom p (q + 1)) 512 h in omega arith)
+    go (inr h) = absurd (let z = cond-false (p q) (firstFrom 512 p (q + 1)) 512 h in omega arith)
     go (inl h) =
-        let z : firstFrom p (q + 1) ≡ r = sym (cond-true (p q) (firstFrom p (q + 1)) 512 h) ∙ e in
-        let f = first-from p (q + 1) (omega arith) in
+        let z : firstFrom 512 p (q + 1) ≡ r = sym (cond-true (p q) (firstFrom 512 p (q + 1)) 512 h) ∙ e in
+        let f = first-from 512 p (q + 1) (omega arith) in
         (h, ap p (sym z) ∙ f .here (omega arith), (let g = f .start in omega arith))
 
 module _ (d : Design) (cells tables next : List ℕ) (few : d .rows ≤ 512) (e : next ≡ nexts (databaseOf (d .rows) cells tables)) where
@@ -185,13 +185,13 @@ module _ (d : Design) (cells tables next : List ℕ) (few : d .rows ≤ 512) (e 
 
           -- the next row of row j
           after : ℕ
-          after = firstFrom (has D (columnAt D q c) (D .cell q c)) (j + 1)
+          after = firstFrom 512 (has D (columnAt D q c) (D .cell q c)) (j + 1)
 
           not-later : after ≤ q
           not-later = at (decLt q after)
             where
               at : Dec (q < after) → after ≤ q
-              at (yes k) = clash has-q (first-from (has D (columnAt D q c) (D .cell q c)) (j + 1) (omega (arith, below)) .none q (omega (arith, below)) k)
+              at (yes k) = clash has-q (first-from 512 (has D (columnAt D q c) (D .cell q c)) (j + 1) (omega (arith, below)) .none q (omega (arith, below)) k)
               at (no k) = omega arith
 
           link : uniqueNext d tables next (8 * j + c) ≡ after

@@ -1,5 +1,5 @@
 -- The command at a place, by its byte: a command of the design that is whole, or one that no draft takes. Assumes nothing.
-use Prim.Native.Nat.{ℕ, _+_, _-_, _≤_}
+use Prim.Native.Nat.{ℕ, _+_, _-_, _≤_, _<_}
 use native.Mathlib.Omega.{arith}
 use mathlib.Core.Path.{_≡_, refl, sym, ap, _∙_}
 use mathlib.Core.Bool.{Bool, true, false, cond}
@@ -12,13 +12,14 @@ use Rattle.finite.proofs.Bools.{dec, same-number}
 use Rattle.state.specs.declared.design.Table as State-table
 use Rattle.state.specs.declared.design.Constraint as State-constraint
 use Rattle.state.specs.declared.design.Filling as State-filling
+use Rattle.state.specs.declared.operation.Operation.{Operation}
 use Rattle.format.specs.declared.command.Command.{Command}
-use Rattle.format.specs.declared.command.Command.the-variants.{Table, Constraint, Filling, Row, End, Refer, Drop, Probe, Query, Unknown, Short}
+use Rattle.format.specs.declared.command.Command.the-variants.{Table, Constraint, Filling, Row, End, Operate, Unknown, Short}
 use Rattle.format.specs.Bytes.{byteAt, u32At}
-use Rattle.format.specs.Commands.{widthOf, columnAt, operandsAt, commandAt}
-use Rattle.format.specs.Reading.{Draft, taken}
-use Rattle.format.specs.Reading.Taken.{refused}
-use Rattle.format.proofs.CommandLaws.{at-end, at-unknown, at-short, at-whole, operands-table, operands-constraint, operands-filling, operands-row, operands-end}
+use Rattle.format.specs.Commands.{designWidth, widthOf, columnAt, designCommandAt, operationAt, operandsAt, commandAt}
+use Rattle.format.specs.Reading.{Draft, advanced}
+use Rattle.format.specs.Reading.Advanced.{refused}
+use Rattle.format.proofs.CommandLaws.{at-end, at-unknown, at-short, at-whole, width-design, is-end, operands-design, operands-operation, command-table, command-constraint, command-filling, command-row, command-end}
 
 -- what the command c of width w, at place i, is
 pub data Seen (s : List ℕ) (i : ℕ) (c : Command) (w : ℕ) : Type 0 where
@@ -27,32 +28,12 @@ pub data Seen (s : List ℕ) (i : ℕ) (c : Command) (w : ℕ) : Type 0 where
   seen-filling : byteAt s i ≡ 3 → w ≡ 11 → i + 11 ≤ length s → c ≡ Filling (record { column = columnAt s (i + 1); low = u32At s (i + 3); high = u32At s (i + 7) }) → Seen s i c w
   seen-row : byteAt s i ≡ 4 → w ≡ 34 → i + 34 ≤ length s → c ≡ Row (byteAt s (i + 1)) → Seen s i c w
   seen-end : byteAt s i ≡ 5 → w ≡ 1 → i + 1 ≤ length s → c ≡ End → Seen s i c w
-  seen-refused : (n : ℕ) → ((p : Draft) → taken p s i c ≡ refused n) → ((t : ℕ) → c ≡ Row t → ⊥) → Seen s i c w
+  seen-refused : (n : ℕ) → ((p : Draft) → advanced p s i c ≡ refused n) → ((t : ℕ) → c ≡ Row t → ⊥) → Seen s i c w
 
--- an operation is refused in a design
-operation : (b : ℕ) (s : List ℕ) (i : ℕ) (p : Draft) → (b ≡ 1 → ⊥) → (b ≡ 2 → ⊥) → (b ≡ 3 → ⊥) → (b ≡ 4 → ⊥) → (b ≡ 5 → ⊥) → taken p s i (operandsAt b s i) ≡ refused 3
-unfolding operandsAt taken
-operation b s i p h₁ h₂ h₃ h₄ h₅ =
-    rw (ne-eqb b 1 h₁, ne-eqb b 2 h₂, ne-eqb b 3 h₃, ne-eqb b 4 h₄, ne-eqb b 5 h₅) (rest (eqb b 16) (eqb b 17) (eqb b 18))
-  where
-    rest : (x y z : Bool) → taken p s i (cond x (Refer (byteAt s (i + 1)) (u32At s (i + 2))) (cond y (Drop (byteAt s (i + 1)) (u32At s (i + 2)))
-        (cond z (Probe (columnAt s (i + 1)) (u32At s (i + 3))) (Query (columnAt s (i + 1)) (u32At s (i + 3)) (byteAt s (i + 7)))))) ≡ refused 3
-    rest true y z = refl
-    rest false true z = refl
-    rest false false true = refl
-    rest false false false = refl
+-- ---- what is no row
 
-operation-no-row : (b : ℕ) (s : List ℕ) (i t : ℕ) → (b ≡ 1 → ⊥) → (b ≡ 2 → ⊥) → (b ≡ 3 → ⊥) → (b ≡ 4 → ⊥) → (b ≡ 5 → ⊥) → operandsAt b s i ≡ Row t → ⊥
-unfolding operandsAt
-operation-no-row b s i t h₁ h₂ h₃ h₄ h₅ e =
-    rest (eqb b 16) (eqb b 17) (eqb b 18) (rw (ne-eqb b 1 h₁, ne-eqb b 2 h₂, ne-eqb b 3 h₃, ne-eqb b 4 h₄, ne-eqb b 5 h₅) at e)
-  where
-    rest : (x y z : Bool) → cond x (Refer (byteAt s (i + 1)) (u32At s (i + 2))) (cond y (Drop (byteAt s (i + 1)) (u32At s (i + 2)))
-        (cond z (Probe (columnAt s (i + 1)) (u32At s (i + 3))) (Query (columnAt s (i + 1)) (u32At s (i + 3)) (byteAt s (i + 7))))) ≡ Row t → ⊥
-    rest true y z e = let q : _≡_ {A = ℕ} 0 1 = cc in omega arith
-    rest false true z e = let q : _≡_ {A = ℕ} 0 1 = cc in omega arith
-    rest false false true e = let q : _≡_ {A = ℕ} 0 1 = cc in omega arith
-    rest false false false e = let q : _≡_ {A = ℕ} 0 1 = cc in omega arith
+operate-no-row : (o : Operation) (t : ℕ) → Operate o ≡ Row t → ⊥
+operate-no-row o t e = let q : _≡_ {A = ℕ} 0 1 = cc in omega arith
 
 pub table-no-row : (x : State-table.Table) (t : ℕ) → Table x ≡ Row t → ⊥
 table-no-row x t e = let q : _≡_ {A = ℕ} 0 1 = cc in omega arith
@@ -69,30 +50,40 @@ short-no-row t e = let q : _≡_ {A = ℕ} 0 1 = cc in omega arith
 unknown-no-row : (t : ℕ) → Unknown ≡ Row t → ⊥
 unknown-no-row t e = let q : _≡_ {A = ℕ} 0 1 = cc in omega arith
 
--- the byte is known, and the command is whole
-module _ (s : List ℕ) (i : ℕ) (e : operandsAt (byteAt s i) s i ≡ commandAt s i) (room : i + widthOf (byteAt s i) ≤ length s) where
+-- ---- the command is whole: a command of the design, by its byte
+
+module _ (s : List ℕ) (i : ℕ) (some : widthOf (byteAt s i) ≡ 0 → ⊥) (e : operandsAt (byteAt s i) s i ≡ commandAt s i) (room : i + widthOf (byteAt s i) ≤ length s) where
+  of-design : byteAt s i < 16 → Seen s i (commandAt s i) (widthOf (byteAt s i))
+  unfolding designWidth
+  of-design l =
+      let b = byteAt s i in
+      let c : designCommandAt b s i ≡ commandAt s i = operands-design b s i l ∙ e in
+      let w : (n : ℕ) → b ≡ n → widthOf b ≡ designWidth n = λ n h. width-design b l ∙ ap designWidth h in
+      ⊎-elim (λ (h : b ≡ 1). seen-table h (w 1 h) (omega (arith, w 1 h)) (sym c ∙ sym (command-table b s i _ refl h)))
+      (λ (n₁ : b ≡ 1 → ⊥). ⊎-elim (λ (h : b ≡ 2). seen-constraint h (w 2 h) (omega (arith, w 2 h)) (sym c ∙ sym (command-constraint b s i _ refl h)))
+      (λ (n₂ : b ≡ 2 → ⊥). ⊎-elim (λ (h : b ≡ 3). seen-filling h (w 3 h) (omega (arith, w 3 h)) (sym c ∙ sym (command-filling b s i _ refl h)))
+      (λ (n₃ : b ≡ 3 → ⊥). ⊎-elim (λ (h : b ≡ 4). seen-row h (w 4 h) (omega (arith, w 4 h)) (sym c ∙ sym (command-row b s i h)))
+      (λ (n₄ : b ≡ 4 → ⊥). let h = is-end b (λ z. some (width-design b l ∙ z)) n₁ n₂ n₃ n₄ in seen-end h (w 5 h) (omega (arith, w 5 h)) (sym c ∙ sym (command-end b s i h)))
+      (same-number b 4)) (same-number b 3)) (same-number b 2)) (same-number b 1)
+
   whole : Seen s i (commandAt s i) (widthOf (byteAt s i))
-  unfolding widthOf
+  unfolding advanced
   whole =
       let b = byteAt s i in
-      let w : (n : ℕ) → b ≡ n → widthOf b ≡ widthOf n = λ n h. ap widthOf h in
-      ⊎-elim (λ (h : b ≡ 1). seen-table h (w 1 h) (omega (arith, w 1 h)) (sym e ∙ sym (operands-table b s i _ refl h)))
-      (λ (n₁ : b ≡ 1 → ⊥). ⊎-elim (λ (h : b ≡ 2). seen-constraint h (w 2 h) (omega (arith, w 2 h)) (sym e ∙ sym (operands-constraint b s i _ refl h)))
-      (λ (n₂ : b ≡ 2 → ⊥). ⊎-elim (λ (h : b ≡ 3). seen-filling h (w 3 h) (omega (arith, w 3 h)) (sym e ∙ sym (operands-filling b s i _ refl h)))
-      (λ (n₃ : b ≡ 3 → ⊥). ⊎-elim (λ (h : b ≡ 4). seen-row h (w 4 h) (omega (arith, w 4 h)) (sym e ∙ sym (operands-row b s i h)))
-      (λ (n₄ : b ≡ 4 → ⊥). ⊎-elim (λ (h : b ≡ 5). seen-end h (w 5 h) (omega (arith, w 5 h)) (sym e ∙ sym (operands-end b s i h)))
-      (λ (n₅ : b ≡ 5 → ⊥). seen-refused 3 (λ p. ap (taken p s i) (sym e) ∙ operation b s i p n₁ n₂ n₃ n₄ n₅) (λ t h. operation-no-row b s i t n₁ n₂ n₃ n₄ n₅ (e ∙ h)))
-      (same-number b 5)) (same-number b 4)) (same-number b 3)) (same-number b 2)) (same-number b 1)
+      ⊎-elim (λ (h : ltb b 16 ≡ true). of-design (ltb-true b 16 h))
+      (λ (h : ltb b 16 ≡ false). let c = operands-operation b s i (ltb-false b 16 h) ∙ e in
+      seen-refused 3 (λ p. ap (advanced p s i) (sym c)) (λ t k. operate-no-row (operationAt b s i) t (c ∙ k)))
+      (dec (ltb b 16))
 
 pub seen : (s : List ℕ) (i : ℕ) → Seen s i (commandAt s i) (widthOf (byteAt s i))
-unfolding taken
+unfolding advanced
 seen s i =
-    ⊎-elim (λ (h : leb (length s) i ≡ true). seen-refused 1 (λ p. ap (taken p s i) (sym (at-end s i (leb-true (length s) i h)))) (λ t e. short-no-row t (at-end s i (leb-true (length s) i h) ∙ e)))
+    ⊎-elim (λ (h : leb (length s) i ≡ true). seen-refused 1 (λ p. ap (advanced p s i) (sym (at-end s i (leb-true (length s) i h)))) (λ t e. short-no-row t (at-end s i (leb-true (length s) i h) ∙ e)))
     (λ (h : leb (length s) i ≡ false). let l = leb-false (length s) i h in
-    ⊎-elim (λ (z : widthOf (byteAt s i) ≡ 0). seen-refused 2 (λ p. ap (taken p s i) (sym (at-unknown s i l z))) (λ t e. unknown-no-row t (at-unknown s i l z ∙ e)))
+    ⊎-elim (λ (z : widthOf (byteAt s i) ≡ 0). seen-refused 2 (λ p. ap (advanced p s i) (sym (at-unknown s i l z))) (λ t e. unknown-no-row t (at-unknown s i l z ∙ e)))
     (λ (z : widthOf (byteAt s i) ≡ 0 → ⊥).
-    ⊎-elim (λ (k : ltb (length s - i) (widthOf (byteAt s i)) ≡ true). seen-refused 1 (λ p. ap (taken p s i) (sym (at-short s i l z (ltb-true (length s - i) (widthOf (byteAt s i)) k)))) (λ t e. short-no-row t (at-short s i l z (ltb-true (length s - i) (widthOf (byteAt s i)) k) ∙ e)))
-    (λ (k : ltb (length s - i) (widthOf (byteAt s i)) ≡ false). let g = ltb-false (length s - i) (widthOf (byteAt s i)) k in whole s i (at-whole s i l z g) (omega arith))
+    ⊎-elim (λ (k : ltb (length s - i) (widthOf (byteAt s i)) ≡ true). seen-refused 1 (λ p. ap (advanced p s i) (sym (at-short s i l z (ltb-true (length s - i) (widthOf (byteAt s i)) k)))) (λ t e. short-no-row t (at-short s i l z (ltb-true (length s - i) (widthOf (byteAt s i)) k) ∙ e)))
+    (λ (k : ltb (length s - i) (widthOf (byteAt s i)) ≡ false). let g = ltb-false (length s - i) (widthOf (byteAt s i)) k in whole s i z (at-whole s i l z g) (omega arith))
     (dec (ltb (length s - i) (widthOf (byteAt s i))))) (same-number (widthOf (byteAt s i)) 0)) (dec (leb (length s) i))
 
 -- a ROW is whole

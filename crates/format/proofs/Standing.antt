@@ -16,9 +16,9 @@ use Rattle.state.specs.declared.design.Filling as State-filling
 use Rattle.format.specs.declared.command.Command.{Command}
 use Rattle.format.specs.declared.command.Command.the-variants.{Table, Constraint, Filling, Row, End}
 use Rattle.format.specs.Bytes.{byteAt, u32At, u32Bytes}
-use Rattle.format.specs.Commands.{widthOf, columnAt, operandsAt, commandAt, rowCellAt}
+use Rattle.format.specs.Commands.{designWidth, widthOf, columnAt, designCommandAt, commandAt, rowCellAt}
 use Rattle.format.specs.Writing.{tableBytes, constraintBytes, fillingBytes, cellsBytes, rowBytes}
-use Rattle.format.proofs.CommandLaws.{at-whole, operands-table, operands-constraint, operands-filling, operands-row, operands-end}
+use Rattle.format.proofs.CommandLaws.{at-whole, width-design, operands-design, command-table, command-constraint, command-filling, command-row, command-end}
 use Rattle.format.proofs.BytesLaws.{u32-written}
 use Rattle.format.proofs.WritingLaws.{length-u32, length-filling, length-row}
 
@@ -85,10 +85,13 @@ pub record Reads (s : List ℕ) (i w : ℕ) (c : Command) : Type 0 where
   pub command : commandAt s i ≡ c
   pub width : widthOf (byteAt s i) ≡ w
 
-reads-whole : (s : List ℕ) (i b w : ℕ) (c : Command) → byteAt s i ≡ b → widthOf b ≡ w → 0 < w → i + w ≤ length s → c ≡ operandsAt (byteAt s i) s i → Reads s i w c
-reads-whole s i b w c e f l h o =
-    let x : widthOf (byteAt s i) ≡ w = ap widthOf e ∙ f in
-    record { command = sym (o ∙ at-whole s i (omega arith) (λ (z : widthOf (byteAt s i) ≡ 0). omega arith) (omega arith)); width = x }
+-- a command of the design, whose byte is b
+reads-whole : (s : List ℕ) (i b w : ℕ) (c : Command) → byteAt s i ≡ b → b < 16 → designWidth b ≡ w → 0 < w → i + w ≤ length s
+    → c ≡ designCommandAt (byteAt s i) s i → Reads s i w c
+reads-whole s i b w c e d f l h o =
+    let few : byteAt s i < 16 = omega arith in
+    let x : widthOf (byteAt s i) ≡ w = width-design (byteAt s i) few ∙ ap designWidth e ∙ f in
+    record { command = sym (o ∙ operands-design (byteAt s i) s i few ∙ at-whole s i (omega arith) (λ (z : widthOf (byteAt s i) ≡ 0). omega arith) (omega arith)); width = x }
 
 pub u32-stands : (s : List ℕ) (i v : ℕ) → v < 4294967296 → Stands s i (u32Bytes v) → u32At s i ≡ v
 unfolding u32Bytes
@@ -96,27 +99,27 @@ u32-stands s i v l h = u32-written s i v l (stands-here s _ i h (omega arith)) (
 
 module _ (s : List ℕ) (i : ℕ) where
   pub reads-table : (t : State-table.Table) → Stands s i (tableBytes t) → Reads s i 3 (Table t)
-  unfolding tableBytes widthOf
+  unfolding tableBytes designWidth
   reads-table t h =
       let b : byteAt s i ≡ 1 = stands-here s _ i h (omega arith) in
-      reads-whole s i 1 3 (Table t) b refl (omega arith) (stands-long s _ i h)
-      (operands-table (byteAt s i) s i t
+      reads-whole s i 1 3 (Table t) b (omega arith) refl (omega arith) (stands-long s _ i h)
+      (command-table (byteAt s i) s i t
       (ap₂ (λ (x y : ℕ). let r : State-table.Table = record { columns = x; unique = y } in r) (sym (stands-at s _ i h 1 (omega arith))) (sym (stands-at s _ i h 2 (omega arith)))) b)
 
   pub reads-constraint : (c : State-constraint.Constraint) → Stands s i (constraintBytes c) → Reads s i 5 (Constraint c)
-  unfolding constraintBytes widthOf
+  unfolding constraintBytes designWidth
   reads-constraint c h =
       let b : byteAt s i ≡ 2 = stands-here s _ i h (omega arith) in
       let two : i + 1 + 1 ≡ i + 2 = omega arith in let four : i + 3 + 1 ≡ i + 4 = omega arith in
       let p : byteAt s (i + 1 + 1) ≡ c .source .place = ap (byteAt s) two ∙ stands-at s _ i h 2 (omega arith) in
       let q : byteAt s (i + 3 + 1) ≡ c .target .place = ap (byteAt s) four ∙ stands-at s _ i h 4 (omega arith) in
-      reads-whole s i 2 5 (Constraint c) b refl (omega arith) (stands-long s _ i h)
-      (operands-constraint (byteAt s i) s i c
+      reads-whole s i 2 5 (Constraint c) b (omega arith) refl (omega arith) (stands-long s _ i h)
+      (command-constraint (byteAt s i) s i c
       (ap₂ (λ (x y : ℕ). let r : State-constraint.Constraint = record { source = record { table = x; place = y }; target = c .target } in r) (sym (stands-at s _ i h 1 (omega arith))) (sym p) ∙
       ap₂ (λ (x y : ℕ). let r : State-constraint.Constraint = record { source = columnAt s (i + 1); target = record { table = x; place = y } } in r) (sym (stands-at s _ i h 3 (omega arith))) (sym q)) b)
 
   pub reads-filling : (f : State-filling.Filling) → f .low < 4294967296 → f .high < 4294967296 → Stands s i (fillingBytes f) → Reads s i 11 (Filling f)
-  unfolding fillingBytes widthOf
+  unfolding fillingBytes designWidth
   reads-filling f low high h =
       let head : List ℕ = 3 ∷ f .column .table ∷ f .column .place ∷ [] in
       let b : byteAt s i ≡ 3 = stands-here s _ i h (omega arith) in
@@ -126,16 +129,16 @@ module _ (s : List ℕ) (i : ℕ) where
       let y : u32At s (i + 7) ≡ f .high =
       u32-stands s (i + 7) (f .high) high
       (stands-part s _ (head ++ u32Bytes (f .low)) (u32Bytes (f .high)) [] i (i + 7) h (ap (λ (l : List ℕ). head ++ (u32Bytes (f .low) ++ l)) (sym (append-nil (u32Bytes (f .high))))) (let e = length-u32 (f .low) in omega arith)) in
-      reads-whole s i 3 11 (Filling f) b refl (omega arith) (let e = length-filling f in let g = stands-long s _ i h in omega arith)
-      (operands-filling (byteAt s i) s i f
+      reads-whole s i 3 11 (Filling f) b (omega arith) refl (omega arith) (let e = length-filling f in let g = stands-long s _ i h in omega arith)
+      (command-filling (byteAt s i) s i f
       (ap₂ (λ (u v : ℕ). let r : State-filling.Filling = record { column = record { table = u; place = v }; low = f .low; high = f .high } in r) (sym (stands-at s _ i h 1 (omega arith))) (sym p) ∙
       ap₂ (λ (u v : ℕ). let r : State-filling.Filling = record { column = columnAt s (i + 1); low = u; high = v } in r) (sym x) (sym y)) b)
 
   pub reads-end : Stands s i (5 ∷ []) → Reads s i 1 End
-  unfolding widthOf
+  unfolding designWidth
   reads-end h =
       let b : byteAt s i ≡ 5 = stands-here s _ i h (omega arith) in
-      reads-whole s i 5 1 End b refl (omega arith) (stands-long s _ i h) (operands-end (byteAt s i) s i b)
+      reads-whole s i 5 1 End b (omega arith) refl (omega arith) (stands-long s _ i h) (command-end (byteAt s i) s i b)
 
 -- a ROW: its table, its cells
 module _ (s : List ℕ) (i : ℕ) (cells tables : List ℕ) (r : ℕ) (h : Stands s i (rowBytes cells tables r)) where
@@ -153,7 +156,7 @@ module _ (s : List ℕ) (i : ℕ) (cells tables : List ℕ) (r : ℕ) (h : Stand
       (stands-part s _ head (collect 8 (λ _. true) f) [] i (i + 2) h (ap (λ (m : List ℕ). head ++ m) (sym (append-nil (collect 8 (λ _. true) f)))) refl) c l)
 
   pub reads-row : Reads s i 34 (Row (byteAt s (i + 1)))
-  unfolding widthOf rowBytes
+  unfolding designWidth rowBytes
   reads-row =
       let b : byteAt s i ≡ 4 = stands-here s _ i h (omega arith) in
-      reads-whole s i 4 34 (Row (byteAt s (i + 1))) b refl (omega arith) (let e = length-row cells tables r in let g = stands-long s _ i h in omega arith) (operands-row (byteAt s i) s i b)
+      reads-whole s i 4 34 (Row (byteAt s (i + 1))) b (omega arith) refl (omega arith) (let e = length-row cells tables r in let g = stands-long s _ i h in omega arith) (command-row (byteAt s i) s i b)

@@ -12,40 +12,37 @@ use Rattle.state.specs.Meaning.{schemeOf, databaseOf}
 use Rattle.state.specs.Lawful.{rowFits, repeats}
 use Rattle.catalog.specs.Catalog.{Catalogued}
 use Rattle.format.specs.declared.command.Command.{Command}
-use Rattle.format.specs.declared.command.Command.the-variants.{Table, Constraint, Filling, Row, End, Refer, Drop, Probe, Query, Unknown, Short}
+use Rattle.format.specs.declared.command.Command.the-variants.{Table, Constraint, Filling, Row, End, Operate, Unknown, Short}
 use Rattle.format.specs.declared.verdict.Verdict.{Verdict}
 use Rattle.format.specs.declared.verdict.Verdict.the-variants.{Accepted, Refused}
 use Rattle.format.specs.declared.verdict.DesignReading.{DesignReading}
 use Rattle.format.specs.declared.reading.Outcome.{Outcome}
 use Rattle.format.specs.declared.reading.Outcome.the-variants.{On, Complete, Cause}
-use Rattle.format.specs.declared.reading.Step.{Step}
+use Rattle.format.specs.declared.reading.Advance.{Advance}
 use Rattle.format.specs.declared.reading.Stop.{Stop}
-use Rattle.format.specs.Reading.{Draft, draft, Taken, unless, taken, withRow, DesignRead}
-use Rattle.format.specs.Reading.Taken.{on, complete, refused}
+use Rattle.format.specs.Reading.{Draft, draft, Advanced, refusedIf, advanced, withRow, DesignRead}
+use Rattle.format.specs.Reading.Advanced.{on, complete, refused}
 use Rattle.format.specs.Reading.DesignRead.{accepted, refusedAt}
 
 -- ---- one command
 
 -- the command c, which stands at place i, read into the draft p without a look at cause 6: a row that repeats a value is put in like any other
-unfoldable pub admitted : Draft → List ℕ → ℕ → Command → Taken
+unfoldable pub admitted : Draft → List ℕ → ℕ → Command → Advanced
 admitted p s i (Row t) =
     let q = withRow p s i t in
-    unless (leb 512 (p .design .rows)) 4
-    (unless (not (rowFits (schemeOf (q .design)) (databaseOf (q .design .rows) (q .cells) (q .tables)) (p .design .rows))) 5
+    refusedIf (leb 512 (p .design .rows)) 4
+    (refusedIf (not (rowFits (schemeOf (q .design)) (databaseOf (q .design .rows) (q .cells) (q .tables)) (p .design .rows))) 5
     (on q))
-admitted p s i (Table t) = taken p s i (Table t)
-admitted p s i (Constraint c) = taken p s i (Constraint c)
-admitted p s i (Filling f) = taken p s i (Filling f)
-admitted p s i End = taken p s i End
-admitted p s i (Refer f v) = taken p s i (Refer f v)
-admitted p s i (Drop f v) = taken p s i (Drop f v)
-admitted p s i (Probe k v) = taken p s i (Probe k v)
-admitted p s i (Query k v n) = taken p s i (Query k v n)
-admitted p s i Unknown = taken p s i Unknown
-admitted p s i Short = taken p s i Short
+admitted p s i (Table t) = advanced p s i (Table t)
+admitted p s i (Constraint c) = advanced p s i (Constraint c)
+admitted p s i (Filling f) = advanced p s i (Filling f)
+admitted p s i End = advanced p s i End
+admitted p s i (Operate o) = advanced p s i (Operate o)
+admitted p s i Unknown = advanced p s i Unknown
+admitted p s i Short = advanced p s i Short
 
 -- what the code answers for a command, and the draft that it leaves: the design beside the answer (an enum holds no array), and the two arrays
-abbrev pub outcomeOf : Taken → Outcome
+abbrev pub outcomeOf : Advanced → Outcome
 outcomeOf (on p) = On
 outcomeOf complete = Complete
 outcomeOf (refused n) = Cause n
@@ -61,7 +58,7 @@ pub record Kept (n : ℕ) (cells tables cells′ tables′ : List ℕ) : Type 0 
   pub table : (r : ℕ) → r < n → getD tables′ r 0 ≡ getD tables r 0
 
 -- the command c at place i, read into the draft p: the code has answered r and left the arrays
-pub record Took (p : Draft) (s : List ℕ) (i : ℕ) (c : Command) (r : Step) (cells tables : List ℕ) : Type 0 where
+pub record Advances (p : Draft) (s : List ℕ) (i : ℕ) (c : Command) (r : Advance) (cells tables : List ℕ) : Type 0 where
   pub outcome : r .outcome ≡ outcomeOf (admitted p s i c)
   pub goes : (q : Draft) → admitted p s i c ≡ on q → q ≡ draft (r .design) cells tables
   pub whole : admitted p s i c ≡ complete → p ≡ draft (r .design) cells tables

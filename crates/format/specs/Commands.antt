@@ -1,52 +1,92 @@
--- The commands of a script: byte, operands, widths (01, "The script"). Assumes nothing.
+-- The commands of a script: byte, operands, widths (01, "The script"). Bytes below 0x10 are the design's, the others the operations'; only this file
+-- maps bytes to operations. Assumes nothing.
 use Prim.Native.Nat.{ℕ, _+_, _-_, _*_}
 use mathlib.Core.Bool.{cond}
 use mathlib.Core.List.{List}
 use lib.Dec.{eqb, leb, ltb}
 use lib.ListN.{length}
+use Rattle.state.specs.declared.cell.Cell.{Cell}
 use Rattle.state.specs.declared.design.Column.{Column}
+use Rattle.state.specs.declared.held.HeldValue.{HeldValue}
+use Rattle.state.specs.declared.operation.Join.{Join}
+use Rattle.state.specs.declared.operation.Query.{Query}
+use Rattle.state.specs.declared.operation.Operation.{Operation}
+use Rattle.state.specs.declared.operation.Operation.the-variants as O
 use Rattle.format.specs.declared.command.Command.{Command}
-use Rattle.format.specs.declared.command.Command.the-variants.{Table, Constraint, Filling, Row, End, Refer, Drop, Probe, Query, Unknown, Short}
+use Rattle.format.specs.declared.command.Command.the-variants.{Table, Constraint, Filling, Row, End, Operate, Unknown, Short}
 use Rattle.format.specs.Bytes.{byteAt, u32At}
 
--- how many bytes the command with this byte takes, 0 if there is none
-unfoldable pub widthOf : ℕ → ℕ
-widthOf b =
+-- ---- widths: how many bytes the command with this byte takes, 0 if there is none
+
+unfoldable pub designWidth : ℕ → ℕ
+designWidth b =
     cond (eqb b 0x01) 3
     (cond (eqb b 0x02) 5
     (cond (eqb b 0x03) 11
     (cond (eqb b 0x04) 34
-    (cond (eqb b 0x05) 1
-    (cond (eqb b 0x10) 6
+    (cond (eqb b 0x05) 1 0))))
+
+unfoldable pub operationWidth : ℕ → ℕ
+operationWidth b =
+    cond (eqb b 0x10) 6
     (cond (eqb b 0x11) 6
     (cond (eqb b 0x12) 7
-    (cond (eqb b 0x13) 16 0))))))))
+    (cond (eqb b 0x13) 16 0)))
+
+unfoldable pub widthOf : ℕ → ℕ
+widthOf b = cond (ltb b 0x10) (designWidth b) (operationWidth b)
+
+-- ---- operands
 
 abbrev pub columnAt : List ℕ → ℕ → Column
 columnAt s i = record { table = byteAt s i; place = byteAt s (i + 1) }
 
--- the command whose byte is b, with its operands behind place i
-unfoldable pub operandsAt : ℕ → List ℕ → ℕ → Command
-operandsAt b s i =
+abbrev pub valueAt : List ℕ → ℕ → Cell
+valueAt s i = record { number = u32At s i }
+
+abbrev pub joinAt : List ℕ → ℕ → Join
+joinAt s i = record { position = byteAt s i; constraint = byteAt s (i + 1) }
+
+-- the filling and the value of the REFER or DROP at place i
+abbrev pub heldValueAt : List ℕ → ℕ → HeldValue
+heldValueAt s i = record { filling = byteAt s (i + 1); value = valueAt s (i + 2) }
+
+-- the operands of the QUERY at place i
+abbrev pub queryAt : List ℕ → ℕ → Query
+queryAt s i =
+    record {
+      column = columnAt s (i + 1);
+      value = valueAt s (i + 3);
+      joins = byteAt s (i + 7);
+      first = joinAt s (i + 8);
+      second = joinAt s (i + 10);
+      third = joinAt s (i + 12);
+      fourth = joinAt s (i + 14);
+    }
+
+-- cell c of the ROW at place i
+unfoldable pub rowCellAt : List ℕ → ℕ → ℕ → ℕ
+rowCellAt s i c = u32At s (i + 2 + 4 * c)
+
+-- ---- the command whose byte is b, with its operands behind place i
+
+unfoldable pub designCommandAt : ℕ → List ℕ → ℕ → Command
+designCommandAt b s i =
     cond (eqb b 0x01) (Table (record { columns = byteAt s (i + 1); unique = byteAt s (i + 2) }))
     (cond (eqb b 0x02) (Constraint (record { source = columnAt s (i + 1); target = columnAt s (i + 3) }))
     (cond (eqb b 0x03) (Filling (record { column = columnAt s (i + 1); low = u32At s (i + 3); high = u32At s (i + 7) }))
     (cond (eqb b 0x04) (Row (byteAt s (i + 1)))
-    (cond (eqb b 0x05) End
-    (cond (eqb b 0x10) (Refer (byteAt s (i + 1)) (u32At s (i + 2)))
-    (cond (eqb b 0x11) (Drop (byteAt s (i + 1)) (u32At s (i + 2)))
-    (cond (eqb b 0x12) (Probe (columnAt s (i + 1)) (u32At s (i + 3)))
-    (Query (columnAt s (i + 1)) (u32At s (i + 3)) (byteAt s (i + 7))))))))))
+    End)))
 
--- a ROW's cell c, and a QUERY's pair j
-unfoldable pub rowCellAt : List ℕ → ℕ → ℕ → ℕ
-rowCellAt s i c = u32At s (i + 2 + 4 * c)
+unfoldable pub operationAt : ℕ → List ℕ → ℕ → Operation
+operationAt b s i =
+    cond (eqb b 0x10) (O.Refer (heldValueAt s i))
+    (cond (eqb b 0x11) (O.Drop (heldValueAt s i))
+    (cond (eqb b 0x12) (O.Probe (columnAt s (i + 1)) (valueAt s (i + 3)))
+    (O.Query (queryAt s i))))
 
-abbrev pub positionAt : List ℕ → ℕ → ℕ → ℕ
-positionAt s i j = byteAt s (i + 8 + 2 * j)
-
-abbrev pub constraintNumberAt : List ℕ → ℕ → ℕ → ℕ
-constraintNumberAt s i j = byteAt s (i + 9 + 2 * j)
+unfoldable pub operandsAt : ℕ → List ℕ → ℕ → Command
+operandsAt b s i = cond (ltb b 0x10) (designCommandAt b s i) (Operate (operationAt b s i))
 
 -- the command at place i: "command by command 2, 1 .." the byte is looked at first, then the length
 unfoldable pub commandAt : List ℕ → ℕ → Command

@@ -14,11 +14,11 @@ use Rattle.state.specs.declared.design.Constraint as State-constraint
 use Rattle.state.specs.declared.design.Filling as State-filling
 use Rattle.state.specs.Design.{emptyDesign}
 use Rattle.state.specs.Held.{noneHeld}
-use Rattle.state.specs.Step.{lent, longEnough}
+use Rattle.state.specs.Lent.{lent, longEnough}
 use Rattle.state.specs.Meaning.{schemeOf, databaseOf}
 use Rattle.state.specs.Lawful.{tableFits, constraintFits, fillingFits, rowFits, repeats}
 use Rattle.format.specs.declared.command.Command.{Command}
-use Rattle.format.specs.declared.command.Command.the-variants.{Table, Constraint, Filling, Row, End, Refer, Drop, Probe, Query, Unknown, Short}
+use Rattle.format.specs.declared.command.Command.the-variants.{Table, Constraint, Filling, Row, End, Operate, Unknown, Short}
 use Rattle.format.specs.declared.verdict.Verdict.{Verdict}
 use Rattle.format.specs.declared.verdict.Verdict.the-variants.{Accepted, Refused}
 use Rattle.format.specs.declared.verdict.DesignReading.{DesignReading}
@@ -60,15 +60,15 @@ withRow p s i t =
 -- ---- one command of a design
 
 -- what a command gives: the reading goes on with a draft, the design is complete, or a cause of refusal
-pub data Taken : Type 0 where
-  on : Draft → Taken
-  complete : Taken
-  refused : ℕ → Taken
+pub data Advanced : Type 0 where
+  on : Draft → Advanced
+  complete : Advanced
+  refused : ℕ → Advanced
 
 -- the refusal where its cause applies, else what comes after it in the order of causes
-abbrev pub unless : Bool → ℕ → Taken → Taken
-unless true n t = refused n
-unless false n t = t
+abbrev pub refusedIf : Bool → ℕ → Advanced → Advanced
+refusedIf true n t = refused n
+refusedIf false n t = t
 
 -- "all TABLEs, then CONSTRAINTs, FILLINGs, ROWs, then END": something of a later kind has been read
 abbrev pub afterTables : Design → Bool
@@ -84,37 +84,34 @@ abbrev pub redesigned : Draft → Design → Draft
 redesigned p d = record { design = d; cells = p .cells; tables = p .tables }
 
 -- q is the draft with row r put in: causes 5 and 6 of that row
-unfoldable pub rowTaken : Draft → ℕ → Taken
-rowTaken q r =
-    unless (not (rowFits (schemeOf (q .design)) (databaseOf (q .design .rows) (q .cells) (q .tables)) r)) 5
-    (unless (repeats (schemeOf (q .design)) (databaseOf (q .design .rows) (q .cells) (q .tables)) r) 6
+unfoldable pub rowAdvanced : Draft → ℕ → Advanced
+rowAdvanced q r =
+    refusedIf (not (rowFits (schemeOf (q .design)) (databaseOf (q .design .rows) (q .cells) (q .tables)) r)) 5
+    (refusedIf (repeats (schemeOf (q .design)) (databaseOf (q .design .rows) (q .cells) (q .tables)) r) 6
     (on q))
 
 -- the command c, which stands at place i, read into the draft p
-unfoldable pub taken : Draft → List ℕ → ℕ → Command → Taken
-taken p s i (Table t) =
-    unless (afterTables (p .design)) 3
-    (unless (leb 8 (p .design .tables)) 4
-    (unless (not (tableFits t)) 5
+unfoldable pub advanced : Draft → List ℕ → ℕ → Command → Advanced
+advanced p s i (Table t) =
+    refusedIf (afterTables (p .design)) 3
+    (refusedIf (leb 8 (p .design .tables)) 4
+    (refusedIf (not (tableFits t)) 5
     (on (redesigned p (withTable (p .design) t)))))
-taken p s i (Constraint c) =
-    unless (afterConstraints (p .design)) 3
-    (unless (leb 16 (p .design .constraints)) 4
-    (unless (not (constraintFits (p .design) (p .design .constraints) c)) 5
+advanced p s i (Constraint c) =
+    refusedIf (afterConstraints (p .design)) 3
+    (refusedIf (leb 16 (p .design .constraints)) 4
+    (refusedIf (not (constraintFits (p .design) (p .design .constraints) c)) 5
     (on (redesigned p (withConstraint (p .design) c)))))
-taken p s i (Filling f) =
-    unless (afterFillings (p .design)) 3
-    (unless (leb 8 (p .design .fillings)) 4
-    (unless (not (fillingFits (p .design) (p .design .fillings) f)) 5
+advanced p s i (Filling f) =
+    refusedIf (afterFillings (p .design)) 3
+    (refusedIf (leb 8 (p .design .fillings)) 4
+    (refusedIf (not (fillingFits (p .design) (p .design .fillings) f)) 5
     (on (redesigned p (withFilling (p .design) f)))))
-taken p s i (Row t) = unless (leb 512 (p .design .rows)) 4 (rowTaken (withRow p s i t) (p .design .rows))
-taken p s i End = complete
-taken p s i (Refer f v) = refused 3
-taken p s i (Drop f v) = refused 3
-taken p s i (Probe k v) = refused 3
-taken p s i (Query k v n) = refused 3
-taken p s i Unknown = refused 2
-taken p s i Short = refused 1
+advanced p s i (Row t) = refusedIf (leb 512 (p .design .rows)) 4 (rowAdvanced (withRow p s i t) (p .design .rows))
+advanced p s i End = complete
+advanced p s i (Operate o) = refused 3
+advanced p s i Unknown = refused 2
+advanced p s i Short = refused 1
 
 -- a draft as the code has it: the design, and the two arrays
 abbrev pub draft : Design → List ℕ → List ℕ → Draft
@@ -128,7 +125,7 @@ pub data DesignRead : Type 0 where
   refusedAt : ℕ → ℕ → DesignRead
 
 -- what the command at place i, of width w, leads to: `go` reads on
-abbrev pub readOn : (Draft → ℕ → DesignRead) → Draft → ℕ → ℕ → Taken → DesignRead
+abbrev pub readOn : (Draft → ℕ → DesignRead) → Draft → ℕ → ℕ → Advanced → DesignRead
 readOn go p i w (on q) = go q (i + w)
 readOn go p i w complete = accepted p (i + w)
 readOn go p i w (refused c) = refusedAt c i
@@ -136,7 +133,7 @@ readOn go p i w (refused c) = refusedAt c i
 -- the design read on from place i, with n more commands at the most
 unfoldable pub readFrom : ℕ → List ℕ → Draft → ℕ → DesignRead
 readFrom zero s p i = refusedAt 1 i
-readFrom (suc n) s p i = readOn (readFrom n s) p i (widthOf (byteAt s i)) (taken p s i (commandAt s i))
+readFrom (suc n) s p i = readOn (readFrom n s) p i (widthOf (byteAt s i)) (advanced p s i (commandAt s i))
 
 -- the most bytes that a script may have
 abbrev pub mostBytes : ℕ

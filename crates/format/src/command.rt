@@ -1,16 +1,22 @@
-// A command of a script, and the command that stands at a place of the lent bytes: its byte is looked at first, then how many bytes are left.
+// A command of a script, and the command that stands at a place of the lent bytes: its byte is looked at first, then how many bytes are left. Bytes
+// below 0x10 are the design's, the others the operations'.
 ghost use mathlib.Core.Path.{_≡_};
 ghost use Prim.Native.Nat.{_+_, _≤_, _<_};
 ghost use lib.ListN.{length};
 ghost use Rattle.format.specs.Bytes.{byteAt, u32At};
-ghost use Rattle.format.specs.Commands.{widthOf, columnAt, operandsAt, commandAt, rowCellAt, positionAt, constraintNumberAt};
+ghost use Rattle.format.specs.Commands.{designWidth, operationWidth, widthOf, columnAt, valueAt, joinAt, heldValueAt, queryAt, designCommandAt, operationAt, commandAt, rowCellAt};
 use crate::bytes::u32_at;
+use state::Cell;
 use state::Column;
 use state::Constraint;
 use state::Filling;
+use state::HeldValue;
+use state::Join;
+use state::Operation;
+use state::Query;
 use state::Table;
 
-// A ROW's cells and a QUERY's pairs are read from the bytes by place (an enum holds no array).
+// A ROW's cells are read from the bytes by place (an enum holds no array).
 pub enum Command {
     Table(Table),
     Constraint(Constraint),
@@ -18,21 +24,17 @@ pub enum Command {
     // the row's table
     Row(u8),
     End,
-    // filling, value
-    Refer(u8, u32),
-    Drop(u8, u32),
-    Probe(Column, u32),
-    // column, value, joins
-    Query(Column, u32, u8),
+    Operate(Operation),
     // cause 2: no command has this byte
     Unknown,
     // cause 1: too few bytes, or none
     Short,
 }
 
-// How many bytes the command with this byte takes, 0 if there is none. Constant time, as everything in this file.
-pub fn width_of(b: u8) -> usize
-    ensures { λ r. ⌜ r ≡ widthOf b ⌝ }
+// ---- widths: how many bytes the command with this byte takes, 0 if there is none. Constant time, as everything in this file.
+
+fn design_width(b: u8) -> usize
+    ensures { λ r. ⌜ r ≡ designWidth b ⌝ }
 {
     match b {
         0x01 => 3,
@@ -40,6 +42,14 @@ pub fn width_of(b: u8) -> usize
         0x03 => 11,
         0x04 => 34,
         0x05 => 1,
+        _ => 0,
+    }
+}
+
+fn operation_width(b: u8) -> usize
+    ensures { λ r. ⌜ r ≡ operationWidth b ⌝ }
+{
+    match b {
         0x10 => 6,
         0x11 => 6,
         0x12 => 7,
@@ -48,7 +58,18 @@ pub fn width_of(b: u8) -> usize
     }
 }
 
-// The column whose table and place stand at place i.
+pub fn width_of(b: u8) -> usize
+    ensures { λ r. ⌜ r ≡ widthOf b ⌝ }
+{
+    if b < 0x10 {
+        return design_width(b);
+    }
+    operation_width(b)
+}
+
+// ---- operands
+
+// The column, the value and the join that stand at place i.
 fn column_at(script: &[u8], i: usize) -> Column
     requires { ⌜ i + 2 ≤ length (now script) ⌝ }
     ensures { λ r. ⌜ r ≡ columnAt (now (script .entry)) i ⌝ }
@@ -56,6 +77,25 @@ fn column_at(script: &[u8], i: usize) -> Column
     Column {
         table: script[i],
         place: script[i + 1],
+    }
+}
+
+fn value_at(script: &[u8], i: usize) -> Cell
+    requires { ⌜ i + 4 ≤ length (now script) ⌝ }
+    ensures { λ r. ⌜ r ≡ valueAt (now (script .entry)) i ⌝ }
+{
+    Cell {
+        number: u32_at(script, i),
+    }
+}
+
+fn join_at(script: &[u8], i: usize) -> Join
+    requires { ⌜ i + 2 ≤ length (now script) ⌝ }
+    ensures { λ r. ⌜ r ≡ joinAt (now (script .entry)) i ⌝ }
+{
+    Join {
+        position: script[i],
+        constraint: script[i + 1],
     }
 }
 
@@ -91,10 +131,45 @@ fn filling_at(script: &[u8], i: usize) -> Filling
     }
 }
 
-// A command of the design with its operands: b is its byte, which stands at place i.
+// The operands of a REFER or DROP, and of a QUERY.
+fn held_value_at(script: &[u8], i: usize) -> HeldValue
+    requires { ⌜ i + 6 ≤ length (now script) ⌝ }
+    ensures { λ r. ⌜ r ≡ heldValueAt (now (script .entry)) i ⌝ }
+{
+    HeldValue {
+        filling: script[i + 1],
+        value: value_at(script, i + 2),
+    }
+}
+
+fn query_at(script: &[u8], i: usize) -> Query
+    requires { ⌜ i + 16 ≤ length (now script) ⌝ }
+    ensures { λ r. ⌜ r ≡ queryAt (now (script .entry)) i ⌝ }
+{
+    Query {
+        column: column_at(script, i + 1),
+        value: value_at(script, i + 3),
+        joins: script[i + 7],
+        first: join_at(script, i + 8),
+        second: join_at(script, i + 10),
+        third: join_at(script, i + 12),
+        fourth: join_at(script, i + 14),
+    }
+}
+
+// Cell c of the ROW at place `at`.
+pub(crate) fn row_cell(script: &[u8], at: usize, c: usize) -> u32
+    requires { ⌜ (c < 8) × (at + 34 ≤ length (now script)) ⌝ }
+    ensures { λ r. ⌜ r ≡ rowCellAt (now (script .entry)) at c ⌝ }
+{
+    u32_at(script, at + 2 + 4 * c)
+}
+
+// ---- the command whose byte is b, with its operands behind place i
+
 fn design_operands(b: u8, script: &[u8], i: usize) -> Command
-    requires { ⌜ (b < 16) × (widthOf b ≡ 0 → ⊥) × (i + widthOf b ≤ length (now script)) ⌝ }
-    ensures { λ r. ⌜ r ≡ operandsAt b (now (script .entry)) i ⌝ }
+    requires { ⌜ (designWidth b ≡ 0 → ⊥) × (i + designWidth b ≤ length (now script)) ⌝ }
+    ensures { λ r. ⌜ r ≡ designCommandAt b (now (script .entry)) i ⌝ }
 {
     if b == 0x01 {
         return Command::Table(table_at(script, i));
@@ -111,25 +186,16 @@ fn design_operands(b: u8, script: &[u8], i: usize) -> Command
     Command::End
 }
 
-// An operation with its operands.
-fn operation_operands(b: u8, script: &[u8], i: usize) -> Command
-    requires { ⌜ (16 ≤ b) × (widthOf b ≡ 0 → ⊥) × (i + widthOf b ≤ length (now script)) ⌝ }
-    ensures { λ r. ⌜ r ≡ operandsAt b (now (script .entry)) i ⌝ }
+fn operation_at(b: u8, script: &[u8], i: usize) -> Operation
+    requires { ⌜ (operationWidth b ≡ 0 → ⊥) × (i + operationWidth b ≤ length (now script)) ⌝ }
+    ensures { λ r. ⌜ r ≡ operationAt b (now (script .entry)) i ⌝ }
 {
-    if b == 0x10 {
-        return Command::Refer(script[i + 1], u32_at(script, i + 2));
+    match b {
+        0x10 => Operation::Refer(held_value_at(script, i)),
+        0x11 => Operation::Drop(held_value_at(script, i)),
+        0x12 => Operation::Probe(column_at(script, i + 1), value_at(script, i + 3)),
+        _ => Operation::Query(query_at(script, i)),
     }
-    if b == 0x11 {
-        return Command::Drop(script[i + 1], u32_at(script, i + 2));
-    }
-    if b == 0x12 {
-        return Command::Probe(column_at(script, i + 1), u32_at(script, i + 3));
-    }
-    Command::Query(
-        column_at(script, i + 1),
-        u32_at(script, i + 3),
-        script[i + 7],
-    )
 }
 
 // The command at a place.
@@ -147,31 +213,8 @@ pub(crate) fn read_at(script: &[u8], at: usize) -> Command
     if script.len() - at < w {
         return Command::Short;
     }
-    if b < 16 {
+    if b < 0x10 {
         return design_operands(b, script, at);
     }
-    operation_operands(b, script, at)
-}
-
-// Cell c of the ROW at place `at`.
-pub(crate) fn row_cell(script: &[u8], at: usize, c: usize) -> u32
-    requires { ⌜ (c < 8) × (at + 34 ≤ length (now script)) ⌝ }
-    ensures { λ r. ⌜ r ≡ rowCellAt (now (script .entry)) at c ⌝ }
-{
-    u32_at(script, at + 2 + 4 * c)
-}
-
-// The position and the constraint of pair j of the QUERY at place `at`.
-pub fn pair_position(script: &[u8], at: usize, j: usize) -> u8
-    requires { ⌜ (j < 4) × (at + 16 ≤ length (now script)) ⌝ }
-    ensures { λ r. ⌜ r ≡ positionAt (now (script .entry)) at j ⌝ }
-{
-    script[at + 8 + 2 * j]
-}
-
-pub fn pair_constraint(script: &[u8], at: usize, j: usize) -> u8
-    requires { ⌜ (j < 4) × (at + 16 ≤ length (now script)) ⌝ }
-    ensures { λ r. ⌜ r ≡ constraintNumberAt (now (script .entry)) at j ⌝ }
-{
-    script[at + 9 + 2 * j]
+    Command::Operate(operation_at(b, script, at))
 }

@@ -9,8 +9,6 @@ mod verdict;
 mod writing;
 
 pub use command::Command;
-pub use command::pair_constraint;
-pub use command::pair_position;
 pub use command::width_of;
 pub use opening::MOST_BYTES;
 pub use opening::read_catalogued;

@@ -11,7 +11,7 @@ ghost use Rattle.format.specs.declared.command.Command.the-variants as C
 ghost use Rattle.format.specs.declared.reading.Outcome.the-variants as O;
 ghost use Rattle.format.specs.Commands.{commandAt, rowCellAt};
 ghost use Rattle.format.specs.Reading.{afterTables, afterConstraints, withTable, withConstraint, withFilling, withRows, draft, readFrom};
-ghost use Rattle.format.specs.Admitting.{causeOf, Took, Stopped};
+ghost use Rattle.format.specs.Admitting.{causeOf, Advances, Stopped};
 use crate::command::Command;
 use crate::command::row_cell;
 use crate::command::width_of;
@@ -30,7 +30,7 @@ pub enum Outcome {
 }
 
 // The outcome with the design afterwards.
-pub struct Step {
+pub struct Advance {
     pub outcome: Outcome,
     pub design: Design,
 }
@@ -117,18 +117,18 @@ fn after_constraints(d: Design) -> bool
 }
 
 // A command that is refused leaves the design as it was.
-fn refused(d: Design, cause: u8) -> Step
+fn refused(d: Design, cause: u8) -> Advance
     ensures { λ r. ⌜ r ≡ record { outcome = O.Cause cause; design = d } ⌝ }
 {
-    Step {
+    Advance {
         outcome: Outcome::Cause(cause),
         design: d,
     }
 }
 
 // A TABLE read into the draft. Constant time.
-fn take_table(d: Design, t: Table) -> Step
-    ensures { λ r. ⌜ ((s cells tables : List ℕ) (i : ℕ) → Took (draft d cells tables) s i (C.Table t) r cells tables) ⌝ }
+fn take_table(d: Design, t: Table) -> Advance
+    ensures { λ r. ⌜ ((s cells tables : List ℕ) (i : ℕ) → Advances (draft d cells tables) s i (C.Table t) r cells tables) ⌝ }
 {
     if after_tables(d) {
         return refused(d, 3);
@@ -139,15 +139,15 @@ fn take_table(d: Design, t: Table) -> Step
     if !lawful::table_fits(t) {
         return refused(d, 5);
     }
-    Step {
+    Advance {
         outcome: Outcome::On,
         design: with_table(d, t),
     }
 }
 
 // A CONSTRAINT. One look at each constraint before it.
-fn take_constraint(d: Design, c: Constraint) -> Step
-    ensures { λ r. ⌜ ((s cells tables : List ℕ) (i : ℕ) → Took (draft d cells tables) s i (C.Constraint c) r cells tables) ⌝ }
+fn take_constraint(d: Design, c: Constraint) -> Advance
+    ensures { λ r. ⌜ ((s cells tables : List ℕ) (i : ℕ) → Advances (draft d cells tables) s i (C.Constraint c) r cells tables) ⌝ }
 {
     if after_constraints(d) {
         return refused(d, 3);
@@ -159,15 +159,15 @@ fn take_constraint(d: Design, c: Constraint) -> Step
     if !lawful::constraint_fits(d, n, c) {
         return refused(d, 5);
     }
-    Step {
+    Advance {
         outcome: Outcome::On,
         design: with_constraint(d, c),
     }
 }
 
 // A FILLING. One look at each filling before it.
-fn take_filling(d: Design, f: Filling) -> Step
-    ensures { λ r. ⌜ ((s cells tables : List ℕ) (i : ℕ) → Took (draft d cells tables) s i (C.Filling f) r cells tables) ⌝ }
+fn take_filling(d: Design, f: Filling) -> Advance
+    ensures { λ r. ⌜ ((s cells tables : List ℕ) (i : ℕ) → Advances (draft d cells tables) s i (C.Filling f) r cells tables) ⌝ }
 {
     if 0 < d.rows {
         return refused(d, 3);
@@ -179,7 +179,7 @@ fn take_filling(d: Design, f: Filling) -> Step
     if !lawful::filling_fits(d, n, f) {
         return refused(d, 5);
     }
-    Step {
+    Advance {
         outcome: Outcome::On,
         design: with_filling(d, f),
     }
@@ -193,9 +193,9 @@ fn take_row(
     t: u8,
     cells: &mut [u32],
     tables: &mut [u8],
-) -> Step
+) -> Advance
     requires { ⌜ (at + 34 ≤ length (now script)) × (length (now cells) ≡ 4096) × (length (now tables) ≡ 512) ⌝ }
-    ensures { λ r. ⌜ Took (draft d (now (cells .entry)) (now (tables .entry))) (now (script .entry)) at (C.Row t) r (now (cells .exit)) (now (tables .exit)) ⌝ }
+    ensures { λ r. ⌜ Advances (draft d (now (cells .entry)) (now (tables .entry))) (now (script .entry)) at (C.Row t) r (now (cells .exit)) (now (tables .exit)) ⌝ }
 {
     let n = d.rows;
     if Design::ROWS <= n {
@@ -207,7 +207,7 @@ fn take_row(
     if !lawful::row_fits(e, cells, tables, n) {
         return refused(d, 5);
     }
-    Step {
+    Advance {
         outcome: Outcome::On,
         design: e,
     }
@@ -221,23 +221,20 @@ fn take(
     c: Command,
     cells: &mut [u32],
     tables: &mut [u8],
-) -> Step
+) -> Advance
     requires { ⌜ (c ≡ commandAt (now script) at) × (length (now cells) ≡ 4096) × (length (now tables) ≡ 512) ⌝ }
-    ensures { λ r. ⌜ Took (draft d (now (cells .entry)) (now (tables .entry))) (now (script .entry)) at c r (now (cells .exit)) (now (tables .exit)) ⌝ }
+    ensures { λ r. ⌜ Advances (draft d (now (cells .entry)) (now (tables .entry))) (now (script .entry)) at c r (now (cells .exit)) (now (tables .exit)) ⌝ }
 {
     match c {
         Command::Table(t) => take_table(d, t),
         Command::Constraint(k) => take_constraint(d, k),
         Command::Filling(f) => take_filling(d, f),
         Command::Row(t) => take_row(d, script, at, t, cells, tables),
-        Command::End => Step {
+        Command::End => Advance {
             outcome: Outcome::Complete,
             design: d,
         },
-        Command::Refer(_, _) => refused(d, 3),
-        Command::Drop(_, _) => refused(d, 3),
-        Command::Probe(_, _) => refused(d, 3),
-        Command::Query(_, _, _) => refused(d, 3),
+        Command::Operate(_) => refused(d, 3),
         Command::Unknown => refused(d, 2),
         Command::Short => refused(d, 1),
     }

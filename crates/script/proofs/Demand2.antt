@@ -7,36 +7,38 @@ use mathlib.Core.Logic.{_↔_}
 use Rattle.model.specs.Cell.{Cell}
 use Rattle.model.specs.Scheme.{Column}
 use Rattle.model.specs.Database.{Lawful}
-use Rattle.model.specs.Runs.{probe}
+use Rattle.model.specs.Runs.{ask, probe, query}
 use Rattle.model.specs.Query.{Query}
-use Rattle.model.specs.Answers.{Answer, sent, answer, queryAnswer}
+use Rattle.model.specs.Answers.{Answer, sent, questionAnswer, queryAnswer, answer}
 use Rattle.model.specs.Demand.{Groundless, Unrefused, Demand2}
 use Rattle.model.proofs.RunLaws.{Sound}
+use Rattle.model.proofs.Fresh.{fresh-sound}
 use Rattle.model.proofs.Demand2.{probe-sent-exactly, demand2}
-use Rattle.state.specs.Step.{State, scheme, database, cache, sound, answerAt, queryAnswerAt}
+use Rattle.state.specs.Lent.{State, scheme, database, cache, sound, answerAt}
 use Rattle.lawful.proofs.RowsLaws.{Stored, lawful-database}
-use Rattle.cache.proofs.Fresh.{fresh-sound}
-use Rattle.cache.proofs.SoundState.{parts, lawful-fresh, answer-at}
-use Rattle.query.proofs.QueryCases as Queries
+use Rattle.lawful.proofs.SoundState.{parts, lawful-fresh, answer-at}
 
 module _ (s : State) (e : sound s ≡ true) where
-  -- THEOREM: `cache::probed`, and a PROBE of a script
-  pub probed-exactly : (k : Column) (v : Cell) → Unrefused (answerAt s (probe k v)) →
-      (answerAt s (probe k v) ≡ sent) ↔ Groundless (scheme s) (database s) (cache s) k v
+  -- THEOREM: `operate::perform` of a PROBE, and a PROBE of a script
+  pub probed-exactly : (k : Column) (v : Cell) → Unrefused (answerAt s (ask (probe k v))) →
+      (answerAt s (ask (probe k v)) ≡ sent) ↔ Groundless (scheme s) (database s) (cache s) k v
+  unfolding answer
   probed-exactly k v u =
       subst (λ (a : Answer). (a ≡ sent) ↔ Groundless (scheme s) (database s) (cache s) k v) (sym at)
       (probe-sent-exactly (scheme s) (database s) (cache s) k v (subst Unrefused at u))
     where
-      at : answerAt s (probe k v) ≡ answer (scheme s) (database s) (cache s) (probe k v)
-      at = answer-at s e (probe k v)
+      at : answerAt s (ask (probe k v)) ≡ questionAnswer (scheme s) (database s) (cache s) (probe k v)
+      at = answer-at s e (ask (probe k v))
 
-  -- THEOREM: `query::query`, and a QUERY of a script: what is answered is the model's answer, and demand 2 holds of it. The cells are u32 numbers.
-  pub queried-exactly : Stored (s .cells) → (room : ℕ) (q : Query) → Unrefused (queryAnswerAt s room q) →
-      (queryAnswerAt s room q ≡ queryAnswer (scheme s) (database s) (cache s) room q) × Demand2 (scheme s) (database s) (cache s) room q
+  -- THEOREM: `operate::perform` of a QUERY, and a QUERY of a script: what is answered is the model's answer, and demand 2 holds of it. The cells are u32
+  -- numbers.
+  pub queried-exactly : Stored (s .cells) → (room : ℕ) (q : Query) → Unrefused (answerAt s (query q room)) →
+      (answerAt s (query q room) ≡ queryAnswer (scheme s) (database s) (cache s) room q) × Demand2 (scheme s) (database s) (cache s) room q
+  unfolding answer
   queried-exactly u room q n = (at, demand2 lawful (cache s) smallest room q (subst Unrefused at n))
     where
-      at : queryAnswerAt s room q ≡ queryAnswer (scheme s) (database s) (cache s) room q
-      at = Queries.answer-at s e room q
+      at : answerAt s (query q room) ≡ queryAnswer (scheme s) (database s) (cache s) room q
+      at = answer-at s e (query q room)
 
       lawful : Lawful (scheme s) (database s)
       lawful = lawful-database (s .design) (s .cells) (s .tables) (parts s e .rows) u

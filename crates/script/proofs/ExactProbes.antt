@@ -15,19 +15,20 @@ use Rattle.model.specs.Scheme.{Column, Scheme, ColumnOf, isColumn}
 use Rattle.model.specs.Database.{Database}
 use Rattle.model.specs.Cache.{RowSet, Held, Complete, Alike}
 use Rattle.model.specs.Probe as Probe
-use Rattle.model.specs.Runs.{Pair, Operation, probe, heldFrom, heldIn, marked}
+use Rattle.model.specs.Holding.{Holding, nothingHeld, heldIn}
+use Rattle.model.specs.Runs.{Operation, ask, probe, heldFrom, marked}
 use Rattle.model.specs.Answers.{Answer, refused, ground, sent, orAnswer, groundOf, answer}
 use Rattle.model.proofs.Exact.{exact}
+use Rattle.model.proofs.HoldingLaws.{HoldingFits, step-fit}
 use Rattle.state.specs.declared.design.Design.{Design}
-use Rattle.state.specs.Meaning.{schemeOf, databaseOf, pairsOf}
-use Rattle.state.specs.Step.{State, database, cache, answerAt}
+use Rattle.state.specs.Meaning.{schemeOf, databaseOf, holdingOf}
+use Rattle.state.specs.Lent.{State, database, cache, answerAt}
 use Rattle.lawful.proofs.DesignLaws.{column-if, column-says}
-use Rattle.lawful.proofs.HeldLaws.{PairsFit, pairs-back}
+use Rattle.lawful.proofs.HeldLaws.{holding-back}
+use Rattle.lawful.proofs.SoundState.{answer-at}
 use Rattle.cache.proofs.Answering.{probe-nowhere, probe-blank, probe-full}
-use Rattle.cache.proofs.PairsFit.{step-fit}
-use Rattle.cache.proofs.SoundState.{answer-at}
 use Rattle.format.specs.Reading.{Draft}
-use Rattle.script.specs.Runs.{Buffers, rowsOf, Called, CompleteInAll}
+use Rattle.script.specs.Runs.{Buffers, rowsOf, heldWith, Called, CompleteInAll}
 use Rattle.script.proofs.SameRows.{SameRows, same-back, smallest-same, lawful-same, alike-same}
 use Rattle.script.proofs.JustRead.{none-fit, Begun}
 
@@ -38,11 +39,11 @@ ground-says n = (
   λ h. (n, ap (λ (b : Bool). orAnswer b (ground n) sent) (lt-ltb 0 n (pos-of-ne-zero h))),
 )
 
--- the pairs that a run holds fit the scheme
-run-fit : (S : Scheme) (ps : List Pair) (os : List Operation) → PairsFit S ps → PairsFit S (heldFrom S ps os)
+-- what a run holds fits the scheme
+run-fit : (S : Scheme) (D : Database) (h : Holding) (os : List Operation) → HoldingFits S h → HoldingFits S (heldFrom S D h os)
 unfolding heldFrom
-run-fit S ps [] f = f
-run-fit S ps (o ∷ os) f = run-fit S _ os (step-fit S ps o f)
+run-fit S D h [] f = f
+run-fit S D h (o ∷ os) f = run-fit S D _ os (step-fit S D h o f)
 
 module _ (b : Buffers) (p : Draft) (i : ℕ) (w : Begun b p i) (os : List Operation) (e : State) (called : Called p b os e) where
   abbrev S : Scheme
@@ -52,7 +53,7 @@ module _ (b : Buffers) (p : Draft) (i : ℕ) (w : Begun b p i) (os : List Operat
   D = database e
 
   abbrev H : Held
-  H = heldIn S (heldFrom S [] os)
+  H = heldIn S (heldWith p os)
 
   abbrev X : RowSet
   X = marked (take 512 (e .marks))
@@ -61,22 +62,22 @@ module _ (b : Buffers) (p : Draft) (i : ℕ) (w : Begun b p i) (os : List Operat
   same =
       subst (SameRows (rowsOf p)) (λ x. databaseOf (sym (called .design) x .rows) (sym (called .cells) x) (sym (called .tables) x)) (same-back (w .rows))
 
-  pairs-are : pairsOf (e .held) ≡ heldFrom S [] os
-  pairs-are = ap pairsOf (called .held) ∙ pairs-back (heldFrom S [] os) (run-fit S [] os (none-fit S) .few)
+  holding-is : holdingOf (e .held) ≡ heldWith p os
+  holding-is = ap holdingOf (called .held) ∙ holding-back (heldWith p os) (run-fit S (rowsOf p) nothingHeld os (none-fit S) .few)
 
   module _ (k : Column) (v : Cell) where
     -- the state's answer is the model's, with the design's scheme
-    answered : answerAt e (probe k v) ≡ answer S D (cache e) (probe k v)
-    answered = answer-at e (called .sound) (probe k v) ∙ ap (λ (d : Design). answer (schemeOf d) D (cache e) (probe k v)) (called .design)
+    answered : answerAt e (ask (probe k v)) ≡ answer S D (cache e) (ask (probe k v))
+    answered = answer-at e (called .sound) (ask (probe k v)) ∙ ap (λ (d : Design). answer (schemeOf d) D (cache e) (ask (probe k v))) (called .design)
 
     -- a probe of a column of the design for a value other than blank
     module _ (c : ColumnOf S k) (f : Fits v) (full : isBlank v ≡ false) where
-      answer-is : answerAt e (probe k v) ≡ groundOf (Probe.probe S D H X k v)
+      answer-is : answerAt e (ask (probe k v)) ≡ groundOf (Probe.probe S D H X k v)
       answer-is =
           answered ∙ sym (probe-full S D (cache e) k v (column-if c) full) ∙
-          ap (λ (ps : List Pair). groundOf (Probe.probe S D (heldIn S ps) X k v)) pairs-are
+          ap (λ (h : Holding). groundOf (Probe.probe S D (heldIn S h) X k v)) holding-is
 
-      probe-exact : (Probe.probe S D H X k v ≢ 0) ↔ CompleteInAll p (heldFrom S [] os) X k v
+      probe-exact : (Probe.probe S D H X k v ≢ 0) ↔ CompleteInAll p (heldWith p os) X k v
       probe-exact = (
         λ y E m. here .0 y E (alike-same same (called .demand3 .smallest .meets .rows) m),
         λ all. here .1 (λ E m. all E (alike-same (same-back same) (smallest-same same (called .demand3 .smallest) .meets .rows) m)),
@@ -85,14 +86,14 @@ module _ (b : Buffers) (p : Draft) (i : ℕ) (w : Begun b p i) (os : List Operat
           here : (Probe.probe S D H X k v ≢ 0) ↔ ((E : Database) → Alike S D H X E → Complete E X k v)
           here = exact (lawful-same same (w .lawful)) (smallest-same same (called .demand3 .smallest)) c v f full
 
-      pub answer-exact : (x : Answer) → x ≡ answerAt e (probe k v) → ((g : ℕ) × (x ≡ ground g)) ↔ CompleteInAll p (heldFrom S [] os) X k v
+      pub answer-exact : (x : Answer) → x ≡ answerAt e (ask (probe k v)) → ((g : ℕ) × (x ≡ ground g)) ↔ CompleteInAll p (heldWith p os) X k v
       answer-exact x h = (
         λ y. probe-exact .0 (ground-says _ .0 (y .0, sym (h ∙ answer-is) ∙ y .1)),
         λ all. let y = ground-says _ .1 (probe-exact .1 all) in (y .0, h ∙ answer-is ∙ y .1),
       )
 
     -- a probe that is not refused is such a one
-    module _ (x : Answer) (h : x ≡ answerAt e (probe k v)) (on : (n : ℕ) → x ≢ refused n) where
+    module _ (x : Answer) (h : x ≡ answerAt e (ask (probe k v))) (on : (n : ℕ) → x ≢ refused n) where
       on-column : isColumn S k ≡ true
       on-column =
           ⊎-elim (λ (q : isColumn S k ≡ true). q)
@@ -105,5 +106,5 @@ module _ (b : Buffers) (p : Draft) (i : ℕ) (w : Begun b p i) (os : List Operat
           (λ (q : isBlank v ≡ false). q)
           (dec (isBlank v))
 
-      pub unrefused-exact : Fits v → ((g : ℕ) × (x ≡ ground g)) ↔ CompleteInAll p (heldFrom S [] os) X k v
+      pub unrefused-exact : Fits v → ((g : ℕ) × (x ≡ ground g)) ↔ CompleteInAll p (heldWith p os) X k v
       unrefused-exact f = answer-exact (column-says S k on-column) f on-full x h

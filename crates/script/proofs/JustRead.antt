@@ -14,22 +14,24 @@ use Rattle.finite.proofs.Bools.{dec, cond-true, cond-false}
 use Rattle.finite.proofs.Tables.{length-tab}
 use Rattle.model.specs.Scheme.{Scheme}
 use Rattle.model.specs.Database.{Database, Lawful}
-use Rattle.model.specs.Runs.{heldIn, marks, emptyCache}
+use Rattle.model.specs.Holding.{nothingHeld, pairsHold}
+use Rattle.model.specs.Runs.{marks, emptyCache}
 use Rattle.model.proofs.Loads.{one-smallest, none-smallest}
-use Rattle.model.proofs.RunLaws.{pairs-smallest}
+use Rattle.model.proofs.RunLaws.{held-smallest}
+use Rattle.model.proofs.HoldingLaws.{HoldingFits}
+use Rattle.model.proofs.Fresh.{Fresh}
 use Rattle.model.proofs.Marks.{marks-same}
 use Rattle.state.specs.declared.design.Design.{Design}
 use Rattle.state.specs.declared.held.Held.{Held}
 use Rattle.state.specs.Design.{emptyDesign}
 use Rattle.state.specs.Held.{noneHeld}
-use Rattle.state.specs.Meaning.{schemeOf, databaseOf, pairsOf, heldOf, cacheOf}
+use Rattle.state.specs.Meaning.{schemeOf, databaseOf, pairsOf, holdingOf, heldOf, cacheOf}
 use Rattle.state.specs.Lawful.{lawfulDesign, lawfulRows, lawfulHeld}
-use Rattle.state.specs.Step.{State, lent, scheme, database, cache, longEnough, sound}
+use Rattle.state.specs.Lent.{State, lent, scheme, database, cache, longEnough, sound}
 use Rattle.lawful.specs.LawfulState.{LawfulRows}
-use Rattle.lawful.proofs.HeldLaws.{PairsFit, fit-held}
+use Rattle.lawful.proofs.HeldLaws.{fit-held}
 use Rattle.lawful.proofs.RowsLaws.{Stored, lawful-database, rows-say, rows-if}
-use Rattle.cache.proofs.Fresh.{Fresh}
-use Rattle.cache.proofs.SoundState.{Lengths, long-parts, from-parts, fresh-lawful}
+use Rattle.lawful.proofs.SoundState.{Lengths, long-parts, from-parts, fresh-lawful}
 use Rattle.format.specs.Reading.{Draft, readDesign, readInto, cellsAfter}
 use Rattle.format.specs.Reading.DesignRead.{accepted, refusedAt}
 use Rattle.format.proofs.Reached.{Sizes}
@@ -40,39 +42,39 @@ use Rattle.script.proofs.SameRows.{SameRows, same-back, lawful-same, lo
 
 -- ---- nothing held, no row cached
 
--- the record that holds nothing, as the record of no pairs
-pub none-held : noneHeld ≡ heldOf []
+-- the record that holds nothing
+pub none-held : noneHeld ≡ heldOf nothingHeld
 unfolding noneHeld heldOf
 none-held = refl
 
-pub none-pairs : pairsOf noneHeld ≡ []
+pub none-holding : holdingOf noneHeld ≡ nothingHeld
 unfolding pairsOf noneHeld tab
-none-pairs = refl
+none-holding = refl
 
-pub none-fit : (S : Scheme) → PairsFit S []
+pub none-fit : (S : Scheme) → HoldingFits S nothingHeld
 none-fit S =
     record { few = omega arith; filling = λ i l. absurd (omega arith); value = λ i l. absurd (omega arith); once = λ i j l m. absurd (omega arith) }
 
 none-lawful : (d : Design) → lawfulHeld d noneHeld ≡ true
-none-lawful d = subst (λ (h : Held). lawfulHeld d h ≡ true) (sym none-held) (fit-held d [] (none-fit (schemeOf d)))
+none-lawful d = subst (λ (h : Held). lawfulHeld d h ≡ true) (sym none-held) (fit-held d nothingHeld (none-fit (schemeOf d)))
 
--- no row is in the smallest set for no pairs
+-- no row is in the smallest set for nothing held
 pub empty-fresh : (S : Scheme) (D : Database) → Fresh S D (emptyCache D)
-unfolding emptyCache heldIn
-empty-fresh S D = record { reloaded = marks-same D _ _ (λ r l. one-smallest (none-smallest S D) (pairs-smallest S D []) r) }
+unfolding emptyCache pairsHold
+empty-fresh S D = record { reloaded = marks-same D _ _ (λ r l. one-smallest (none-smallest S D) (held-smallest S D nothingHeld) r) }
 
 module _ (rows : ℕ) (cells tables : List ℕ) where
   -- nothing held and marks that are all 0 are the empty cache
-  none-cache : record { pairs = pairsOf noneHeld; marks = tab 512 (λ _. 0) } ≡ emptyCache (databaseOf rows cells tables)
+  none-cache : record { held = holdingOf noneHeld; marks = tab 512 (λ _. 0) } ≡ emptyCache (databaseOf rows cells tables)
   unfolding emptyCache marks databaseOf
-  none-cache = λ i. record { pairs = none-pairs i; marks = tab 512 (λ _. 0) }
+  none-cache = λ i. record { held = none-holding i; marks = tab 512 (λ _. 0) }
 
   -- also before whatever lies past the marks
   pub read-cache : (rest : List ℕ) → cacheOf noneHeld (tab 512 (λ _. 0) ++ rest) ≡ emptyCache (databaseOf rows cells tables)
   read-cache rest =
-      ap (λ (m : List ℕ). record { pairs = pairsOf noneHeld; marks = m }) (take-at (tab 512 (λ _. 0)) rest 512 (length-tab {A = ℕ} 512 (λ _. 0))) ∙ none-cache
+      ap (λ (m : List ℕ). record { held = holdingOf noneHeld; marks = m }) (take-at (tab 512 (λ _. 0)) rest 512 (length-tab {A = ℕ} 512 (λ _. 0))) ∙ none-cache
 
-  pub read-fresh : (S : Scheme) → Fresh S (databaseOf rows cells tables) (record { pairs = pairsOf noneHeld; marks = tab 512 (λ _. 0) })
+  pub read-fresh : (S : Scheme) → Fresh S (databaseOf rows cells tables) (record { held = holdingOf noneHeld; marks = tab 512 (λ _. 0) })
   read-fresh S = subst (Fresh S (databaseOf rows cells tables)) (sym none-cache) (empty-fresh S (databaseOf rows cells tables))
 
 -- ---- an accepted design

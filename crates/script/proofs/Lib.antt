@@ -1,13 +1,14 @@
--- SameRows: databases with the same rows are lawful alike and have the same smallest row set. JustRead: the state with which a run begins is
--- sound. Places: the place after a command. StepLaws: what a step of a script does to the cache. RunLaws: what the steps of a whole script leave,
--- and any list of calls. ExactProbes: a probe of what calls leave. WholeRun: demand 3 of any list of calls, of each probe among them, and of a whole
--- run. StepCode, RunCode, RanLaws, WritingCases: from what the parts of the code give to what a step, the loop over a script, a run and writing give.
--- ProbedLaws: a probe behind a run. Refusals: a refused operation leaves the cache as it was. Theorems: what holds of every step and of every run.
--- Refused, Rewriting, Demand2: of the entry points, that a refused call leaves everything as it was, that writing and reading undo each other, and
--- demand 2.
+-- SameRows: databases with the same rows are lawful alike, have the same smallest row set, and a run holds the same over them. JustRead: the state with
+-- which a run begins is sound. Places: the command at a place. Causes: causes 7 and 12 in front of whatever follows them. StepLaws: what an operation
+-- does to the cache, and a step case by case. RunLaws: what the steps of a whole script leave, and any list of calls. ExactProbes: a probe of what calls
+-- leave. WholeRun: demand 3 of any list of calls, of each probe among them, and of a whole run. StepCode, RunCode, RanLaws, WritingCases: from what the
+-- parts of the code give to what a step, the loop over a script, a run and writing give. ProbedLaws: a probe behind a run. Refusals: a refused operation
+-- leaves the state as it was and writes no words. Theorems: what holds of every step and of every run. Refused, Rewriting, Demand2: of the entry points,
+-- that a refused call leaves everything as it was, that writing and reading undo each other, and demand 2.
 pub mod SameRows
 pub mod JustRead
 pub mod Places
+pub mod Causes
 pub mod StepLaws
 pub mod RunLaws
 pub mod ExactProbes

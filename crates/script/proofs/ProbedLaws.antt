@@ -4,12 +4,19 @@ use native.Mathlib.Omega.{arith}
 use mathlib.Core.Path.{_≡_, refl, ap, subst, _∙_}
 use mathlib.Core.Bool.{true}
 use mathlib.Core.List.{List}
+use denote.Laws.{Is}
+use denote.Struct.Declared.{row}
+use mir.Val.{Val}
+use lib.ListN.{length}
 use Rattle.model.specs.Cell.{Cell, Fits}
 use Rattle.model.specs.Scheme.{Column}
-use Rattle.model.specs.Runs.{probe}
+use Rattle.model.specs.Runs.{ask, probe}
 use Rattle.model.specs.Answers.{Answer, refused}
+use Rattle.state.specs.declared.cell.Cell as State-cell
 use Rattle.state.specs.declared.design.Design.{Design}
-use Rattle.state.specs.Step.{State, lent, sound, answerAt}
+use Rattle.state.specs.Meaning.{cellOf}
+use Rattle.state.specs.Lent.{State, lent, sound, answerAt}
+use Rattle.state.proofs.cell.Cell.{the-type}
 use Rattle.lawful.proofs.RowsLaws.{Stored}
 use Rattle.format.specs.declared.verdict.Verdict.the-variants.{Accepted, Refused}
 use Rattle.format.specs.Reading.{Draft, DesignRead, verdictOf, designOf, cellsAfter, tablesAfter}
@@ -20,6 +27,11 @@ use Rattle.script.specs.Runs.{operationsAt, Buffers, readingOf, Called, 
 use Rattle.script.proofs.JustRead.{begun}
 use Rattle.script.proofs.ExactProbes.{answer-exact}
 
+-- the number of a cell that a function owns is a u32
+pub cell-fits : (v : State-cell.Cell) (vs : List Val) → Is (row the-type) v vs → Fits (cellOf v)
+unfolding Fits
+cell-fits v vs g = g .1 .1 .0 .1
+
 -- the state that a run with an accepted design p leaves
 abbrev leftBehind : Draft → Buffers → Run → State
 leftBehind p a r = lent (p .design) (a .cells) (a .tables) (a .marks) (r .held)
@@ -27,7 +39,7 @@ leftBehind p a r = lent (p .design) (a .cells) (a .tables) (a .marks) (r .held)
 -- it is what the calls that stand in the script leave
 left-called : (script : List ℕ) (b a : Buffers) (r : Run) (p : Draft) (i : ℕ) → Operated script p i b a (r .held) →
     a .cells ≡ cellsAfter (accepted p i) (b .cells) → a .tables ≡ tablesAfter (accepted p i) (b .tables) →
-    Called p b (operationsAt script i) (leftBehind p a r)
+    Called p b (operationsAt script (length (b .words)) i) (leftBehind p a r)
 left-called script b a r p i o cells tables =
     record { held = o .held; marks = o .marks; demand3 = o .demand3; design = refl; cells = cells; tables = tables; sound = o .sound }
 
@@ -48,8 +60,8 @@ module _ (script : List ℕ) (b a : Buffers) (r : Run) (ran : Ran script b a r) 
     design-is p i e = ran .design ∙ ap designOf e
 
     -- what is left is sound
-    pub left-sound : sound (lent (r .design) (a .cells) (a .tables) (a .marks) (r .held)) ≡ true
-    left-sound = go (readingOf script b) refl
+    pub behind-sound : sound (lent (r .design) (a .cells) (a .tables) (a .marks) (r .held)) ≡ true
+    behind-sound = go (readingOf script b) refl
       where
         go : (R : DesignRead) → readingOf script b ≡ R → sound (lent (r .design) (a .cells) (a .tables) (a .marks) (r .held)) ≡ true
         go (accepted p i) e =
@@ -57,14 +69,14 @@ module _ (script : List ℕ) (b a : Buffers) (r : Run) (ran : Ran script b a r) 
         go (refusedAt n i) e = absurd (let z : _≡_ {A = ℕ} 0 1 = cc (ran .verdict ∙ ap verdictOf e) in omega arith)
 
     pub accepted-probed : Small script → Stored (a .cells) → (k : Column) (v : Cell) → Fits v → (x : Answer) →
-        x ≡ answerAt (lent (r .design) (a .cells) (a .tables) (a .marks) (r .held)) (probe k v) → ProbedAfter script b a r k v x
+        x ≡ answerAt (lent (r .design) (a .cells) (a .tables) (a .marks) (r .held)) (ask (probe k v)) → ProbedAfter script b a r k v x
     accepted-probed small stored k v f x h =
         record {
           ran = ran;
           refused = λ n i e. absurd (let z : _≡_ {A = ℕ} 0 1 = cc (ran .verdict ∙ ap verdictOf e) in omega arith);
           answer = answered;
           exact = λ p i e c full.
-              answer-exact b p i (begun script small b p i e (subst Stored (cells p i e) stored)) (operationsAt script i) (leftBehind p a r)
+              answer-exact b p i (begun script small b p i e (subst Stored (cells p i e) stored)) (operationsAt script (length (b .words)) i) (leftBehind p a r)
               (left-called script b a r p i (ran .accepted p i e) (cells p i e) (ran .tables ∙ ap (λ (R : DesignRead). tablesAfter R (b .tables)) e))
               k v c f full x (answered p i e);
         }
@@ -72,5 +84,5 @@ module _ (script : List ℕ) (b a : Buffers) (r : Run) (ran : Ran script b a r) 
         cells : (p : Draft) (i : ℕ) → readingOf script b ≡ accepted p i → a .cells ≡ cellsAfter (accepted p i) (b .cells)
         cells p i e = ran .cells ∙ ap (λ (R : DesignRead). cellsAfter R (b .cells)) e
 
-        answered : (p : Draft) (i : ℕ) → readingOf script b ≡ accepted p i → x ≡ answerAt (leftBehind p a r) (probe k v)
-        answered p i e = h ∙ ap (λ (d : Design). answerAt (lent d (a .cells) (a .tables) (a .marks) (r .held)) (probe k v)) (design-is p i e)
+        answered : (p : Draft) (i : ℕ) → readingOf script b ≡ accepted p i → x ≡ answerAt (leftBehind p a r) (ask (probe k v))
+        answered p i e = h ∙ ap (λ (d : Design). answerAt (lent d (a .cells) (a .tables) (a .marks) (r .held)) (ask (probe k v))) (design-is p i e)

@@ -9,16 +9,17 @@ use borrow.Author.Tests.{ltb-false}
 use lib.Dec.{ltb}
 use lib.ListN.{length}
 use Rattle.finite.proofs.Bools.{dec, cond-true}
+use Rattle.state.specs.declared.design.Design.{Design}
 use Rattle.state.specs.declared.held.Held.{Held}
 use Rattle.state.specs.Held.{noneHeld}
-use Rattle.state.specs.Step.{State, lent, sound}
+use Rattle.state.specs.Lent.{State, lent, sound}
 use Rattle.lawful.proofs.RowsLaws.{Stored}
 use Rattle.format.specs.declared.verdict.DesignReading.{DesignReading}
 use Rattle.format.specs.declared.verdict.Verdict.the-variants.{Accepted, Refused}
-use Rattle.format.specs.Reading.{Draft, DesignRead, readDesign, verdictOf, cellsAfter, tablesAfter, marksAfter, mostBytes, Leaves as Reads}
+use Rattle.format.specs.Reading.{Draft, DesignRead, readDesign, verdictOf, designOf, cellsAfter, marksAfter, mostBytes, Leaves}
 use Rattle.format.specs.Reading.DesignRead.{accepted, refusedAt}
 use Rattle.format.proofs.Small.{Small}
-use Rattle.script.specs.Runs.{Left, leftFrom, Leaves, Buffers, buffers, readingOf, justRead, Ran}
+use Rattle.script.specs.Runs.{leaving, leftFrom, Buffers, buffers, readingOf, justRead, Ran}
 use Rattle.script.proofs.JustRead.{into-parts, Begun, begun}
 use Rattle.script.proofs.WholeRun.{operated}
 
@@ -32,7 +33,7 @@ accepted-short script p i e =
     (dec (ltb mostBytes (length script)))
 
 module _ (script : List ℕ) (b : Buffers) (r : DesignReading) (cs ts ms : List ℕ)
-    (read : Reads (readingOf script b) r (b .cells) cs (b .tables) ts (b .marks) ms) (none : Held) (empty : none ≡ noneHeld) where
+    (read : Leaves (readingOf script b) r (b .cells) cs (b .tables) ts (b .marks) ms) (none : Held) (empty : none ≡ noneHeld) where
   -- the design is refused
   pub refused-ran : (n place : ℕ) → r .verdict ≡ Refused n place →
       Ran script b (buffers cs ts ms (b .words)) (record { verdict = r .verdict; design = r .design; held = none })
@@ -66,12 +67,13 @@ module _ (script : List ℕ) (b : Buffers) (r : DesignReading) (cs ts ms : List 
         go (refusedAt n i) e = absurd (let z : _≡_ {A = ℕ} 0 1 = cc (read .verdict ∙ ap verdictOf e) in omega arith)
 
     -- the steps leave h, m and w
-    module _ (h : Held) (m w : List ℕ) (left : Leaves (leftFrom (length script) script (lent (r .design) cs ts ms none) (b .words) j) h m w) where
+    module _ (h : Held) (m w : List ℕ)
+        (left : leaving (lent (r .design) cs ts m h) w ≡ leftFrom (length script) script (lent (r .design) cs ts ms none) (b .words) j) where
       left-is : (p : Draft) (i : ℕ) → readingOf script b ≡ accepted p i →
-          leftFrom (length script) script (lent (r .design) cs ts ms none) (b .words) j ≡
-          leftFrom (length script) script (justRead (accepted p i) b) (b .words) i
+          leaving (lent (p .design) cs ts m h) w ≡ leftFrom (length script) script (justRead (accepted p i) b) (b .words) i
       left-is p i e =
           let q : j ≡ i = cc (read .verdict ∙ ap verdictOf e) in
+          ap (λ (d : Design). leaving (lent d cs ts m h) w) (sym (read .design ∙ ap designOf e)) ∙ left ∙
           ap₂ (λ (s : State) (k : ℕ). leftFrom (length script) script s (b .words) k) (start-is p i e) q
 
       pub accepted-ran : Ran script b (buffers cs ts m w) (record { verdict = Accepted j; design = r .design; held = h })
@@ -83,9 +85,5 @@ module _ (script : List ℕ) (b : Buffers) (r : DesignReading) (cs ts ms : List 
             tables = read .tables;
             refused = λ n i e. absurd (let z : _≡_ {A = ℕ} 0 1 = cc (read .verdict ∙ ap verdictOf e) in omega arith);
             accepted = λ p i e.
-                operated script (accepted-short script p i (into-parts script b p i e .1)) b p i (begun-at p i e) (buffers cs ts m w) h
-                (cells-are p i e) (read .tables ∙ ap (λ (R : DesignRead). tablesAfter R (b .tables)) e)
-                (left .held ∙ ap (λ (l : Left). l .state .held) (left-is p i e))
-                (left .marks ∙ ap (λ (l : Left). l .state .marks) (left-is p i e))
-                (left .words ∙ ap (λ (l : Left). l .words) (left-is p i e));
+                operated script (accepted-short script p i (into-parts script b p i e .1)) b p i (begun-at p i e) (buffers cs ts m w) h (left-is p i e);
           }

@@ -1,23 +1,27 @@
--- A refused operation leaves the cache as it was. Assumes nothing.
+-- A refused operation leaves the cache as it was and writes no words. Assumes nothing.
 use Prim.Native.Nat.{ℕ}
 use native.Mathlib.Omega.{arith}
-use mathlib.Core.Path.{_≡_, refl}
+use mathlib.Core.Path.{_≡_, refl, sym, ap, _∙_}
 use mathlib.Core.Bool.{true, false, not, and-eq-true-iff}
+use mathlib.Core.List.{List, []}
 use mathlib.Core.Logic.{⊎-elim}
 use borrow.Author.Tests.{ltb-true, lt-ltb, not-true}
 use lib.Dec.{ltb}
 use lib.ListN.{length}
+use lib.Seq.{sets}
 use Rattle.finite.proofs.Bools.{dec, cond-false}
 use Rattle.model.specs.Scheme.{candidate}
-use Rattle.model.specs.Runs.{Pair, Operation, refer, drop, probe, listed, taken, places, cacheAfter}
-use Rattle.model.specs.Answers.{refused, answer}
-use Rattle.state.specs.Meaning.{schemeOf, pairsOf}
-use Rattle.state.specs.Step.{State, scheme, database, cache, sound}
+use Rattle.model.specs.Holding.{Pair, Holding, holds, hasRoom}
+use Rattle.model.specs.Query.{wordsOf}
+use Rattle.model.specs.Runs.{Operation, refer, drop, ask, query, taken, cacheAfter}
+use Rattle.model.specs.Answers.{Answer, shown, hasLists, refused, answer, fullLists, writtenWith, queryWords, written}
+use Rattle.model.proofs.HoldingLaws.{listed-fits, listed-full}
+use Rattle.state.specs.Meaning.{schemeOf, holdingOf}
+use Rattle.state.specs.Lent.{State, scheme, database, cache, sound, answerAt, stateAfter, wordsAt}
 use Rattle.lawful.proofs.DesignLaws.{low-full}
-use Rattle.lawful.proofs.HeldLaws.{pairs-fit}
+use Rattle.lawful.proofs.HeldLaws.{holding-fits}
+use Rattle.lawful.proofs.SoundState.{parts, unchanged, answer-at, words-at}
 use Rattle.cache.proofs.Answering.{refer-loads, drop-drops}
-use Rattle.cache.proofs.PairsFit.{listed-fits, listed-full}
-use Rattle.cache.proofs.SoundState.{parts}
 
 module _ (s : State) (e : sound s ≡ true) (n : ℕ) where
   -- a REFER that is taken loads, and is not refused: a candidate is not blank
@@ -26,16 +30,16 @@ module _ (s : State) (e : sound s ≡ true) (n : ℕ) where
   unfolding cacheAfter taken schemeOf
   refer-keeps p h =
       let S = scheme s in
-      let ps = pairsOf (s .held) in
-      ⊎-elim (λ (t : taken S ps p ≡ true).
+      let held = holdingOf (s .held) in
+      ⊎-elim (λ (t : taken S held p ≡ true).
       let a = and-eq-true-iff (ltb (p .filling) (S .fillings)) _ .0 t in
       let b = and-eq-true-iff (candidate (S .filling (p .filling)) (p .value)) _ .0 (a .1) in
-      let c = and-eq-true-iff (not (listed p ps)) (ltb (length ps) places) .0 (b .1) in
+      let c = and-eq-true-iff (not (holds held p)) (hasRoom held) .0 (b .1) in
       let full = low-full (s .design) (parts s e .design) (p .filling) (ltb-true _ _ (a .0)) (p .value .number) (b .0) in
       let l = refer-loads S (database s) (cache s) p (a .0) full (b .0) (not-true _ (c .0)) (c .1) in
       absurd (let z : _≡_ {A = ℕ} 0 1 = cc in omega arith))
-      (λ (t : taken S ps p ≡ false). cond-false (taken S ps p) _ (cache s) t)
-      (dec (taken S ps p))
+      (λ (t : taken S held p ≡ false). cond-false (taken S held p) _ (cache s) t)
+      (dec (taken S held p))
 
   -- a DROP of a listed pair drops: it has a filling and is not blank
   drop-keeps : (p : Pair) → answer (scheme s) (database s) (cache s) (drop p) ≡ refused n →
@@ -43,17 +47,34 @@ module _ (s : State) (e : sound s ≡ true) (n : ℕ) where
   unfolding cacheAfter
   drop-keeps p h =
       let S = scheme s in
-      let ps = pairsOf (s .held) in
-      ⊎-elim (λ (t : listed p ps ≡ true).
-      let f = listed-fits S ps (pairs-fit (s .design) (s .held) (parts s e .held)) p t in
-      let l = drop-drops S (database s) (cache s) p (lt-ltb _ _ f) (listed-full ps p t) t in
+      let held = holdingOf (s .held) in
+      ⊎-elim (λ (t : holds held p ≡ true).
+      let f = listed-fits S (held .pairs) (holding-fits (s .design) (s .held) (parts s e .held)) p t in
+      let l = drop-drops S (database s) (cache s) p (lt-ltb _ _ f) (listed-full (held .pairs) p t) t in
       absurd (let z : _≡_ {A = ℕ} 0 1 = cc in omega arith))
-      (λ (t : listed p ps ≡ false). cond-false (listed p ps) _ (cache s) t)
-      (dec (listed p ps))
+      (λ (t : holds held p ≡ false). cond-false (holds held p) _ (cache s) t)
+      (dec (holds held p))
 
-  pub refused-keeps : (o : Operation) → answer (scheme s) (database s) (cache s) o ≡ refused n →
+  refused-keeps : (o : Operation) → answer (scheme s) (database s) (cache s) o ≡ refused n →
       cacheAfter (scheme s) (database s) (cache s) o ≡ cache s
   unfolding cacheAfter
   refused-keeps (refer p) h = refer-keeps p h
   refused-keeps (drop p) h = drop-keeps p h
-  refused-keeps (probe k v) h = refl
+  refused-keeps (ask q) h = refl
+  refused-keeps (query q room) h = refl
+
+  -- no words go with a refusal
+  refused-wordless : (o : Operation) → answer (scheme s) (database s) (cache s) o ≡ refused n → written (scheme s) (database s) (cache s) o ≡ []
+  unfolding answer written queryWords writtenWith hasLists shown
+  refused-wordless (refer p) h = refl
+  refused-wordless (drop p) h = refl
+  refused-wordless (ask q) h = refl
+  refused-wordless (query q room) h = ap (λ (a : Answer). writtenWith a (wordsOf (fullLists (scheme s) (database s) q))) h
+
+  -- a record of held values has 64 places, as its type says
+  module _ (places : length (s .held .values) ≡ 64) (o : Operation) (h : answerAt s o ≡ refused n) where
+    pub refused-state : stateAfter s o ≡ s
+    refused-state = unchanged s e o places (refused-keeps o (sym (answer-at s e o) ∙ h))
+
+    pub refused-words : (w : List ℕ) → sets w 0 (wordsAt s o) ≡ w
+    refused-words w = ap (sets w 0) (words-at s e o ∙ refused-wordless o (sym (answer-at s e o) ∙ h))

@@ -1,46 +1,35 @@
 -- A refused call leaves everything as it was, entry point by entry point; each contract gives what is left by the terms that stand here. (A step
 -- of a script: Theorems.) Assumes nothing.
 use Prim.Native.Nat.{ℕ}
-use mathlib.Core.Path.{_≡_, sym, ap, _∙_}
-use mathlib.Core.Bool.{true, false}
+use mathlib.Core.Path.{_≡_, ap}
 use mathlib.Core.List.{List}
 use mathlib.Core.Logic.{⊎-elim}
 use lib.ListN.{length}
 use lib.Seq.{sets}
-use Rattle.finite.proofs.Bools.{dec, cond-false}
+use Rattle.finite.proofs.Bools.{same-number}
 use Rattle.model.specs.Runs.{Operation}
-use Rattle.model.specs.Query.{Query, wordsOf}
-use Rattle.model.specs.Answers.{Answer, refused, fullLists, writtenWith}
-use Rattle.state.specs.Step.{State, scheme, database, sound, answerAt, heldAfterAt, marksAfterAt, queryAnswerAt, queryWordsAt}
-use Rattle.cache.proofs.SoundState.{answer-at}
+use Rattle.model.specs.Answers.{refused}
+use Rattle.state.specs.Lent.{State, causeAt, answerAt, stateAfter, wordsAt}
+use Rattle.lawful.proofs.SoundState.{cause-none, cause-state, cause-words}
 use Rattle.format.specs.Reading.{DesignRead, readInto, cellsAfter, tablesAfter, marksAfter}
 use Rattle.format.specs.Reading.DesignRead.{refusedAt}
 use Rattle.script.specs.declared.outcome.Written.{Written}
 use Rattle.script.specs.declared.outcome.Written.the-variants.{Refused}
 use Rattle.script.specs.Writing.{bytesOf, writtenAt, storedWith}
-use Rattle.script.proofs.StepLaws.{same-held, same-marks}
-use Rattle.script.proofs.Refusals.{refused-keeps}
+use Rattle.script.proofs.Refusals.{refused-state, refused-words}
 
--- a record of held values has 64 places, as its type says
-module _ (s : State) (places : length (s .held .values) ≡ 64) (n : ℕ) where
-  -- THEOREM: `cache::referred`, `dropped` and `probed`
-  pub operation-refused : (o : Operation) → answerAt s o ≡ refused n → (heldAfterAt s o ≡ s .held) × (marksAfterAt s o ≡ s .marks)
-  unfolding heldAfterAt marksAfterAt
-  operation-refused o h =
-      ⊎-elim (λ (e : sound s ≡ true). let k = refused-keeps s e n o (sym (answer-at s e o) ∙ h) in (same-held s e o places k, same-marks s e o k))
-      (λ (e : sound s ≡ false). (cond-false (sound s) _ (s .held) e, cond-false (sound s) _ (s .marks) e))
-      (dec (sound s))
+-- THEOREM: `operate::perform`, whichever the operation is, with w as its answer words. A record of held values has 64 places, as its type says.
+pub operation-refused : (s : State) → length (s .held .values) ≡ 64 → (n : ℕ) (o : Operation) → answerAt s o ≡ refused n → (w : List ℕ) →
+    (stateAfter s o ≡ s) × (sets w 0 (wordsAt s o) ≡ w)
+operation-refused s places n o h w =
+    ⊎-elim (λ (z : causeAt s ≡ 0). let e = cause-none s z in (refused-state s e n places o h, refused-words s e n places o h w))
+    (λ (m : causeAt s ≡ 0 → ⊥). (cause-state s m o, ap (sets w 0) (cause-words s m o)))
+    (same-number (causeAt s) 0)
 
-module _ (s : State) (n room : ℕ) (o : List ℕ) where
-  -- THEOREM: `query::query`, with o as its answer words
-  pub query-refused : (q : Query) → queryAnswerAt s room q ≡ refused n → sets o 0 (queryWordsAt s room q) ≡ o
-  unfolding queryWordsAt writtenWith
-  query-refused q h = ap (λ (a : Answer). sets o 0 (writtenWith a (wordsOf (fullLists (scheme s) (database s) q)))) h
-
-  -- THEOREM: `script::write`, with o as its buffer
-  pub write-refused : writtenAt s room ≡ Refused n → sets o 0 (storedWith (writtenAt s room) (bytesOf s)) ≡ o
-  unfolding storedWith
-  write-refused h = ap (λ (w : Written). sets o 0 (storedWith w (bytesOf s))) h
+-- THEOREM: `script::write`, with o as its buffer
+pub write-refused : (s : State) (n room : ℕ) (o : List ℕ) → writtenAt s room ≡ Refused n → sets o 0 (storedWith (writtenAt s room) (bytesOf s)) ≡ o
+unfolding storedWith
+write-refused s n room o h = ap (λ (w : Written). sets o 0 (storedWith w (bytesOf s))) h
 
 -- what a reading leaves of the buffers
 pub record Unread (w : DesignRead) (cs ts ms : List ℕ) : Type 0 where

@@ -15,12 +15,12 @@ use Rattle.state.specs.Design.{emptyDesign}
 use Rattle.state.specs.Held.{noneHeld}
 use Rattle.state.specs.Meaning.{databaseOf}
 use Rattle.state.specs.Lawful.{lawfulRows}
-use Rattle.state.specs.Step.{State, lent, longEnough, sound}
+use Rattle.state.specs.Lent.{State, lent, longEnough, sound}
 use Rattle.state.proofs.Arrays.{Sized}
 use Rattle.lawful.specs.LawfulState.{LawfulRows}
 use Rattle.lawful.proofs.DesignLaws.{design-says}
 use Rattle.lawful.proofs.RowsLaws.{Stored, rows-say, rows-if}
-use Rattle.cache.proofs.SoundState.{parts}
+use Rattle.lawful.proofs.SoundState.{parts}
 use Rattle.format.specs.Bytes.{u32Bytes}
 use Rattle.format.specs.Reading.{Draft, readDesign, readInto}
 use Rattle.format.specs.Reading.DesignRead.{accepted}

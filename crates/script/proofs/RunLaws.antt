@@ -1,56 +1,52 @@
--- What the steps of a whole script leave: the cache is the one that the model's run leaves, the state is sound, and nothing else has changed.
--- Assumes nothing.
+-- What the steps of a whole script leave, and any list of calls: the cache is the one that the model's run leaves, the state is sound, and nothing
+-- else has changed. Assumes nothing.
 use Prim.Native.Nat.{ℕ, zero, suc, _+_, _≤_, _<_}
 use native.Mathlib.Omega.{arith}
-use mathlib.Core.Path.{_≡_, refl, sym, ap, _∙_}
-use mathlib.Core.Bool.{true, false, cond}
+use mathlib.Core.Path.{_≡_, refl, sym, ap, subst, _∙_}
+use mathlib.Core.Bool.{Bool, true, false, cond}
 use mathlib.Core.List.{List, [], _∷_}
 use mathlib.Core.Logic.{⊎-elim}
 use borrow.Author.Tests.{leb-true, leb-false, le-leb, lt-leb}
 use lib.Dec.{leb}
 use lib.ListN.{length, drop as past}
+use lib.Seq.{length-sets}
 use Rattle.finite.proofs.Bools.{dec, cond-true, cond-false}
-use Rattle.model.specs.Cell.{cellOf}
-use Rattle.model.specs.Runs.{Operation, refer, drop, probe, Cache, cacheFrom}
-use Rattle.state.specs.Meaning.{columnOf}
-use Rattle.state.specs.Step.{State, scheme, database, cache, stateAfter}
+use Rattle.model.specs.Runs.{Operation, Cache, cacheFrom}
+use Rattle.state.specs.Meaning.{operationOf}
+use Rattle.state.specs.Lent.{State, scheme, database, cache, sound, stateAfter, wordsAt}
 use Rattle.format.specs.declared.command.Command.{Command}
-use Rattle.format.specs.declared.command.Command.the-variants.{Table, Constraint, Filling, Row, End, Refer, Drop, Probe, Query, Unknown, Short}
+use Rattle.format.specs.declared.command.Command.the-variants.{Table, Constraint, Filling, Row, End, Operate, Unknown, Short}
 use Rattle.format.specs.Bytes.{byteAt}
 use Rattle.format.specs.Commands.{commandAt, widthOf}
 use Rattle.format.specs.Reading.{mostBytes}
 use Rattle.format.proofs.CommandLaws.{at-end}
-use Rattle.script.specs.Step.{Stepped, operated, queried, carried, stepAt, stateAfterStep}
-use Rattle.script.specs.Runs.{operationThen, operationsFrom, Left, leftFrom, stateAfterAll}
-use Rattle.script.proofs.StepLaws.{Tidy, after-cache, after-past, after-tidy, step-carried, step-on}
+use Rattle.script.specs.Step.{Stepped, operated, carried, stepAt}
+use Rattle.script.specs.Runs.{operationThen, operationsFrom, Left, leaving, leftFrom, stateAfterAll}
+use Rattle.script.proofs.StepLaws.{Settled, after-cache, after-past, after-settled, step-carried, step-sound, step-on}
 
 -- ---- one turn of `leftFrom`
 
--- nothing is left to do
-abbrev pub done : State → List ℕ → Left
-done s words = record { state = s; words = words }
-
 -- what follows a step, with n more commands at the most
-abbrev pub leftThen : ℕ → List ℕ → State → Stepped → Left
-leftThen n script s r = cond (r .more) (leftFrom n script (stateAfterStep s r) (r .words) (r .next)) (done (stateAfterStep s r) (r .words))
+abbrev pub leftThen : ℕ → List ℕ → Stepped → Left
+leftThen n script r = cond (r .more) (leftFrom n script (r .state) (r .words) (r .next)) (leaving (r .state) (r .words))
 
 module _ (script : List ℕ) (s : State) (words : List ℕ) (i : ℕ) where
-  pub left-past : (n : ℕ) → length script ≤ i → leftFrom n script s words i ≡ done s words
+  pub left-past : (n : ℕ) → length script ≤ i → leftFrom n script s words i ≡ leaving s words
   unfolding leftFrom
   left-past zero l = refl
   left-past (suc n) l = cond-true (leb (length script) i) _ _ (le-leb _ _ l)
 
-  pub left-step : (n : ℕ) → i < length script → leftFrom (suc n) script s words i ≡ leftThen n script s (stepAt s words script i)
+  pub left-step : (n : ℕ) → i < length script → leftFrom (suc n) script s words i ≡ leftThen n script (stepAt s words script i)
   unfolding leftFrom
   left-step n l = cond-false (leb (length script) i) _ _ (lt-leb _ _ l)
 
 -- ---- enough turns
 
 module _ (script : List ℕ) where
-  then-same : (n m : ℕ) (s : State) (r : Stepped) →
-      (r .more ≡ true → leftFrom n script (stateAfterStep s r) (r .words) (r .next) ≡ leftFrom m script (stateAfterStep s r) (r .words) (r .next)) →
-      leftThen n script s r ≡ leftThen m script s r
-  then-same n m s r f =
+  then-same : (n m : ℕ) (r : Stepped) →
+      (r .more ≡ true → leftFrom n script (r .state) (r .words) (r .next) ≡ leftFrom m script (r .state) (r .words) (r .next)) →
+      leftThen n script r ≡ leftThen m script r
+  then-same n m r f =
       ⊎-elim (λ (q : r .more ≡ true). cond-true (r .more) _ _ q ∙ f q ∙ sym (cond-true (r .more) _ _ q))
       (λ (q : r .more ≡ false). cond-false (r .more) _ _ q ∙ sym (cond-false (r .more) _ _ q))
       (dec (r .more))
@@ -65,12 +61,25 @@ module _ (script : List ℕ) where
       left-past script s words i (suc n) l ∙ sym (left-past script s words i (suc m) l))
       (λ (q : leb (length script) i ≡ false). let l = leb-false (length script) i q in let r = stepAt s words script i in
       left-step script s words i n l ∙
-      then-same n m s r (λ e. let g = step-on s words script i e .0 in
-      left-fuel n m (stateAfterStep s r) (r .words) (r .next) (omega arith) (omega arith)) ∙
+      then-same n m r (λ e. let g = step-on s words script i e .0 in
+      left-fuel n m (r .state) (r .words) (r .next) (omega arith) (omega arith)) ∙
       sym (left-step script s words i m l))
       (dec (leb (length script) i))
 
 -- ---- what a run leaves of the state
+
+-- THEOREM: the steps leave a sound state sound
+pub left-sound : (script : List ℕ) (n : ℕ) (s : State) → sound s ≡ true → (words : List ℕ) (i : ℕ) → sound (leftFrom n script s words i .state) ≡ true
+unfolding leftFrom
+left-sound script zero s e words i = e
+left-sound script (suc n) s e words i =
+    let r = stepAt s words script i in
+    let t = step-sound s words script i e in
+    either (leb (length script) i) _ _ e (either (r .more) _ _ (left-sound script n (r .state) t (r .words) (r .next)) t)
+  where
+    either : (b : Bool) (x y : Left) → sound (x .state) ≡ true → sound (y .state) ≡ true → sound (cond b x y .state) ≡ true
+    either true x y h k = h
+    either false x y h k = k
 
 -- state l comes from state s by the operations os: nothing but the held values and the first 512 marks has changed
 pub record Follows (s : State) (os : List Operation) (l : State) : Type 0 where
@@ -79,13 +88,13 @@ pub record Follows (s : State) (os : List Operation) (l : State) : Type 0 where
   pub tables : l .tables ≡ s .tables
   pub past : past 512 (l .marks) ≡ past 512 (s .marks)
   pub cache : cache l ≡ cacheFrom (scheme s) (database s) (cache s) os
-  pub tidy : Tidy l
+  pub settled : Settled l
 
-stays : (s : State) → Tidy s → Follows s [] s
+stays : (s : State) → Settled s → Follows s [] s
 unfolding cacheFrom
-stays s t = record { design = refl; cells = refl; tables = refl; past = refl; cache = refl; tidy = t }
+stays s t = record { design = refl; cells = refl; tables = refl; past = refl; cache = refl; settled = t }
 
-first : (s : State) → Tidy s → (o : Operation) (os : List Operation) (l : State) → Follows (stateAfter s o) os l → Follows s (o ∷ os) l
+first : (s : State) → Settled s → (o : Operation) (os : List Operation) (l : State) → Follows (stateAfter s o) os l → Follows s (o ∷ os) l
 unfolding cacheFrom
 first s t o os l f =
     record {
@@ -94,57 +103,54 @@ first s t o os l f =
       tables = f .tables;
       past = f .past ∙ after-past s (t .sound) o;
       cache = f .cache ∙ ap (λ (c : Cache). cacheFrom (scheme s) (database s) c os) (after-cache s (t .sound) o);
-      tidy = f .tidy;
+      settled = f .settled;
     }
 
 moved : (s : State) {os qs : List Operation} {l m : State} → os ≡ qs → l ≡ m → Follows s qs m → Follows s os l
 moved s p q f = rw (p, q) f
 
-operations-past : (script : List ℕ) (i n : ℕ) → length script ≤ i → operationsFrom n script i ≡ []
+operations-past : (script : List ℕ) (room i n : ℕ) → length script ≤ i → operationsFrom n script room i ≡ []
 unfolding operationsFrom
-operations-past script i zero l = refl
-operations-past script i (suc n) l =
-    ap (λ (c : Command). operationThen c (operationsFrom n script (i + widthOf (byteAt script i)))) (sym (at-end script i l))
+operations-past script room i zero l = refl
+operations-past script room i (suc n) l =
+    ap (λ (c : Command). operationThen c room (operationsFrom n script room (i + widthOf (byteAt script i)))) (sym (at-end script i l))
 
 module _ (script : List ℕ) (short : length script ≤ mostBytes) where
   -- a command and those behind it
-  then-follows : (n : ℕ) (s : State) (t : Tidy s) (words : List ℕ) (i j : ℕ) (os : List Operation) →
-      ((l : State) → Tidy l → (w : List ℕ) → Follows l os (leftFrom n script l w j .state)) →
-      (c : Command) → Follows s (operationThen c os) (leftThen n script s (carried s words script i j c) .state)
-  unfolding carried operated queried
-  then-follows n s t words i j os h (Refer f v) =
-      first s t (refer (record { filling = f; value = cellOf v })) os _ (h _ (after-tidy s (t .sound) _) words)
-  then-follows n s t words i j os h (Drop f v) =
-      first s t (drop (record { filling = f; value = cellOf v })) os _ (h _ (after-tidy s (t .sound) _) words)
-  then-follows n s t words i j os h (Probe k v) =
-      first s t (probe (columnOf k) (cellOf v)) os _ (h _ (after-tidy s (t .sound) _) words)
-  then-follows n s t words i j os h (Query k v m) = h s t _
-  then-follows n s t words i j os h (Table x) = h s t words
-  then-follows n s t words i j os h (Constraint x) = h s t words
-  then-follows n s t words i j os h (Filling x) = h s t words
-  then-follows n s t words i j os h (Row x) = h s t words
-  then-follows n s t words i j os h End = h s t words
+  then-follows : (n : ℕ) (s : State) (t : Settled s) (words : List ℕ) (i j : ℕ) (os : List Operation) →
+      ((l : State) → Settled l → (w : List ℕ) → length w ≡ length words → Follows l os (leftFrom n script l w j .state)) →
+      (c : Command) → Follows s (operationThen c (length words) os) (leftThen n script (carried s words script i j c) .state)
+  unfolding carried operated
+  then-follows n s t words i j os h (Operate op) =
+      let o = operationOf op (length words) in
+      first s t o os _ (h _ (after-settled s (t .sound) o) _ (length-sets words 0 (wordsAt s o)))
+  then-follows n s t words i j os h (Table x) = h s t words refl
+  then-follows n s t words i j os h (Constraint x) = h s t words refl
+  then-follows n s t words i j os h (Filling x) = h s t words refl
+  then-follows n s t words i j os h (Row x) = h s t words refl
+  then-follows n s t words i j os h End = h s t words refl
   then-follows n s t words i j os h Unknown = stays s t
   then-follows n s t words i j os h Short = stays s t
 
   -- the whole script from place i on: refused operations too
-  pub left-follows : (n : ℕ) (s : State) → Tidy s → (words : List ℕ) (i : ℕ) →
-      Follows s (operationsFrom n script i) (leftFrom n script s words i .state)
+  pub left-follows : (n : ℕ) (s : State) → Settled s → (words : List ℕ) (i : ℕ) →
+      Follows s (operationsFrom n script (length words) i) (leftFrom n script s words i .state)
   unfolding operationsFrom leftFrom
   left-follows zero s t words i = stays s t
   left-follows (suc n) s t words i =
       ⊎-elim (λ (q : leb (length script) i ≡ true). let l = leb-true (length script) i q in
-      moved s (operations-past script i (suc n) l) (ap (λ (x : Left). x .state) (left-past script s words i (suc n) l)) (stays s t))
-      (λ (q : leb (length script) i ≡ false).
+      moved s (operations-past script (length words) i (suc n) l) (ap (λ (x : Left). x .state) (left-past script s words i (suc n) l)) (stays s t))
+      (λ (q : leb (length script) i ≡ false). let j = i + widthOf (byteAt script i) in
       moved s refl (ap (λ (x : Left). x .state) (left-step script s words i n (leb-false _ _ q) ∙
-      ap (leftThen n script s) (step-carried s words script i (t .sound) short)))
-      (then-follows n s t words i (i + widthOf (byteAt script i)) _
-      (λ l u w. left-follows n l u w (i + widthOf (byteAt script i))) (commandAt script i)))
+      ap (leftThen n script) (step-carried s words script i (t .sound) short)))
+      (then-follows n s t words i j (operationsFrom n script (length words) j)
+      (λ l u w e. subst (λ (room : ℕ). Follows l (operationsFrom n script room j) (leftFrom n script l w j .state)) e (left-follows n l u w j))
+      (commandAt script i)))
       (dec (leb (length script) i))
 
 -- ---- any list of calls
 
-pub calls-follow : (s : State) → Tidy s → (os : List Operation) → Follows s os (stateAfterAll s os)
+pub calls-follow : (s : State) → Settled s → (os : List Operation) → Follows s os (stateAfterAll s os)
 unfolding stateAfterAll
 calls-follow s t [] = stays s t
-calls-follow s t (o ∷ os) = first s t o os _ (calls-follow (stateAfter s o) (after-tidy s (t .sound) o) os)
+calls-follow s t (o ∷ os) = first s t o os _ (calls-follow (stateAfter s o) (after-settled s (t .sound) o) os)

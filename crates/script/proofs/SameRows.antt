@@ -1,17 +1,19 @@
--- Two databases with the same rows under the same numbers: what is lawful, complete or smallest in one is so in the other. Lent buffers give the
--- same rows, whatever lies past the sizes that a design has. Assumes nothing.
+-- Two databases with the same rows under the same numbers: what is lawful, complete or smallest in one is so in the other, and a run holds the same.
+-- Lent buffers give the same rows, whatever lies past the sizes that a design has. Assumes nothing.
 use Prim.Native.Nat.{ℕ, _+_, _*_, _≤_, _<_}
 use native.Mathlib.Omega.{arith}
 use mathlib.Core.Path.{_≡_, refl, sym, ap, subst, _∙_}
 use mathlib.Core.Bool.{Bool, true, false, cond}
-use mathlib.Core.List.{List, _++_}
+use mathlib.Core.List.{List, [], _∷_, _++_}
 use borrow.Author.Tests.{ltb-true}
 use lib.Dec.{ltb}
 use lib.ListN.{length, getD, List·getD-append}
-use Rattle.model.specs.Cell.{Cell, Fits, cellOf, blank, equal}
+use Rattle.model.specs.Cell.{Cell, Fits, numbered, blank, equal}
 use Rattle.model.specs.Scheme.{Column, Constraint, Scheme}
 use Rattle.model.specs.Database.{Database, Has, Lawful}
 use Rattle.model.specs.Cache.{RowSet, Inside, Held, Complete, Holds, Meets, Smallest, Alike}
+use Rattle.model.specs.Holding.{Holding}
+use Rattle.model.specs.Runs.{Operation, refer, drop, ask, query, heldAfter, heldFrom}
 use Rattle.state.specs.Meaning.{databaseOf}
 
 pub record SameRows (D E : Database) : Type 0 where
@@ -78,6 +80,19 @@ alike-same w inside a =
       smallest = a .smallest;
     }
 
+-- what a run holds is the same in both
+after-same : (S : Scheme) {D E : Database} → SameRows D E → (h : Holding) (o : Operation) → heldAfter S D h o ≡ heldAfter S E h o
+unfolding heldAfter
+after-same S w h (refer p) = refl
+after-same S w h (drop p) = refl
+after-same S w h (ask q) = refl
+after-same S w h (query q room) = refl
+
+pub held-same : (S : Scheme) {D E : Database} → SameRows D E → (h : Holding) (os : List Operation) → heldFrom S D h os ≡ heldFrom S E h os
+unfolding heldFrom
+held-same S w h [] = refl
+held-same S {D} w h (o ∷ os) = ap (λ (g : Holding). heldFrom S D g os) (after-same S w h o) ∙ held-same S w _ os
+
 -- ---- longer buffers
 
 module _ (rows : ℕ) (cells tables more others : List ℕ) (c : length cells ≡ 4096) (t : length tables ≡ 512) where
@@ -94,6 +109,6 @@ module _ (rows : ℕ) (cells tables more others : List ℕ) (c : length cells �
       below r l = databaseOf rows cells tables .finite r l
 
       cell-same : (r k : ℕ) → r < 512 → (b : Bool) → (b ≡ true → k < 8) →
-          cond b (cellOf (getD cells (8 * r + k) 0)) blank ≡ cond b (cellOf (getD (cells ++ more) (8 * r + k) 0)) blank
-      cell-same r k l true h = let g = h refl in ap cellOf (sym (List·getD-append cells more 0 (8 * r + k) (omega arith)))
+          cond b (numbered (getD cells (8 * r + k) 0)) blank ≡ cond b (numbered (getD (cells ++ more) (8 * r + k) 0)) blank
+      cell-same r k l true h = let g = h refl in ap numbered (sym (List·getD-append cells more 0 (8 * r + k) (omega arith)))
       cell-same r k l false h = refl

@@ -1,151 +1,151 @@
--- Steps on a sound state: an operation leaves the model's cache and a sound state; and a step that goes on moves behind its command.
--- Assumes nothing.
+-- Operations on a sound state, which leave the model's cache and a sound state; and steps on whatever is lent, case by case: a step leaves a sound
+-- state sound, and one that goes on moves behind its command. Assumes nothing.
 use Prim.Native.Nat.{ℕ, _+_, _≤_, _<_}
 use native.Mathlib.Omega.{arith}
 use mathlib.Core.Path.{_≡_, refl, sym, ap, subst, _∙_}
-use mathlib.Core.Bool.{Bool, true, false, not, cond, and-eq-true-iff}
-use mathlib.Core.List.{List, _++_}
+use mathlib.Core.Bool.{Bool, true, false, not, cond}
+use mathlib.Core.List.{List}
 use mathlib.Core.Logic.{⊎-elim}
 use borrow.Author.Tests.{le-ltb, lt-ltb}
 use lib.Dec.{ltb}
-use lib.ListN.{length, take, drop as past, take-append-drop}
+use lib.ListN.{length, take, drop as past}
 use lib.Seq.{take-at, drop-at}
-use Rattle.finite.proofs.Bools.{clash, cond-true, cond-false}
-use Rattle.model.specs.Runs.{Pair, Operation, Cache, cacheAfter}
-use Rattle.model.proofs.RunLaws.{step-pairs}
-use Rattle.state.specs.Meaning.{pairsOf, heldOf}
-use Rattle.state.specs.Step.{State, scheme, database, cache, longEnough, lawful, sound, stateAfter, heldAfterAt, marksAfterAt}
-use Rattle.lawful.proofs.HeldLaws.{held-back, pairs-fit, pairs-back}
-use Rattle.cache.proofs.Fresh.{step-fresh}
-use Rattle.cache.proofs.PairsFit.{step-fit}
-use Rattle.cache.proofs.SoundState.{parts, lawful-fresh, fresh-long, held-after, marks-after, sound-after}
+use Rattle.finite.proofs.Bools.{both, clash, cond-true, cond-false}
+use Rattle.model.specs.Holding.{Holding}
+use Rattle.model.specs.Runs as Runs
+use Rattle.model.proofs.Fresh.{step-fresh}
+use Rattle.model.proofs.HoldingLaws.{step-fit}
+use Rattle.model.proofs.RunLaws.{step-held}
+use Rattle.state.specs.declared.operation.Operation.{Operation}
+use Rattle.state.specs.Meaning.{holdingOf, heldOf, operationOf}
+use Rattle.state.specs.Lent.{State, scheme, database, cache, longEnough, lawful, sound, causeAt, stateAfter}
+use Rattle.lawful.proofs.HeldLaws.{holding-fits, holding-back}
+use Rattle.lawful.proofs.SoundState.{parts, lawful-fresh, fresh-long, after, held-after, marks-after, sound-after}
 use Rattle.format.specs.declared.command.Command.{Command}
-use Rattle.format.specs.declared.command.Command.the-variants.{Table, Constraint, Filling, Row, End, Refer, Drop, Probe, Query, Unknown, Short}
+use Rattle.format.specs.declared.command.Command.the-variants.{Table, Constraint, Filling, Row, End, Operate, Unknown, Short}
 use Rattle.format.specs.Bytes.{byteAt}
 use Rattle.format.specs.Commands.{commandAt, widthOf}
 use Rattle.format.specs.Reading.{mostBytes}
 use Rattle.format.proofs.ReadingLaws.{Whole}
-use Rattle.script.specs.Step.{Stepped, refusing, operated, queried, carried, stepAt}
+use Rattle.script.specs.Step.{Stepped, refusing, operated, carried, stepAt}
+use Rattle.script.proofs.Causes.{caused, uncaused}
 use Rattle.script.proofs.Places.{command-kinds}
 
 -- ---- an operation
 
--- a sound state whose record of held values is the one that its pairs make
-pub record Tidy (s : State) : Type 0 where
+-- a sound state whose record of held values is the one that its holding makes
+pub record Settled (s : State) : Type 0 where
   pub sound : sound s ≡ true
-  pub held : s .held ≡ heldOf (pairsOf (s .held))
+  pub held : s .held ≡ heldOf (holdingOf (s .held))
 
-module _ (s : State) (e : sound s ≡ true) (o : Operation) where
-  abbrev left : Cache
-  left = cacheAfter (scheme s) (database s) (cache s) o
-
-  few : length (left .pairs) ≤ 64
+module _ (s : State) (e : sound s ≡ true) (o : Runs.Operation) where
+  few : length (after s o .held .pairs) ≤ 64
   few =
-      let f = step-fit (scheme s) (pairsOf (s .held)) o (pairs-fit (s .design) (s .held) (parts s e .held)) in
-      subst (λ (ps : List Pair). length ps ≤ 64) (sym (step-pairs (scheme s) (database s) (cache s) o)) (f .few)
+      let f = step-fit (scheme s) (database s) (holdingOf (s .held)) o (holding-fits (s .design) (s .held) (parts s e .held)) in
+      subst (λ (h : Holding). length (h .pairs) ≤ 64) (sym (step-held (scheme s) (database s) (cache s) o)) (f .few)
 
-  long : length (left .marks) ≡ 512
+  long : length (after s o .marks) ≡ 512
   long =
-      fresh-long (s .design) (s .cells) (s .tables) left
+      fresh-long (s .design) (s .cells) (s .tables) (after s o)
       (step-fresh (scheme s) (database s) (cache s) o
       (lawful-fresh (s .design) (s .cells) (s .tables) (s .held) (s .marks) (parts s e .long .marks) (parts s e .marks)))
 
+  after-holding : holdingOf (stateAfter s o .held) ≡ after s o .held
+  after-holding = ap holdingOf (held-after s e o) ∙ holding-back (after s o .held) few
+
   -- the cache that it leaves is the model's
-  pub after-cache : cache (stateAfter s o) ≡ cacheAfter (scheme s) (database s) (cache s) o
+  pub after-cache : cache (stateAfter s o) ≡ after s o
   after-cache =
-      λ i. record {
-        pairs = (ap pairsOf (held-after s e o) ∙ pairs-back (left .pairs) few) i;
-        marks = (ap (take 512) (marks-after s e o) ∙ take-at (left .marks) (past 512 (s .marks)) 512 long) i;
-      }
+      λ i. record { held = after-holding i; marks = (ap (take 512) (marks-after s e o) ∙ take-at (after s o .marks) (past 512 (s .marks)) 512 long) i }
 
   -- the marks past 512 are untouched
   pub after-past : past 512 (stateAfter s o .marks) ≡ past 512 (s .marks)
-  after-past = ap (past 512) (marks-after s e o) ∙ drop-at (left .marks) (past 512 (s .marks)) 512 long
+  after-past = ap (past 512) (marks-after s e o) ∙ drop-at (after s o .marks) (past 512 (s .marks)) 512 long
 
-  -- where the model's cache stays as it was, so do the held values, in a record of 64 places, and the marks
-  pub same-held : length (s .held .values) ≡ 64 → left ≡ cache s → heldAfterAt s o ≡ s .held
-  same-held z h = held-after s e o ∙ ap (λ (c : Cache). heldOf (c .pairs)) h ∙ held-back (s .design) (s .held) (parts s e .held) z
-
-  pub same-marks : left ≡ cache s → marksAfterAt s o ≡ s .marks
-  same-marks h = marks-after s e o ∙ ap (λ (c : Cache). c .marks ++ past 512 (s .marks)) h ∙ take-append-drop 512 (s .marks)
-
-  pub after-tidy : Tidy (stateAfter s o)
-  after-tidy =
-      record {
-        sound = sound-after s e o;
-        held = held-after s e o ∙ ap heldOf (sym (ap pairsOf (held-after s e o) ∙ pairs-back (left .pairs) few));
-      }
+  pub after-settled : Settled (stateAfter s o)
+  after-settled = record { sound = sound-after s e o; held = held-after s e o ∙ ap heldOf (sym after-holding) }
 
 -- ---- a step
 
 module _ (s : State) (words script : List ℕ) (i : ℕ) where
-  -- causes 7 and 12, and an over-long script
-  pub step-short : longEnough s ≡ false → stepAt s words script i ≡ refusing s words 7 0 i false
-  unfolding stepAt
-  step-short e = cond-true (not (longEnough s)) _ _ (ap not e)
+  -- the command at the place, carried out
+  abbrev pub commanded : Stepped
+  commanded = carried s words script i (i + widthOf (byteAt script i)) (commandAt script i)
 
-  pub step-unlawful : longEnough s ≡ true → lawful s ≡ false → stepAt s words script i ≡ refusing s words 12 0 i false
+  -- what holds of every refusal that stops the reading, and of the command carried out on a sound state, holds of the step
+  pub step-by : (P : Stepped → Type 0) → ((n : ℕ) → P (refusing s words n 0 i false)) → (sound s ≡ true → P commanded) → P (stepAt s words script i)
   unfolding stepAt
-  step-unlawful e h = cond-false (not (longEnough s)) _ _ (ap not e) ∙ cond-true (not (lawful s)) _ _ (ap not h)
+  step-by P r c = go (longEnough s) (lawful s) (ltb mostBytes (length script)) (λ a b. c (both a b))
+    where
+      step : (a b c : Bool) → Stepped
+      step a b c =
+          cond (not a) (refusing s words 7 0 i false) (cond (not b) (refusing s words 12 0 i false) (cond c (refusing s words 4 0 i false) commanded))
+
+      go : (a b c : Bool) → (a ≡ true → b ≡ true → P commanded) → P (step a b c)
+      go false b c h = r 7
+      go true false c h = r 12
+      go true true true h = r 4
+      go true true false h = h refl refl
+
+  -- causes 7 and 12
+  pub step-caused : (causeAt s ≡ 0 → ⊥) → stepAt s words script i ≡ refusing s words (causeAt s) 0 i false
+  unfolding stepAt
+  step-caused = caused s (λ n. refusing s words n 0 i false) _
 
   pub step-overlong : sound s ≡ true → mostBytes < length script → stepAt s words script i ≡ refusing s words 4 0 i false
   unfolding stepAt
   step-overlong e l =
-      let h = and-eq-true-iff (longEnough s) (lawful s) .0 e in
-      cond-false (not (longEnough s)) _ _ (ap not (h .0)) ∙
-      cond-false (not (lawful s)) _ _ (ap not (h .1)) ∙
-      cond-true (ltb mostBytes (length script)) _ _ (lt-ltb mostBytes (length script) l)
+      uncaused s (λ n. refusing s words n 0 i false) _ e ∙ cond-true (ltb mostBytes (length script)) _ _ (lt-ltb mostBytes (length script) l)
 
   -- on a sound state, in a script that is not over-long, the command is carried out
-  pub step-carried : sound s ≡ true → length script ≤ mostBytes →
-      stepAt s words script i ≡ carried s words script i (i + widthOf (byteAt script i)) (commandAt script i)
+  pub step-carried : sound s ≡ true → length script ≤ mostBytes → stepAt s words script i ≡ commanded
   unfolding stepAt
   step-carried e l =
-      let h = and-eq-true-iff (longEnough s) (lawful s) .0 e in
-      cond-false (not (longEnough s)) _ _ (ap not (h .0)) ∙
-      cond-false (not (lawful s)) _ _ (ap not (h .1)) ∙
-      cond-false (ltb mostBytes (length script)) _ _ (le-ltb mostBytes (length script) l)
+      uncaused s (λ n. refusing s words n 0 i false) _ e ∙ cond-false (ltb mostBytes (length script)) _ _ (le-ltb mostBytes (length script) l)
+
+  -- what holds of every operation, of the refusals behind which reading goes on and of those that stop it, holds of every command
+  pub carried-by : (j : ℕ) (P : Stepped → Type 0) → ((op : Operation) → P (operated s words op i j)) →
+      ((n : ℕ) → P (refusing s words n i j true)) → ((n place : ℕ) → P (refusing s words n place i false)) →
+      (c : Command) → P (carried s words script i j c)
+  unfolding carried
+  carried-by j P o r e (Operate op) = o op
+  carried-by j P o r e (Table t) = r 3
+  carried-by j P o r e (Constraint c) = r 3
+  carried-by j P o r e (Filling f) = r 3
+  carried-by j P o r e (Row t) = r 3
+  carried-by j P o r e End = r 3
+  carried-by j P o r e Unknown = e 2 i
+  carried-by j P o r e Short = e 1 _
+
+  -- ---- what a step leaves
+
+  -- THEOREM: a step on a sound state leaves a sound one
+  pub step-sound : sound s ≡ true → sound (stepAt s words script i .state) ≡ true
+  unfolding operated
+  step-sound e =
+      step-by (λ (r : Stepped). sound (r .state) ≡ true) (λ n. e)
+      (λ _. carried-by _ (λ (r : Stepped). sound (r .state) ≡ true) (λ op. sound-after s e (operationOf op (length words))) (λ n. e) (λ n place. e) (commandAt script i))
+
+  -- ---- where it goes on
 
   -- reading goes on only behind the command
   carried-next : (j : ℕ) (c : Command) → carried s words script i j c .more ≡ true → carried s words script i j c .next ≡ j
-  unfolding carried operated queried
-  carried-next j (Refer f v) h = refl
-  carried-next j (Drop f v) h = refl
-  carried-next j (Probe k v) h = refl
-  carried-next j (Query k v n) h = refl
-  carried-next j (Table t) h = refl
-  carried-next j (Constraint c) h = refl
-  carried-next j (Filling f) h = refl
-  carried-next j (Row t) h = refl
-  carried-next j End h = refl
-  carried-next j Unknown h = clash h refl
-  carried-next j Short h = clash h refl
+  unfolding operated
+  carried-next j c =
+      carried-by j (λ (r : Stepped). r .more ≡ true → r .next ≡ j) (λ op h. refl) (λ n h. refl) (λ n place h. clash h refl) c
 
   -- and inside the script
   abbrev Moves : Stepped → Type 0
   Moves r = (i < r .next) × (r .next ≤ length script)
 
-  carried-on : (c : Command) → commandAt script i ≡ c → let r = carried s words script i (i + widthOf (byteAt script i)) c in r .more ≡ true → Moves r
+  carried-on : commanded .more ≡ true → Moves commanded
   unfolding carried
-  carried-on c e h =
+  carried-on h =
       let j = i + widthOf (byteAt script i) in
-      ⊎-elim (λ (x : commandAt script i ≡ Short). clash h (ap (λ (d : Command). carried s words script i j d .more) (sym e ∙ x)))
-      (⊎-elim (λ (x : commandAt script i ≡ Unknown). clash h (ap (λ (d : Command). carried s words script i j d .more) (sym e ∙ x)))
-      (λ (w : Whole script i). let n = carried-next j c h in (omega (arith, w .some, n), omega (arith, w .fits, n))))
+      ⊎-elim (λ (x : commandAt script i ≡ Short). clash h (ap (λ (d : Command). carried s words script i j d .more) x))
+      (⊎-elim (λ (x : commandAt script i ≡ Unknown). clash h (ap (λ (d : Command). carried s words script i j d .more) x))
+      (λ (w : Whole script i). let n = carried-next j (commandAt script i) h in (omega (arith, w .some, n), omega (arith, w .fits, n))))
       (command-kinds script i)
 
-  pub step-on : stepAt s words script i .more ≡ true → (i < stepAt s words script i .next) × (stepAt s words script i .next ≤ length script)
-  unfolding stepAt
-  step-on = go (not (longEnough s)) (not (lawful s)) (ltb mostBytes (length script))
-    where
-      rest : Stepped
-      rest = carried s words script i (i + widthOf (byteAt script i)) (commandAt script i)
-
-      step : Bool → Bool → Bool → Stepped
-      step a b c = cond a (refusing s words 7 0 i false) (cond b (refusing s words 12 0 i false) (cond c (refusing s words 4 0 i false) rest))
-
-      go : (a b c : Bool) → step a b c .more ≡ true → Moves (step a b c)
-      go true b c h = clash h refl
-      go false true c h = clash h refl
-      go false false true h = clash h refl
-      go false false false h = carried-on (commandAt script i) refl h
+  pub step-on : stepAt s words script i .more ≡ true → Moves (stepAt s words script i)
+  step-on = step-by (λ (r : Stepped). r .more ≡ true → Moves r) (λ n h. clash h refl) (λ _. carried-on)

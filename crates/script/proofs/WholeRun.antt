@@ -10,21 +10,23 @@ use Rattle.finite.specs.Finite.{tab}
 use Rattle.finite.proofs.Tables.{length-tab}
 use Rattle.model.specs.Cache.{RowSet, Smallest}
 use Rattle.model.specs.Rounds.{reached}
-use Rattle.model.specs.Cell.{cellOf}
-use Rattle.model.specs.Runs.{Pair, Operation, probe, heldFrom, heldIn, marks, marked, Cache, emptyCache, reloadLevels, cacheFrom}
+use Rattle.model.specs.Holding.{Holding, nothingHeld, heldIn}
+use Rattle.model.specs.Runs.{Operation, ask, probe, heldFrom, marks, marked, Cache, emptyCache, reloadLevels, cacheFrom}
 use Rattle.model.specs.Demand.{Demand3}
 use Rattle.model.proofs.Exact.{exact}
 use Rattle.model.proofs.Marks.{marked-marks-is}
-use Rattle.model.proofs.RunLaws.{Sound, empty-sound, run-sound, pairs-smallest}
+use Rattle.model.proofs.RunLaws.{Sound, empty-sound, run-sound, held-smallest}
 use Rattle.model.proofs.Demand3.{run-holds}
+use Rattle.state.specs.declared.cell.Cell.{Cell}
 use Rattle.state.specs.declared.design.Column.{Column}
 use Rattle.state.specs.declared.held.Held.{Held}
-use Rattle.state.specs.Meaning.{columnOf, schemeOf, databaseOf, pairsOf, heldOf}
-use Rattle.state.specs.Step.{State, lent, scheme, database, cache, sound, answerAt}
+use Rattle.state.specs.declared.operation.Operation.the-variants.{Probe}
+use Rattle.state.specs.Meaning.{cellOf, columnOf, schemeOf, databaseOf, holdingOf, heldOf}
+use Rattle.state.specs.Lent.{State, lent, scheme, database, cache, sound, answerAt}
 use Rattle.lawful.proofs.RowsLaws.{Stored}
-use Rattle.cache.proofs.SoundState.{parts, lawful-fresh}
+use Rattle.lawful.proofs.SoundState.{parts, lawful-fresh}
 use Rattle.format.specs.declared.command.Command.{Command}
-use Rattle.format.specs.declared.command.Command.the-variants.{Probe}
+use Rattle.format.specs.declared.command.Command.the-variants.{Operate}
 use Rattle.format.specs.Bytes.{byteAt}
 use Rattle.format.specs.Commands.{commandAt, widthOf}
 use Rattle.format.specs.Reading.{Draft, cellsAfter, mostBytes}
@@ -32,25 +34,25 @@ use Rattle.format.specs.Reading.DesignRead.{accepted}
 use Rattle.format.proofs.Small.{Small}
 use Rattle.script.specs.Step as Steps
 use Rattle.script.specs.Step.{Stepped, carried, stepAt}
-use Rattle.script.specs.Runs.{operationsFrom, operationsAt, Left, leftFrom, Buffers, readingOf, justRead, rowsOf, heldBy, stateAfterAll, Called, ProbesExact, StepsExact, Operated}
-use Rattle.script.proofs.SameRows.{smallest-same}
-use Rattle.script.proofs.JustRead.{Begun, begun, none-held, none-pairs}
-use Rattle.script.proofs.StepLaws.{Tidy, step-carried}
+use Rattle.script.specs.Runs.{operationsFrom, operationsAt, Left, leaving, leftFrom, Buffers, readingOf, justRead, rowsOf, heldWith, heldBy, stateAfterAll, Called, ProbesExact, StepsExact, Operated}
+use Rattle.script.proofs.SameRows.{smallest-same, held-same}
+use Rattle.script.proofs.JustRead.{Begun, begun, none-held, none-holding}
+use Rattle.script.proofs.StepLaws.{Settled, step-carried}
 use Rattle.script.proofs.ExactProbes.{unrefused-exact}
 use Rattle.script.proofs.RunLaws.{Follows, calls-follow, left-follows}
 
 -- the marks of a sound state are those of the rows that they mark
-pub sound-marks : (s : State) → sound s ≡ true → s .marks ≡ marks (database s) (marked (take 512 (s .marks))) ++ past 512 (s .marks)
-sound-marks s e = sym (ap (λ (m : List ℕ). m ++ past 512 (s .marks)) same ∙ take-append-drop 512 (s .marks))
+pub marks-are : (s : State) → sound s ≡ true → s .marks ≡ marks (database s) (marked (take 512 (s .marks))) ++ past 512 (s .marks)
+marks-are s e = sym (ap (λ (m : List ℕ). m ++ past 512 (s .marks)) same ∙ take-append-drop 512 (s .marks))
   where
     Y : RowSet
-    Y = reached (reloadLevels (scheme s) (database s) (pairsOf (s .held)))
+    Y = reached (reloadLevels (scheme s) (database s) (holdingOf (s .held)))
 
     first : take 512 (s .marks) ≡ marks (database s) Y
     first = lawful-fresh (s .design) (s .cells) (s .tables) (s .held) (s .marks) (parts s e .long .marks) (parts s e .marks) .reloaded
 
     rows : marked (take 512 (s .marks)) ≡ Y
-    rows = ap marked first ∙ marked-marks-is (database s) Y (pairs-smallest (scheme s) (database s) (pairsOf (s .held)) .meets .rows)
+    rows = ap marked first ∙ marked-marks-is (database s) Y (held-smallest (scheme s) (database s) (holdingOf (s .held)) .meets .rows)
 
     same : marks (database s) (marked (take 512 (s .marks))) ≡ take 512 (s .marks)
     same = ap (marks (database s)) rows ∙ sym first
@@ -61,27 +63,28 @@ module _ (b : Buffers) (p : Draft) (i : ℕ) (w : Begun b p i) where
   abbrev start : State
   start = justRead (accepted p i) b
 
-  start-tidy : Tidy start
-  start-tidy = record { sound = w .sound; held = none-held ∙ ap heldOf (sym none-pairs) }
+  start-settled : Settled start
+  start-settled = record { sound = w .sound; held = none-held ∙ ap heldOf (sym none-holding) }
 
   module _ (os : List Operation) (end : State) (follows : Follows start os end) where
     -- the cache at the end is the model's, from the empty one
     end-cache : cache end ≡ cacheFrom (scheme start) (database start) (emptyCache (database start)) os
     end-cache = follows .cache ∙ ap (λ (c : Cache). cacheFrom (scheme start) (database start) c os) (w .cache)
 
-    end-pairs : pairsOf (end .held) ≡ heldFrom (schemeOf (p .design)) [] os
-    end-pairs = ap (λ (c : Cache). c .pairs) end-cache ∙ run-holds (scheme start) (database start) os
+    end-holding : holdingOf (end .held) ≡ heldWith p os
+    end-holding =
+        ap (λ (c : Cache). c .held) end-cache ∙ run-holds (scheme start) (database start) os ∙ held-same (scheme start) (w .rows) nothingHeld os
 
-    end-smallest : Smallest (scheme start) (database start) (heldIn (scheme start) (heldFrom (scheme start) [] os)) (marked (take 512 (end .marks)))
+    end-smallest : Smallest (scheme start) (database start) (heldIn (scheme start) (heldWith p os)) (marked (take 512 (end .marks)))
     end-smallest =
-        subst (λ (ps : List Pair). Smallest (scheme start) (database start) (heldIn (scheme start) ps) (marked (take 512 (end .marks)))) end-pairs
+        subst (λ (h : Holding). Smallest (scheme start) (database start) (heldIn (scheme start) h) (marked (take 512 (end .marks)))) end-holding
         (subst (Sound (scheme start) (database start)) (sym end-cache)
         (run-sound (emptyCache (database start)) os (empty-sound (scheme start) (database start))))
 
     end-marks : end .marks ≡ marks (rowsOf p) (marked (take 512 (end .marks))) ++ past 512 (b .marks)
     unfolding databaseOf marks
     end-marks =
-        sound-marks end (follows .tidy .sound) ∙
+        marks-are end (follows .settled .sound) ∙
         (λ x. marks (databaseOf (follows .design x .rows) (follows .cells x) (follows .tables x)) (marked (take 512 (end .marks))) ++ past 512 (end .marks)) ∙
         ap (λ (m : List ℕ). marks (rowsOf p) (marked (take 512 (end .marks))) ++ m)
         (follows .past ∙ drop-at (tab 512 (λ _. 0)) (past 512 (b .marks)) 512 (length-tab {A = ℕ} 512 (λ _. 0)))
@@ -90,13 +93,13 @@ module _ (b : Buffers) (p : Draft) (i : ℕ) (w : Begun b p i) where
     called =
         let least = smallest-same (w .rows) end-smallest in
         record {
-          held = follows .tidy .held ∙ ap heldOf end-pairs;
+          held = follows .settled .held ∙ ap heldOf end-holding;
           marks = end-marks;
           demand3 = record { smallest = least; probes = λ k col v f n. exact (w .lawful) least col v f n };
           design = follows .design;
           cells = follows .cells;
           tables = follows .tables;
-          sound = follows .tidy .sound;
+          sound = follows .settled .sound;
         }
 
 -- A design just read. A script is bytes and a cell is below 2 ^ 32, as their types say.
@@ -105,7 +108,7 @@ module _ (script : List ℕ) (small : Small script) (b : Buffers) (p : Draft) (i
   -- THEOREM: demand 3 of what any list of calls leaves
   pub calls-hold : (os : List Operation) → Called p b os (stateAfterAll (justRead (accepted p i) b) os)
   calls-hold os =
-      let w = begun script small b p i e stored in called b p i w os _ (calls-follow (justRead (accepted p i) b) (start-tidy b p i w) os)
+      let w = begun script small b p i e stored in called b p i w os _ (calls-follow (justRead (accepted p i) b) (start-settled b p i w) os)
 
   -- THEOREM: demand 3 of each probe among any list of calls
   pub probes-exact : (os : List Operation) → ProbesExact p i b os
@@ -118,54 +121,46 @@ module _ (script : List ℕ) (small : Small script) (b : Buffers) (p : Draft) (i
 -- ---- a whole script
 
 -- the step at a place where a PROBE stands answers what the probe does
-probe-step : (e : State) (words script : List ℕ) (j : ℕ) (k : Column) (v : ℕ) → sound e ≡ true → length script ≤ mostBytes → commandAt script j ≡ Probe k v →
-    stepAt e words script j .answer ≡ answerAt e (probe (columnOf k) (cellOf v))
+probe-step : (e : State) (words script : List ℕ) (j : ℕ) (k : Column) (v : Cell) → sound e ≡ true → length script ≤ mostBytes →
+    commandAt script j ≡ Operate (Probe k v) → stepAt e words script j .answer ≡ answerAt e (ask (probe (columnOf k) (cellOf v)))
 unfolding carried Steps.operated
 probe-step e words script j k v s l c =
     ap (λ (r : Stepped). r .answer) (step-carried e words script j s l) ∙
     ap (λ (d : Command). carried e words script j (j + widthOf (byteAt script j)) d .answer) c
 
 module _ (script : List ℕ) (short : length script ≤ mostBytes) (b : Buffers) (p : Draft) (i : ℕ) (w : Begun b p i) where
-  abbrev pub left : Left
-  left = leftFrom (length script) script (start b p i w) (b .words) i
-
-  abbrev end : State
-  end = left .state
+  abbrev all : Left
+  all = leftFrom (length script) script (start b p i w) (b .words) i
 
   -- what the first n commands leave
-  part : (n : ℕ) → Called p b (operationsFrom n script i) (leftFrom n script (start b p i w) (b .words) i .state)
-  part n = called b p i w (operationsFrom n script i) _ (left-follows script short n (start b p i w) (start-tidy b p i w) (b .words) i)
-
-  all : Called p b (operationsAt script i) end
-  all = part (length script)
+  part : (n : ℕ) → Called p b (operationsFrom n script (length (b .words)) i) (leftFrom n script (start b p i w) (b .words) i .state)
+  part n = called b p i w (operationsFrom n script (length (b .words)) i) _ (left-follows script short n (start b p i w) (start-settled b p i w) (b .words) i)
 
   -- THEOREM: demand 3 of each probe that a script's steps make
   pub steps-exact : StepsExact script p i b
   steps-exact =
       record {
         exact = λ n j words k v c f e at x h on.
-            let d = subst (Called p b (operationsFrom n script i)) (sym at) (part n) in
-            unrefused-exact b p i w (operationsFrom n script i) e d (columnOf k) (cellOf v) x (h ∙ probe-step e words script j k v (d .sound) short c) on f;
+            let os = operationsFrom n script (length (b .words)) i in
+            let d = subst (Called p b os) (sym at) (part n) in
+            unrefused-exact b p i w os e d (columnOf k) (cellOf v) x (h ∙ probe-step e words script j k v (d .sound) short c) on f;
       }
 
   -- whatever the code leaves, if it is what the steps leave, it is what `Operated` says
-  pub operated : (a : Buffers) (h : Held) → a .cells ≡ start b p i w .cells → a .tables ≡ start b p i w .tables →
-      h ≡ end .held → a .marks ≡ end .marks → a .words ≡ left .words → Operated script p i b a h
-  operated a h ec et eh em ew =
+  pub operated : (a : Buffers) (h : Held) → leaving (lent (p .design) (a .cells) (a .tables) (a .marks) h) (a .words) ≡ all → Operated script p i b a h
+  operated a h e =
       record {
-        held = eh ∙ all .held;
-        marks = em ∙ all .marks ∙ ap (λ (m : List ℕ). marks (rowsOf p) (marked (take 512 m)) ++ past 512 (b .marks)) (sym em);
-        demand3 = subst (λ (m : List ℕ). Demand3 (schemeOf (p .design)) (rowsOf p) (heldBy script p i) (marked (take 512 m))) (sym em) (all .demand3);
-        words = ew;
-        sound = ap sound same ∙ all .sound;
+        held = ap (λ (l : Left). l .state .held) e ∙ end .held;
+        marks = same ∙ end .marks ∙ ap (λ (m : List ℕ). marks (rowsOf p) (marked (take 512 m)) ++ past 512 (b .marks)) (sym same);
+        demand3 =
+            subst (λ (m : List ℕ). Demand3 (schemeOf (p .design)) (rowsOf p) (heldBy script p (length (b .words)) i) (marked (take 512 m))) (sym same)
+            (end .demand3);
+        words = ap (λ (l : Left). l .words) e;
+        sound = ap (λ (l : Left). sound (l .state)) e ∙ end .sound;
       }
     where
-      same : lent (p .design) (a .cells) (a .tables) (a .marks) h ≡ end
-      same =
-          λ x. record {
-            design = sym (all .design) x;
-            cells = (ec ∙ sym (all .cells)) x;
-            tables = (et ∙ sym (all .tables)) x;
-            marks = em x;
-            held = eh x;
-          }
+      end : Called p b (operationsAt script (length (b .words)) i) (all .state)
+      end = part (length script)
+
+      same : a .marks ≡ all .state .marks
+      same = ap (λ (l : Left). l .state .marks) e

@@ -1,17 +1,18 @@
 -- The cases of writing a design out, in the order of causes: 7 for the rows, 12, 7 for the written design, and the bytes stored. Assumes nothing.
 use Prim.Native.Nat.{ℕ, _≤_, _<_}
 use mathlib.Core.Path.{_≡_, sym, ap, _∙_}
-use mathlib.Core.Bool.{true, false, not, cond, and-eq-true-iff}
+use mathlib.Core.Bool.{true, not, cond}
 use mathlib.Core.List.{List}
 use borrow.Author.Tests.{le-leb, lt-leb}
 use lib.Dec.{leb}
 use lib.ListN.{length}
 use lib.Seq.{sets}
 use Rattle.finite.proofs.Bools.{cond-true, cond-false}
-use Rattle.state.specs.Step.{State, longEnough, lawful, sound}
+use Rattle.state.specs.Lent.{State, sound, causeAt}
 use Rattle.script.specs.declared.outcome.Written.{Written}
 use Rattle.script.specs.declared.outcome.Written.the-variants.{Bytes, Refused}
 use Rattle.script.specs.Writing.{bytesOf, writtenAt, storedWith, Writes}
+use Rattle.script.proofs.Causes.{caused, uncaused}
 
 module _ (s : State) (before : List ℕ) where
   -- a refusal stores nothing
@@ -19,21 +20,16 @@ module _ (s : State) (before : List ℕ) where
   unfolding storedWith
   refused-writes n e = record { answer = sym e; buffer = ap (λ (w : Written). sets before 0 (storedWith w (bytesOf s))) (sym e) }
 
-  pub short-writes : longEnough s ≡ false → Writes s (Refused 7) before before
+  -- causes 7, for the rows, and 12
+  pub caused-writes : (c : ℕ) → c ≡ causeAt s → (c ≡ 0 → ⊥) → Writes s (Refused c) before before
   unfolding writtenAt
-  short-writes e = refused-writes 7 (cond-true (not (longEnough s)) _ _ (ap not e))
-
-  pub unlawful-writes : longEnough s ≡ true → lawful s ≡ false → Writes s (Refused 12) before before
-  unfolding writtenAt
-  unlawful-writes e h = refused-writes 12 (cond-false (not (longEnough s)) _ _ (ap not e) ∙ cond-true (not (lawful s)) _ _ (ap not h))
+  caused-writes c p n = refused-writes c (caused s Refused _ (λ z. n (p ∙ z)) ∙ ap Refused (sym p))
 
   -- on a sound state the room decides
   sound-written : sound s ≡ true →
       writtenAt s (length before) ≡ cond (not (leb (length (bytesOf s)) (length before))) (Refused 7) (Bytes (length (bytesOf s)))
   unfolding writtenAt
-  sound-written e =
-      let h = and-eq-true-iff (longEnough s) (lawful s) .0 e in
-      cond-false (not (longEnough s)) _ _ (ap not (h .0)) ∙ cond-false (not (lawful s)) _ _ (ap not (h .1))
+  sound-written e = uncaused s Refused _ e
 
   pub cramped-writes : sound s ≡ true → length before < length (bytesOf s) → Writes s (Refused 7) before before
   cramped-writes e l =

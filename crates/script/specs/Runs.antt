@@ -1,5 +1,5 @@
--- A whole script: the REFERs, DROPs and PROBEs that stand behind its END, found from the bytes alone; the steps one after the other, each on the
--- state that the one before left; and what a run of all of it gives and leaves (demand 3). Assumes nothing.
+-- A whole script: the operations that stand behind its END, found from the bytes alone; the steps one after the other, each on the state that the one
+-- before left; and what a run of all of it gives and leaves (demand 3). Assumes nothing.
 use Prim.Native.Nat.{ℕ, zero, suc, _+_}
 use mathlib.Core.Path.{_≡_}
 use mathlib.Core.Logic.{_↔_, _≢_}
@@ -7,69 +7,67 @@ use mathlib.Core.Bool.{true, false, cond}
 use mathlib.Core.List.{List, [], _∷_, _++_}
 use lib.Dec.{leb}
 use lib.ListN.{length, take, drop as past}
-use Rattle.model.specs.Cell.{Cell, Fits, cellOf, isBlank}
+use Rattle.model.specs.Cell.{Cell, Fits, isBlank}
 use Rattle.model.specs.Scheme.{Column, ColumnOf}
 use Rattle.model.specs.Database.{Database}
 use Rattle.model.specs.Cache.{RowSet, Complete, Alike}
-use Rattle.model.specs.Runs.{Pair, Operation, refer, drop, probe, heldFrom, heldIn, marks, marked}
+use Rattle.model.specs.Holding.{Holding, nothingHeld, heldIn}
+use Rattle.model.specs.Runs.{Operation, ask, probe, heldFrom, marks, marked}
 use Rattle.model.specs.Answers.{Answer, refused, ground}
 use Rattle.model.specs.Demand.{Demand3}
+use Rattle.state.specs.declared.cell.Cell as State-cell
 use Rattle.state.specs.declared.design.Column as State-column
 use Rattle.state.specs.declared.held.Held.{Held}
+use Rattle.state.specs.declared.operation.Operation.the-variants.{Probe}
 use Rattle.state.specs.Held.{noneHeld}
-use Rattle.state.specs.Meaning.{columnOf, schemeOf, databaseOf, heldOf}
-use Rattle.state.specs.Step.{State, lent, sound, answerAt, stateAfter}
+use Rattle.state.specs.Meaning.{cellOf, columnOf, schemeOf, databaseOf, heldOf, operationOf}
+use Rattle.state.specs.Lent.{State, lent, sound, answerAt, stateAfter}
 use Rattle.format.specs.declared.command.Command.{Command}
-use Rattle.format.specs.declared.command.Command.the-variants.{Table, Constraint, Filling, Row, End, Refer, Drop, Probe, Query, Unknown, Short}
+use Rattle.format.specs.declared.command.Command.the-variants.{Table, Constraint, Filling, Row, End, Operate, Unknown, Short}
 use Rattle.format.specs.Bytes.{byteAt}
 use Rattle.format.specs.Commands.{commandAt, widthOf}
 use Rattle.format.specs.Reading.{Draft, DesignRead, readInto, verdictOf, designOf, cellsAfter, tablesAfter, marksAfter}
 use Rattle.format.specs.Reading.DesignRead.{accepted, refusedAt}
 use Rattle.script.specs.declared.outcome.Run.{Run}
-use Rattle.script.specs.Step.{stepAt, stateAfterStep}
+use Rattle.script.specs.Step.{stepAt}
 
--- the operations of a run that stand in a script from a command on: c is that command, and `rest` are those behind it. Queries, and commands that
--- are no operation, change nothing; behind 1 or 2 there is no command
-abbrev pub operationThen : Command → List Operation → List Operation
-operationThen (Refer f v) rest = refer (record { filling = f; value = cellOf v }) ∷ rest
-operationThen (Drop f v) rest = drop (record { filling = f; value = cellOf v }) ∷ rest
-operationThen (Probe k v) rest = probe (columnOf k) (cellOf v) ∷ rest
-operationThen (Query k v n) rest = rest
-operationThen (Table t) rest = rest
-operationThen (Constraint c) rest = rest
-operationThen (Filling f) rest = rest
-operationThen (Row t) rest = rest
-operationThen End rest = rest
-operationThen Unknown rest = []
-operationThen Short rest = []
+-- the operations of a run that stand in a script from a command on, where `room` answer words are lent: c is that command, and `rest` are those behind
+-- it. Commands that are no operation change nothing; behind 1 or 2 there is no command
+abbrev pub operationThen : Command → ℕ → List Operation → List Operation
+operationThen (Operate op) room rest = operationOf op room ∷ rest
+operationThen (Table t) room rest = rest
+operationThen (Constraint c) room rest = rest
+operationThen (Filling f) room rest = rest
+operationThen (Row t) room rest = rest
+operationThen End room rest = rest
+operationThen Unknown room rest = []
+operationThen Short room rest = []
 
 -- ... from place i on, with n more commands at the most
-unfoldable pub operationsFrom : ℕ → List ℕ → ℕ → List Operation
-operationsFrom zero script i = []
-operationsFrom (suc n) script i = operationThen (commandAt script i) (operationsFrom n script (i + widthOf (byteAt script i)))
+unfoldable pub operationsFrom : ℕ → List ℕ → ℕ → ℕ → List Operation
+operationsFrom zero script room i = []
+operationsFrom (suc n) script room i =
+    operationThen (commandAt script i) room (operationsFrom n script room (i + widthOf (byteAt script i)))
 
 -- a command takes at least one byte
-abbrev pub operationsAt : List ℕ → ℕ → List Operation
-operationsAt script i = operationsFrom (length script) script i
+abbrev pub operationsAt : List ℕ → ℕ → ℕ → List Operation
+operationsAt script room i = operationsFrom (length script) script room i
 
 -- what a run leaves: the state and the answer words
 pub record Left : Type 0 where
   pub state : State
   pub words : List ℕ
 
+abbrev pub leaving : State → List ℕ → Left
+leaving s words = record { state = s; words = words }
+
 -- the steps from place i on, with n more commands at the most
 unfoldable pub leftFrom : ℕ → List ℕ → State → List ℕ → ℕ → Left
-leftFrom zero script s words i = record { state = s; words = words }
+leftFrom zero script s words i = leaving s words
 leftFrom (suc n) script s words i =
-    cond (leb (length script) i) (record { state = s; words = words })
+    cond (leb (length script) i) (leaving s words)
     (let r = stepAt s words script i in
-    cond (r .more) (leftFrom n script (stateAfterStep s r) (r .words) (r .next)) (record { state = stateAfterStep s r; words = r .words }))
-
--- what the code leaves behind the steps: the held values h, the marks m and the words w
-pub record Leaves (l : Left) (h : Held) (m w : List ℕ) : Type 0 where
-  pub held : h ≡ l .state .held
-  pub marks : m ≡ l .state .marks
-  pub words : w ≡ l .words
+    cond (r .more) (leftFrom n script (r .state) (r .words) (r .next)) (leaving (r .state) (r .words)))
 
 -- ---- what a run gives and leaves
 
@@ -95,9 +93,13 @@ justRead R b = lent (designOf R) (cellsAfter R (b .cells)) (tablesAfter R (b .ta
 abbrev pub rowsOf : Draft → Database
 rowsOf p = databaseOf (p .design .rows) (p .cells) (p .tables)
 
--- "What a run holds is a list of pairs, found from the design and the operands alone": the script's design p has its END before place i
-abbrev pub heldBy : List ℕ → Draft → ℕ → List Pair
-heldBy script p i = heldFrom (schemeOf (p .design)) [] (operationsAt script i)
+-- "What a run holds is a list of pairs, found from the design and the operands alone": of any list of operations on the design p, nothing held before
+abbrev pub heldWith : Draft → List Operation → Holding
+heldWith p os = heldFrom (schemeOf (p .design)) (rowsOf p) nothingHeld os
+
+-- ... and of a script whose design p has its END before place i, with `room` answer words lent
+abbrev pub heldBy : List ℕ → Draft → ℕ → ℕ → Holding
+heldBy script p room i = heldWith p (operationsAt script room i)
 
 -- "its cached rows those with mark 1"
 abbrev pub cachedBy : Buffers → RowSet
@@ -107,11 +109,11 @@ cachedBy b = marked (take 512 (b .marks))
 -- a after it, and h is the record of held values after it.
 pub record Operated (script : List ℕ) (p : Draft) (i : ℕ) (b a : Buffers) (h : Held) : Type 0 where
   -- the held values are the run's, in order
-  pub held : h ≡ heldOf (heldBy script p i)
+  pub held : h ≡ heldOf (heldBy script p (length (b .words)) i)
   -- the first 512 marks are 1 on the cached rows and 0 on all other numbers; what lies past them is untouched
   pub marks : a .marks ≡ marks (rowsOf p) (cachedBy a) ++ past 512 (b .marks)
   -- the cached rows are the smallest row set for what is held, and every probe says yes exactly when the value is complete in all databases alike
-  pub demand3 : Demand3 (schemeOf (p .design)) (rowsOf p) (heldBy script p i) (cachedBy a)
+  pub demand3 : Demand3 (schemeOf (p .design)) (rowsOf p) (heldBy script p (length (b .words)) i) (cachedBy a)
   -- the answer words are those that the steps leave
   pub words : a .words ≡ leftFrom (length script) script (justRead (accepted p i) b) (b .words) i .words
   -- what is left can be worked on: neither cause 7 nor 12 applies
@@ -127,38 +129,39 @@ stateAfterAll s (o ∷ os) = stateAfterAll (stateAfter s o) os
 -- DEMAND 3, of any list of operations os, called on the design p just read into the buffers b: e is the state that they leave
 pub record Called (p : Draft) (b : Buffers) (os : List Operation) (e : State) : Type 0 where
   -- the held values are the list's, in order
-  pub held : e .held ≡ heldOf (heldFrom (schemeOf (p .design)) [] os)
+  pub held : e .held ≡ heldOf (heldWith p os)
   -- the first 512 marks are 1 on the cached rows and 0 on all other numbers; what lies past them is untouched
   pub marks : e .marks ≡ marks (rowsOf p) (marked (take 512 (e .marks))) ++ past 512 (b .marks)
   -- the cached rows are the smallest row set for what is held, and every probe says yes exactly when the value is complete in all databases alike
-  pub demand3 : Demand3 (schemeOf (p .design)) (rowsOf p) (heldFrom (schemeOf (p .design)) [] os) (marked (take 512 (e .marks)))
+  pub demand3 : Demand3 (schemeOf (p .design)) (rowsOf p) (heldWith p os) (marked (take 512 (e .marks)))
   -- neither the design nor its rows have changed, and what is left can be worked on
   pub design : e .design ≡ p .design
   pub cells : e .cells ≡ p .cells ++ past 4096 (b .cells)
   pub tables : e .tables ≡ p .tables ++ past 512 (b .tables)
   pub sound : sound e ≡ true
 
--- the value v in column k is complete in every lawful database from which the rows X would have been cached with the pairs ps held
-abbrev pub CompleteInAll : Draft → List Pair → RowSet → Column → Cell → Type 0
-CompleteInAll p ps X k v =
-    (E : Database) → Alike (schemeOf (p .design)) (rowsOf p) (heldIn (schemeOf (p .design)) ps) X E → Complete E X k v
+-- the value v in column k is complete in every lawful database from which the rows X would have been cached with h held
+abbrev pub CompleteInAll : Draft → Holding → RowSet → Column → Cell → Type 0
+CompleteInAll p h X k v =
+    (E : Database) → Alike (schemeOf (p .design)) (rowsOf p) (heldIn (schemeOf (p .design)) h) X E → Complete E X k v
 
 -- DEMAND 3, at every point: os is any list of operations, called on the design p just read into the buffers b, with its END before place i. Each PROBE
 -- among them, on the state e that those before it have left, answers x; where that is no refusal, it is a ground exactly if the value is complete in
 -- every lawful database from which the same rows would have been cached.
 pub record ProbesExact (p : Draft) (i : ℕ) (b : Buffers) (os : List Operation) : Type 0 where
-  pub exact : (earlier later : List Operation) (k : Column) (v : Cell) → os ≡ earlier ++ (probe k v ∷ later) → Fits v →
-      (e : State) → e ≡ stateAfterAll (justRead (accepted p i) b) earlier → (x : Answer) → x ≡ answerAt e (probe k v) → ((n : ℕ) → x ≢ refused n) →
-      ((g : ℕ) × (x ≡ ground g)) ↔ CompleteInAll p (heldFrom (schemeOf (p .design)) [] earlier) (marked (take 512 (e .marks))) k v
+  pub exact : (earlier later : List Operation) (k : Column) (v : Cell) → os ≡ earlier ++ (ask (probe k v) ∷ later) → Fits v →
+      (e : State) → e ≡ stateAfterAll (justRead (accepted p i) b) earlier → (x : Answer) → x ≡ answerAt e (ask (probe k v)) →
+      ((n : ℕ) → x ≢ refused n) →
+      ((g : ℕ) × (x ≡ ground g)) ↔ CompleteInAll p (heldWith p earlier) (marked (take 512 (e .marks))) k v
 
 -- The same for the steps of a script: e is the state behind the first n commands that stand behind the END of the design p, at place i, and the next
 -- step is asked for any place j where a PROBE stands.
 pub record StepsExact (script : List ℕ) (p : Draft) (i : ℕ) (b : Buffers) : Type 0 where
-  pub exact : (n j : ℕ) (words : List ℕ) (k : State-column.Column) (v : ℕ) → commandAt script j ≡ Probe k v → Fits (cellOf v) →
+  pub exact : (n j : ℕ) (words : List ℕ) (k : State-column.Column) (v : State-cell.Cell) → commandAt script j ≡ Operate (Probe k v) → Fits (cellOf v) →
       (e : State) → e ≡ leftFrom n script (justRead (accepted p i) b) (b .words) i .state → (x : Answer) → x ≡ stepAt e words script j .answer →
       ((m : ℕ) → x ≢ refused m) →
       ((g : ℕ) × (x ≡ ground g)) ↔
-      CompleteInAll p (heldFrom (schemeOf (p .design)) [] (operationsFrom n script i)) (marked (take 512 (e .marks))) (columnOf k) (cellOf v)
+      CompleteInAll p (heldWith p (operationsFrom n script (length (b .words)) i)) (marked (take 512 (e .marks))) (columnOf k) (cellOf v)
 
 -- ---- what a whole run gives
 
@@ -185,9 +188,8 @@ pub record ProbedAfter (script : List ℕ) (b a : Buffers) (r : Run) (k : Column
   pub refused : (n i : ℕ) → readingOf script b ≡ refusedAt n i → x ≡ refused n
   -- the design is accepted: the probe's answer on the state that the run has left
   pub answer : (p : Draft) (i : ℕ) → readingOf script b ≡ accepted p i →
-      x ≡ answerAt (lent (p .design) (a .cells) (a .tables) (a .marks) (r .held)) (probe k v)
+      x ≡ answerAt (lent (p .design) (a .cells) (a .tables) (a .marks) (r .held)) (ask (probe k v))
   -- DEMAND 3, of the answer itself: a yes exactly when the value is complete in every lawful database from which the same rows would have been cached
   pub exact : (p : Draft) (i : ℕ) → readingOf script b ≡ accepted p i → ColumnOf (schemeOf (p .design)) k → isBlank v ≡ false →
       ((g : ℕ) × (x ≡ ground g)) ↔
-      ((E : Database) → Alike (schemeOf (p .design)) (rowsOf p) (heldIn (schemeOf (p .design)) (heldBy script p i)) (cachedBy a) E →
-      Complete E (cachedBy a) k v)
+      CompleteInAll p (heldBy script p (length (b .words)) i) (cachedBy a) k v

@@ -6,7 +6,7 @@ use mathlib.Core.List.{List, []}
 use lib.Dec.{leb}
 use lib.ListN.{length}
 use lib.Seq.{sets}
-use Rattle.state.specs.Step.{State, longEnough, lawful}
+use Rattle.state.specs.Lent.{State, longEnough, lawful}
 use Rattle.format.specs.Writing.{designBytes}
 use Rattle.script.specs.declared.outcome.Written.{Written}
 use Rattle.script.specs.declared.outcome.Written.the-variants.{Bytes, Refused}

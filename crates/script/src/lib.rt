@@ -1,6 +1,5 @@
 // The library's entry points for scripts: one step of a script, a whole run of one, a probe behind a run, and writing a design out. What a step gives
 // for whatever is lent is in specs/Step.antt, what a run leaves in specs/Runs.antt, and what writing leaves in specs/Writing.antt.
-mod operations;
 mod outcome;
 mod runs;
 mod steps;

@@ -3,12 +3,11 @@ ghost use mathlib.Core.Path.{_≡_};
 ghost use mathlib.Core.Bool.{true};
 ghost use Prim.Native.Nat.{ℕ};
 ghost use lib.ListN.{length};
-ghost use Rattle.model.specs.Cell.{cellOf};
-ghost use Rattle.state.specs.Meaning.{answerOf};
-ghost use Rattle.state.specs.Step.{lent, sound};
+ghost use Rattle.state.specs.Meaning.{answerOf, cellOf, columnOf};
+ghost use Rattle.state.specs.Lent.{lent, sound};
 ghost use Rattle.catalog.specs.Catalog.{Catalogued};
 ghost use Rattle.format.specs.declared.verdict.Verdict.the-variants as Verdicts;
-ghost use Rattle.script.specs.Runs.{buffers, leftFrom, Leaves, Ran, ProbedAfter};
+ghost use Rattle.script.specs.Runs.{leaving, leftFrom, buffers, Ran, ProbedAfter};
 use crate::outcome::ProbedRun;
 use crate::outcome::Run;
 use crate::steps::step_lawful;
@@ -16,11 +15,14 @@ use cache::probe_lawful;
 use format::Verdict;
 use format::read_catalogued;
 use state::Answer;
+use state::Cell;
+use state::Column;
 use state::Design;
 use state::Held;
 
 // The steps from place `at` on, until the script ends or cause 1, 2 or 4 stops it, on a state known sound with the catalog of its rows; the values
-// held afterwards, with which the state is sound again. The last four arrays are working memory, whatever stands in them. The cost of the operations.
+// held afterwards. That the state is sound again is a law (`left-sound` of proofs/RunLaws.antt). The last four arrays are working memory, whatever stands
+// in them. The cost of the operations.
 pub fn run_lawful(
     script: &[u8],
     at: usize,
@@ -42,11 +44,9 @@ pub fn run_lawful(
 ) -> Held
     requires { ⌜ (sound (lent design (now cells) (now tables) (now marks) held) ≡ true)
         × Catalogued design (now cells) (now tables) (now next) (now first) (now keys) (now heads) (now starts) ⌝ }
-    ensures { λ h. ⌜ Leaves
-        (leftFrom (length (now (script .entry))) (now (script .entry))
-        (lent design (now (cells .entry)) (now (tables .entry)) (now (marks .entry)) held) (now (words .entry)) at)
-        h (now (marks .exit)) (now (words .exit)) ⌝ }
-    ensures { λ h. ⌜ sound (lent design (now (cells .entry)) (now (tables .entry)) (now (marks .exit)) h) ≡ true ⌝ }
+    ensures { λ h. ⌜ leaving (lent design (now (cells .entry)) (now (tables .entry)) (now (marks .exit)) h) (now (words .exit))
+        ≡ leftFrom (length (now (script .entry))) (now (script .entry))
+        (lent design (now (cells .entry)) (now (tables .entry)) (now (marks .entry)) held) (now (words .entry)) at ⌝ }
 {
     let mut i = at;
     let mut h = held;
@@ -189,14 +189,13 @@ pub fn probe_after(
     tables: &mut [u8],
     marks: &mut [u8],
     words: &mut [u32],
-    table: u8,
-    column: u8,
-    value: u32,
+    k: Column,
+    v: Cell,
 ) -> ProbedRun
     ensures { λ x. ⌜ ProbedAfter (now (script .entry))
         (buffers (now (cells .entry)) (now (tables .entry)) (now (marks .entry)) (now (words .entry)))
         (buffers (now (cells .exit)) (now (tables .exit)) (now (marks .exit)) (now (words .exit)))
-        (x .run) (record { table = table; place = column }) (cellOf value) (answerOf (x .answer)) ⌝ }
+        (x .run) (columnOf k) (cellOf v) (answerOf (x .answer)) ⌝ }
 {
     let mut next = [512u16; 4096];
     let mut first = [512u16; 8192];
@@ -234,9 +233,8 @@ pub fn probe_after(
         &starts,
         marks,
         held,
-        table,
-        column,
-        value,
+        k,
+        v,
     );
     ProbedRun { run: left, answer }
 }

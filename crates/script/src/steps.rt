@@ -3,25 +3,24 @@ ghost use mathlib.Core.Path.{_≡_};
 ghost use mathlib.Core.Bool.{true};
 ghost use Prim.Native.Nat.{_+_, min};
 ghost use Rattle.state.specs.declared.answer.Answer.the-variants as Answers;
-ghost use Rattle.state.specs.Step.{lent, sound};
+ghost use Rattle.state.specs.Meaning.{answerOf};
+ghost use Rattle.state.specs.Lent.{lent, sound};
 ghost use Rattle.catalog.specs.Catalog.{Catalogued};
 ghost use Rattle.format.specs.Bytes.{byteAt};
-ghost use Rattle.format.specs.Commands.{commandAt, widthOf};
-ghost use Rattle.script.specs.Step.{carried, stepAt, Does, DoesSoundly};
-use crate::operations::answer_query;
-use crate::operations::drop_at;
-use crate::operations::probe_at;
-use crate::operations::refer_at;
+ghost use Rattle.format.specs.Commands.{widthOf};
+ghost use Rattle.script.specs.Step.{placeOf, operated, carried, stepAt, Does};
 use crate::outcome::Step;
-use cache::is_lawful_catalog;
-use cache::is_long_enough;
+use cache::cause;
 use format::Command;
 use format::MOST_BYTES;
 use format::command_at;
 use format::width_of;
+use operate::perform_lawful;
 use state::Answer;
 use state::Design;
 use state::Held;
+use state::Operation;
+use state::is_refusal;
 
 // A refusal, with nothing changed. Constant time.
 fn refusing(cause: u8, place: usize, after: usize, more: bool, held: Held) -> Step
@@ -32,6 +31,30 @@ fn refusing(cause: u8, place: usize, after: usize, more: bool, held: Held) -> St
         place,
         next: after,
         more,
+        held,
+    }
+}
+
+// The place that goes with an answer: the command's if it is refused, else 0. Constant time.
+fn place_of(answer: Answer, at: usize) -> usize
+    ensures { λ p. ⌜ p ≡ placeOf (answerOf answer) at ⌝ }
+{
+    if is_refusal(answer) {
+        return at;
+    }
+    0
+}
+
+// The answer of an operation that stood at place `at`, before place `after`. Constant time.
+fn answering(answer: Answer, at: usize, after: usize, held: Held) -> Step
+    ensures { λ t. ⌜ t ≡ record { answer = answer; place = placeOf (answerOf answer) at; next = after; more = true; held = held } ⌝ }
+{
+    let place = place_of(answer, at);
+    Step {
+        answer,
+        place,
+        next: after,
+        more: true,
         held,
     }
 }
@@ -51,6 +74,56 @@ fn lower(a: usize, b: usize) -> usize
     ensures { λ r. ⌜ r ≡ min a b ⌝ }
 {
     if a <= b { a } else { b }
+}
+
+// Performs the operation that stands at place `at`, followed by place `after`. The cost is `perform_lawful`'s.
+fn operate_at(
+    op: Operation,
+    at: usize,
+    after: usize,
+    design: Design,
+    cells: &[u32],
+    tables: &[u8],
+    next: &[u16; 4096],
+    first: &[u16; 8192],
+    keys: &[u32; 4096],
+    heads: &[u16; 4096],
+    starts: &[u16; 65],
+    marks: &mut [u8],
+    held: Held,
+    words: &mut [u32],
+    weights: &mut [u64; 2560],
+    sums: &mut [u64; 2560],
+    froms: &mut [u16; 2560],
+    links: &mut [u16; 2560],
+) -> Step
+    requires { ⌜ (sound (lent design (now cells) (now tables) (now marks) held) ≡ true)
+        × Catalogued design (now cells) (now tables) (now next) (now first) (now keys) (now heads) (now starts) ⌝ }
+    ensures { λ t. ⌜ Does
+        (operated (lent design (now (cells .entry)) (now (tables .entry)) (now (marks .entry)) held) (now (words .entry)) op at after)
+        t (lent design (now (cells .entry)) (now (tables .entry)) (now (marks .exit)) (t .held)) (now (words .exit)) ⌝ }
+{
+    let o = perform_lawful(
+        op,
+        design,
+        cells,
+        tables,
+        next,
+        first,
+        keys,
+        heads,
+        starts,
+        marks,
+        held,
+        words,
+        weights,
+        sums,
+        froms,
+        links,
+    );
+    let h = o.held;
+    let a = o.answer;
+    answering(a, at, after, h)
 }
 
 // Carries out the command that stands at place `at`, followed by place `after`. The cost is that of its operation.
@@ -75,15 +148,16 @@ fn carry_out(
     froms: &mut [u16; 2560],
     links: &mut [u16; 2560],
 ) -> Step
-    requires { ⌜ (command ≡ commandAt (now script) at) × (sound (lent design (now cells) (now tables) (now marks) held) ≡ true)
+    requires { ⌜ (sound (lent design (now cells) (now tables) (now marks) held) ≡ true)
         × Catalogued design (now cells) (now tables) (now next) (now first) (now keys) (now heads) (now starts) ⌝ }
-    ensures { λ t. ⌜ DoesSoundly (lent design (now (cells .entry)) (now (tables .entry)) (now (marks .entry)) held)
+    ensures { λ t. ⌜ Does
         (carried (lent design (now (cells .entry)) (now (tables .entry)) (now (marks .entry)) held) (now (words .entry))
         (now (script .entry)) at after command)
-        t (now (marks .exit)) (now (words .exit)) ⌝ }
+        t (lent design (now (cells .entry)) (now (tables .entry)) (now (marks .exit)) (t .held)) (now (words .exit)) ⌝ }
 {
     match command {
-        Command::Refer(f, v) => refer_at(
+        Command::Operate(op) => operate_at(
+            op,
             at,
             after,
             design,
@@ -96,57 +170,6 @@ fn carry_out(
             starts,
             marks,
             held,
-            f,
-            v,
-        ),
-        Command::Drop(f, v) => drop_at(
-            at,
-            after,
-            design,
-            cells,
-            tables,
-            next,
-            first,
-            keys,
-            heads,
-            starts,
-            marks,
-            held,
-            f,
-            v,
-        ),
-        Command::Probe(k, v) => probe_at(
-            at,
-            after,
-            design,
-            cells,
-            tables,
-            next,
-            keys,
-            heads,
-            starts,
-            marks,
-            held,
-            k,
-            v,
-        ),
-        Command::Query(k, v, n) => answer_query(
-            script,
-            at,
-            after,
-            design,
-            cells,
-            tables,
-            next,
-            first,
-            keys,
-            heads,
-            starts,
-            marks,
-            held,
-            k,
-            v,
-            n,
             words,
             weights,
             sums,
@@ -186,9 +209,9 @@ pub fn step_lawful(
 ) -> Step
     requires { ⌜ (sound (lent design (now cells) (now tables) (now marks) held) ≡ true)
         × Catalogued design (now cells) (now tables) (now next) (now first) (now keys) (now heads) (now starts) ⌝ }
-    ensures { λ t. ⌜ DoesSoundly (lent design (now (cells .entry)) (now (tables .entry)) (now (marks .entry)) held)
+    ensures { λ t. ⌜ Does
         (stepAt (lent design (now (cells .entry)) (now (tables .entry)) (now (marks .entry)) held) (now (words .entry)) (now (script .entry)) at)
-        t (now (marks .exit)) (now (words .exit)) ⌝ }
+        t (lent design (now (cells .entry)) (now (tables .entry)) (now (marks .exit)) (t .held)) (now (words .exit)) ⌝ }
 {
     if MOST_BYTES < script.len() {
         return refusing(4, 0, at, false, held);
@@ -218,8 +241,8 @@ pub fn step_lawful(
     )
 }
 
-// The step at place `at` on whatever is lent: causes 7 and 12 first. The test for cause 12 (rows × rows × unique columns at most, the catalog, and a
-// reload), then the cost of the command's operation, by that catalog.
+// The step at place `at` on whatever is lent: causes 7 and 12 first. The test for cause 12 (one look at the design, at each cell and at each held
+// value, the catalog, and a reload), then the cost of the command's operation, by that catalog.
 pub fn step(
     script: &[u8],
     at: usize,
@@ -232,17 +255,14 @@ pub fn step(
 ) -> Step
     ensures { λ t. ⌜ Does
         (stepAt (lent design (now (cells .entry)) (now (tables .entry)) (now (marks .entry)) held) (now (words .entry)) (now (script .entry)) at)
-        t (now (marks .exit)) (now (words .exit)) ⌝ }
+        t (lent design (now (cells .entry)) (now (tables .entry)) (now (marks .exit)) (t .held)) (now (words .exit)) ⌝ }
 {
-    if !is_long_enough(cells, tables, marks) {
-        return refusing(7, 0, at, false, held);
-    }
     let mut next = [512u16; 4096];
     let mut first = [512u16; 8192];
     let mut keys = [0u32; 4096];
     let mut heads = [512u16; 4096];
     let mut starts = [0u16; 65];
-    if !is_lawful_catalog(
+    let why = cause(
         design,
         cells,
         tables,
@@ -253,8 +273,9 @@ pub fn step(
         &mut starts,
         marks,
         held,
-    ) {
-        return refusing(12, 0, at, false, held);
+    );
+    if why != 0 {
+        return refusing(why, 0, at, false, held);
     }
     let mut weights = [0u64; 2560];
     let mut sums = [0u64; 2560];

@@ -1,16 +1,15 @@
 // Writing a lent design with its rows out, as a script that reads as it.
-ghost use Rattle.state.specs.Step.{lent};
+ghost use Rattle.state.specs.Lent.{lent};
 ghost use Rattle.script.specs.Writing.{Writes};
 use crate::outcome::Written;
-use cache::is_lawful;
-use cache::is_long_enough;
+use cache::cause;
 use format::design_length;
 use format::write_design;
 use state::Design;
 use state::Held;
 
-// Writes the design and its rows from the first byte of `out` on: causes 7 (rows), 12 and 7 (written design) first. The test for cause 12 (rows ×
-// rows × unique columns at most, and a reload), then one step for each table, constraint and filling and eight for each row.
+// Writes the design and its rows from the first byte of `out` on: causes 7 (rows), 12 and 7 (written design) first. The test for cause 12 (one look at
+// the design, at each cell and at each held value, the catalog, and a reload), then one step for each table, constraint and filling and eight for each row.
 pub fn write(
     design: Design,
     cells: &[u32],
@@ -22,11 +21,25 @@ pub fn write(
     ensures { λ w. ⌜ Writes (lent design (now (cells .entry)) (now (tables .entry)) (now (marks .entry)) held)
         w (now (out .entry)) (now (out .exit)) ⌝ }
 {
-    if !is_long_enough(cells, tables, marks) {
-        return Written::Refused(7);
-    }
-    if !is_lawful(design, cells, tables, marks, held) {
-        return Written::Refused(12);
+    let mut next = [512u16; 4096];
+    let mut first = [512u16; 8192];
+    let mut keys = [0u32; 4096];
+    let mut heads = [512u16; 4096];
+    let mut starts = [0u16; 65];
+    let why = cause(
+        design,
+        cells,
+        tables,
+        &mut next,
+        &mut first,
+        &mut keys,
+        &mut heads,
+        &mut starts,
+        marks,
+        held,
+    );
+    if why != 0 {
+        return Written::Refused(why);
     }
     let n = design_length(design);
     if out.len() < n {

@@ -2,45 +2,44 @@
 use native.Mathlib.Omega.{arith}
 use mathlib.Core.Path.{ap}
 use borrow.Author.Needs.{needs}
-use Rattle.format.proofs.CommandLaws.{operands-table, operands-constraint, operands-filling, operands-row, operands-end, is-end}
-use Rattle.format.specs.Commands.{widthOf}
-use Rattle.format.proofs.CommandLaws.{is-end}
+use Rattle.format.proofs.CommandLaws.{command-table, command-constraint, command-filling, command-row, command-end, is-end}
+use Rattle.format.specs.Commands.{designWidth}
 use Rattle.format.proofs.command.design_operands.Statement.{statement}
 use Rattle.format.proofs.command.design_operands.Tie as tie
 
 table-at-requires : tie.Need-table-at-requires
-unfolding widthOf
-table-at-requires c κs = omega (arith, ap widthOf (c .if1 .taken))
+unfolding designWidth
+table-at-requires c κs = omega (arith, ap designWidth (c .if1 .taken))
 
 returns : tie.Need-returns
-returns c = operands-table _ _ _ _ (c .table-at .ensures) (c .before .if1 .taken)
+returns c = command-table _ _ _ _ (c .table-at .ensures) (c .before .if1 .taken)
 
 constraint-at-requires : tie.Need-constraint-at-requires
-unfolding widthOf
-constraint-at-requires c κs = omega (arith, ap widthOf (c .if2 .taken))
+unfolding designWidth
+constraint-at-requires c κs = omega (arith, ap designWidth (c .if2 .taken))
 
 returns-2 : tie.Need-returns-2
-returns-2 c = operands-constraint _ _ _ _ (c .constraint-at .ensures) (c .before .if2 .taken)
+returns-2 c = command-constraint _ _ _ _ (c .constraint-at .ensures) (c .before .if2 .taken)
 
 filling-at-requires : tie.Need-filling-at-requires
-unfolding widthOf
-filling-at-requires c κs = omega (arith, ap widthOf (c .if3 .taken))
+unfolding designWidth
+filling-at-requires c κs = omega (arith, ap designWidth (c .if3 .taken))
 
 returns-3 : tie.Need-returns-3
-returns-3 c = operands-filling _ _ _ _ (c .filling-at .ensures) (c .before .if3 .taken)
+returns-3 c = command-filling _ _ _ _ (c .filling-at .ensures) (c .before .if3 .taken)
 
 add-t8 : tie.Need-add-t8
 add-t8 c = search needs
 
 shared-slice-read-t10 : tie.Need-shared-slice-read-t10
-unfolding widthOf
-shared-slice-read-t10 c = omega (arith, ap widthOf (c .before .if4 .taken))
+unfolding designWidth
+shared-slice-read-t10 c = omega (arith, ap designWidth (c .before .if4 .taken))
 
 returns-4 : tie.Need-returns-4
-returns-4 c = operands-row _ _ _ (c .before .if4 .taken)
+returns-4 c = command-row _ _ _ (c .before .if4 .taken)
 
 returns-5 : tie.Need-returns-5
-returns-5 c = operands-end _ _ _ (is-end _ (c .before .before .before .before .before .pre .0) (c .before .before .before .before .before .pre .1) (c .before .before .before .if1 .left) (c .before .before .if2 .left) (c .before .if3 .left) (c .if4 .left))
+returns-5 c = command-end _ _ _ (is-end _ (c .before .before .before .before .before .pre .0) (c .before .before .before .if1 .left) (c .before .before .if2 .left) (c .before .if3 .left) (c .if4 .left))
 
 pub design-operands-spec : {M : Type 1} → statement M
 design-operands-spec =

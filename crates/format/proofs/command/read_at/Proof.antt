@@ -1,8 +1,9 @@
 -- `format::command::read_at` meets its contract: each early return is one test of `commandAt`. Assumes nothing.
 use native.Mathlib.Omega.{arith}
-use mathlib.Core.Path.{sym, _∙_}
+use mathlib.Core.Path.{sym, ap, _∙_}
 use borrow.Author.Needs.{needs}
-use Rattle.format.proofs.CommandLaws.{at-end, at-unknown, at-short, at-whole}
+use Rattle.format.specs.declared.command.Command.the-variants.{Operate}
+use Rattle.format.proofs.CommandLaws.{at-end, at-unknown, at-short, at-whole, design-room, operation-room, operands-design, operands-operation}
 use Rattle.format.proofs.command.read_at.Statement.{statement}
 use Rattle.format.proofs.command.read_at.Tie as tie
 
@@ -25,16 +26,20 @@ returns-3 : tie.Need-returns-3
 returns-3 c = at-short _ _ (c .before .before .before .before .if1 .left) (λ e. c .before .if2 .left (c .before .before .width-of .ensures ∙ e)) (omega (arith, c .before .before .width-of .ensures))
 
 design-operands-requires : tie.Need-design-operands-requires
-design-operands-requires c κs = search needs
+design-operands-requires c κs = design-room _ _ _ (λ e. c .before .before .if2 .left (c .before .before .before .width-of .ensures ∙ e)) (omega (arith, c .before .before .before .width-of .ensures)) (c .if4 .taken)
 
 returns-4 : tie.Need-returns-4
-returns-4 c = c .design-operands .ensures ∙ at-whole _ _ (c .before .before .before .before .before .before .if1 .left) (λ e. c .before .before .before .if2 .left (c .before .before .before .before .width-of .ensures ∙ e)) (omega (arith, c .before .before .before .before .width-of .ensures))
+returns-4 c =
+    c .design-operands .ensures ∙ operands-design _ _ _ (c .before .if4 .taken) ∙
+    at-whole _ _ (c .before .before .before .before .before .before .if1 .left) (λ e. c .before .before .before .if2 .left (c .before .before .before .before .width-of .ensures ∙ e)) (omega (arith, c .before .before .before .before .width-of .ensures))
 
-operation-operands-requires : tie.Need-operation-operands-requires
-operation-operands-requires c κs = search needs
+operation-at-requires : tie.Need-operation-at-requires
+operation-at-requires c κs = operation-room _ _ _ (λ e. c .before .before .if2 .left (c .before .before .before .width-of .ensures ∙ e)) (omega (arith, c .before .before .before .width-of .ensures)) (c .if4 .left)
 
 returns-5 : tie.Need-returns-5
-returns-5 c = c .operation-operands .ensures ∙ at-whole _ _ (c .before .before .before .before .before .before .if1 .left) (λ e. c .before .before .before .if2 .left (c .before .before .before .before .width-of .ensures ∙ e)) (omega (arith, c .before .before .before .before .width-of .ensures))
+returns-5 c =
+    ap Operate (c .operation-at .ensures) ∙ operands-operation _ _ _ (c .before .if4 .left) ∙
+    at-whole _ _ (c .before .before .before .before .before .before .if1 .left) (λ e. c .before .before .before .if2 .left (c .before .before .before .before .width-of .ensures ∙ e)) (omega (arith, c .before .before .before .before .width-of .ensures))
 
 pub read-at-spec : {M : Type 1} → statement M
 read-at-spec =
@@ -48,5 +53,5 @@ read-at-spec =
     returns-3
     design-operands-requires
     returns-4
-    operation-operands-requires
+    operation-at-requires
     returns-5)

@@ -1,8 +1,8 @@
--- `format::reading::take` meets its contract: each arm is one command of `taken`. Assumes nothing.
+-- `format::reading::take` meets its contract: each arm is one command of `advanced`. Assumes nothing.
 use mathlib.Core.Path.{refl, sym, _∙_}
 use borrow.Author.Needs.{needs}
 use Rattle.format.proofs.Seen.{row-whole}
-use Rattle.format.proofs.TookLaws.{took-as, took-refused, took-complete, kept-all, refer-refused, drop-refused, probe-refused, query-refused, unknown-refused, short-refused, end-admitted}
+use Rattle.format.proofs.AdvancesLaws.{took-as, took-refused, took-complete, kept-all, operation-refused, unknown-refused, short-refused, end-admitted}
 use Rattle.format.proofs.reading.take.Statement.{statement}
 use Rattle.format.proofs.reading.take.Tie as tie
 
@@ -51,24 +51,6 @@ enum-told-4 c = search needs
 refused-requires-3 : tie.Need-refused-requires-3
 refused-requires-3 c κs = search needs
 
-enum-told-5 : tie.Need-enum-told-5
-enum-told-5 c = search needs
-
-refused-requires-4 : tie.Need-refused-requires-4
-refused-requires-4 c κs = search needs
-
-enum-told-6 : tie.Need-enum-told-6
-enum-told-6 c = search needs
-
-refused-requires-5 : tie.Need-refused-requires-5
-refused-requires-5 c κs = search needs
-
-enum-told-7 : tie.Need-enum-told-7
-enum-told-7 c = search needs
-
-refused-requires-6 : tie.Need-refused-requires-6
-refused-requires-6 c κs = search needs
-
 returns : tie.Need-returns
 returns c = took-as _ _ _ _ _ _ _ _ (c .before .before .c .given .1) (c .take-table .ensures _ _ _ _)
 
@@ -91,22 +73,13 @@ returns-5 : tie.Need-returns-5
 returns-5 c = took-as _ _ _ _ _ _ _ _ (c .enum-told .given .1) (took-complete _ _ _ _ _ _ _ refl refl (end-admitted _ _ _))
 
 returns-6 : tie.Need-returns-6
-returns-6 c = took-as _ _ _ _ _ _ _ _ (c .before .enum-told2 .given .1) (took-refused _ _ _ _ _ _ _ 3 _ (c .refused .ensures) (refer-refused _ _ _ _ _) (kept-all _ _ _))
+returns-6 c = took-as _ _ _ _ _ _ _ _ (c .before .enum-told2 .given .1) (took-refused _ _ _ _ _ _ _ 3 _ (c .refused .ensures) (operation-refused _ _ _ _) (kept-all _ _ _))
 
 returns-7 : tie.Need-returns-7
-returns-7 c = took-as _ _ _ _ _ _ _ _ (c .before .enum-told3 .given .1) (took-refused _ _ _ _ _ _ _ 3 _ (c .refused2 .ensures) (drop-refused _ _ _ _ _) (kept-all _ _ _))
+returns-7 c = took-as _ _ _ _ _ _ _ _ (c .before .enum-told3 .given .1) (took-refused _ _ _ _ _ _ _ 2 _ (c .refused2 .ensures) (unknown-refused _ _ _) (kept-all _ _ _))
 
 returns-8 : tie.Need-returns-8
-returns-8 c = took-as _ _ _ _ _ _ _ _ (c .before .enum-told4 .given .1) (took-refused _ _ _ _ _ _ _ 3 _ (c .refused3 .ensures) (probe-refused _ _ _ _ _) (kept-all _ _ _))
-
-returns-9 : tie.Need-returns-9
-returns-9 c = took-as _ _ _ _ _ _ _ _ (c .before .enum-told5 .given .1) (took-refused _ _ _ _ _ _ _ 3 _ (c .refused4 .ensures) (query-refused _ _ _ _ _ _) (kept-all _ _ _))
-
-returns-10 : tie.Need-returns-10
-returns-10 c = took-as _ _ _ _ _ _ _ _ (c .before .enum-told6 .given .1) (took-refused _ _ _ _ _ _ _ 2 _ (c .refused5 .ensures) (unknown-refused _ _ _) (kept-all _ _ _))
-
-returns-11 : tie.Need-returns-11
-returns-11 c = took-as _ _ _ _ _ _ _ _ (c .before .enum-told7 .given .1) (took-refused _ _ _ _ _ _ _ 1 _ (c .refused6 .ensures) (short-refused _ _ _) (kept-all _ _ _))
+returns-8 c = took-as _ _ _ _ _ _ _ _ (c .before .enum-told4 .given .1) (took-refused _ _ _ _ _ _ _ 1 _ (c .refused3 .ensures) (short-refused _ _ _) (kept-all _ _ _))
 
 pub take-spec : {M : Type 1} → statement M
 take-spec =
@@ -127,12 +100,6 @@ take-spec =
     refused-requires-2
     enum-told-4
     refused-requires-3
-    enum-told-5
-    refused-requires-4
-    enum-told-6
-    refused-requires-5
-    enum-told-7
-    refused-requires-6
     returns
     returns-2
     returns-3
@@ -142,7 +109,4 @@ take-spec =
     returns-5
     returns-6
     returns-7
-    returns-8
-    returns-9
-    returns-10
-    returns-11)
+    returns-8)

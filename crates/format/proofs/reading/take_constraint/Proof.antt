@@ -2,7 +2,7 @@
 use mathlib.Core.Path.{refl, sym, _∙_}
 use borrow.Author.Needs.{needs}
 use borrow.Author.Tests.{not-true, not-false}
-use Rattle.format.proofs.TookLaws.{took-refused, took-on, kept-all, constraint-late, constraint-many, constraint-wrong, constraint-right}
+use Rattle.format.proofs.AdvancesLaws.{took-refused, took-on, kept-all, constraint-late, constraint-many, constraint-wrong, constraint-right}
 use Rattle.format.proofs.reading.take_constraint.Statement.{statement}
 use Rattle.format.proofs.reading.take_constraint.Tie as tie
 

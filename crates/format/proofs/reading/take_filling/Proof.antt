@@ -2,7 +2,7 @@
 use mathlib.Core.Path.{refl, sym, _∙_}
 use borrow.Author.Needs.{needs}
 use borrow.Author.Tests.{not-true, not-false, lt-ltb, le-ltb}
-use Rattle.format.proofs.TookLaws.{took-refused, took-on, kept-all, filling-late, filling-many, filling-wrong, filling-right}
+use Rattle.format.proofs.AdvancesLaws.{took-refused, took-on, kept-all, filling-late, filling-many, filling-wrong, filling-right}
 use Rattle.format.proofs.reading.take_filling.Statement.{statement}
 use Rattle.format.proofs.reading.take_filling.Tie as tie
 

@@ -4,7 +4,7 @@ use mathlib.Core.Path.{refl, sym, _∙_}
 use borrow.Author.Needs.{needs}
 use borrow.Author.Tests.{not-true, not-false}
 use lib.ListN.{length-set}
-use Rattle.format.proofs.TookLaws.{took-refused, took-on, row-put, kept-all, kept-put, rows-many, row-wrong, row-right}
+use Rattle.format.proofs.AdvancesLaws.{took-refused, took-on, row-put, kept-all, kept-put, rows-many, row-wrong, row-right}
 use Rattle.format.proofs.reading.take_row.Statement.{statement}
 use Rattle.format.proofs.reading.take_row.Tie as tie
 

@@ -1,7 +1,6 @@
 -- `script::runs::probe_after` meets its contract: the run, and a probe of the sound state that it leaves. Assumes nothing.
 use native.Mathlib.Omega.{arith}
-use Rattle.model.specs.Cell.{Fits}
-use Rattle.script.proofs.ProbedLaws.{refused-probed, left-sound, accepted-probed}
+use Rattle.script.proofs.ProbedLaws.{cell-fits, refused-probed, behind-sound, accepted-probed}
 use borrow.Author.Needs.{needs}
 use Rattle.script.proofs.runs.probe_after.Statement.{statement}
 use Rattle.script.proofs.runs.probe_after.Tie as tie
@@ -35,7 +34,7 @@ probe-lawful-requires c κs =
     let v = c .before .before .before .before .before .before .before in
     let r = v .before .before .before .before .before .before .before .before .before .before .before .before in
     let k = r .run-catalogued .ensures .1 _ (v .enum-told .given .1) in
-    (left-sound _ _ _ _ (r .run-catalogued .ensures .0) _ (v .enum-told .given .1), (k .next-is, k .directory))
+    (behind-sound _ _ _ _ (r .run-catalogued .ensures .0) _ (v .enum-told .given .1), (k .next-is, k .directory))
 
 same-length-5 : tie.Need-same-length-5
 same-length-5 c = search needs
@@ -50,7 +49,6 @@ same-length-8 : tie.Need-same-length-8
 same-length-8 c = search needs
 
 returns-2 : tie.Need-returns-2
-unfolding Fits
 returns-2 c =
     let v = c .before .before .before .before .before .before .before .before in
     let k = v .before .before .before .before .before .before .before .before .before .before in
@@ -58,7 +56,7 @@ returns-2 c =
     let b = r .before .before .before .before .before .before .before .before .before .before .before .before .before .before in
     accepted-probed _ _ _ _ (r .run-catalogued .ensures .0) _ (v .enum-told .given .1)
     (record { at = λ j. omega (arith, b .shared-slice-known .given j) }) (λ j. omega (arith, k .slice-known5 .given j)) _ _
-    (omega (arith, b .before .fits)) _ (c .probe-lawful .ensures)
+    (cell-fits (b .before .args .v) _ (b .before .good .1 .1 .1 .1 .1 .1 .0)) _ (c .probe-lawful .ensures)
 
 pub probe-after-spec : {M : Type 1} → statement M
 probe-after-spec =

@@ -70,7 +70,7 @@ returns-2 c =
     let b = r .before .before .before .before .before .before .before .before .before .before .before .before .before in (
       accepted-ran _ _ _ _ _ _ (r .read-catalogued .ensures .0) _ (v .before .before .none .ensures)
           (record { at = λ j. omega (arith, b .shared-slice-known .given j) }) (λ j. omega (arith, k .slice-known5 .given j)) _ (v .verdict .given .1) _ _ _
-          (c .before .before .before .before .run-lawful .ensures .0),
+          (c .before .before .before .before .run-lawful .ensures),
       λ i e. r .read-catalogued .ensures .1 .0 _ (v .verdict .given .1),
     )
 

@@ -6,9 +6,9 @@ use mathlib.Core.Bool.{true}
 use borrow.Author.Tests.{not-true, not-false}
 use denote.Ref.{now}
 use lib.ListN.{length}
-use Rattle.state.specs.Step.{lent, sound}
+use Rattle.state.specs.Lent.{lent, sound}
 use Rattle.script.specs.Runs.{leftFrom}
-use Rattle.script.proofs.RunCode.{leaves-past, leaves-last, left-on, next-place}
+use Rattle.script.proofs.RunCode.{leaves-past, leaves-last, left-on, next-place, sound-on}
 use Rattle.script.proofs.runs.run_lawful.Statement.{statement}
 use Rattle.script.proofs.runs.run_lawful.Tie as tie
 
@@ -37,16 +37,14 @@ same-length-2 c = let t = c .before .before .before .before .before .before .bef
 returns : tie.Need-returns Inv-loop μ-loop
 returns c =
     let t = c .before .before .before .before .before .before .before in
-    let w = t .before .before .before .before .before .before .before in (
-      leaves-last _ _ _ _ _ (w .before .loop .inv .3) (w .loop-test .taken) _ _ _ (t .step-lawful .ensures .does) (not-true _ (c .if1 .taken)),
-      t .step-lawful .ensures .sound,
-    )
+    let w = t .before .before .before .before .before .before .before in
+    leaves-last _ _ _ _ _ (w .before .loop .inv .3) (w .loop-test .taken) _ _ _ (t .step-lawful .ensures) (not-true _ (c .if1 .taken))
 
 loop-less : tie.Need-loop-less Inv-loop μ-loop
 loop-less c =
     let t = c .before .before .before .before .before .before .before in
     let w = t .before .before .before .before .before .before .before in
-    let g = next-place _ _ _ _ _ (w .before .loop .inv .3) (w .loop-test .taken) _ _ _ (t .step-lawful .ensures .does) (not-false _ (c .if1 .left)) in
+    let g = next-place _ _ _ _ _ (w .before .loop .inv .3) (w .loop-test .taken) _ _ _ (t .step-lawful .ensures) (not-false _ (c .if1 .left)) in
     omega (arith, w .loop-test .taken, g)
 
 loop-again : tie.Need-loop-again Inv-loop μ-loop
@@ -55,8 +53,8 @@ loop-again c =
     let w = t .before .before .before .before .before .before .before in (
       t .step-lawful .kept .1 .1 .1 .1 .1 .1 .1 .1 .1 .1 .0 ∙ w .before .loop .inv .0,
       t .step-lawful .kept .1 .1 .1 .1 .1 .1 .1 .1 .1 .1 .1 .1 .0 ∙ w .before .loop .inv .1,
-      t .step-lawful .ensures .sound,
-      left-on _ _ _ _ _ (w .before .loop .inv .3) (w .loop-test .taken) _ _ _ (t .step-lawful .ensures .does) (not-false _ (c .if1 .left)),
+      sound-on _ _ _ _ _ (w .before .loop .inv .3) (w .loop-test .taken) _ _ _ (t .step-lawful .ensures) (w .before .loop .inv .2),
+      left-on _ _ _ _ _ (w .before .loop .inv .3) (w .loop-test .taken) _ _ _ (t .step-lawful .ensures) (not-false _ (c .if1 .left)),
     )
 
 same-length-3 : tie.Need-same-length-3 Inv-loop μ-loop
@@ -70,7 +68,7 @@ returns-2 c =
     let a = c .before .before .before .before .before .before .before .args in
     let l = c .before .loop in
     let s = lent (a .design) (now (a .cells)) (now (a .tables)) (l .marks) (l .h) in
-    (leaves-past (now (a .script)) s (l .words) (l .i) _ (l .inv .3) (c .loop-test .left), l .inv .2)
+    leaves-past (now (a .script)) s (l .words) (l .i) _ (l .inv .3) (c .loop-test .left)
 
 pub run-lawful-spec : {M : Type 1} → statement M
 run-lawful-spec =

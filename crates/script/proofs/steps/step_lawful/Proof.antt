@@ -1,7 +1,7 @@
 -- `script::steps::step_lawful` meets its contract. Assumes nothing.
 use borrow.Author.Needs.{needs}
 use Rattle.script.proofs.StepLaws.{step-overlong}
-use Rattle.script.proofs.StepCode.{refusing-soundly, step-is, step-case}
+use Rattle.script.proofs.StepCode.{refusing-does, step-is, step-case}
 use Rattle.script.proofs.steps.step_lawful.Statement.{statement}
 use Rattle.script.proofs.steps.step_lawful.Tie as tie
 
@@ -11,7 +11,7 @@ refusing-requires c κs = search needs
 returns : tie.Need-returns
 returns c =
     let s = c .before .before .before .before .before .before .before in
-    step-case _ _ _ _ _ _ (step-overlong _ _ _ _ (s .pre .0) (c .before .if1 .taken)) (refusing-soundly _ (s .pre .0) _ _ _ _ _ _ (c .refusing .ensures))
+    step-case _ _ _ _ _ (step-overlong _ _ _ _ (s .pre .0) (c .before .if1 .taken)) (refusing-does _ _ _ _ _ _ _ (c .refusing .ensures))
 
 place-after-requires : tie.Need-place-after-requires
 place-after-requires c κs = search needs

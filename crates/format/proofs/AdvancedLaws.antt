@@ -14,9 +14,9 @@ use Rattle.state.specs.declared.design.Filling as State-filling
 use Rattle.state.specs.Meaning.{schemeOf, databaseOf}
 use Rattle.state.specs.Lawful.{tableFits, constraintFits, fillingFits, rowFits, repeats}
 use Rattle.format.specs.declared.command.Command.{Command}
-use Rattle.format.specs.declared.command.Command.the-variants.{Table, Constraint, Filling, Row, End, Refer, Drop, Probe, Query, Unknown, Short}
-use Rattle.format.specs.Reading.{Draft, Taken, unless, taken, rowTaken, redesigned, withTable, withConstraint, withFilling, withRow, afterTables, afterConstraints, afterFillings}
-use Rattle.format.specs.Reading.Taken.{on, complete, refused}
+use Rattle.format.specs.declared.command.Command.the-variants.{Table, Constraint, Filling, Row, End, Operate, Unknown, Short}
+use Rattle.format.specs.Reading.{Draft, Advanced, refusedIf, advanced, rowAdvanced, redesigned, withTable, withConstraint, withFilling, withRow, afterTables, afterConstraints, afterFillings}
+use Rattle.format.specs.Reading.Advanced.{on, complete, refused}
 use Rattle.format.proofs.LawfulLaws.{rowTest}
 
 -- ---- the three answers differ
@@ -35,26 +35,26 @@ on-same p q e = cc
 
 -- ---- the refusals in order
 
-pub unless-on : (b : Bool) (n : ℕ) (t : Taken) (q : Draft) → unless b n t ≡ on q → (b ≡ false) × (t ≡ on q)
+pub unless-on : (b : Bool) (n : ℕ) (t : Advanced) (q : Draft) → refusedIf b n t ≡ on q → (b ≡ false) × (t ≡ on q)
 unless-on true n t q e = absurd (not-on n q e)
 unless-on false n t q e = (refl, e)
 
-unless-complete : (b : Bool) (n : ℕ) (t : Taken) → (t ≡ complete → ⊥) → unless b n t ≡ complete → ⊥
+unless-complete : (b : Bool) (n : ℕ) (t : Advanced) → (t ≡ complete → ⊥) → refusedIf b n t ≡ complete → ⊥
 unless-complete true n t h e = not-complete n e
 unless-complete false n t h e = h e
 
 module _ (a b c : Bool) (k m n : ℕ) (p : Draft) where
-  all-three : (q : Draft) → unless a k (unless b m (unless c n (on p))) ≡ on q → (a ≡ false) × (b ≡ false) × (c ≡ false) × (p ≡ q)
+  all-three : (q : Draft) → refusedIf a k (refusedIf b m (refusedIf c n (on p))) ≡ on q → (a ≡ false) × (b ≡ false) × (c ≡ false) × (p ≡ q)
   all-three q e =
-      let x = unless-on a k (unless b m (unless c n (on p))) q e in
-      let y = unless-on b m (unless c n (on p)) q (x .1) in
+      let x = unless-on a k (refusedIf b m (refusedIf c n (on p))) q e in
+      let y = unless-on b m (refusedIf c n (on p)) q (x .1) in
       let z = unless-on c n (on p) q (y .1) in
       (x .0, y .0, z .0, on-same p q (z .1))
 
-  never : unless a k (unless b m (unless c n (on p))) ≡ complete → ⊥
-  never = unless-complete a k (unless b m (unless c n (on p))) (unless-complete b m (unless c n (on p)) (unless-complete c n (on p) (on-complete p)))
+  never : refusedIf a k (refusedIf b m (refusedIf c n (on p))) ≡ complete → ⊥
+  never = unless-complete a k (refusedIf b m (refusedIf c n (on p))) (unless-complete b m (refusedIf c n (on p)) (unless-complete c n (on p) (on-complete p)))
 
-pub none : (a b c : Bool) (k m n : ℕ) (t : Taken) → a ≡ false → b ≡ false → c ≡ false → unless a k (unless b m (unless c n t)) ≡ t
+pub none : (a b c : Bool) (k m n : ℕ) (t : Advanced) → a ≡ false → b ≡ false → c ≡ false → refusedIf a k (refusedIf b m (refusedIf c n t)) ≡ t
 none true b c k m n t p q r = clash refl p
 none false true c k m n t p q r = clash refl q
 none false false true k m n t p q r = clash refl r
@@ -85,7 +85,7 @@ after-constraints d e = let y = or-none (ltb 0 (d .fillings)) (ltb 0 (d .rows)) 
 pub after-fillings : (d : Design) → afterFillings d ≡ false → d .rows ≡ 0
 after-fillings d e = zero-count (d .rows) e
 
--- ---- each command that is taken
+-- ---- each command that is read
 
 pub record TookTable (p q : Draft) (t : State-table.Table) : Type 0 where
   pub constraints : p .design .constraints ≡ 0
@@ -115,28 +115,28 @@ pub record TookRow (p q r : Draft) : Type 0 where
   pub is : q ≡ r
 
 module _ (p q : Draft) (s : List ℕ) (i : ℕ) where
-  pub took-table : (t : State-table.Table) → taken p s i (Table t) ≡ on q → TookTable p q t
-  unfolding taken
+  pub took-table : (t : State-table.Table) → advanced p s i (Table t) ≡ on q → TookTable p q t
+  unfolding advanced
   took-table t e =
       let x = all-three (afterTables (p .design)) (leb 8 (p .design .tables)) (not (tableFits t)) 3 4 5 (redesigned p (withTable (p .design) t)) q e in
       let y = after-tables (p .design) (x .0) in
       record { constraints = y .0; fillings = y .1; rows = y .2; room = leb-false _ _ (x .1); fits = not-false _ (x .2); is = x .3 }
 
-  pub took-constraint : (c : State-constraint.Constraint) → taken p s i (Constraint c) ≡ on q → TookConstraint p q c
-  unfolding taken
+  pub took-constraint : (c : State-constraint.Constraint) → advanced p s i (Constraint c) ≡ on q → TookConstraint p q c
+  unfolding advanced
   took-constraint c e =
       let x = all-three (afterConstraints (p .design)) (leb 16 (p .design .constraints)) (not (constraintFits (p .design) (p .design .constraints) c)) 3 4 5 (redesigned p (withConstraint (p .design) c)) q e in
       let y = after-constraints (p .design) (x .0) in
       record { fillings = y .0; rows = y .1; room = leb-false _ _ (x .1); fits = not-false _ (x .2); is = x .3 }
 
-  pub took-filling : (f : State-filling.Filling) → taken p s i (Filling f) ≡ on q → TookFilling p q f
-  unfolding taken
+  pub took-filling : (f : State-filling.Filling) → advanced p s i (Filling f) ≡ on q → TookFilling p q f
+  unfolding advanced
   took-filling f e =
       let x = all-three (afterFillings (p .design)) (leb 8 (p .design .fillings)) (not (fillingFits (p .design) (p .design .fillings) f)) 3 4 5 (redesigned p (withFilling (p .design) f)) q e in
       record { rows = after-fillings (p .design) (x .0); room = leb-false _ _ (x .1); fits = not-false _ (x .2); is = x .3 }
 
-  pub took-row : (t : ℕ) → taken p s i (Row t) ≡ on q → TookRow p (withRow p s i t) q
-  unfolding taken rowTaken
+  pub took-row : (t : ℕ) → advanced p s i (Row t) ≡ on q → TookRow p (withRow p s i t) q
+  unfolding advanced rowAdvanced
   took-row t e =
       let r = withRow p s i t in
       let S = schemeOf (r .design) in
@@ -145,33 +145,33 @@ module _ (p q : Draft) (s : List ℕ) (i : ℕ) where
       let x = all-three (leb 512 n) (not (rowFits S D n)) (repeats S D n) 4 5 6 r q e in
       record { room = leb-false _ _ (x .0); fits = both (not-false (rowFits S D n) (x .1)) (ap not (x .2)); is = x .3 }
 
-  -- ... and what is taken so
+  -- ... and what is read so
 
-  pub take-table : (t : State-table.Table) → TookTable p q t → taken p s i (Table t) ≡ on q
-  unfolding taken
+  pub take-table : (t : State-table.Table) → TookTable p q t → advanced p s i (Table t) ≡ on q
+  unfolding advanced
   take-table t h =
       none (afterTables (p .design)) (leb 8 (p .design .tables)) (not (tableFits t)) 3 4 5 (on (redesigned p (withTable (p .design) t)))
       (neither (ltb 0 (p .design .constraints)) (ltb 0 (p .design .fillings) || ltb 0 (p .design .rows)) (ap (ltb 0) (h .constraints))
       (neither (ltb 0 (p .design .fillings)) (ltb 0 (p .design .rows)) (ap (ltb 0) (h .fillings)) (ap (ltb 0) (h .rows))))
       (lt-leb 8 (p .design .tables) (h .room)) (ap not (h .fits)) ∙ ap on (h .is)
 
-  pub take-constraint : (c : State-constraint.Constraint) → TookConstraint p q c → taken p s i (Constraint c) ≡ on q
-  unfolding taken
+  pub take-constraint : (c : State-constraint.Constraint) → TookConstraint p q c → advanced p s i (Constraint c) ≡ on q
+  unfolding advanced
   take-constraint c h =
       none (afterConstraints (p .design)) (leb 16 (p .design .constraints)) (not (constraintFits (p .design) (p .design .constraints) c)) 3 4 5
       (on (redesigned p (withConstraint (p .design) c)))
       (neither (ltb 0 (p .design .fillings)) (ltb 0 (p .design .rows)) (ap (ltb 0) (h .fillings)) (ap (ltb 0) (h .rows)))
       (lt-leb 16 (p .design .constraints) (h .room)) (ap not (h .fits)) ∙ ap on (h .is)
 
-  pub take-filling : (f : State-filling.Filling) → TookFilling p q f → taken p s i (Filling f) ≡ on q
-  unfolding taken
+  pub take-filling : (f : State-filling.Filling) → TookFilling p q f → advanced p s i (Filling f) ≡ on q
+  unfolding advanced
   take-filling f h =
       none (afterFillings (p .design)) (leb 8 (p .design .fillings)) (not (fillingFits (p .design) (p .design .fillings) f)) 3 4 5
       (on (redesigned p (withFilling (p .design) f)))
       (ap (ltb 0) (h .rows)) (lt-leb 8 (p .design .fillings) (h .room)) (ap not (h .fits)) ∙ ap on (h .is)
 
-  pub take-row : (t : ℕ) → TookRow p (withRow p s i t) q → taken p s i (Row t) ≡ on q
-  unfolding taken rowTaken
+  pub take-row : (t : ℕ) → TookRow p (withRow p s i t) q → advanced p s i (Row t) ≡ on q
+  unfolding advanced rowAdvanced
   take-row t h =
       let r = withRow p s i t in
       let S = schemeOf (r .design) in
@@ -182,8 +182,8 @@ module _ (p q : Draft) (s : List ℕ) (i : ℕ) where
 
 -- ---- END alone completes a design
 
-pub only-end : (p : Draft) (s : List ℕ) (i : ℕ) (c : Command) → taken p s i c ≡ complete → c ≡ End
-unfolding taken rowTaken
+pub only-end : (p : Draft) (s : List ℕ) (i : ℕ) (c : Command) → advanced p s i c ≡ complete → c ≡ End
+unfolding advanced rowAdvanced
 only-end p s i (Table t) e = absurd (never (afterTables (p .design)) (leb 8 (p .design .tables)) (not (tableFits t)) 3 4 5 (redesigned p (withTable (p .design) t)) e)
 only-end p s i (Constraint c) e =
     absurd (never (afterConstraints (p .design)) (leb 16 (p .design .constraints)) (not (constraintFits (p .design) (p .design .constraints) c)) 3 4 5 (redesigned p (withConstraint (p .design) c)) e)
@@ -196,16 +196,13 @@ only-end p s i (Row t) e =
     let n = p .design .rows in
     absurd (never (leb 512 n) (not (rowFits S D n)) (repeats S D n) 4 5 6 r e)
 only-end p s i End e = refl
-only-end p s i (Refer f v) e = absurd (not-complete 3 e)
-only-end p s i (Drop f v) e = absurd (not-complete 3 e)
-only-end p s i (Probe k v) e = absurd (not-complete 3 e)
-only-end p s i (Query k v n) e = absurd (not-complete 3 e)
+only-end p s i (Operate o) e = absurd (not-complete 3 e)
 only-end p s i Unknown e = absurd (not-complete 2 e)
 only-end p s i Short e = absurd (not-complete 1 e)
 
-pub end-completes : (p : Draft) (s : List ℕ) (i : ℕ) → taken p s i End ≡ complete
-unfolding taken
+pub end-completes : (p : Draft) (s : List ℕ) (i : ℕ) → advanced p s i End ≡ complete
+unfolding advanced
 end-completes p s i = refl
 
-pub end-on : (p : Draft) (s : List ℕ) (i : ℕ) (q : Draft) → taken p s i End ≡ on q → ⊥
+pub end-on : (p : Draft) (s : List ℕ) (i : ℕ) (q : Draft) → advanced p s i End ≡ on q → ⊥
 end-on p s i q e = on-complete q (sym e ∙ end-completes p s i)

@@ -1,8 +1,8 @@
--- `script::operations::answering` meets its contract. Assumes nothing.
+-- `script::steps::answering` meets its contract. Assumes nothing.
 use borrow.Author.Needs.{needs}
 use mathlib.Core.Bool.{true}
-use Rattle.script.proofs.operations.answering.Statement.{statement}
-use Rattle.script.proofs.operations.answering.Tie as tie
+use Rattle.script.proofs.steps.answering.Statement.{statement}
+use Rattle.script.proofs.steps.answering.Tie as tie
 
 place-of-requires : tie.Need-place-of-requires
 place-of-requires c κs = search needs

@@ -1,0 +1,28 @@
+-- `format::command::operation_width` meets its contract, by the definition at each byte. Assumes nothing.
+use mathlib.Core.Path.{sym, ap}
+use Rattle.format.specs.Commands.{operationWidth}
+use Rattle.format.proofs.CommandLaws.{operation-width-none}
+use Rattle.format.proofs.command.operation_width.Statement.{statement}
+use Rattle.format.proofs.command.operation_width.Tie as tie
+
+returns : tie.Need-returns
+unfolding operationWidth
+returns c = sym (ap operationWidth (c .match .keys1))
+
+returns-2 : tie.Need-returns-2
+unfolding operationWidth
+returns-2 c = sym (ap operationWidth (c .match .keys2))
+
+returns-3 : tie.Need-returns-3
+unfolding operationWidth
+returns-3 c = sym (ap operationWidth (c .match .keys3))
+
+returns-4 : tie.Need-returns-4
+unfolding operationWidth
+returns-4 c = sym (ap operationWidth (c .match .keys4))
+
+returns-5 : tie.Need-returns-5
+returns-5 c = let r = c .match .rest in sym (operation-width-none _ (r .0 .0 .0 .1) (r .0 .0 .1) (r .0 .1) (r .1))
+
+pub operation-width-spec : {M : Type 1} → statement M
+operation-width-spec = tie.close (tie.spec returns returns-2 returns-3 returns-4 returns-5)
