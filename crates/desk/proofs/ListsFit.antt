@@ -8,90 +8,30 @@ use borrow.Author.Tests.{leb-true, not-false}
 use lib.Dec.{eqb, leb, ltb}
 use lib.ListN.{length, length-take}
 use Rattle.finite.proofs.Bools.{clash}
-use Rattle.finite.proofs.Tables.{length-tab}
 use Rattle.model.specs.Cell.{isBlank}
 use Rattle.model.specs.Scheme.{Scheme, isColumn, candidate}
 use Rattle.model.specs.Database.{Database}
 use Rattle.model.specs.Probe
-use Rattle.model.specs.Runs.{Operation, refer, drop, probe, listed, places, heldIn, marked, Cache}
+use Rattle.model.specs.Holding.{Pair, holds, hasRoom, heldIn}
+use Rattle.model.specs.Runs.{Question, probe, refer, drop, marked, Cache}
 use Rattle.model.specs.Query as Q
 use Rattle.model.specs.Query.{joinsOf, operandsFit, wordsOf, mostJoins}
-use Rattle.model.specs.Answers.{Answer, loaded, held, noCandidate, dropped, ground, sent, lists, refused, unless, orAnswer, answer, fullLists, queryGround, queryAnswer}
+use Rattle.model.specs.Answers.{Answer, held, noCandidate, ground, sent, lists, shown, hasLists, unless, orAnswer, questionAnswer, queryGround, fullLists, queryAnswer, answer}
 use Rattle.model.proofs.ListLaws.{fitting-words}
 use Rattle.state.specs.declared.design.Table as State-table
 use Rattle.state.specs.declared.design.Constraint as State-constraint
 use Rattle.state.specs.declared.design.Filling as State-filling
-use Rattle.state.specs.declared.design.Column.{Column}
-use Rattle.state.specs.Step.{State, scheme, database, cache, longEnough, lawful, answerAt, queryAnswerAt}
+use Rattle.state.specs.declared.operation.Operation.{Operation}
+use Rattle.state.specs.declared.operation.Operation.the-variants as O
+use Rattle.state.specs.Meaning.{operationOf}
+use Rattle.state.specs.Lent.{State, scheme, database, cache, longEnough, lawful, guarded, answerAt}
 use Rattle.format.specs.declared.command.Command.{Command}
-use Rattle.format.specs.declared.command.Command.the-variants.{Table, Constraint, Filling, Row, End, Refer, Drop, Probe, Query, Unknown, Short}
+use Rattle.format.specs.declared.command.Command.the-variants.{Table, Constraint, Filling, Row, End, Operate, Unknown, Short}
 use Rattle.format.specs.Bytes.{byteAt}
-use Rattle.format.specs.Commands.{operandsAt, commandAt, widthOf}
-use Rattle.format.specs.Reading.{mostBytes}
-use Rattle.script.specs.Step.{Stepped, queryAt, refusing, operated, queried, carried, stepAt}
-use Rattle.desk.specs.Printed.{positionsAt}
-
--- ---- which answers have lists
-
-abbrev isLists : Answer → Bool
-isLists (lists n) = true
-isLists (loaded a b) = false
-isLists held = false
-isLists noCandidate = false
-isLists (dropped n) = false
-isLists (ground g) = false
-isLists sent = false
-isLists (refused n) = false
-
-abbrev listsIn : Answer → ℕ
-listsIn (lists n) = n
-listsIn (loaded a b) = 0
-listsIn held = 0
-listsIn noCandidate = 0
-listsIn (dropped n) = 0
-listsIn (ground g) = 0
-listsIn sent = 0
-listsIn (refused n) = 0
-
-unless-none : (b : Bool) (n : ℕ) (a : Answer) → isLists a ≡ false → isLists (unless b n a) ≡ false
-unless-none true n a h = refl
-unless-none false n a h = h
-
-or-none : (b : Bool) (a c : Answer) → isLists a ≡ false → isLists c ≡ false → isLists (orAnswer b a c) ≡ false
-or-none true a c h k = h
-or-none false a c h k = k
-
--- an operation of the cache has none
-answer-none : (S : Scheme) (D : Database) (c : Cache) (o : Operation) → isLists (answer S D c o) ≡ false
-unfolding answer
-answer-none S D c (refer p) =
-    unless-none (not (ltb (p .filling) (S .fillings))) 5 _
-    (unless-none (isBlank (p .value)) 9 _
-    (or-none (not (candidate (S .filling (p .filling)) (p .value))) noCandidate _ refl
-    (or-none (listed p (c .pairs)) held _ refl
-    (unless-none (not (ltb (length (c .pairs)) places)) 8 _ refl))))
-answer-none S D c (drop p) =
-    unless-none (not (ltb (p .filling) (S .fillings))) 5 _
-    (unless-none (isBlank (p .value)) 9 _
-    (unless-none (not (listed p (c .pairs))) 10 _ refl))
-answer-none S D c (probe k v) =
-    let g = Probe.probe S D (heldIn S (c .pairs)) (marked (c .marks)) k v in
-    unless-none (not (isColumn S k)) 5 _ (unless-none (isBlank v) 9 _ (or-none (ltb 0 g) (ground g) sent refl refl))
-
-operation-none : (s : State) (o : Operation) → isLists (answerAt s o) ≡ false
-unfolding answerAt
-operation-none s o = unless-none (not (longEnough s)) 7 _ (unless-none (not (lawful s)) 12 _ (answer-none (scheme s) (database s) (cache s) o))
-
--- behind causes that do not apply
-unless-lists : (b : Bool) (n k : ℕ) (a : Answer) → unless b n a ≡ lists k → (b ≡ false) × (a ≡ lists k)
-unless-lists true n k a e = clash {b = true} refl (sym (ap isLists e))
-unless-lists false n k a e = (refl, e)
-
-or-lists : (b : Bool) (k : ℕ) (a : Answer) → orAnswer b sent a ≡ lists k → a ≡ lists k
-or-lists true k a e = clash {b = true} refl (sym (ap isLists e))
-or-lists false k a e = e
-
--- ---- the words of a query's lists
+use Rattle.format.specs.Commands.{columnAt, valueAt, heldValueAt, queryAt, operationAt, designCommandAt, operandsAt, commandAt, widthOf}
+use Rattle.script.specs.Step.{Stepped, operated, carried, stepAt}
+use Rattle.script.proofs.StepLaws.{step-by}
+use Rattle.desk.specs.Printed.{listsIn, positionsAt}
 
 joins-few : (S : Scheme) (q : Q.Query) → operandsFit S q ≡ true → q .joins ≤ 4
 unfolding operandsFit
@@ -99,102 +39,120 @@ joins-few S q h =
     let a = and-eq-true-iff (isColumn S (q .column)) _ .0 h in
     leb-true (q .joins) mostJoins (and-eq-true-iff (leb (q .joins) mostJoins) _ .0 (a .1) .0)
 
-module _ (s : State) (room : ℕ) (q : Q.Query) (four : length (q .pairs) ≡ 4) where
-  pub query-fits : (n : ℕ) → queryAnswerAt s room q ≡ lists n → n * (q .joins + 1) ≤ room
-  unfolding queryAnswerAt queryAnswer fullLists
-  query-fits n e =
-      let a = unless-lists (not (longEnough s)) 7 n _ e in
-      let b = unless-lists (not (lawful s)) 12 n _ (a .1) in
-      let c = unless-lists (not (operandsFit (scheme s) q)) 5 n _ (b .1) in
-      let d = unless-lists (isBlank (q .value)) 9 n _ (c .1) in
-      let g = or-lists (eqb (queryGround (scheme s) (database s) (cache s) q) 0) n _ (d .1) in
-      let L = fullLists (scheme s) (database s) q in
-      let f = unless-lists (not (leb (length (wordsOf L)) room)) 11 n _ g in
-      let few = joins-few (scheme s) q (not-false (operandsFit (scheme s) q) (c .0)) in
-      let long = leb-true (length (wordsOf L)) room (not-false (leb (length (wordsOf L)) room) (f .0)) in
-      let words = fitting-words (scheme s) (database s) (database s .live) (q .column) (q .value) (joinsOf q) in
-      let joins : length (joinsOf q) ≡ q .joins = length-take (q .joins) (q .pairs) ∙ ap (min (q .joins)) four ∙ at-most (q .joins) few in
-      let number : length L ≡ n = ap listsIn (f .1) in
-      subst (λ (k : ℕ). k ≤ room) (words ∙ ap (λ (k : ℕ). length L * suc k) joins ∙ ap (λ (k : ℕ). k * suc (q .joins)) number ∙ ap (λ (k : ℕ). n * k) (one-more (q .joins))) long
-    where
-      at-most : (j : ℕ) → j ≤ 4 → min j 4 ≡ j
-      at-most j l = omega arith
+-- ---- answers, where a list has p words and `room` are lent
 
-      one-more : (j : ℕ) → suc j ≡ j + 1
-      one-more j = omega arith
+module _ (p room : ℕ) where
+  -- the answer's lists fit
+  abbrev pub Within : Answer → Type 0
+  Within a = hasLists a ≡ true → listsIn a * p ≤ room
 
--- ---- the joins of the QUERY at a place
+  -- behind a cause of refusal
+  unless-within : (b : Bool) (n : ℕ) (a : Answer) → (b ≡ false → Within a) → Within (unless b n a)
+  unfolding hasLists shown
+  unless-within true n a f h = clash h refl
+  unless-within false n a f h = f refl h
 
-joinsIn : Command → ℕ → ℕ
-joinsIn (Query k v n) d = n
-joinsIn (Table t) d = d
-joinsIn (Constraint c) d = d
-joinsIn (Filling f) d = d
-joinsIn (Row t) d = d
-joinsIn End d = d
-joinsIn (Refer f v) d = d
-joinsIn (Drop f v) d = d
-joinsIn (Probe k v) d = d
-joinsIn Unknown d = d
-joinsIn Short d = d
+  or-within : (b : Bool) (a c : Answer) → Within a → Within c → Within (orAnswer b a c)
+  or-within true a c f g = f
+  or-within false a c f g = g
 
-joins-at : (script : List ℕ) (i : ℕ) → joinsIn (commandAt script i) (byteAt script (i + 7)) ≡ byteAt script (i + 7)
-unfolding commandAt operandsAt joinsIn
-joins-at script i =
-    let b = byteAt script i in
-    go (leb (length script) i) (eqb (widthOf b) 0) (ltb (length script - i) (widthOf b))
-    (eqb b 1) (eqb b 2) (eqb b 3) (eqb b 4) (eqb b 5) (eqb b 16) (eqb b 17) (eqb b 18) _ _ _ _ _ _ _ _
-  where
-    go : (x y z p q r s t u v w : Bool) (a : State-table.Table) (c : State-constraint.Constraint) (f : State-filling.Filling) (m n : ℕ) (k : Column) (g h : ℕ) →
-        joinsIn (cond x Short (cond y Unknown (cond z Short
-        (cond p (Table a) (cond q (Constraint c) (cond r (Filling f) (cond s (Row m) (cond t End (cond u (Refer m n) (cond v (Drop m n)
-        (cond w (Probe k g) (Query k g h)))))))))))) h ≡ h
-    go true y z p q r s t u v w a c f m n k g h = refl
-    go false true z p q r s t u v w a c f m n k g h = refl
-    go false false true p q r s t u v w a c f m n k g h = refl
-    go false false false true q r s t u v w a c f m n k g h = refl
-    go false false false false true r s t u v w a c f m n k g h = refl
-    go false false false false false true s t u v w a c f m n k g h = refl
-    go false false false false false false true t u v w a c f m n k g h = refl
-    go false false false false false false false true u v w a c f m n k g h = refl
-    go false false false false false false false false true v w a c f m n k g h = refl
-    go false false false false false false false false false true w a c f m n k g h = refl
-    go false false false false false false false false false false true a c f m n k g h = refl
-    go false false false false false false false false false false false a c f m n k g h = refl
+  module _ (S : Scheme) (D : Database) (c : Cache) where
+    refer-within : (x : Pair) → Within (answer S D c (refer x))
+    unfolding answer hasLists shown
+    refer-within x =
+        unless-within (not (ltb (x .filling) (S .fillings))) 5 _ (λ _. unless-within (isBlank (x .value)) 9 _ (λ _.
+        or-within (not (candidate (S .filling (x .filling)) (x .value))) noCandidate _ (λ h. clash h refl)
+        (or-within (holds (c .held) x) held _ (λ h. clash h refl)
+        (unless-within (not (hasRoom (c .held))) 8 _ (λ _ h. clash h refl)))))
+
+    drop-within : (x : Pair) → Within (answer S D c (drop x))
+    unfolding answer hasLists shown
+    drop-within x =
+        unless-within (not (ltb (x .filling) (S .fillings))) 5 _ (λ _. unless-within (isBlank (x .value)) 9 _ (λ _.
+        unless-within (not (holds (c .held) x)) 10 _ (λ _ h. clash h refl)))
+
+    question-within : (q : Question) → Within (questionAnswer S D c q)
+    unfolding questionAnswer hasLists shown
+    question-within (probe k v) =
+        let g = Probe.probe S D (heldIn S (c .held)) (marked (c .marks)) k v in
+        unless-within (not (isColumn S k)) 5 _ (λ _. unless-within (isBlank v) 9 _ (λ _. or-within (ltb 0 g) (ground g) sent (λ h. clash h refl) (λ h. clash h refl)))
+
+    module _ (q : Q.Query) (four : length (q .pairs) ≡ 4) (positions : q .joins + 1 ≡ p) where
+      -- as many lists as there are
+      all-within : operandsFit S q ≡ true → length (wordsOf (fullLists S D q)) ≤ room → length (fullLists S D q) * p ≤ room
+      unfolding fullLists
+      all-within fit l =
+          let L = fullLists S D q in
+          let joins : length (joinsOf q) ≡ q .joins = length-take (q .joins) (q .pairs) ∙ ap (min (q .joins)) four ∙ at-most (q .joins) (joins-few S q fit) in
+          subst (λ (k : ℕ). k ≤ room)
+          (fitting-words S D (D .live) (q .column) (q .value) (joinsOf q) ∙ ap (λ (k : ℕ). length L * suc k) joins ∙
+          ap (λ (k : ℕ). length L * k) (one-more (q .joins) ∙ positions))
+          l
+        where
+          at-most : (j : ℕ) → j ≤ 4 → min j 4 ≡ j
+          at-most j l = omega arith
+
+          one-more : (j : ℕ) → suc j ≡ j + 1
+          one-more j = omega arith
+
+      query-within : Within (queryAnswer S D c room q)
+      unfolding queryAnswer hasLists shown
+      query-within =
+          let n = length (wordsOf (fullLists S D q)) in
+          unless-within (not (operandsFit S q)) 5 _ (λ fit. unless-within (isBlank (q .value)) 9 _ (λ _.
+          or-within (eqb (queryGround S D c q) 0) sent _ (λ h. clash h refl)
+          (unless-within (not (leb n room)) 11 _ (λ l _.
+          all-within (not-false (operandsFit S q) fit) (leb-true n room (not-false (leb n room) l))))))
 
 -- ---- a step
 
 module _ (s : State) (words script : List ℕ) (i : ℕ) where
-  carried-fits : (j : ℕ) (c : Command) → commandAt script i ≡ c → (n : ℕ) → carried s words script i j c .answer ≡ lists n →
-      n * positionsAt script i ≤ length words
-  unfolding carried operated queried queryAt joinsIn
-  carried-fits j (Query k v m) e n h =
-      let q = queryAt script i k v m in
-      let f = query-fits s (length words) q (length-tab 4 _) n h in
-      let joins : m ≡ byteAt script (i + 7) = ap (λ (c : Command). joinsIn c (byteAt script (i + 7))) (sym e) ∙ joins-at script i in
-      subst (λ (b : ℕ). n * (b + 1) ≤ length words) joins f
-  carried-fits j (Refer f v) e n h = clash (ap isLists h) (operation-none s _)
-  carried-fits j (Drop f v) e n h = clash (ap isLists h) (operation-none s _)
-  carried-fits j (Probe k v) e n h = clash (ap isLists h) (operation-none s _)
-  carried-fits j (Table t) e n h = clash (ap isLists h) refl
-  carried-fits j (Constraint c) e n h = clash (ap isLists h) refl
-  carried-fits j (Filling f) e n h = clash (ap isLists h) refl
-  carried-fits j (Row t) e n h = clash (ap isLists h) refl
-  carried-fits j End e n h = clash (ap isLists h) refl
-  carried-fits j Unknown e n h = clash (ap isLists h) refl
-  carried-fits j Short e n h = clash (ap isLists h) refl
+  abbrev Here : Answer → Type 0
+  Here a = Within (positionsAt script i) (length words) a
 
-  pub lists-fit : (n : ℕ) → stepAt s words script i .answer ≡ lists n → n * positionsAt script i ≤ length words
-  unfolding stepAt
-  lists-fit n = go (not (longEnough s)) (not (lawful s)) (ltb mostBytes (length script))
+  guarded-within : (a : Answer) → Here a → Here (guarded s a)
+  guarded-within a f = unless-within _ _ (not (longEnough s)) 7 _ (λ _. unless-within _ _ (not (lawful s)) 12 _ (λ _. f))
+
+  -- the operation at place i, whose byte is b
+  operation-within : (b : ℕ) → Here (answerAt s (operationOf (operationAt b script i) (length words)))
+  unfolding answerAt answer operationAt
+  operation-within b = go (eqb b 0x10) (eqb b 0x11) (eqb b 0x12)
     where
-      rest : Stepped
-      rest = carried s words script i (i + widthOf (byteAt script i)) (commandAt script i)
+      op : Bool → Bool → Bool → Operation
+      op x y z =
+          cond x (O.Refer (heldValueAt script i))
+          (cond y (O.Drop (heldValueAt script i))
+          (cond z (O.Probe (columnAt script (i + 1)) (valueAt script (i + 3)))
+          (O.Query (queryAt script i))))
 
-      go : (a b c : Bool) →
-          cond a (refusing s words 7 0 i false) (cond b (refusing s words 12 0 i false) (cond c (refusing s words 4 0 i false) rest)) .answer ≡ lists n →
-          n * positionsAt script i ≤ length words
-      go true b c h = clash (ap isLists h) refl
-      go false true c h = clash (ap isLists h) refl
-      go false false true h = clash (ap isLists h) refl
-      go false false false h = carried-fits (i + widthOf (byteAt script i)) (commandAt script i) refl n h
+      go : (x y z : Bool) → Here (answerAt s (operationOf (op x y z) (length words)))
+      go true y z = guarded-within _ (refer-within _ _ (scheme s) (database s) (cache s) _)
+      go false true z = guarded-within _ (drop-within _ _ (scheme s) (database s) (cache s) _)
+      go false false true = guarded-within _ (question-within _ _ (scheme s) (database s) (cache s) _)
+      go false false false = guarded-within _ (query-within _ _ (scheme s) (database s) (cache s) _ refl refl)
+
+  -- the command at place i
+  command-within : (j : ℕ) → Here (carried s words script i j (commandAt script i) .answer)
+  unfolding commandAt operandsAt designCommandAt carried operated hasLists shown
+  command-within j =
+      let b = byteAt script i in
+      go (leb (length script) i) (eqb (widthOf b) 0) (ltb (length script - i) (widthOf b)) (ltb b 0x10)
+      (eqb b 0x01) (eqb b 0x02) (eqb b 0x03) (eqb b 0x04) _ _ _ _ _ (operation-within b)
+    where
+      go : (x y z k p q r t : Bool) (a : State-table.Table) (c : State-constraint.Constraint) (f : State-filling.Filling) (m : ℕ) (op : Operation) →
+          Here (answerAt s (operationOf op (length words))) →
+          Here (carried s words script i j (cond x Short (cond y Unknown (cond z Short
+          (cond k (cond p (Table a) (cond q (Constraint c) (cond r (Filling f) (cond t (Row m) End)))) (Operate op))))) .answer)
+      go true y z k p q r t a c f m op h = λ e. clash e refl
+      go false true z k p q r t a c f m op h = λ e. clash e refl
+      go false false true k p q r t a c f m op h = λ e. clash e refl
+      go false false false true true q r t a c f m op h = λ e. clash e refl
+      go false false false true false true r t a c f m op h = λ e. clash e refl
+      go false false false true false false true t a c f m op h = λ e. clash e refl
+      go false false false true false false false true a c f m op h = λ e. clash e refl
+      go false false false true false false false false a c f m op h = λ e. clash e refl
+      go false false false false p q r t a c f m op h = h
+
+  pub step-within : Within (positionsAt script i) (length words) (stepAt s words script i .answer)
+  unfolding hasLists shown
+  step-within = step-by s words script i (λ (r : Stepped). Here (r .answer)) (λ n h. clash h refl) (λ _. command-within (i + widthOf (byteAt script i)))

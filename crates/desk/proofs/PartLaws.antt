@@ -14,7 +14,7 @@ use Rattle.finite.proofs.Writing.{wrote-long}
 use Rattle.state.specs.declared.design.Design.{Design}
 use Rattle.state.specs.declared.held.Held.{Held}
 use Rattle.state.specs.Held.{noneHeld}
-use Rattle.state.specs.Step.{State, lent, sound}
+use Rattle.state.specs.Lent.{State, lent, sound}
 use Rattle.lawful.proofs.RowsLaws.{Stored}
 use Rattle.format.specs.declared.verdict.Verdict.{Verdict}
 use Rattle.format.specs.declared.verdict.Verdict.the-variants.{Accepted, Refused}
@@ -130,7 +130,7 @@ continues script s words from p o o′ m w q a n e z r l f =
       part = record {
         fits = omega (arith, wrote-long o o′ 0 (q .end) _ wrote);
         whole = (λ x. cond (sym e x) (textAt script s words (sym n x) (sym a x)) []) ∙ r .whole ∙
-            ap (λ (t : List ℕ). t ++ restOf script (stateWith s m q) w q) (sym (front o o′ (q .end) (r .part) wrote l));
+            ap (λ (t : List ℕ). t ++ restOf script (stateWith s m (q .held)) w q) (sym (front o o′ (q .end) (r .part) wrote l));
       };
       ready = λ h. record { sound = r .sound; at = f h .1; number = f h .2 };
       on = λ h. omega (arith, a, f h .0);
@@ -176,7 +176,7 @@ module _ (script : List ℕ) (s : State) (words : List ℕ) (p : Progress) (out 
     counted e = omega (arith, long, sum ∙ cond-true (h′ .well) _ _ e)
 
     pub standing-next : h′ .well ≡ true → p .more ≡ true → (o m w : List ℕ) (q : Progress) → Continues script s words p o m w q → length o ≡ 65536 →
-        Standing script (stateWith s m q) w q o (h′ .bytes)
+        Standing script (stateWith s m (q .held)) w q o (h′ .bytes)
     standing-next t e o m w q f l =
         record {
           within = omega (arith, counted t, reached);

@@ -4,7 +4,7 @@ use mathlib.Core.Path.{_≡_, refl}
 use mathlib.Core.Bool.{true}
 use mathlib.Core.List.{List, []}
 use Rattle.state.specs.Held.{noneHeld}
-use Rattle.state.specs.Step.{lent, sound}
+use Rattle.state.specs.Lent.{lent, sound}
 use Rattle.lawful.proofs.RowsLaws.{Stored}
 use Rattle.format.specs.declared.verdict.Verdict.the-variants.{Accepted}
 use Rattle.format.specs.declared.verdict.DesignReading.{DesignReading}

@@ -5,105 +5,97 @@ use mathlib.Core.Path.{_≡_, refl, sym, ap, subst, _∙_}
 use mathlib.Core.Bool.{Bool, true, false, cond, _&&_}
 use mathlib.Core.List.{List, [], _∷_, _++_, append-assoc}
 use mathlib.Core.Logic.{⊎-elim}
-use denote.Enum.Declared.{tagOf}
-use types.Run.{OneOf}
 use borrow.Author.Tests.{leb-true, leb-false, le-leb, lt-leb, ltb-true, ltb-false}
 use lib.Dec.{leb, ltb}
-use lib.ListN.{length, getD}
+use lib.ListN.{length, getD, take}
 use Rattle.finite.specs.Writing.{Wrote}
 use Rattle.finite.proofs.Bools.{dec, clash, cond-true, cond-false}
-use Rattle.finite.proofs.Writing.{wrote-none, wrote-then}
-use Rattle.state.specs.declared.answer.Answer.{Answer}
-use Rattle.state.specs.declared.answer.Answer.the-variants.{Loaded, Held, NoCandidate, Dropped, Ground, Sent, Lists, Refused}
-use Rattle.state.proofs.answer.Answer.{the-type}
-use Rattle.state.specs.Meaning.{answerOf}
-use Rattle.state.specs.Step.{State, lent, sound}
+use Rattle.finite.proofs.Writing.{wrote-none, wrote-then, wrote-as}
+use Rattle.model.specs.Answers as Model
+use Rattle.model.specs.Answers.{Answer, shown, hasLists}
+use Rattle.state.specs.declared.answer.Shown.{Shown}
+use Rattle.state.specs.Meaning.{answerOf, shownOf}
+use Rattle.state.specs.Lent.{State, lent, sound}
 use Rattle.report.specs.Report.{commandLine, listLines}
 use Rattle.report.proofs.Lengths.{list-lines-reach}
 use Rattle.script.specs.declared.outcome.Step.{Step}
-use Rattle.script.specs.Step.{Stepped, stepAt, stateAfterStep, Does}
-use Rattle.script.proofs.StepLaws.{step-on}
+use Rattle.script.specs.Step.{Stepped, stepAt, Does}
+use Rattle.script.proofs.StepLaws.{step-on, step-sound}
 use Rattle.desk.specs.declared.reporting.Progress.{Progress}
-use Rattle.desk.specs.Printed.{codeOf, listsText, positionsAt, stepText, textFrom, textAt, restOf, stateWith, Printed}
-use Rattle.desk.proofs.ListsFit.{lists-fit}
+use Rattle.desk.specs.Printed.{listsIn, listsText, positionsAt, stepText, textFrom, textAt, restOf, stateWith, Printed}
+use Rattle.desk.proofs.ListsFit.{Within, step-within}
 
 -- ---- answers
 
--- the code's answer is the model's
-pub code-back : (a : Answer) → codeOf (answerOf a) ≡ a
-code-back (Loaded m n) = refl
-code-back Held = refl
-code-back NoCandidate = refl
-code-back (Dropped n) = refl
-code-back (Ground g) = refl
-code-back Sent = refl
-code-back (Lists n) = refl
-code-back (Refused n) = refl
+-- the first number of an answer: where there is none, and where there is one
+module _ (s : Shown) where
+  abbrev firstOf : ℕ → ℕ
+  firstOf n = getD (take n (s .first ∷ s .second ∷ [])) 0 0
 
-none-of : OneOf (0 ∷ 1 ∷ 2 ∷ 3 ∷ 4 ∷ 5 ∷ 7 ∷ []) 6 → ⊥
-none-of =
-    ⊎-elim (λ z. omega arith) (⊎-elim (λ z. omega arith) (⊎-elim (λ z. omega arith) (⊎-elim (λ z. omega arith)
-    (⊎-elim (λ z. omega arith) (⊎-elim (λ z. omega arith) (λ z. omega arith))))))
+  pub number-none : s .numbers ≡ 0 → 0 ≡ firstOf (s .numbers)
+  number-none e = sym (ap firstOf e)
 
--- any other answer has no lists
-pub no-lists : (a : Answer) (words : List ℕ) (p : ℕ) → OneOf (0 ∷ 1 ∷ 2 ∷ 3 ∷ 4 ∷ 5 ∷ 7 ∷ []) (tagOf the-type a) → [] ≡ listsText a words p
-unfolding listsText
-no-lists (Loaded m n) words p e = refl
-no-lists Held words p e = refl
-no-lists NoCandidate words p e = refl
-no-lists (Dropped n) words p e = refl
-no-lists (Ground n) words p e = refl
-no-lists Sent words p e = refl
-no-lists (Lists n) words p e = absurd (none-of e)
-no-lists (Refused n) words p e = refl
+  pub number-first : (s .numbers ≡ 0 → ⊥) → s .first ≡ firstOf (s .numbers)
+  number-first = go (s .numbers)
+    where
+      go : (n : ℕ) → (n ≡ 0 → ⊥) → s .first ≡ firstOf n
+      go zero h = absurd (h refl)
+      go (suc n) h = refl
 
-pub these-lists : {o o′ : List ℕ} {k z : ℕ} (a : Answer) (words : List ℕ) (n p : ℕ) → a ≡ Lists n → Wrote o o′ k z (listLines words n p) →
-    Wrote o o′ k z (listsText a words p)
-unfolding listsText
-these-lists {o} {o′} {k} {z} a words n p e w = subst (λ (b : Answer). Wrote o o′ k z (listsText b words p)) (sym e) w
+-- what is shown of the answer a is s: the first number is that of its lists
+pub number-lists : (s : Shown) (a : Answer) (n : ℕ) → n ≡ getD (shownOf s .numbers) 0 0 → shownOf s ≡ shown a → n ≡ listsIn a
+number-lists s a n e f = e ∙ ap (λ (x : Model.Shown). getD (x .numbers) 0 0) f
 
-pub none-written : {o : List ℕ} {k : ℕ} (t : List ℕ) → [] ≡ t → Wrote o o k k t
-none-written {o} {k} t e = subst (λ (l : List ℕ). Wrote o o k k l) e (wrote-none o k)
+module _ (a : Answer) (words : List ℕ) (p : ℕ) where
+  -- an answer without lists, and one with lists
+  pub no-lists : (o : List ℕ) (k : ℕ) → hasLists a ≡ false → Wrote o o k k (listsText a words p)
+  unfolding listsText
+  no-lists o k e = wrote-as o o k k k [] _ refl (sym (cond-false (hasLists a) _ _ e)) (wrote-none o k)
+
+  module _ (o o′ : List ℕ) (k z : ℕ) where
+    pub these-lists : hasLists a ≡ true → (n : ℕ) → n ≡ listsIn a → Wrote o o′ k z (listLines words n p) → Wrote o o′ k z (listsText a words p)
+    unfolding listsText
+    these-lists e n f = wrote-as o o′ k z z _ _ refl (ap (λ (m : ℕ). listLines words m p) f ∙ sym (cond-true (hasLists a) _ _ e))
+
+    -- how far the lists reach, where they have 4,096 words at most
+    pub lists-reach : ((i : ℕ) → getD words i 0 < 2 ^ 32) → 1 ≤ p → (hasLists a ≡ true → listsIn a * p ≤ 4096) → Wrote o o′ k z (listsText a words p) →
+        z ≤ k + 45056
+    unfolding listsText
+    lists-reach small h few w =
+        ⊎-elim
+        (λ (e : hasLists a ≡ true).
+        let r = list-lines-reach o o′ k z words small (listsIn a) p h (wrote-as o o′ k z z _ _ refl (cond-true (hasLists a) _ _ e) w) in
+        omega (arith, r, few e))
+        (λ (e : hasLists a ≡ false). let r = wrote-as o o′ k z z _ [] refl (cond-false (hasLists a) _ _ e) w in omega (arith, r .next))
+        (dec (hasLists a))
 
 -- another way to say how many positions there are
 pub lists-at : {o o′ : List ℕ} {k z : ℕ} (a : Answer) (words : List ℕ) (p p′ : ℕ) → p ≡ p′ → Wrote o o′ k z (listsText a words p) → Wrote o o′ k z (listsText a words p′)
 lists-at {o} {o′} {k} {z} a words p p′ e w = subst (λ (n : ℕ). Wrote o o′ k z (listsText a words n)) e w
 
--- how far an answer's lists reach, where they have 4,096 words at most
-pub lists-reach : (o o′ : List ℕ) (k z : ℕ) (a : Answer) (words : List ℕ) (p : ℕ) → ((i : ℕ) → getD words i 0 < 2 ^ 32) → 1 ≤ p →
-    ((n : ℕ) → a ≡ Lists n → n * p ≤ 4096) → Wrote o o′ k z (listsText a words p) → z ≤ k + 45056
-unfolding listsText
-lists-reach o o′ k z (Lists n) words p small h few w = omega (arith, list-lines-reach o o′ k z words small n p h w, few n refl)
-lists-reach o o′ k z (Loaded m n) words p small h few w = omega (arith, w .next)
-lists-reach o o′ k z Held words p small h few w = omega (arith, w .next)
-lists-reach o o′ k z NoCandidate words p small h few w = omega (arith, w .next)
-lists-reach o o′ k z (Dropped n) words p small h few w = omega (arith, w .next)
-lists-reach o o′ k z (Ground n) words p small h few w = omega (arith, w .next)
-lists-reach o o′ k z Sent words p small h few w = omega (arith, w .next)
-lists-reach o o′ k z (Refused n) words p small h few w = omega (arith, w .next)
-
 -- ---- the lines from a place on
 
 -- what follows a step, with n more commands at the most
-abbrev textThen : ℕ → List ℕ → State → ℕ → Stepped → List ℕ
-textThen n script s number r = cond (r .more) (textFrom n script (stateAfterStep s r) (r .words) (number + 1) (r .next)) []
+abbrev textThen : ℕ → List ℕ → ℕ → Stepped → List ℕ
+textThen n script number r = cond (r .more) (textFrom n script (r .state) (r .words) (number + 1) (r .next)) []
 
 module _ (script : List ℕ) (s : State) (words : List ℕ) (number i : ℕ) where
-  text-past : (n : ℕ) → length script ≤ i → textFrom n script s words number i ≡ []
+  -- no lines stand past the script's end
+  pub text-past : (n : ℕ) → length script ≤ i → textFrom n script s words number i ≡ []
   unfolding textFrom
   text-past zero l = refl
   text-past (suc n) l = cond-true (leb (length script) i) _ _ (le-leb _ _ l)
 
   text-step : (n : ℕ) → i < length script →
-      textFrom (suc n) script s words number i ≡ stepText script i number (stepAt s words script i) ++ textThen n script s number (stepAt s words script i)
+      textFrom (suc n) script s words number i ≡ stepText script i number (stepAt s words script i) ++ textThen n script number (stepAt s words script i)
   unfolding textFrom
   text-step n l = cond-false (leb (length script) i) _ _ (lt-leb _ _ l)
 
 module _ (script : List ℕ) where
-  then-same : (n m : ℕ) (s : State) (number : ℕ) (r : Stepped) →
-      (r .more ≡ true → textFrom n script (stateAfterStep s r) (r .words) (number + 1) (r .next) ≡ textFrom m script (stateAfterStep s r) (r .words) (number + 1) (r .next)) →
-      textThen n script s number r ≡ textThen m script s number r
-  then-same n m s number r f =
+  then-same : (n m number : ℕ) (r : Stepped) →
+      (r .more ≡ true → textFrom n script (r .state) (r .words) (number + 1) (r .next) ≡ textFrom m script (r .state) (r .words) (number + 1) (r .next)) →
+      textThen n script number r ≡ textThen m script number r
+  then-same n m number r f =
       ⊎-elim (λ (q : r .more ≡ true). cond-true (r .more) _ _ q ∙ f q ∙ sym (cond-true (r .more) _ _ q))
       (λ (q : r .more ≡ false). cond-false (r .more) _ _ q ∙ sym (cond-false (r .more) _ _ q))
       (dec (r .more))
@@ -119,7 +111,7 @@ module _ (script : List ℕ) where
       (λ (q : leb (length script) i ≡ false). let l = leb-false (length script) i q in let r = stepAt s words script i in
       text-step script s words number i n l ∙
       ap (λ (t : List ℕ). stepText script i number r ++ t)
-      (then-same n m s number r (λ e. let g = step-on s words script i e in text-fuel n m (stateAfterStep s r) (r .words) (number + 1) (r .next) (omega arith) (omega arith))) ∙
+      (then-same n m number r (λ e. let g = step-on s words script i e in text-fuel n m (r .state) (r .words) (number + 1) (r .next) (omega arith) (omega arith))) ∙
       sym (text-step script s words number i m l))
       (dec (leb (length script) i))
 
@@ -130,51 +122,56 @@ module _ (script : List ℕ) (s : State) (words : List ℕ) (p : Progress) (more
   abbrev r : Stepped
   r = stepAt s words script (p .at)
 
-  turn : restOf script s words p ≡ stepText script (p .at) (p .number) r ++ textThen (length script) script s (p .number) r
+  turn : restOf script s words p ≡ stepText script (p .at) (p .number) r ++ textThen (length script) script (p .number) r
   unfolding restOf
   turn =
       cond-true (p .more) _ _ more ∙ text-fuel script (length script) (suc (length script)) s words (p .number) (p .at) (omega arith) (omega arith) ∙
       text-step script s words (p .number) (p .at) (length script) below
 
-  module _ (t : Step) (m w : List ℕ) (d : Does r t m w) (q : Progress) (at : q .at ≡ t .next) (number : q .number ≡ p .number + 1)
+  module _ (t : Step) (m w : List ℕ) (d : Does r t (stateWith s m (t .held)) w) (q : Progress) (at : q .at ≡ t .next) (number : q .number ≡ p .number + 1)
       (on : q .more ≡ (t .more && ltb (t .next) (length script))) (held : q .held ≡ t .held) where
     -- the code's state and words are the step's
-    then-code : textThen (length script) script s (p .number) r ≡ cond (t .more) (textAt script (stateWith s m q) w (q .number) (q .at)) []
-    then-code =
-        sym (λ x. cond (d .more x) (textAt script (lent (s .design) (s .cells) (s .tables) (d .marks x) ((held ∙ d .held) x)) (d .words x) (number x) ((at ∙ d .next) x)) [])
+    state-code : stateWith s m (q .held) ≡ r .state
+    state-code = ap (stateWith s m) held ∙ d .state
+
+    then-code : textThen (length script) script (p .number) r ≡ cond (t .more) (textAt script (stateWith s m (q .held)) w (q .number) (q .at)) []
+    then-code = sym (λ x. cond (d .more x) (textAt script (state-code x) (d .words x) (number x) ((at ∙ d .next) x)) [])
 
     rest-code : (a b : Bool) → t .more ≡ a → ltb (t .next) (length script) ≡ b →
-        cond (t .more) (textAt script (stateWith s m q) w (q .number) (q .at)) [] ≡ restOf script (stateWith s m q) w q
+        cond (t .more) (textAt script (stateWith s m (q .held)) w (q .number) (q .at)) [] ≡ restOf script (stateWith s m (q .held)) w q
     unfolding restOf
     rest-code true true e f =
         cond-true (t .more) _ _ e ∙ sym (cond-true (q .more) _ _ (on ∙ ap (λ (b : Bool). b && ltb (t .next) (length script)) e ∙ f))
     rest-code true false e f =
         cond-true (t .more) _ _ e ∙
-        text-past script (stateWith s m q) w (q .number) (q .at) (length script) (omega (arith, at, ltb-false (t .next) (length script) f)) ∙
+        text-past script (stateWith s m (q .held)) w (q .number) (q .at) (length script) (omega (arith, at, ltb-false (t .next) (length script) f)) ∙
         sym (cond-false (q .more) _ _ (on ∙ ap (λ (b : Bool). b && ltb (t .next) (length script)) e ∙ f))
     rest-code false b e f = cond-false (t .more) _ _ e ∙ sym (cond-false (q .more) _ _ (on ∙ ap (λ (b : Bool). b && ltb (t .next) (length script)) e))
 
-    line-code : stepText script (p .at) (p .number) r ≡ commandLine (p .number) (t .answer) (t .place) ++ listsText (t .answer) w (positionsAt script (p .at))
+    -- the step's lines
+    abbrev lines : List ℕ
+    lines = commandLine (p .number) (answerOf (t .answer)) (t .place) ++ listsText (answerOf (t .answer)) w (positionsAt script (p .at))
+
+    line-code : stepText script (p .at) (p .number) r ≡ lines
     unfolding stepText
     line-code =
-        let a : codeOf (r .answer) ≡ t .answer = ap codeOf (sym (d .answer)) ∙ code-back (t .answer) in
-        λ x. commandLine (p .number) (a x) (sym (d .place) x) ++ listsText (a x) (sym (d .words) x) (positionsAt script (p .at))
+        sym (λ x. commandLine (p .number) (d .answer x) (d .place x) ++ listsText (d .answer x) (d .words x) (positionsAt script (p .at)))
 
-    -- the step's lines, and the rest
-    pub step-printed : (o o′ o″ : List ℕ) (z : ℕ) → Wrote o o′ (p .end) z (commandLine (p .number) (t .answer) (t .place)) →
-        Wrote o′ o″ z (q .end) (listsText (t .answer) w (positionsAt script (p .at))) → sound (stateWith s m q) ≡ true → Printed script s words p o o″ m w q
+    -- and the rest
+    pub step-printed : (o o′ o″ : List ℕ) (z : ℕ) → Wrote o o′ (p .end) z (commandLine (p .number) (answerOf (t .answer)) (t .place)) →
+        Wrote o′ o″ z (q .end) (listsText (answerOf (t .answer)) w (positionsAt script (p .at))) → sound s ≡ true → Printed script s words p o o″ m w q
     step-printed o o′ o″ z a b e =
         record {
-          part = commandLine (p .number) (t .answer) (t .place) ++ listsText (t .answer) w (positionsAt script (p .at));
+          part = lines;
           wrote = wrote-then o o′ o″ (p .end) z (q .end) _ _ a b;
           whole = turn ∙ (λ x. line-code x ++ (then-code ∙ rest-code (t .more) (ltb (t .next) (length script)) refl refl) x);
-          sound = e;
+          sound = ap sound state-code ∙ step-sound s words script (p .at) e;
         }
 
   -- where a command follows, it stands further on, and its number has grown by one
-  pub step-next : (t : Step) (m w : List ℕ) → Does r t m w → (on : Bool) → on ≡ (t .more && ltb (t .next) (length script)) → on ≡ true → p .number ≤ p .at →
+  pub step-next : (t : Step) (s′ : State) (w : List ℕ) → Does r t s′ w → (on : Bool) → on ≡ (t .more && ltb (t .next) (length script)) → on ≡ true → p .number ≤ p .at →
       (p .at < t .next) × (t .next < length script) × (p .number + 1 ≤ t .next)
-  step-next t m w d on e h l = go (t .more) (ltb (t .next) (length script)) refl refl
+  step-next t s′ w d on e h l = go (t .more) (ltb (t .next) (length script)) refl refl
     where
       go : (a b : Bool) → t .more ≡ a → ltb (t .next) (length script) ≡ b → (p .at < t .next) × (t .next < length script) × (p .number + 1 ≤ t .next)
       go true true f g =
@@ -184,12 +181,12 @@ module _ (script : List ℕ) (s : State) (words : List ℕ) (p : Progress) (more
       go false b f g = clash h (e ∙ ap (λ (b : Bool). b && ltb (t .next) (length script)) f)
 
   -- the lists of a step fit
-  pub code-fits : (t : Step) (m w : List ℕ) → Does r t m w → (n : ℕ) → t .answer ≡ Lists n → n * positionsAt script (p .at) ≤ length words
-  code-fits t m w d n e = lists-fit s words script (p .at) n (sym (d .answer) ∙ ap answerOf e)
+  pub step-fits : (t : Step) (s′ : State) (w : List ℕ) → Does r t s′ w → Within (positionsAt script (p .at)) (length words) (answerOf (t .answer))
+  step-fits t s′ w d = subst (Within (positionsAt script (p .at)) (length words)) (sym (d .answer)) (step-within s words script (p .at))
 
 -- ---- part behind part
 
-pub printed-none : (script : List ℕ) (s : State) (words : List ℕ) (p : Progress) (o : List ℕ) → sound (stateWith s (s .marks) p) ≡ true → s .held ≡ p .held →
+pub printed-none : (script : List ℕ) (s : State) (words : List ℕ) (p : Progress) (o : List ℕ) → sound (stateWith s (s .marks) (p .held)) ≡ true → s .held ≡ p .held →
     Printed script s words p o o (s .marks) words p
 printed-none script s words p o e h =
     record {
@@ -200,7 +197,7 @@ printed-none script s words p o e h =
     }
 
 pub printed-then : (script : List ℕ) (s : State) (words : List ℕ) (p : Progress) (o o′ m w : List ℕ) (q : Progress) (o″ m′ w′ : List ℕ) (z : Progress) →
-    Printed script s words p o o′ m w q → Printed script (stateWith s m q) w q o′ o″ m′ w′ z → Printed script s words p o o″ m′ w′ z
+    Printed script s words p o o′ m w q → Printed script (stateWith s m (q .held)) w q o′ o″ m′ w′ z → Printed script s words p o o″ m′ w′ z
 printed-then script s words p o o′ m w q o″ m′ w′ z a b =
     record {
       part = a .part ++ b .part;
@@ -212,11 +209,15 @@ printed-then script s words p o o′ m w q o″ m′ w′ z a b =
 -- ---- room
 
 -- n lists of p words fit the words and the buffer
-pub room-for : (n p p′ words words′ end z room : ℕ) → p ≡ p′ → n * p′ ≤ words → words ≤ words′ → words ≤ 4096 → z ≤ end + 71 → end + 45136 ≤ room →
+pub room-for : (n p p′ words words′ end z room : ℕ) → p ≡ p′ → n * p′ ≤ words → words ≤ words′ → words ≤ 4096 → z ≤ end + 97 → end + 45162 ≤ room →
     (n * p ≤ words′) × (z + 11 * (n * p) + 9 ≤ room)
 room-for n p p′ words words′ end z room e f l m a b =
     let g : n * p ≤ words = subst (λ (x : ℕ). n * x ≤ words) (sym e) f in
     (omega arith, omega arith)
+
+-- another way to say how many lists there are
+pub same-room : (n m p words end room : ℕ) → n ≡ m → (m * p ≤ words) × (end + 11 * (m * p) + 9 ≤ room) → (n * p ≤ words) × (end + 11 * (n * p) + 9 ≤ room)
+same-room n m p words end room e h = subst (λ (k : ℕ). (k * p ≤ words) × (end + 11 * (k * p) + 9 ≤ room)) (sym e) h
 
 -- ---- turns
 

@@ -1,27 +1,22 @@
 -- The parts of a report, one behind the other, are the report: it begins with the design's line and what is then still to be printed, each part is
 -- what was to be printed before what is left (`Printed .whole`), and where no command follows nothing is left. Assumes nothing.
-use Prim.Native.Nat.{ℕ, zero, suc, _≤_}
+use Prim.Native.Nat.{ℕ}
 use mathlib.Core.Path.{_≡_, refl, sym, ap, _∙_}
 use mathlib.Core.Bool.{Bool, true, false, cond}
 use mathlib.Core.List.{List, [], _++_}
 use mathlib.Core.Logic.{⊎-elim}
-use borrow.Author.Tests.{le-leb, ltb-false}
+use borrow.Author.Tests.{ltb-false}
 use lib.Dec.{ltb}
 use lib.ListN.{length}
 use Rattle.finite.proofs.Bools.{dec}
-use Rattle.state.specs.Step.{State}
+use Rattle.state.specs.Lent.{State}
 use Rattle.format.specs.Reading.{Draft}
 use Rattle.format.specs.Reading.DesignRead.{accepted}
 use Rattle.report.specs.Report.{designLine}
 use Rattle.script.specs.Runs.{Buffers, justRead}
 use Rattle.desk.specs.declared.reporting.Progress.{Progress}
-use Rattle.desk.specs.Printed.{textFrom, textAt, restOf, reportOf}
-
--- no lines stand past the script's end
-text-past : (n : ℕ) (script : List ℕ) (s : State) (words : List ℕ) (number i : ℕ) → length script ≤ i → textFrom n script s words number i ≡ []
-unfolding textFrom
-text-past zero script s words number i h = refl
-text-past (suc n) script s words number i h = rw (le-leb (length script) i h)
+use Rattle.desk.specs.Printed.{textAt, restOf, reportOf}
+use Rattle.desk.proofs.TextLaws.{text-past}
 
 -- THEOREM: the report of an accepted design is its line, and what is still to be printed at the place after its END
 pub report-begins : (script : List ℕ) (b : Buffers) (p : Draft) (i : ℕ) (q : Progress) → q .at ≡ i → q .number ≡ 0 → q .more ≡ ltb i (length script) →
@@ -37,7 +32,7 @@ report-begins script b p i q a n m = ap (λ (t : List ℕ). designLine (p .desig
     rest more number at a n m =
         ⊎-elim
         (λ (t : ltb i (length script) ≡ true). rw (m ∙ t, a, n))
-        (λ (f : ltb i (length script) ≡ false). rw (m ∙ f) (sym (text-past (length script) script _ _ 0 i (ltb-false i (length script) f))))
+        (λ (f : ltb i (length script) ≡ false). rw (m ∙ f) (sym (text-past script _ _ 0 i (length script) (ltb-false i (length script) f))))
         (dec (ltb i (length script)))
 
 -- THEOREM: where no command follows, nothing is left to be printed

@@ -8,7 +8,7 @@ use lib.ListN.{length, take, drop, replicate}
 use Rattle.finite.specs.Writing.{Wrote}
 use Rattle.state.specs.declared.design.Design.{Design}
 use Rattle.state.specs.Held.{noneHeld}
-use Rattle.state.specs.Step.{State, lent, sound}
+use Rattle.state.specs.Lent.{State, lent, sound}
 use Rattle.format.specs.declared.verdict.Verdict.{Verdict}
 use Rattle.format.specs.declared.verdict.Verdict.the-variants.{Accepted, Refused}
 use Rattle.report.specs.Report.{designLine, refusalLine}
@@ -63,8 +63,8 @@ pub record Begins (script : List ℕ) (b : Buffers) (cs ts ms o : List ℕ) (r :
 
 -- what `next_part` gives, from p to q: the buffer o has the next part. The marks m and the answer words w are those afterwards.
 pub record Continues (script : List ℕ) (s : State) (words : List ℕ) (p : Progress) (o m w : List ℕ) (q : Progress) : Type 0 where
-  pub part : Part (restOf script s words p) o (q .end) (restOf script (stateWith s m q) w q)
-  pub ready : q .more ≡ true → NextReady script (stateWith s m q) q
+  pub part : Part (restOf script s words p) o (q .end) (restOf script (stateWith s m (q .held)) w q)
+  pub ready : q .more ≡ true → NextReady script (stateWith s m (q .held)) q
   pub on : q .more ≡ true → p .at < q .at
 
 -- ---- the whole report of a script

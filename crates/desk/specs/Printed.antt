@@ -4,41 +4,26 @@ use mathlib.Core.Path.{_≡_}
 use mathlib.Core.Bool.{true, cond}
 use mathlib.Core.List.{List, [], _++_}
 use lib.Dec.{leb}
-use lib.ListN.{length}
+use lib.ListN.{length, getD}
 use Rattle.finite.specs.Writing.{Wrote}
-use Rattle.model.specs.Answers as Model
-use Rattle.state.specs.declared.answer.Answer.{Answer}
-use Rattle.state.specs.declared.answer.Answer.the-variants.{Loaded, Held, NoCandidate, Dropped, Ground, Sent, Lists, Refused}
-use Rattle.state.specs.Step.{State, lent, sound}
+use Rattle.model.specs.Answers.{Answer, shown, hasLists}
+use Rattle.state.specs.declared.held.Held.{Held}
+use Rattle.state.specs.Lent.{State, lent, sound}
 use Rattle.format.specs.Bytes.{byteAt}
 use Rattle.format.specs.Reading.{DesignRead}
 use Rattle.format.specs.Reading.DesignRead.{accepted, refusedAt}
 use Rattle.report.specs.Report.{commandLine, designLine, refusalLine, listLines}
-use Rattle.script.specs.Step.{Stepped, stepAt, stateAfterStep}
+use Rattle.script.specs.Step.{Stepped, stepAt}
 use Rattle.script.specs.Runs.{Buffers, justRead}
 use Rattle.desk.specs.declared.reporting.Progress.{Progress}
 
--- an answer of the model as the code has it: `answerOf` backwards
-abbrev pub codeOf : Model.Answer → Answer
-codeOf (Model.loaded rows rounds) = Loaded rows rounds
-codeOf Model.held = Held
-codeOf Model.noCandidate = NoCandidate
-codeOf (Model.dropped rows) = Dropped rows
-codeOf (Model.ground g) = Ground g
-codeOf Model.sent = Sent
-codeOf (Model.lists n) = Lists n
-codeOf (Model.refused n) = Refused n
+-- how many lists an answer has: the first number behind its word
+abbrev pub listsIn : Answer → ℕ
+listsIn a = getD (shown a .numbers) 0 0
 
--- "each list on a line after it": p row numbers to a list; nothing behind any other answer
+-- "each list on a line after it": p row numbers to a list; nothing behind an answer that has no lists
 unfoldable pub listsText : Answer → List ℕ → ℕ → List ℕ
-listsText (Lists n) words p = listLines words n p
-listsText (Loaded a b) words p = []
-listsText Held words p = []
-listsText NoCandidate words p = []
-listsText (Dropped n) words p = []
-listsText (Ground g) words p = []
-listsText Sent words p = []
-listsText (Refused n) words p = []
+listsText a words p = cond (hasLists a) (listLines words (listsIn a) p) []
 
 -- how many positions the QUERY at place i has: its joins, and position 0
 abbrev pub positionsAt : List ℕ → ℕ → ℕ
@@ -47,7 +32,7 @@ positionsAt script i = byteAt script (i + 7) + 1
 -- the lines of the command at place i
 unfoldable pub stepText : List ℕ → ℕ → ℕ → Stepped → List ℕ
 stepText script i number r =
-    commandLine number (codeOf (r .answer)) (r .place) ++ listsText (codeOf (r .answer)) (r .words) (positionsAt script i)
+    commandLine number (r .answer) (r .place) ++ listsText (r .answer) (r .words) (positionsAt script i)
 
 -- "for each command after END, a faulty one too": the lines from place i on, with n more commands at the most. "After 1 or 2 the program stops"
 unfoldable pub textFrom : ℕ → List ℕ → State → List ℕ → ℕ → ℕ → List ℕ
@@ -55,7 +40,7 @@ textFrom zero script s words number i = []
 textFrom (suc n) script s words number i =
     cond (leb (length script) i) []
     (let r = stepAt s words script i in
-    stepText script i number r ++ cond (r .more) (textFrom n script (stateAfterStep s r) (r .words) (number + 1) (r .next)) [])
+    stepText script i number r ++ cond (r .more) (textFrom n script (r .state) (r .words) (number + 1) (r .next)) [])
 
 -- a command takes at least one byte
 abbrev pub textAt : List ℕ → State → List ℕ → ℕ → ℕ → List ℕ
@@ -73,13 +58,13 @@ unfoldable pub restOf : List ℕ → State → List ℕ → Progress → List �
 restOf script s words p = cond (p .more) (textAt script s words (p .number) (p .at)) []
 
 -- the state with what an operation can change
-abbrev pub stateWith : State → List ℕ → Progress → State
-stateWith s marks p = lent (s .design) (s .cells) (s .tables) marks (p .held)
+abbrev pub stateWith : State → List ℕ → Held → State
+stateWith s marks h = lent (s .design) (s .cells) (s .tables) marks h
 
 -- The part of the report that was written into the buffer, o before and o′ after, between p and q: with what is left it is what was left before.
 -- The marks m and the answer words w are those afterwards.
 pub record Printed (script : List ℕ) (s : State) (words : List ℕ) (p : Progress) (o o′ m w : List ℕ) (q : Progress) : Type 0 where
   pub part : List ℕ
   pub wrote : Wrote o o′ (p .end) (q .end) part
-  pub whole : restOf script s words p ≡ part ++ restOf script (stateWith s m q) w q
-  pub sound : sound (stateWith s m q) ≡ true
+  pub whole : restOf script s words p ≡ part ++ restOf script (stateWith s m (q .held)) w q
+  pub sound : sound (stateWith s m (q .held)) ≡ true

@@ -5,7 +5,7 @@ ghost use mathlib.Core.Bool.{true};
 ghost use mathlib.Core.List.{List};
 ghost use mathlib.Core.Path.{_≡_};
 ghost use lib.ListN.{length};
-ghost use Rattle.state.specs.Step.{lent};
+ghost use Rattle.state.specs.Lent.{lent};
 ghost use Rattle.catalog.specs.Catalog.{Catalogued};
 ghost use Rattle.script.specs.Runs.{buffers};
 ghost use Rattle.desk.specs.Parts.{First, NextReady, Begins, Continues};

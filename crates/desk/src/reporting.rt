@@ -1,21 +1,25 @@
 // Steps of a script and their lines, part by part of the report: each part is written into a lent buffer, and with what is still to be printed it is
 // the report (specs/Printed.antt).
-ghost use Prim.Native.Nat.{ℕ, _+_, _*_, _≤_, _<_};
+ghost use Prim.Native.Nat.{_+_, _*_, _≤_, _<_};
 ghost use mathlib.Core.Path.{_≡_};
 ghost use mathlib.Core.Bool.{true, _&&_};
 ghost use lib.Dec.{ltb};
-ghost use lib.ListN.{length};
+ghost use lib.ListN.{length, getD};
 ghost use Rattle.finite.specs.Writing.{Wrote};
-ghost use Rattle.state.specs.declared.answer.Answer.the-variants as Answers;
-ghost use Rattle.state.specs.Step.{lent, sound};
+ghost use Rattle.model.specs.Answers.{hasLists};
+ghost use Rattle.state.specs.Meaning.{answerOf, shownOf};
+ghost use Rattle.state.specs.Lent.{lent, sound};
 ghost use Rattle.catalog.specs.Catalog.{Catalogued};
-ghost use Rattle.desk.specs.Printed.{listsText, positionsAt, Printed};
+ghost use Rattle.desk.specs.Printed.{listsIn, listsText, positionsAt, Printed};
 use report::put_command_line;
 use report::put_list_lines;
 use script::step_lawful;
 use state::Answer;
 use state::Design;
 use state::Held;
+use state::Shown;
+use state::has_lists;
+use state::show;
 
 // How far the desk has come: the place of the next command and its number, whether there is one, the held values, and where the buffer's text ends.
 pub struct Progress {
@@ -37,16 +41,27 @@ fn positions_at(script: &[u8], at: usize) -> usize
     script[at + 7] as usize + 1
 }
 
+// The first number behind an answer's word; 0 where there is none. Constant time.
+fn first_number(shown: Shown) -> u64
+    ensures { λ n. ⌜ n ≡ getD (shownOf shown .numbers) 0 0 ⌝ }
+{
+    if shown.numbers == 0 {
+        return 0;
+    }
+    shown.first
+}
+
 // Writes the lists that go with an answer, p row numbers to a line. At most 11 bytes for each number.
 fn put_lists(out: &mut [u8], at: usize, answer: Answer, words: &[u32], p: usize) -> usize
-    requires { ⌜ (1 ≤ p) × ((n : ℕ) → answer ≡ Answers.Lists n → (n * p ≤ length (now words))
-        × (at + 11 * (n * p) + 9 ≤ length (now out))) ⌝ }
-    ensures { λ z. ⌜ Wrote (now (out .entry)) (now (out .exit)) at z (listsText answer (now (words .entry)) p) ⌝ }
+    requires { ⌜ (1 ≤ p) × (hasLists (answerOf answer) ≡ true → (listsIn (answerOf answer) * p ≤ length (now words))
+        × (at + 11 * (listsIn (answerOf answer) * p) + 9 ≤ length (now out))) ⌝ }
+    ensures { λ z. ⌜ Wrote (now (out .entry)) (now (out .exit)) at z (listsText (answerOf answer) (now (words .entry)) p) ⌝ }
 {
-    let Answer::Lists(n) = answer else {
+    if !has_lists(answer) {
         return at;
-    };
-    put_list_lines(out, at, words, n, p)
+    }
+    let n = first_number(show(answer));
+    put_list_lines(out, at, words, n as usize, p)
 }
 
 // Whether a command follows, at place `after`. Constant time.
@@ -59,7 +74,7 @@ fn goes_on(script: &[u8], more: bool, after: usize) -> bool
     after < script.len()
 }
 
-// One step, and its lines: at most 71 bytes, and 11 for each of 4,096 words; there must be 9 more. The cost of the operation, and of its lines.
+// One step, and its lines: at most 97 bytes, and 11 for each of 4,096 words; there must be 9 more. The cost of the operation, and of its lines.
 fn report_step(
     script: &[u8],
     from: Progress,
@@ -82,10 +97,10 @@ fn report_step(
     requires { ⌜ (sound (lent design (now cells) (now tables) (now marks) (from .held)) ≡ true)
         × Catalogued design (now cells) (now tables) (now next) (now first) (now keys) (now heads) (now starts) ⌝ }
     requires { ⌜ (from .more ≡ true) × (from .at < length (now script)) × (from .number ≤ from .at) × (length (now words) ≤ 4096)
-        × (from .end + 45136 ≤ length (now out)) ⌝ }
+        × (from .end + 45162 ≤ length (now out)) ⌝ }
     ensures { λ q. ⌜ Printed (now (script .entry)) (lent design (now (cells .entry)) (now (tables .entry)) (now (marks .entry)) (from .held))
         (now (words .entry)) from (now (out .entry)) (now (out .exit)) (now (marks .exit)) (now (words .exit)) q ⌝ }
-    ensures { λ q. ⌜ (q .end ≤ from .end + 45127)
+    ensures { λ q. ⌜ (q .end ≤ from .end + 45153)
         × (q .more ≡ true → (from .at < q .at) × (q .at < length (now (script .entry))) × (q .number ≤ q .at)) ⌝ }
 {
     let at = from.at;

@@ -12,10 +12,7 @@ use Rattle.finite.proofs.Bools.{dec}
 use Rattle.model.specs.Scheme.{ColumnOf}
 use Rattle.state.specs.declared.design.Table.{Table}
 use Rattle.state.specs.declared.design.Column.{Column}
-use Rattle.state.specs.declared.design.Constraint.{Constraint}
-use Rattle.state.specs.declared.design.Filling.{Filling}
 use Rattle.state.specs.declared.design.Design.{Design}
-use Rattle.state.specs.declared.held.HeldValue.{HeldValue}
 use Rattle.state.specs.declared.held.Held.{Held}
 use Rattle.state.specs.Design.{noTable, noConstraint, noFilling, tableAt, constraintAt, fillingAt}
 use Rattle.state.specs.Held.{noValue, heldAt}
@@ -24,7 +21,7 @@ use Rattle.state.specs.Lawful.{lawfulDesign, lawfulHeld}
 use Rattle.lawful.specs.LawfulState.{LawfulTable, LawfulDesign}
 use Rattle.lawful.proofs.DesignLaws.{design-says}
 use Rattle.lawful.proofs.HeldLaws.{held-says}
-use Rattle.foreign.proofs.WordLaws.{NarrowTable, NarrowColumn, NarrowDesign}
+use Rattle.foreign.proofs.WordLaws.{NarrowTable, NarrowColumn, NarrowConstraint, NarrowFilling, NarrowValue, NarrowDesign}
 
 -- what holds of every place: it holds of the first m, and the rest are e
 in-places : {A : Type 0} (f : ℕ → A) (e : A) (n m : ℕ) (P : A → Type 0) → ((i : ℕ) → i < m → P (f i)) → ((i : ℕ) → i < n → m ≤ i → f i ≡ e) → P e →
@@ -46,19 +43,17 @@ narrow-design d e =
     record {
       table =
           in-places (tableAt d) noTable 8 (d .tables) NarrowTable (λ i l. narrow-table _ (w .table i l)) (w .tableRest) (omega arith, omega arith);
-      source =
-          in-places (constraintAt d) noConstraint 16 (d .constraints) (λ (c : Constraint). NarrowColumn (c .source))
-          (λ i l. narrow-column d w _ (w .constraint i l .source)) (w .constraintRest) (omega arith, omega arith);
-      target =
-          in-places (constraintAt d) noConstraint 16 (d .constraints) (λ (c : Constraint). NarrowColumn (c .target))
-          (λ i l. narrow-column d w _ (w .constraint i l .target)) (w .constraintRest) (omega arith, omega arith);
-      column =
-          in-places (fillingAt d) noFilling 8 (d .fillings) (λ (f : Filling). NarrowColumn (f .column))
+      constraint =
+          in-places (constraintAt d) noConstraint 16 (d .constraints) NarrowConstraint
+          (λ i l. (narrow-column d w _ (w .constraint i l .source), narrow-column d w _ (w .constraint i l .target))) (w .constraintRest)
+          ((omega arith, omega arith), (omega arith, omega arith));
+      filling =
+          in-places (fillingAt d) noFilling 8 (d .fillings) NarrowFilling
           (λ i l. narrow-column d w _ (w .filling i l .column)) (w .fillingRest) (omega arith, omega arith);
     }
 
-pub narrow-held : (d : Design) (h : Held) → lawfulDesign d ≡ true → lawfulHeld d h ≡ true → (i : ℕ) → i < 64 → heldAt h i .filling < 256
+pub narrow-held : (d : Design) (h : Held) → lawfulDesign d ≡ true → lawfulHeld d h ≡ true → (i : ℕ) → i < 64 → NarrowValue (heldAt h i)
 narrow-held d h e f =
     let w = held-says d h e f in let v = design-says d e in
-    in-places (heldAt h) noValue 64 (h .count) (λ (x : HeldValue). x .filling < 256)
+    in-places (heldAt h) noValue 64 (h .count) NarrowValue
     (λ i l. omega (arith, w .pair i l .filling, v .fillings)) (w .rest) (omega arith)

@@ -1,5 +1,5 @@
 -- What opening leaves with number 0 is ready for a step: the words stand for the design just read and for no held values, that state is sound, and the
--- arrays have the catalog of its rows. -- Assumes nothing.
+-- arrays have the catalog of its rows. Assumes nothing.
 use Prim.Native.Nat.{ℕ, zero, suc, _+_, _<_}
 use native.Mathlib.Omega.{arith}
 use mathlib.Core.Path.{_≡_, refl, sym, ap, subst, _∙_}
@@ -12,35 +12,35 @@ use lib.Seq.{sets, length-sets}
 use Rattle.finite.proofs.Tables.{length-tab}
 use Rattle.state.specs.declared.design.Design.{Design}
 use Rattle.state.specs.Held.{noneHeld, noValue}
-use Rattle.state.specs.Step.{lent, sound, longEnough}
+use Rattle.state.specs.Lent.{lent, sound, longEnough}
 use Rattle.state.specs.Design.{emptyDesign}
 use Rattle.state.specs.Meaning.{schemeOf, databaseOf}
 use Rattle.state.specs.Lawful.{tableFits, constraintFits, fillingFits, rowFits, repeats}
 use Rattle.lawful.proofs.RowsLaws.{Stored}
-use Rattle.cache.proofs.SoundState.{parts}
+use Rattle.lawful.proofs.SoundState.{parts}
 use Rattle.format.specs.declared.command.Command as Commands
 use Rattle.format.specs.declared.command.Command.the-variants as C
 use Rattle.format.specs.Bytes.{byteAt}
 use Rattle.format.specs.Commands.{commandAt, widthOf}
-use Rattle.format.specs.Reading.{Draft, emptyDraft, DesignRead, Taken, unless, afterTables, afterConstraints, afterFillings, withRow, rowTaken}
-use Rattle.format.specs.Reading.{taken, readOn, readFrom, readDesign, readInto, mostBytes, cellsAfter, tablesAfter, marksAfter}
-use Rattle.format.specs.Reading.Taken.{on, complete, refused}
+use Rattle.format.specs.Reading.{Draft, emptyDraft, DesignRead, Advanced, refusedIf, afterTables, afterConstraints, afterFillings, withRow, rowAdvanced}
+use Rattle.format.specs.Reading.{advanced, readOn, readFrom, readDesign, readInto, mostBytes, cellsAfter, tablesAfter, marksAfter}
+use Rattle.format.specs.Reading.Advanced.{on, complete, refused}
 use Rattle.format.specs.Reading.DesignRead.{accepted, refusedAt}
 use Rattle.format.proofs.Small.{Small}
 use Rattle.script.specs.Runs.{buffers, justRead}
 use Rattle.script.proofs.JustRead.{Begun, begun}
 use Rattle.foreign.specs.Words.{designLength, heldLength, designWords, heldWords, wordsDesign, wordsHeld}
-use Rattle.foreign.specs.Calls.{opening, numberOf, designAfter, heldAfter, Opened, Arrays, CatalogIn, Catalogs, wordsState, Ready}
+use Rattle.foreign.specs.Calls.{opening, causeNumber, designWordsAfter, heldWordsAfter, Opened, Arrays, CatalogIn, Catalogs, wordsState, Ready}
 use Rattle.foreign.proofs.WordLaws.{design-stored, held-stored}
 use Rattle.foreign.proofs.Narrow.{narrow-design, narrow-held}
 use Rattle.foreign.proofs.Opening.{enough}
 
 -- ---- no cause has number 0
 
-abbrev causeTaken : Taken → Bool
-causeTaken (on p) = true
-causeTaken complete = true
-causeTaken (refused n) = ltb 0 n
+abbrev causeAdvanced : Advanced → Bool
+causeAdvanced (on p) = true
+causeAdvanced complete = true
+causeAdvanced (refused n) = ltb 0 n
 
 abbrev causeRead : DesignRead → Bool
 causeRead (accepted p i) = true
@@ -49,36 +49,33 @@ causeRead (refusedAt n i) = ltb 0 n
 cause : (n : ℕ) → 0 < n → ltb 0 n ≡ true
 cause n l = lt-ltb 0 n l
 
-unless-caused : (b : Bool) (n : ℕ) (t : Taken) → 0 < n → causeTaken t ≡ true → causeTaken (unless b n t) ≡ true
-unless-caused true n t l h = cause n l
-unless-caused false n t l h = h
+if-caused : (b : Bool) (n : ℕ) (t : Advanced) → 0 < n → causeAdvanced t ≡ true → causeAdvanced (refusedIf b n t) ≡ true
+if-caused true n t l h = cause n l
+if-caused false n t l h = h
 
-taken-caused : (p : Draft) (s : List ℕ) (i : ℕ) (c : Commands.Command) → causeTaken (taken p s i c) ≡ true
-unfolding taken rowTaken
-taken-caused p s i (C.Table t) =
-    unless-caused (afterTables (p .design)) 3 _ (omega arith) (unless-caused (leb 8 (p .design .tables)) 4 _ (omega arith)
-    (unless-caused (not (tableFits t)) 5 _ (omega arith) refl))
-taken-caused p s i (C.Constraint c) =
-    unless-caused (afterConstraints (p .design)) 3 _ (omega arith) (unless-caused (leb 16 (p .design .constraints)) 4 _ (omega arith)
-    (unless-caused (not (constraintFits (p .design) (p .design .constraints) c)) 5 _ (omega arith) refl))
-taken-caused p s i (C.Filling f) =
-    unless-caused (afterFillings (p .design)) 3 _ (omega arith) (unless-caused (leb 8 (p .design .fillings)) 4 _ (omega arith)
-    (unless-caused (not (fillingFits (p .design) (p .design .fillings) f)) 5 _ (omega arith) refl))
-taken-caused p s i (C.Row t) =
+advanced-caused : (p : Draft) (s : List ℕ) (i : ℕ) (c : Commands.Command) → causeAdvanced (advanced p s i c) ≡ true
+unfolding advanced rowAdvanced
+advanced-caused p s i (C.Table t) =
+    if-caused (afterTables (p .design)) 3 _ (omega arith) (if-caused (leb 8 (p .design .tables)) 4 _ (omega arith)
+    (if-caused (not (tableFits t)) 5 _ (omega arith) refl))
+advanced-caused p s i (C.Constraint c) =
+    if-caused (afterConstraints (p .design)) 3 _ (omega arith) (if-caused (leb 16 (p .design .constraints)) 4 _ (omega arith)
+    (if-caused (not (constraintFits (p .design) (p .design .constraints) c)) 5 _ (omega arith) refl))
+advanced-caused p s i (C.Filling f) =
+    if-caused (afterFillings (p .design)) 3 _ (omega arith) (if-caused (leb 8 (p .design .fillings)) 4 _ (omega arith)
+    (if-caused (not (fillingFits (p .design) (p .design .fillings) f)) 5 _ (omega arith) refl))
+advanced-caused p s i (C.Row t) =
     let q = withRow p s i t in let r = p .design .rows in
     let S = schemeOf (q .design) in let D = databaseOf (q .design .rows) (q .cells) (q .tables) in
-    unless-caused (leb 512 r) 4 _ (omega arith)
-    (unless-caused (not (rowFits S D r)) 5 _ (omega arith) (unless-caused (repeats S D r) 6 _ (omega arith) refl))
-taken-caused p s i C.End = refl
-taken-caused p s i (C.Refer f v) = cause 3 (omega arith)
-taken-caused p s i (C.Drop f v) = cause 3 (omega arith)
-taken-caused p s i (C.Probe k v) = cause 3 (omega arith)
-taken-caused p s i (C.Query k v n) = cause 3 (omega arith)
-taken-caused p s i C.Unknown = cause 2 (omega arith)
-taken-caused p s i C.Short = cause 1 (omega arith)
+    if-caused (leb 512 r) 4 _ (omega arith)
+    (if-caused (not (rowFits S D r)) 5 _ (omega arith) (if-caused (repeats S D r) 6 _ (omega arith) refl))
+advanced-caused p s i C.End = refl
+advanced-caused p s i (C.Operate o) = cause 3 (omega arith)
+advanced-caused p s i C.Unknown = cause 2 (omega arith)
+advanced-caused p s i C.Short = cause 1 (omega arith)
 
-on-caused : (go : Draft → ℕ → DesignRead) → ((q : Draft) (j : ℕ) → causeRead (go q j) ≡ true) → (p : Draft) (i w : ℕ) (t : Taken) →
-    causeTaken t ≡ true → causeRead (readOn go p i w t) ≡ true
+on-caused : (go : Draft → ℕ → DesignRead) → ((q : Draft) (j : ℕ) → causeRead (go q j) ≡ true) → (p : Draft) (i w : ℕ) (t : Advanced) →
+    causeAdvanced t ≡ true → causeRead (readOn go p i w t) ≡ true
 on-caused go g p i w (on q) h = g q (i + w)
 on-caused go g p i w complete h = refl
 on-caused go g p i w (refused n) h = h
@@ -87,7 +84,7 @@ from-caused : (n : ℕ) (s : List ℕ) (p : Draft) (i : ℕ) → causeRead (read
 unfolding readFrom
 from-caused zero s p i = cause 1 (omega arith)
 from-caused (suc n) s p i =
-    on-caused (readFrom n s) (from-caused n s) p i (widthOf (byteAt s i)) (taken p s i (commandAt s i)) (taken-caused p s i (commandAt s i))
+    on-caused (readFrom n s) (from-caused n s) p i (widthOf (byteAt s i)) (advanced p s i (commandAt s i)) (advanced-caused p s i (commandAt s i))
 
 cond-caused : (b : Bool) (v w : DesignRead) → causeRead v ≡ true → causeRead w ≡ true → causeRead (cond b v w) ≡ true
 cond-caused true v w h k = h
@@ -123,15 +120,15 @@ module _ (script cs ts ms ds hs : List ℕ) (n : ℕ) (cs′ ts′ ms′ ds′ h
       go : (w : DesignRead) → opening script cs ts ms ds hs ≡ w → Ready ds′ cs′ ts′ k′ ms′ hs′
       go (refusedAt c i) q =
           let l : 0 < c = ltb-true 0 c (sym (ap causeRead q) ∙ opening-caused script cs ts ms ds hs) in
-          let z : c ≡ 0 = sym (ap numberOf q) ∙ sym (o .number) ∙ e in
+          let z : c ≡ 0 = sym (ap causeNumber q) ∙ sym (o .number) ∙ e in
           absurd (omega (arith, l, z))
       go (accepted p i) q =
           let w = enough script cs ts ms ds hs p i q in
           let cells : cs′ ≡ cellsAfter (accepted p i) cs = o .cells ∙ ap (λ (v : DesignRead). cellsAfter v cs) q in
           let tables : ts′ ≡ tablesAfter (accepted p i) ts = o .tables ∙ ap (λ (v : DesignRead). tablesAfter v ts) q in
           let marks : ms′ ≡ marksAfter (accepted p i) ms = o .marks ∙ ap (λ (v : DesignRead). marksAfter v ms) q in
-          let design : ds′ ≡ sets ds 0 (designWords (p .design)) = o .design ∙ ap (λ (v : DesignRead). designAfter v ds) q in
-          let held : hs′ ≡ sets hs 0 (heldWords noneHeld) = o .held ∙ ap (λ (v : DesignRead). heldAfter v hs) q in
+          let design : ds′ ≡ sets ds 0 (designWords (p .design)) = o .design ∙ ap (λ (v : DesignRead). designWordsAfter v ds) q in
+          let held : hs′ ≡ sets hs 0 (heldWords noneHeld) = o .held ∙ ap (λ (v : DesignRead). heldWordsAfter v hs) q in
           let b : Begun (buffers cs ts ms []) p i = begun script small (buffers cs ts ms []) p i (w .2) (subst Stored cells stored) in
           let z = b .sizes in
           let d : wordsDesign ds′ ≡ p .design =

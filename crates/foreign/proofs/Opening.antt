@@ -13,20 +13,18 @@ use Rattle.finite.proofs.Bools.{dec, both, and-left, and-right, cond-true, cond
 use Rattle.state.specs.declared.held.Held.{Held}
 use Rattle.state.specs.declared.design.Design.{Design}
 use Rattle.state.specs.Held.{noneHeld}
-use Rattle.state.specs.Step.{lent}
 use Rattle.lawful.specs.LawfulState.{LawfulDesign}
 use Rattle.lawful.proofs.DesignLaws.{design-says}
-use Rattle.lawful.proofs.RowsLaws.{Stored}
-use Rattle.cache.proofs.SoundState.{parts}
 use Rattle.format.specs.declared.verdict.Verdict.the-variants.{Accepted, Refused}
 use Rattle.format.specs.declared.verdict.DesignReading.{DesignReading}
 use Rattle.format.specs.Reading.{Draft, DesignRead, readInto, verdictOf, designOf, cellsAfter, tablesAfter, marksAfter, Leaves}
 use Rattle.format.specs.Reading.DesignRead.{accepted, refusedAt}
 use Rattle.format.proofs.Small.{Small}
+use Rattle.format.proofs.RoundTrip.{accepted-lawful}
 use Rattle.script.specs.Runs.{buffers}
-use Rattle.script.proofs.RanLaws.{start-sound}
+use Rattle.script.proofs.JustRead.{into-parts}
 use Rattle.foreign.specs.Words.{designLength, heldLength, designWords, heldWords}
-use Rattle.foreign.specs.Calls.{opening, numberOf, designAfter, heldAfter, Opened, Arrays, CatalogIn, Catalogs}
+use Rattle.foreign.specs.Calls.{opening, causeNumber, designWordsAfter, heldWordsAfter, Opened, Arrays, CatalogIn, Catalogs}
 
 module _ (script cs ts ms ds hs : List ℕ) where
   abbrev long : Bool
@@ -38,12 +36,12 @@ module _ (script cs ts ms ds hs : List ℕ) where
   refused-7 e =
       let o = cond-false long (readInto script cs ts ms) (refusedAt 7 0) e in
       record {
-        number = sym (ap numberOf o);
+        number = sym (ap causeNumber o);
         cells = sym (ap (λ (w : DesignRead). cellsAfter w cs) o);
         tables = sym (ap (λ (w : DesignRead). tablesAfter w ts) o);
         marks = sym (ap (λ (w : DesignRead). marksAfter w ms) o);
-        design = sym (ap (λ (w : DesignRead). designAfter w ds) o);
-        held = sym (ap (λ (w : DesignRead). heldAfter w hs) o);
+        design = sym (ap (λ (w : DesignRead). designWordsAfter w ds) o);
+        held = sym (ap (λ (w : DesignRead). heldWordsAfter w hs) o);
       }
 
   kept-7 : long ≡ false → (k : Arrays) → Catalogs (opening script cs ts ms ds hs) cs ts k k
@@ -91,17 +89,17 @@ module _ (script cs ts ms ds hs : List ℕ) where
     unfolding opening
     opens = cond-true long (readInto script cs ts ms) (refusedAt 7 0) (both (le-leb _ _ a) (le-leb _ _ b))
 
-    leaves : (w : DesignRead) → readInto script cs ts ms ≡ w → (n : ℕ) (ds′ hs′ : List ℕ) → n ≡ numberOf w →
-        ds′ ≡ designAfter w ds → hs′ ≡ heldAfter w hs → Opened (opening script cs ts ms ds hs) n cs cs′ ts ts′ ms ms′ ds ds′ hs hs′
+    leaves : (w : DesignRead) → readInto script cs ts ms ≡ w → (n : ℕ) (ds′ hs′ : List ℕ) → n ≡ causeNumber w →
+        ds′ ≡ designWordsAfter w ds → hs′ ≡ heldWordsAfter w hs → Opened (opening script cs ts ms ds hs) n cs cs′ ts ts′ ms ms′ ds ds′ hs hs′
     leaves w e n ds′ hs′ x y z =
         let o = opens ∙ e in
         record {
-          number = x ∙ sym (ap numberOf o);
+          number = x ∙ sym (ap causeNumber o);
           cells = read .cells ∙ sym (ap (λ (v : DesignRead). cellsAfter v cs) opens);
           tables = read .tables ∙ sym (ap (λ (v : DesignRead). tablesAfter v ts) opens);
           marks = read .marks ∙ sym (ap (λ (v : DesignRead). marksAfter v ms) opens);
-          design = y ∙ sym (ap (λ (v : DesignRead). designAfter v ds) o);
-          held = z ∙ sym (ap (λ (v : DesignRead). heldAfter v hs) o);
+          design = y ∙ sym (ap (λ (v : DesignRead). designWordsAfter v ds) o);
+          held = z ∙ sym (ap (λ (v : DesignRead). heldWordsAfter v hs) o);
         }
 
     pub opened-refused : (n i : ℕ) → r .verdict ≡ Refused n i → Opened (opening script cs ts ms ds hs) n cs cs′ ts ts′ ms ms′ ds ds hs hs
@@ -139,13 +137,16 @@ module _ (script cs ts ms ds hs : List ℕ) where
               (y ∙ ap (λ (h : Held). sets hs 0 (heldWords h)) empty)
           go (refusedAt c i) e = absurd (let z : _≡_ {A = ℕ} 0 1 = cc (read .verdict ∙ ap verdictOf e) in omega arith)
 
--- the counts of an accepted design are a lawful design's
-pub accepted-lawful : (script cs ts ms : List ℕ) (r : DesignReading) (cs′ ts′ ms′ : List ℕ) →
-    Leaves (readInto script cs ts ms) r cs cs′ ts ts′ ms ms′ → (j : ℕ) → r .verdict ≡ Accepted j → Small script → Stored cs′ → LawfulDesign (r .design)
-accepted-lawful script cs ts ms r cs′ ts′ ms′ read j v small stored =
-    design-says (r .design)
-    (parts (lent (r .design) cs′ ts′ ms′ noneHeld)
-    (start-sound script (buffers cs ts ms []) r cs′ ts′ ms′ read noneHeld refl small stored j v) .design)
+-- an accepted design is lawful
+pub opened-lawful : (script cs ts ms : List ℕ) (r : DesignReading) (cs′ ts′ ms′ : List ℕ) →
+    Leaves (readInto script cs ts ms) r cs cs′ ts ts′ ms ms′ → (j : ℕ) → r .verdict ≡ Accepted j → Small script → LawfulDesign (r .design)
+opened-lawful script cs ts ms r cs′ ts′ ms′ read j v small = go (readInto script cs ts ms) refl
+  where
+    go : (w : DesignRead) → readInto script cs ts ms ≡ w → LawfulDesign (r .design)
+    go (accepted p i) e =
+        subst LawfulDesign (sym (read .design ∙ ap designOf e))
+        (design-says (p .design) (accepted-lawful script small p i (into-parts script (buffers cs ts ms []) p i e .1) .0))
+    go (refusedAt c i) e = absurd (let z : _≡_ {A = ℕ} 0 1 = cc (v, read .verdict ∙ ap verdictOf e) in omega arith)
 
 -- nothing is held
 pub none-few : (none : Held) → none ≡ noneHeld → none .count ≤ 64

@@ -7,7 +7,7 @@ use lib.Dec.{leb}
 use lib.ListN.{length}
 use lib.Seq.{sets}
 use Rattle.state.specs.Held.{noneHeld}
-use Rattle.state.specs.Step.{State, lent, sound}
+use Rattle.state.specs.Lent.{State, lent, sound}
 use Rattle.state.specs.declared.design.Design.{Design}
 use Rattle.catalog.specs.Catalog.{Catalogued}
 use Rattle.format.specs.Reading.{Draft, DesignRead, readInto, cellsAfter, tablesAfter, marksAfter}
@@ -15,7 +15,7 @@ use Rattle.format.specs.Reading.DesignRead.{accepted, refusedAt}
 use Rattle.script.specs.Step.{Stepped}
 use Rattle.script.specs.Runs.{Left}
 use Rattle.foreign.specs.Words.{designLength, heldLength, designWords, heldWords, wordsDesign, wordsHeld}
-use Rattle.foreign.specs.Codes.{answerNumber}
+use Rattle.foreign.specs.Told.{Told}
 
 -- ---- wurzsige_open
 
@@ -25,27 +25,27 @@ opening script cells tables marks design held =
     cond (leb designLength (length design) && leb heldLength (length held)) (readInto script cells tables marks) (refusedAt 7 0)
 
 -- the cause of the refusal, or 0
-abbrev pub numberOf : DesignRead → ℕ
-numberOf (accepted p i) = 0
-numberOf (refusedAt c i) = c
+abbrev pub causeNumber : DesignRead → ℕ
+causeNumber (accepted p i) = 0
+causeNumber (refusedAt c i) = c
 
 -- the words afterwards: stored only with an accepted design, with nothing held
-abbrev pub designAfter : DesignRead → List ℕ → List ℕ
-designAfter (accepted p i) ws = sets ws 0 (designWords (p .design))
-designAfter (refusedAt c i) ws = ws
+abbrev pub designWordsAfter : DesignRead → List ℕ → List ℕ
+designWordsAfter (accepted p i) ws = sets ws 0 (designWords (p .design))
+designWordsAfter (refusedAt c i) ws = ws
 
-abbrev pub heldAfter : DesignRead → List ℕ → List ℕ
-heldAfter (accepted p i) ws = sets ws 0 (heldWords noneHeld)
-heldAfter (refusedAt c i) ws = ws
+abbrev pub heldWordsAfter : DesignRead → List ℕ → List ℕ
+heldWordsAfter (accepted p i) ws = sets ws 0 (heldWords noneHeld)
+heldWordsAfter (refusedAt c i) ws = ws
 
 -- the number n, and each lent buffer before and after
 pub record Opened (w : DesignRead) (n : ℕ) (cs cs′ ts ts′ ms ms′ ds ds′ hs hs′ : List ℕ) : Type 0 where
-  pub number : n ≡ numberOf w
+  pub number : n ≡ causeNumber w
   pub cells : cs′ ≡ cellsAfter w cs
   pub tables : ts′ ≡ tablesAfter w ts
   pub marks : ms′ ≡ marksAfter w ms
-  pub design : ds′ ≡ designAfter w ds
-  pub held : hs′ ≡ heldAfter w hs
+  pub design : ds′ ≡ designWordsAfter w ds
+  pub held : hs′ ≡ heldWordsAfter w hs
 
 -- the five arrays of a catalog
 pub record Arrays : Type 0 where
@@ -80,19 +80,20 @@ pub record Ready (ds cs ts : List ℕ) (k : Arrays) (ms hs : List ℕ) : Type 0 
   pub sound : sound (wordsState ds cs ts ms hs) ≡ true
   pub catalog : CatalogIn k (wordsDesign ds) cs ts
 
--- the step R was taken: its number n, the marks and words afterwards, the held words hs before and hs′ after; and the next step can be taken
-pub record StepTaken (R : Stepped) (n : ℕ) (ds cs ts : List ℕ) (k : Arrays) (ms′ ws′ hs hs′ : List ℕ) : Type 0 where
-  pub number : n ≡ answerNumber (R .answer)
-  pub marks : ms′ ≡ R .marks
-  pub words : ws′ ≡ R .words
-  pub held : hs′ ≡ sets hs 0 (heldWords (R .held))
+-- the state s and the answer words w are left: the marks and words afterwards, the held words hs before and hs′ after; and the next step can be taken
+pub record Kept (s : State) (w ds cs ts : List ℕ) (k : Arrays) (ms′ ws′ hs hs′ : List ℕ) : Type 0 where
+  pub marks : ms′ ≡ s .marks
+  pub words : ws′ ≡ w
+  pub held : hs′ ≡ sets hs 0 (heldWords (s .held))
   pub ready : Ready ds cs ts k ms′ hs′
+
+-- the step R was taken: the number n and the buffer ns′ tell its answer, and what it leaves is kept
+pub record StepTaken (R : Stepped) (n : ℕ) (ns′ ds cs ts : List ℕ) (k : Arrays) (ms′ ws′ hs hs′ : List ℕ) : Type 0 where
+  pub told : Told (R .answer) n ns′
+  pub kept : Kept (R .state) (R .words) ds cs ts k ms′ ws′ hs hs′
 
 -- ---- wurzsige_run
 
--- the run that leaves l was made: the marks and words afterwards, the held words hs before and hs′ after; and a step can be taken then
-pub record RunMade (l : Left) (ds cs ts : List ℕ) (k : Arrays) (ms′ ws′ hs hs′ : List ℕ) : Type 0 where
-  pub marks : ms′ ≡ l .state .marks
-  pub words : ws′ ≡ l .words
-  pub held : hs′ ≡ sets hs 0 (heldWords (l .state .held))
-  pub ready : Ready ds cs ts k ms′ hs′
+-- the run that leaves l was made: that is kept
+abbrev pub RunMade : Left → List ℕ → List ℕ → List ℕ → Arrays → List ℕ → List ℕ → List ℕ → List ℕ → Type 0
+RunMade l = Kept (l .state) (l .words)

@@ -24,33 +24,36 @@ heldLength = 129
 
 -- ---- to words
 
-unfoldable pub tableWords : Table → List ℕ
+abbrev pub tableWords : Table → List ℕ
 tableWords t = t .columns ∷ t .unique ∷ []
 
-unfoldable pub constraintWords : Constraint → List ℕ
+abbrev pub constraintWords : Constraint → List ℕ
 constraintWords c = c .source .table ∷ c .source .place ∷ c .target .table ∷ c .target .place ∷ []
 
-unfoldable pub fillingWords : Filling → List ℕ
+abbrev pub fillingWords : Filling → List ℕ
 fillingWords f = f .column .table ∷ f .column .place ∷ f .low ∷ f .high ∷ []
 
-unfoldable pub valueWords : HeldValue → List ℕ
-valueWords v = v .filling ∷ v .value ∷ []
+abbrev pub valueWords : HeldValue → List ℕ
+valueWords v = v .filling ∷ v .value .number ∷ []
 
-unfoldable pub countsWords : Design → List ℕ
+abbrev pub countsWords : Design → List ℕ
 countsWords d = d .tables ∷ d .constraints ∷ d .fillings ∷ d .rows ∷ []
 
--- all places of an array, unused ones too
-unfoldable pub tablesWords : List Table → List ℕ
-tablesWords ts = collect 8 (λ _. true) (λ i. tableWords (getD ts i noTable))
+-- all places of an array of n, unused ones too: their words one behind the other
+abbrev pub placesWords : {A : Type 0} → ℕ → A → (A → List ℕ) → List A → List ℕ
+placesWords n none words xs = collect n (λ _. true) (λ i. words (getD xs i none))
 
-unfoldable pub constraintsWords : List Constraint → List ℕ
-constraintsWords cs = collect 16 (λ _. true) (λ i. constraintWords (getD cs i noConstraint))
+abbrev pub tablesWords : List Table → List ℕ
+tablesWords = placesWords 8 noTable tableWords
 
-unfoldable pub fillingsWords : List Filling → List ℕ
-fillingsWords fs = collect 8 (λ _. true) (λ i. fillingWords (getD fs i noFilling))
+abbrev pub constraintsWords : List Constraint → List ℕ
+constraintsWords = placesWords 16 noConstraint constraintWords
 
-unfoldable pub valuesWords : List HeldValue → List ℕ
-valuesWords vs = collect 64 (λ _. true) (λ i. valueWords (getD vs i noValue))
+abbrev pub fillingsWords : List Filling → List ℕ
+fillingsWords = placesWords 8 noFilling fillingWords
+
+abbrev pub valuesWords : List HeldValue → List ℕ
+valuesWords = placesWords 64 noValue valueWords
 
 unfoldable pub designWords : Design → List ℕ
 designWords d = countsWords d ++ (tablesWords (d .table) ++ (constraintsWords (d .constraint) ++ fillingsWords (d .filling)))
@@ -64,35 +67,39 @@ abbrev pub wordAt : List ℕ → ℕ → ℕ
 wordAt ws i = getD ws i 0
 
 -- a word where a u8 is kept
-unfoldable pub byteOf : List ℕ → ℕ → ℕ
+abbrev pub byteOf : List ℕ → ℕ → ℕ
 byteOf ws i = wordAt ws i % 256
 
-unfoldable pub tableFrom : List ℕ → ℕ → Table
+abbrev pub tableFrom : List ℕ → ℕ → Table
 tableFrom ws i = record { columns = byteOf ws i; unique = byteOf ws (i + 1) }
 
-unfoldable pub columnFrom : List ℕ → ℕ → Column
+abbrev pub columnFrom : List ℕ → ℕ → Column
 columnFrom ws i = record { table = byteOf ws i; place = byteOf ws (i + 1) }
 
-unfoldable pub constraintFrom : List ℕ → ℕ → Constraint
+abbrev pub constraintFrom : List ℕ → ℕ → Constraint
 constraintFrom ws i = record { source = columnFrom ws i; target = columnFrom ws (i + 2) }
 
-unfoldable pub fillingFrom : List ℕ → ℕ → Filling
+abbrev pub fillingFrom : List ℕ → ℕ → Filling
 fillingFrom ws i = record { column = columnFrom ws i; low = wordAt ws (i + 2); high = wordAt ws (i + 3) }
 
-unfoldable pub valueFrom : List ℕ → ℕ → HeldValue
-valueFrom ws i = record { filling = byteOf ws i; value = wordAt ws (i + 1) }
+abbrev pub valueFrom : List ℕ → ℕ → HeldValue
+valueFrom ws i = record { filling = byteOf ws i; value = record { number = wordAt ws (i + 1) } }
+
+-- the n places of an array, each of w words, the first at word a
+abbrev pub placesFrom : {A : Type 0} → ℕ → ℕ → ℕ → (List ℕ → ℕ → A) → List ℕ → List A
+placesFrom n a w from ws = tab n (λ i. from ws (a + w * i))
 
 abbrev pub tablesFrom : List ℕ → List Table
-tablesFrom ws = tab 8 (λ i. tableFrom ws (4 + 2 * i))
+tablesFrom = placesFrom 8 4 2 tableFrom
 
 abbrev pub constraintsFrom : List ℕ → List Constraint
-constraintsFrom ws = tab 16 (λ i. constraintFrom ws (20 + 4 * i))
+constraintsFrom = placesFrom 16 20 4 constraintFrom
 
 abbrev pub fillingsFrom : List ℕ → List Filling
-fillingsFrom ws = tab 8 (λ i. fillingFrom ws (84 + 4 * i))
+fillingsFrom = placesFrom 8 84 4 fillingFrom
 
 abbrev pub valuesFrom : List ℕ → List HeldValue
-valuesFrom ws = tab 64 (λ i. valueFrom ws (1 + 2 * i))
+valuesFrom = placesFrom 64 1 2 valueFrom
 
 unfoldable pub wordsDesign : List ℕ → Design
 wordsDesign ws =

@@ -4,6 +4,7 @@ ghost use mathlib.Core.Path.{_≡_};
 ghost use lib.ListN.{length};
 ghost use Rattle.foreign.specs.Words.{wordAt, byteOf, tableFrom, columnFrom, constraintFrom, fillingFrom, valueFrom, tablesFrom};
 ghost use Rattle.foreign.specs.Words.{constraintsFrom, fillingsFrom, valuesFrom, wordsDesign, wordsHeld};
+use state::Cell;
 use state::Column;
 use state::Constraint;
 use state::Design;
@@ -70,7 +71,9 @@ fn value_from(words: &[u32], at: usize) -> HeldValue
     ensures { λ v. ⌜ v ≡ valueFrom (now (words .entry)) at ⌝ }
 {
     let filling = byte_at(words, at);
-    let value = words[at + 1];
+    let value = Cell {
+        number: words[at + 1],
+    };
     HeldValue { filling, value }
 }
 
@@ -129,7 +132,7 @@ fn values_from(words: &[u32]) -> [HeldValue; 64]
 {
     let mut vs = [HeldValue {
         filling: 0,
-        value: 0,
+        value: Cell { number: 0 },
     }; 64];
     for i in 0..64usize {
         let v = value_from(words, 1 + 2 * i);

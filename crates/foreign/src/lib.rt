@@ -1,18 +1,19 @@
 // The desk for programs in C or Rust, which lend it all of its memory: reading a design, one step of a script, and all steps from a place on. A design
-// and the held values are structs in Rattle, so they go across as lists of u32 words (specs/Words.antt), and an answer as one number (specs/Codes.antt).
-// The catalog of a design's rows and the working memory of a query are arrays of fixed length, each a plain pointer.
+// and the held values are structs in Rattle, so they go across as lists of u32 words (specs/Words.antt), and an answer as the number of its word, with the
+// numbers behind the word in a lent buffer (specs/Told.antt). That buffer, the catalog of a design's rows and the working memory of a query are arrays of
+// fixed length, each a plain pointer.
 ghost use lib.ListN.{length};
 ghost use Rattle.script.specs.Step.{stepAt};
 ghost use Rattle.script.specs.Runs.{leftFrom};
 ghost use Rattle.foreign.specs.Calls.{opening, Opened, arrays, Catalogs, wordsState, Ready, StepTaken, RunMade};
 
-mod codes;
 mod from_words;
+mod telling;
 mod to_words;
 
-use crate::codes::code_of;
 use crate::from_words::design_from;
 use crate::from_words::held_from;
+use crate::telling::tell;
 use crate::to_words::put_design;
 use crate::to_words::put_held;
 use format::Verdict;
@@ -79,10 +80,10 @@ pub extern "C" fn wurzsige_open(
     0
 }
 
-// The step at place `at` of a script, over a state known sound with the catalog of its rows, as one number. A caller keeps to memory that only these
-// functions write: what `wurzsige_open` leaves with number 0 is ready (proofs/OpenedSound.antt), and each step leaves it so, so the `requires` holds
-// from call to call. The last four arrays are working memory, whatever stands in them. The cost of the command's operation, and a copy of the design's
-// and the held values' words.
+// The step at place `at` of a script, over a state known sound with the catalog of its rows: the number of its answer's word, and in `numbers` the numbers
+// behind the word, 0 where there are fewer than two. A caller keeps to memory that only these functions write: what `wurzsige_open` leaves with number 0
+// is ready (proofs/OpenedSound.antt), and each step leaves it so, so the `requires` holds from call to call. The four arrays before `numbers` are working
+// memory, whatever stands in them. The cost of the command's operation, and a copy of the design's and the held values' words.
 #[no_mangle]
 pub extern "C" fn wurzsige_step(
     script: &[u8],
@@ -102,12 +103,13 @@ pub extern "C" fn wurzsige_step(
     sums: &mut [u64; 2560],
     froms: &mut [u16; 2560],
     links: &mut [u16; 2560],
-) -> u64
+    numbers: &mut [u64; 2],
+) -> u8
     requires { ⌜ Ready (now design) (now cells) (now tables) (arrays (now next) (now first) (now keys) (now heads) (now starts)) (now marks) (now held) ⌝ }
     ensures { λ n. ⌜ StepTaken
         (stepAt (wordsState (now (design .entry)) (now (cells .entry)) (now (tables .entry)) (now (marks .entry)) (now (held .entry)))
         (now (words .entry)) (now (script .entry)) at)
-        n (now (design .entry)) (now (cells .entry)) (now (tables .entry))
+        n (now (numbers .exit)) (now (design .entry)) (now (cells .entry)) (now (tables .entry))
         (arrays (now (next .entry)) (now (first .entry)) (now (keys .entry)) (now (heads .entry)) (now (starts .entry)))
         (now (marks .exit)) (now (words .exit)) (now (held .entry)) (now (held .exit)) ⌝ }
 {
@@ -135,7 +137,7 @@ pub extern "C" fn wurzsige_step(
     let kept = t.held;
     put_held(kept, held);
     let a = t.answer;
-    code_of(a)
+    tell(a, numbers)
 }
 
 // All steps from place `at` of a script on, until it ends or cause 1, 2 or 4 stops it, over a state as `wurzsige_step` asks for; no answer is told, and

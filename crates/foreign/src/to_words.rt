@@ -1,6 +1,7 @@
 // A design and held values stored as their u32 words (specs/Words.antt), from the first word on.
 ghost use Prim.Native.Nat.{_+_, _≤_};
 ghost use mathlib.Core.Path.{_≡_};
+ghost use mathlib.Core.List.{[], _∷_};
 ghost use lib.ListN.{length};
 ghost use lib.Seq.{sets};
 ghost use Rattle.foreign.specs.Words.{tableWords, constraintWords, fillingWords, valueWords, countsWords, tablesWords, constraintsWords};
@@ -12,13 +13,29 @@ use state::Held;
 use state::HeldValue;
 use state::Table;
 
-// One place each, from word `at` on. Constant time.
+// Two words, and four, from word `at` on. Constant time, as are the next five.
+fn put_two(words: &mut [u32], at: usize, a: u32, b: u32)
+    requires { ⌜ at + 2 ≤ length (now words) ⌝ }
+    ensures { λ _. ⌜ now (words .exit) ≡ sets (now (words .entry)) at (a ∷ b ∷ []) ⌝ }
+{
+    words[at] = a;
+    words[at + 1] = b;
+}
+
+fn put_four(words: &mut [u32], at: usize, a: u32, b: u32, c: u32, d: u32)
+    requires { ⌜ at + 4 ≤ length (now words) ⌝ }
+    ensures { λ _. ⌜ now (words .exit) ≡ sets (now (words .entry)) at (a ∷ b ∷ c ∷ d ∷ []) ⌝ }
+{
+    put_two(words, at, a, b);
+    put_two(words, at + 2, c, d);
+}
+
+// One place each, from word `at` on.
 fn put_table(words: &mut [u32], at: usize, t: Table)
     requires { ⌜ at + 2 ≤ length (now words) ⌝ }
     ensures { λ _. ⌜ now (words .exit) ≡ sets (now (words .entry)) at (tableWords t) ⌝ }
 {
-    words[at] = t.columns as u32;
-    words[at + 1] = t.unique as u32;
+    put_two(words, at, t.columns as u32, t.unique as u32);
 }
 
 fn put_constraint(words: &mut [u32], at: usize, c: Constraint)
@@ -27,10 +44,14 @@ fn put_constraint(words: &mut [u32], at: usize, c: Constraint)
 {
     let s = c.source;
     let t = c.target;
-    words[at] = s.table as u32;
-    words[at + 1] = s.place as u32;
-    words[at + 2] = t.table as u32;
-    words[at + 3] = t.place as u32;
+    put_four(
+        words,
+        at,
+        s.table as u32,
+        s.place as u32,
+        t.table as u32,
+        t.place as u32,
+    );
 }
 
 fn put_filling(words: &mut [u32], at: usize, f: Filling)
@@ -38,29 +59,30 @@ fn put_filling(words: &mut [u32], at: usize, f: Filling)
     ensures { λ _. ⌜ now (words .exit) ≡ sets (now (words .entry)) at (fillingWords f) ⌝ }
 {
     let k = f.column;
-    words[at] = k.table as u32;
-    words[at + 1] = k.place as u32;
-    words[at + 2] = f.low;
-    words[at + 3] = f.high;
+    put_four(words, at, k.table as u32, k.place as u32, f.low, f.high);
 }
 
 fn put_value(words: &mut [u32], at: usize, v: HeldValue)
     requires { ⌜ at + 2 ≤ length (now words) ⌝ }
     ensures { λ _. ⌜ now (words .exit) ≡ sets (now (words .entry)) at (valueWords v) ⌝ }
 {
-    words[at] = v.filling as u32;
-    words[at + 1] = v.value;
+    let value = v.value;
+    put_two(words, at, v.filling as u32, value.number);
 }
 
-// The four counts of a design. Constant time.
+// The four counts of a design.
 fn put_counts(d: Design, words: &mut [u32])
     requires { ⌜ (4 ≤ length (now words)) × (d .tables ≤ 8) × (d .constraints ≤ 16) × (d .fillings ≤ 8) × (d .rows ≤ 512) ⌝ }
     ensures { λ _. ⌜ now (words .exit) ≡ sets (now (words .entry)) 0 (countsWords d) ⌝ }
 {
-    words[0] = d.tables as u32;
-    words[1] = d.constraints as u32;
-    words[2] = d.fillings as u32;
-    words[3] = d.rows as u32;
+    put_four(
+        words,
+        0,
+        d.tables as u32,
+        d.constraints as u32,
+        d.fillings as u32,
+        d.rows as u32,
+    );
 }
 
 // All places of an array. One step for each.

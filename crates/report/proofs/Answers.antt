@@ -1,18 +1,74 @@
--- An answer's text by its case, and a refused design's line as an answer. Assumes nothing.
-use Prim.Native.Nat.{ℕ}
-use mathlib.Core.Path.{_≡_, sym, subst}
-use mathlib.Core.List.{List, [], _∷_, _++_, append-assoc}
+-- An answer's text: its word, its numbers, and the place of a refusal; and a refused design's line as an answer. Assumes nothing.
+use Prim.Native.Nat.{ℕ, zero, suc, _≤_}
+use native.Mathlib.Omega.{arith}
+use mathlib.Core.Path.{_≡_, refl, sym, ap, subst, _∙_}
+use mathlib.Core.Bool.{Bool, true, false, cond}
+use mathlib.Core.List.{List, [], _∷_, _++_, append-assoc, append-nil}
+use lib.ListN.{length, take, getD, List·getD-eq-default}
+use lib.Seq.{take-all}
 use Rattle.finite.specs.Writing.{Wrote}
-use Rattle.state.specs.declared.answer.Answer.{Answer}
-use Rattle.state.specs.declared.answer.Answer.the-variants.{Refused}
-use Rattle.report.specs.Report.{newline, answerText, refusalLine}
-
--- the text of the answer's case is the answer's
-pub in-case : {o o′ : List ℕ} {n z : ℕ} {a a′ : Answer} (place : ℕ) → a ≡ a′ → Wrote o o′ n z (answerText a′ place) →
-    Wrote o o′ n z (answerText a place)
-in-case {o} {o′} {n} {z} place e w = subst (λ (b : Answer). Wrote o o′ n z (answerText b place)) (sym e) w
+use Rattle.finite.proofs.Writing.{wrote-none, wrote-as}
+use Rattle.state.specs.declared.answer.Shown.{Shown}
+use Rattle.state.specs.Meaning.{shownOf}
+use Rattle.model.specs.Answers as Model
+use Rattle.model.specs.Answers.{Answer, refused, shown, isRefusal}
+use Rattle.report.specs.Report.{newline, spaced, answer-words, wordText, numbersText, answerText, refusalLine}
 
 -- a refused design is reported as a refused command, without a number
-pub refusal-line : (n place : ℕ) → answerText (Refused n) place ++ (newline ∷ []) ≡ refusalLine n place
-unfolding answerText refusalLine
+pub refusal-line : (n place : ℕ) → answerText (refused n) place ++ (newline ∷ []) ≡ refusalLine n place
+unfolding answerText refusalLine wordText numbersText shown isRefusal
 refusal-line n place = simp append-assoc
+
+-- the word with number w, which is k
+pub in-word : {o o′ : List ℕ} {n z : ℕ} {w k : ℕ} → w ≡ k → Wrote o o′ n z (wordText k) → Wrote o o′ n z (wordText w)
+in-word {o} {o′} {n} {z} e h = subst (λ (x : ℕ). Wrote o o′ n z (wordText x)) (sym e) h
+
+-- a number that is none of the words' lies past them, and there is no word
+pub past-words : (w : ℕ) → (w ≡ 0 → ⊥) → (w ≡ 1 → ⊥) → (w ≡ 2 → ⊥) → (w ≡ 3 → ⊥) → (w ≡ 4 → ⊥) → (w ≡ 5 → ⊥) → (w ≡ 6 → ⊥) → (w ≡ 7 → ⊥) → 8 ≤ w
+past-words zero a b c d e f g h = absurd (a refl)
+past-words (suc zero) a b c d e f g h = absurd (b refl)
+past-words (suc (suc zero)) a b c d e f g h = absurd (c refl)
+past-words (suc (suc (suc zero))) a b c d e f g h = absurd (d refl)
+past-words (suc (suc (suc (suc zero)))) a b c d e f g h = absurd (e refl)
+past-words (suc (suc (suc (suc (suc zero))))) a b c d e f g h = absurd (f refl)
+past-words (suc (suc (suc (suc (suc (suc zero)))))) a b c d e f g h = absurd (g refl)
+past-words (suc (suc (suc (suc (suc (suc (suc zero))))))) a b c d e f g h = absurd (h refl)
+past-words (suc (suc (suc (suc (suc (suc (suc (suc w)))))))) a b c d e f g h = omega arith
+
+pub no-word : (o : List ℕ) (n w : ℕ) → 8 ≤ w → Wrote o o n n (wordText w)
+unfolding wordText
+no-word o n w l = wrote-as o o n n n [] (wordText w) refl (sym (List·getD-eq-default answer-words [] l)) (wrote-none o n)
+
+-- ---- the numbers of an answer: none, one, two
+
+module _ (s : Shown) where
+  pub no-numbers : s .numbers ≡ 0 → numbersText (shownOf s .numbers) ≡ []
+  unfolding numbersText
+  no-numbers e = ap (λ (k : ℕ). numbersText (take k (s .first ∷ s .second ∷ []))) e
+
+  pub one-number : s .numbers ≡ 1 → numbersText (shownOf s .numbers) ≡ spaced (s .first)
+  unfolding numbersText
+  one-number e = ap (λ (k : ℕ). numbersText (take k (s .first ∷ s .second ∷ []))) e ∙ append-nil (spaced (s .first))
+
+  pub two-numbers : (s .numbers ≡ 0 → ⊥) → (s .numbers ≡ 1 → ⊥) → numbersText (shownOf s .numbers) ≡ spaced (s .first) ++ spaced (s .second)
+  unfolding numbersText
+  two-numbers a b =
+      ap numbersText (take-all (s .numbers) (s .first ∷ s .second ∷ []) (omega arith)) ∙
+      ap (λ (xs : List ℕ). spaced (s .first) ++ xs) (append-nil (spaced (s .second)))
+
+-- ---- a word, its numbers, and the place of a refusal
+
+module _ (s : Shown) (a : Answer) (place : ℕ) (e : shownOf s ≡ shown a) where
+  pub plain-text : isRefusal a ≡ false → wordText (s .word) ++ numbersText (shownOf s .numbers) ≡ answerText a place
+  unfolding answerText
+  plain-text t =
+      ap (λ (x : Model.Shown). wordText (x .word) ++ numbersText (x .numbers)) e ∙
+      ap (λ (xs : List ℕ). wordText (shown a .word) ++ xs) (sym (append-nil (numbersText (shown a .numbers)))) ∙
+      ap (λ (b : Bool). wordText (shown a .word) ++ (numbersText (shown a .numbers) ++ cond b (spaced place) [])) (sym t)
+
+  pub refusal-text : isRefusal a ≡ true → (wordText (s .word) ++ numbersText (shownOf s .numbers)) ++ spaced place ≡ answerText a place
+  unfolding answerText
+  refusal-text t =
+      append-assoc (wordText (s .word)) (numbersText (shownOf s .numbers)) (spaced place) ∙
+      ap (λ (x : Model.Shown). wordText (x .word) ++ (numbersText (x .numbers) ++ spaced place)) e ∙
+      ap (λ (b : Bool). wordText (shown a .word) ++ (numbersText (shown a .numbers) ++ cond b (spaced place) [])) (sym t)

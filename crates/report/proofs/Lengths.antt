@@ -3,33 +3,64 @@ use Prim.Native.Nat.{ℕ, zero, suc, _+_, _-_, _*_, _^_, _≤_, _<_}
 use native.Mathlib.Nat.{suc-mul, mul-add, mul-comm, mul-one, mul-le-mul-left}
 use native.Mathlib.Omega.{arith}
 use mathlib.Core.Path.{_≡_, ap, _∙_}
-use mathlib.Core.Bool.{true}
+use mathlib.Core.Bool.{Bool, true, false, cond}
 use mathlib.Core.List.{List, [], _∷_}
 use lib.ListN.{length, length-append, length-take, take, getD}
 use Rattle.finite.specs.Finite.{collect}
 use Rattle.finite.specs.Writing.{Wrote}
 use Rattle.finite.proofs.Writing.{reach}
 use Rattle.state.specs.declared.design.Design.{Design}
-use Rattle.state.specs.declared.answer.Answer.{Answer}
-use Rattle.state.specs.declared.answer.Answer.the-variants.{Loaded, Held, NoCandidate, Dropped, Ground, Sent, Lists, Refused}
-use Rattle.report.specs.Report.{newline, decimal, spaced, answerText, commandLine, designLine, refusalLine, listLine, listLines}
+use Rattle.state.specs.declared.answer.Shown.{Shown}
+use Rattle.state.specs.Meaning.{shownOf}
+use Rattle.model.specs.Answers.{Answer, loaded, held, noCandidate, dropped, ground, sent, lists, refused, shown, isRefusal}
+use Rattle.report.specs.Report.{newline, decimal, spaced, wordText, numbersText, answerText, commandLine, designLine, refusalLine, listLine, listLines}
 use Rattle.report.proofs.Decimals.{decimal-short, decimal-short-32}
 use Rattle.report.proofs.Answers.{refusal-line}
 
 -- ---- how long
 
-answer-short : (a : Answer) (place : ℕ) → length (answerText a place) ≤ 49
-unfolding answerText
-answer-short (Loaded rows rounds) place = simp length-append (omega (arith, decimal-short rows, decimal-short rounds))
-answer-short Held place = omega arith
-answer-short NoCandidate place = omega arith
-answer-short (Dropped rows) place = omega (arith, decimal-short rows)
-answer-short (Ground g) place = omega (arith, decimal-short g)
-answer-short Sent place = omega arith
-answer-short (Lists n) place = omega (arith, decimal-short n)
-answer-short (Refused n) place = simp length-append (omega (arith, decimal-short n, decimal-short place))
+word-short : (w : ℕ) → length (wordText w) ≤ 12
+unfolding wordText
+word-short zero = omega arith
+word-short (suc zero) = omega arith
+word-short (suc (suc zero)) = omega arith
+word-short (suc (suc (suc zero))) = omega arith
+word-short (suc (suc (suc (suc zero)))) = omega arith
+word-short (suc (suc (suc (suc (suc zero))))) = omega arith
+word-short (suc (suc (suc (suc (suc (suc zero)))))) = omega arith
+word-short (suc (suc (suc (suc (suc (suc (suc zero))))))) = omega arith
+word-short (suc (suc (suc (suc (suc (suc (suc (suc w)))))))) = omega arith
 
-pub command-line-short : (number : ℕ) (a : Answer) (place : ℕ) → length (commandLine number a place) ≤ 71
+numbers-within : (ns : List ℕ) → length (numbersText ns) ≤ 21 * length ns
+unfolding numbersText
+numbers-within [] = omega arith
+numbers-within (n ∷ ns) = simp length-append (omega (arith, decimal-short n, numbers-within ns))
+
+numbers-short : (s : Shown) → length (numbersText (shownOf s .numbers)) ≤ 42
+numbers-short s = omega (arith, numbers-within (shownOf s .numbers), length-take (s .numbers) (s .first ∷ s .second ∷ []))
+
+-- an answer has at most two numbers
+few-numbers : (a : Answer) → length (shown a .numbers) ≤ 2
+unfolding shown
+few-numbers (loaded rows rounds) = omega arith
+few-numbers held = omega arith
+few-numbers noCandidate = omega arith
+few-numbers (dropped rows) = omega arith
+few-numbers (ground g) = omega arith
+few-numbers sent = omega arith
+few-numbers (lists n) = omega arith
+few-numbers (refused n) = omega arith
+
+answer-short : (a : Answer) (place : ℕ) → length (answerText a place) ≤ 75
+unfolding answerText
+answer-short a place =
+    simp length-append (omega (arith, word-short (shown a .word), numbers-within (shown a .numbers), few-numbers a, place-short (isRefusal a)))
+  where
+    place-short : (b : Bool) → length (cond b (spaced place) []) ≤ 21
+    place-short true = omega (arith, decimal-short place)
+    place-short false = omega arith
+
+pub command-line-short : (number : ℕ) (a : Answer) (place : ℕ) → length (commandLine number a place) ≤ 97
 unfolding commandLine
 command-line-short number a place = simp length-append (omega (arith, decimal-short number, answer-short a place))
 
@@ -38,9 +69,9 @@ unfolding designLine
 design-line-short d =
     simp length-append (omega (arith, decimal-short (d .tables), decimal-short (d .constraints), decimal-short (d .fillings), decimal-short (d .rows)))
 
-pub refusal-line-short : (n place : ℕ) → length (refusalLine n place) ≤ 50
+pub refusal-line-short : (n place : ℕ) → length (refusalLine n place) ≤ 76
 refusal-line-short n place =
-    omega (arith, answer-short (Refused n) place, length-append (answerText (Refused n) place) (newline ∷ []), ap length (refusal-line n place))
+    omega (arith, answer-short (refused n) place, length-append (answerText (refused n) place) (newline ∷ []), ap length (refusal-line n place))
 
 -- lists of words, each below 2 ^ 32
 module _ (words : List ℕ) (small : (i : ℕ) → getD words i 0 < 2 ^ 32) where
@@ -81,17 +112,23 @@ module _ (o o′ : List ℕ) (n z : ℕ) where
   pub spaced-reach-32 : (v : ℕ) → v < 2 ^ 32 → Wrote o o′ n z (spaced v) → z ≤ n + 11
   spaced-reach-32 v b = reach o o′ n z (spaced v) 11 (omega (arith, decimal-short-32 v b))
 
-  pub answer-reach : (a : Answer) (place : ℕ) → Wrote o o′ n z (answerText a place) → z ≤ n + 49
-  answer-reach a place = reach o o′ n z (answerText a place) 49 (answer-short a place)
+  pub word-reach : (w : ℕ) → Wrote o o′ n z (wordText w) → z ≤ n + 12
+  word-reach w = reach o o′ n z (wordText w) 12 (word-short w)
 
-  pub command-line-reach : (number : ℕ) (a : Answer) (place : ℕ) → Wrote o o′ n z (commandLine number a place) → z ≤ n + 71
-  command-line-reach number a place = reach o o′ n z (commandLine number a place) 71 (command-line-short number a place)
+  pub numbers-reach : (s : Shown) → Wrote o o′ n z (numbersText (shownOf s .numbers)) → z ≤ n + 42
+  numbers-reach s = reach o o′ n z (numbersText (shownOf s .numbers)) 42 (numbers-short s)
+
+  pub answer-reach : (a : Answer) (place : ℕ) → Wrote o o′ n z (answerText a place) → z ≤ n + 75
+  answer-reach a place = reach o o′ n z (answerText a place) 75 (answer-short a place)
+
+  pub command-line-reach : (number : ℕ) (a : Answer) (place : ℕ) → Wrote o o′ n z (commandLine number a place) → z ≤ n + 97
+  command-line-reach number a place = reach o o′ n z (commandLine number a place) 97 (command-line-short number a place)
 
   pub design-line-reach : (d : Design) → Wrote o o′ n z (designLine d) → z ≤ n + 91
   design-line-reach d = reach o o′ n z (designLine d) 91 (design-line-short d)
 
-  pub refusal-line-reach : (cause place : ℕ) → Wrote o o′ n z (refusalLine cause place) → z ≤ n + 50
-  refusal-line-reach cause place = reach o o′ n z (refusalLine cause place) 50 (refusal-line-short cause place)
+  pub refusal-line-reach : (cause place : ℕ) → Wrote o o′ n z (refusalLine cause place) → z ≤ n + 76
+  refusal-line-reach cause place = reach o o′ n z (refusalLine cause place) 76 (refusal-line-short cause place)
 
   module _ (words : List ℕ) (small : (i : ℕ) → getD words i 0 < 2 ^ 32) where
     pub words-reach : (w k : ℕ) → Wrote o o′ n z (collect k (λ _. true) (λ j. spaced (getD words (w + j) 0))) → z ≤ n + 11 * k

@@ -6,8 +6,7 @@ use lib.Dec.{ltb}
 use lib.ListN.{getD}
 use Rattle.finite.specs.Finite.{collect}
 use Rattle.state.specs.declared.design.Design.{Design}
-use Rattle.state.specs.declared.answer.Answer.{Answer}
-use Rattle.state.specs.declared.answer.Answer.the-variants.{Loaded, Held, NoCandidate, Dropped, Ground, Sent, Lists, Refused}
+use Rattle.model.specs.Answers.{Answer, shown, isRefusal}
 
 abbrev pub space : ℕ
 space = 32
@@ -60,16 +59,21 @@ refused-word = 114 ∷ 101 ∷ 102 ∷ 117 ∷ 115 ∷ 101 ∷ 100 ∷ []
 abbrev pub design-word : List ℕ
 design-word = 100 ∷ 101 ∷ 115 ∷ 105 ∷ 103 ∷ 110 ∷ []
 
+-- the words of the answers, in the order of their numbers (`shown`)
+abbrev pub answer-words : List (List ℕ)
+answer-words = loaded-word ∷ held-word ∷ no-candidate-words ∷ dropped-word ∷ ground-word ∷ sent-word ∷ answer-word ∷ refused-word ∷ []
+
+unfoldable pub wordText : ℕ → List ℕ
+wordText w = getD answer-words w []
+
+-- numbers, each behind a space
+unfoldable pub numbersText : List ℕ → List ℕ
+numbersText [] = []
+numbersText (n ∷ ns) = spaced n ++ numbersText ns
+
 -- an answer in words; the place goes with a refusal
 unfoldable pub answerText : Answer → ℕ → List ℕ
-answerText (Loaded rows rounds) place = loaded-word ++ (spaced rows ++ spaced rounds)
-answerText Held place = held-word
-answerText NoCandidate place = no-candidate-words
-answerText (Dropped rows) place = dropped-word ++ spaced rows
-answerText (Ground g) place = ground-word ++ spaced g
-answerText Sent place = sent-word
-answerText (Lists n) place = answer-word ++ spaced n
-answerText (Refused n) place = refused-word ++ (spaced n ++ spaced place)
+answerText a place = wordText (shown a .word) ++ (numbersText (shown a .numbers) ++ cond (isRefusal a) (spaced place) [])
 
 -- "for each command after END .. its number from 0 and" its answer
 unfoldable pub commandLine : ℕ → Answer → ℕ → List ℕ

@@ -1,62 +1,69 @@
 // The report's lines. A number has at most 20 digits, a word of a list at most 10; each stands behind a space or begins a line.
 ghost use Prim.Native.Nat.{_+_, _*_, _≤_};
 ghost use mathlib.Core.Bool.{true};
-ghost use mathlib.Core.List.{_++_};
-ghost use lib.ListN.{length, getD, take};
+ghost use lib.ListN.{length, getD};
 ghost use Rattle.finite.specs.Finite.{collect};
 ghost use Rattle.finite.specs.Writing.{Wrote};
-ghost use Rattle.report.specs.Report.{spaced, answerText, commandLine, designLine, refusalLine, listLine, listLines};
+ghost use Rattle.state.specs.Meaning.{answerOf, shownOf};
+ghost use Rattle.report.specs.Report.{spaced, wordText, numbersText, answerText, commandLine, designLine, refusalLine, listLine, listLines};
 use crate::text::put_byte;
 use crate::text::put_bytes;
 use crate::text::put_decimal;
 use crate::text::put_spaced;
 use state::Answer;
 use state::Design;
+use state::Shown;
+use state::is_refusal;
+use state::show;
 
-// Writes the first k bytes of a word, and a number behind them: at most 21 bytes more.
-fn put_word_and_number(out: &mut [u8], at: usize, word: &[u8], k: usize, n: u64) -> usize
-    requires { ⌜ (k ≤ length (now word)) × (at + k + 21 ≤ length (now out)) ⌝ }
-    ensures { λ z. ⌜ Wrote (now (out .entry)) (now (out .exit)) at z (take k (now (word .entry)) ++ spaced n) ⌝ }
+// Writes the word of an answer, by its number: at most 12 bytes.
+fn put_word(out: &mut [u8], at: usize, word: u8) -> usize
+    requires { ⌜ at + 12 ≤ length (now out) ⌝ }
+    ensures { λ z. ⌜ Wrote (now (out .entry)) (now (out .exit)) at z (wordText word) ⌝ }
 {
-    let z = put_bytes(out, at, word, k);
-    put_spaced(out, z, n)
-}
-
-// Writes the first k bytes of a word, and two numbers behind them: at most 42 bytes more.
-fn put_word_and_numbers(out: &mut [u8], at: usize, word: &[u8], k: usize, m: u64, n: u64) -> usize
-    requires { ⌜ (k ≤ length (now word)) × (at + k + 42 ≤ length (now out)) ⌝ }
-    ensures { λ z. ⌜ Wrote (now (out .entry)) (now (out .exit)) at z (take k (now (word .entry)) ++ (spaced m ++ spaced n)) ⌝ }
-{
-    let z = put_bytes(out, at, word, k);
-    let y = put_spaced(out, z, m);
-    put_spaced(out, y, n)
-}
-
-// Writes an answer in words; the place goes with a refusal. At most 49 bytes.
-fn put_answer(out: &mut [u8], at: usize, answer: Answer, place: usize) -> usize
-    requires { ⌜ at + 49 ≤ length (now out) ⌝ }
-    ensures { λ z. ⌜ Wrote (now (out .entry)) (now (out .exit)) at z (answerText answer place) ⌝ }
-{
-    match answer {
-        Answer::Loaded(rows, rounds) => put_word_and_numbers(
-            out,
-            at,
-            b"loaded",
-            6,
-            rows as u64,
-            rounds as u64,
-        ),
-        Answer::Held => put_bytes(out, at, b"held", 4),
-        Answer::NoCandidate => put_bytes(out, at, b"no candidate", 12),
-        Answer::Dropped(rows) => put_word_and_number(out, at, b"dropped", 7, rows as u64),
-        Answer::Ground(g) => put_word_and_number(out, at, b"ground", 6, g as u64),
-        Answer::Sent => put_bytes(out, at, b"sent", 4),
-        Answer::Lists(n) => put_word_and_number(out, at, b"answer", 6, n as u64),
-        Answer::Refused(n) => put_word_and_numbers(out, at, b"refused", 7, n as u64, place as u64),
+    match word {
+        0 => put_bytes(out, at, b"loaded", 6),
+        1 => put_bytes(out, at, b"held", 4),
+        2 => put_bytes(out, at, b"no candidate", 12),
+        3 => put_bytes(out, at, b"dropped", 7),
+        4 => put_bytes(out, at, b"ground", 6),
+        5 => put_bytes(out, at, b"sent", 4),
+        6 => put_bytes(out, at, b"answer", 6),
+        7 => put_bytes(out, at, b"refused", 7),
+        _ => at,
     }
 }
 
-// Writes a command's line: its number, and its answer. At most 71 bytes.
+// Writes the numbers of an answer: at most 42 bytes.
+fn put_numbers(out: &mut [u8], at: usize, shown: Shown) -> usize
+    requires { ⌜ at + 42 ≤ length (now out) ⌝ }
+    ensures { λ z. ⌜ Wrote (now (out .entry)) (now (out .exit)) at z (numbersText (shownOf shown .numbers)) ⌝ }
+{
+    if shown.numbers == 0 {
+        return at;
+    }
+    let z = put_spaced(out, at, shown.first);
+    if shown.numbers == 1 {
+        return z;
+    }
+    put_spaced(out, z, shown.second)
+}
+
+// Writes an answer in words; the place goes with a refusal. At most 75 bytes.
+fn put_answer(out: &mut [u8], at: usize, answer: Answer, place: usize) -> usize
+    requires { ⌜ at + 75 ≤ length (now out) ⌝ }
+    ensures { λ z. ⌜ Wrote (now (out .entry)) (now (out .exit)) at z (answerText (answerOf answer) place) ⌝ }
+{
+    let s = show(answer);
+    let z = put_word(out, at, s.word);
+    let y = put_numbers(out, z, s);
+    if !is_refusal(answer) {
+        return y;
+    }
+    put_spaced(out, y, place as u64)
+}
+
+// Writes a command's line: its number, and its answer. At most 97 bytes.
 pub fn put_command_line(
     out: &mut [u8],
     at: usize,
@@ -64,8 +71,8 @@ pub fn put_command_line(
     answer: Answer,
     place: usize,
 ) -> usize
-    requires { ⌜ at + 71 ≤ length (now out) ⌝ }
-    ensures { λ z. ⌜ Wrote (now (out .entry)) (now (out .exit)) at z (commandLine number answer place) ⌝ }
+    requires { ⌜ at + 97 ≤ length (now out) ⌝ }
+    ensures { λ z. ⌜ Wrote (now (out .entry)) (now (out .exit)) at z (commandLine number (answerOf answer) place) ⌝ }
 {
     let z = put_decimal(out, at, number as u64);
     let y = put_byte(out, z, 32);
@@ -86,9 +93,9 @@ pub fn put_design_line(out: &mut [u8], at: usize, d: Design) -> usize
     put_byte(out, v, 10)
 }
 
-// Writes a refused design's line: the cause's number and the place. At most 50 bytes.
+// Writes a refused design's line: the cause's number and the place. At most 76 bytes.
 pub fn put_refusal_line(out: &mut [u8], at: usize, cause: u8, place: usize) -> usize
-    requires { ⌜ at + 50 ≤ length (now out) ⌝ }
+    requires { ⌜ at + 76 ≤ length (now out) ⌝ }
     ensures { λ z. ⌜ Wrote (now (out .entry)) (now (out .exit)) at z (refusalLine cause place) ⌝ }
 {
     let z = put_answer(out, at, Answer::Refused(cause), place);

@@ -1,12 +1,14 @@
 // Lent buffers of several lengths, each filled with 9: one place too short, just long enough, and longer.
 use crate::lent::Causes;
 use crate::lent::State;
+use crate::lent::held_3;
 use crate::lent::operated;
-use cache::referred;
 use format::Verdict;
 use format::read_design;
+use operate::perform;
 use state::Design;
 use state::Held;
+use state::Operation;
 
 // The cause of a refusal, 0 for none; and whether what had to stay untouched did.
 pub struct Outcome {
@@ -119,7 +121,9 @@ fn load_3(script: &[u8], cells: &mut [u32], tables: &mut [u8], marks: &mut [u8])
     let r = read_design(script, cells, tables, marks);
     let design = r.design;
     let none = Held::none();
-    let o = referred(design, cells, tables, marks, none, 0, 3);
+    let mut words = [0u32; 8];
+    let refer = Operation::Refer(held_3());
+    let o = perform(refer, design, cells, tables, marks, none, &mut words);
     let held = o.held;
     Loaded { design, held }
 }

@@ -1,23 +1,25 @@
 // A lent state, changed in one place or two, and the operations of the library that take whatever is lent.
 use crate::scripts::step_of;
-use cache::dropped;
-use cache::probed;
-use cache::referred;
 use format::Verdict;
 use format::read_design;
-use query::Join;
-use query::Query;
+use operate::perform;
 use script::Written;
 use script::step;
 use script::write;
 use state::Answer;
+use state::Cell;
 use state::Column;
 use state::Constraint;
 use state::Design;
 use state::Filling;
 use state::Held;
 use state::HeldValue;
+use state::Join;
+use state::Operation;
+use state::Query;
 use state::Table;
+use state::is_blank;
+use state::same_cell;
 
 // Everything that a caller lends an operation.
 pub struct State {
@@ -121,9 +123,10 @@ fn with_held(mut h: Held, kind: usize, i: usize, v: usize) -> Held {
         return h;
     }
     if i < Held::PLACES {
+        let number = low_word(v % 1000);
         h.values[i] = HeldValue {
             filling: low_byte(v / 1000),
-            value: low_word(v % 1000),
+            value: Cell { number },
         };
     }
     h
@@ -197,18 +200,45 @@ fn cause_of_writing(w: Written) -> u8 {
     cause
 }
 
-// Row 0's own value in column 1 of table 0, without joins.
+// Row 0's own value in column 1 of table 0, which filling 0 has.
+fn value_3() -> Cell {
+    Cell { number: 3 }
+}
+
+pub(crate) fn held_3() -> HeldValue {
+    HeldValue {
+        filling: 0,
+        value: value_3(),
+    }
+}
+
+fn column_1() -> Column {
+    Column { table: 0, place: 1 }
+}
+
+// The query for it, without joins.
 fn plain_query() -> Query {
     let none = Join {
         position: 0,
         constraint: 0,
     };
     Query {
-        column: Column { table: 0, place: 1 },
-        value: 3,
+        column: column_1(),
+        value: value_3(),
         joins: 0,
-        pairs: [none; 4],
+        first: none,
+        second: none,
+        third: none,
+        fourth: none,
     }
+}
+
+// Whether two values are the same, blank ones too. Constant time.
+fn same_value(a: Cell, b: Cell) -> bool {
+    if is_blank(a) {
+        return is_blank(b);
+    }
+    same_cell(a, b)
 }
 
 // Whether two records of held values are the same. One step for each place.
@@ -223,7 +253,7 @@ fn same_held(a: Held, b: Held) -> bool {
         if x.filling != y.filling {
             return false;
         }
-        if x.value != y.value {
+        if !same_value(x.value, y.value) {
             return false;
         }
         i += 1;
@@ -231,34 +261,41 @@ fn same_held(a: Held, b: Held) -> bool {
     true
 }
 
-// A step's cause, and whether it gave back the held values.
-struct Stepped {
+// An operation's cause, and whether it gave back the held values that it was lent.
+struct Asked {
     cause: u8,
     is_held: bool,
 }
 
-fn step_4(design: Design, cells: &[u32], tables: &[u8], marks: &mut [u8], held: Held) -> Stepped {
-    let mut words = [0u32; 8];
-    let script = b"\x10\x00\x04\x00\x00\x00";
-    let t = step(script, 0, design, cells, tables, marks, held, &mut words);
-    let answer = t.answer;
-    let kept = t.held;
-    Stepped {
+// One operation that leaves a lawful state as it was.
+fn ask(
+    op: Operation,
+    design: Design,
+    cells: &[u32],
+    tables: &[u8],
+    marks: &mut [u8],
+    held: Held,
+    words: &mut [u32],
+) -> Asked {
+    let o = perform(op, design, cells, tables, marks, held, words);
+    let answer = o.answer;
+    let kept = o.held;
+    Asked {
         cause: cause_of(answer),
         is_held: same_held(held, kept),
     }
 }
 
-fn query_3(
-    design: Design,
-    cells: &[u32],
-    tables: &[u8],
-    marks: &[u8],
-    held: Held,
-    words: &mut [u32],
-) -> u8 {
-    let q = plain_query();
-    cause_of(query::query(design, cells, tables, marks, held, q, words))
+fn step_4(design: Design, cells: &[u32], tables: &[u8], marks: &mut [u8], held: Held) -> Asked {
+    let mut words = [0u32; 8];
+    let script = b"\x10\x00\x04\x00\x00\x00";
+    let t = step(script, 0, design, cells, tables, marks, held, &mut words);
+    let answer = t.answer;
+    let kept = t.held;
+    Asked {
+        cause: cause_of(answer),
+        is_held: same_held(held, kept),
+    }
 }
 
 fn write_out(
@@ -279,11 +316,14 @@ fn drop_and_refer(
     tables: &[u8],
     marks: &mut [u8],
     held: Held,
+    words: &mut [u32],
 ) -> Causes {
-    let o = dropped(design, cells, tables, marks, held, 0, 3);
+    let drop = Operation::Drop(held_3());
+    let o = perform(drop, design, cells, tables, marks, held, words);
     let a = o.answer;
     let kept = o.held;
-    let p = referred(design, cells, tables, marks, kept, 0, 3);
+    let refer = Operation::Refer(held_3());
+    let p = perform(refer, design, cells, tables, marks, kept, words);
     let b = p.answer;
     let last = p.held;
     Causes {
@@ -297,6 +337,26 @@ fn drop_and_refer(
     }
 }
 
+// The causes c, with those of PROBE and QUERY.
+fn probe_and_query(
+    mut c: Causes,
+    design: Design,
+    cells: &[u32],
+    tables: &[u8],
+    marks: &mut [u8],
+    held: Held,
+    words: &mut [u32],
+) -> Causes {
+    let probe = Operation::Probe(column_1(), value_3());
+    let p = ask(probe, design, cells, tables, marks, held, words);
+    let query = Operation::Query(plain_query());
+    let q = ask(query, design, cells, tables, marks, held, words);
+    c.probe = p.cause;
+    c.query = q.cause;
+    c.is_held = c.is_held && p.is_held && q.is_held;
+    c
+}
+
 // All six on one state, the step last: it is the only one that leaves a lawful state changed.
 pub(crate) fn operated(
     design: Design,
@@ -307,9 +367,8 @@ pub(crate) fn operated(
     words: &mut [u32],
     out: &mut [u8],
 ) -> Causes {
-    let mut c = drop_and_refer(design, cells, tables, marks, held);
-    c.probe = cause_of(probed(design, cells, tables, marks, held, 0, 1, 3));
-    c.query = query_3(design, cells, tables, marks, held, words);
+    let two = drop_and_refer(design, cells, tables, marks, held, words);
+    let mut c = probe_and_query(two, design, cells, tables, marks, held, words);
     c.write = write_out(design, cells, tables, marks, held, out);
     let t = step_4(design, cells, tables, marks, held);
     c.step = t.cause;

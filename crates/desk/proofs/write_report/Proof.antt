@@ -6,7 +6,7 @@ use mathlib.Core.Bool.{true}
 use borrow.Author.Needs.{needs}
 use borrow.Author.Tests.{not-true, not-false}
 use lib.ListN.{length, replicate, length-take}
-use Rattle.state.specs.Step.{lent}
+use Rattle.state.specs.Lent.{lent}
 use Rattle.catalog.specs.Catalog.{Catalogued}
 use Rattle.desk.proofs.TextLaws.{turns, turns-less}
 use Rattle.desk.proofs.PartLaws.{Standing, standing-first, stands, standing-next, handed-all, handed-some}

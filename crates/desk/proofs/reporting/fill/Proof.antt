@@ -7,7 +7,7 @@ use mathlib.Core.Logic.{_⊎_, inl, inr, ⊎-elim}
 use borrow.Author.Tests.{not-true, not-false}
 use lib.ListN.{length}
 use Rattle.finite.proofs.Bools.{clash}
-use Rattle.state.specs.Step.{lent}
+use Rattle.state.specs.Lent.{lent}
 use Rattle.desk.specs.Printed.{Printed}
 use Rattle.desk.proofs.TextLaws.{turns, turns-less, printed-none, printed-then}
 use Rattle.desk.proofs.reporting.fill.Statement.{statement}
@@ -17,7 +17,7 @@ abbrev Inv-loop : tie.InvT-loop
 Inv-loop script design cells tables next first keys heads starts marks₀ words₀ weights₀ sums₀ froms₀ links₀ out₀ p₀ marks words weights sums froms links out p =
     Printed script (lent design cells tables marks₀ (p₀ .held)) words₀ p₀ out₀ out marks words p ×
     (p .more ≡ true → (p .at < length script) × (p .number ≤ p .at)) × (p .more ≡ true → (p₀ .at < p .at) ⊎ ((p .at ≡ p₀ .at) × (p .end ≤ 16384))) ×
-    (p .end ≤ 61511) × (length words ≤ 4096) × (length out ≡ 65536) × (length marks ≡ length marks₀) × (length words ≡ length words₀) × (length out ≡ length out₀)
+    (p .end ≤ 61537) × (length words ≤ 4096) × (length out ≡ 65536) × (length marks ≡ length marks₀) × (length words ≡ length words₀) × (length out ≡ length out₀)
 
 abbrev μ-loop : tie.MeasureT-loop
 μ-loop script design cells tables next first keys heads starts marks₀ words₀ weights₀ sums₀ froms₀ links₀ out₀ p₀ marks words weights sums froms links out p = turns script p

@@ -3,7 +3,7 @@ use native.Mathlib.Omega.{arith}
 use mathlib.Core.Path.{refl}
 use borrow.Author.Needs.{needs}
 use Rattle.report.proofs.Lengths.{command-line-reach}
-use Rattle.desk.proofs.TextLaws.{code-fits, lists-at, room-for, lists-reach, step-printed, step-next}
+use Rattle.desk.proofs.TextLaws.{lists-at, room-for, lists-reach, step-printed, step-next, step-fits}
 use Rattle.desk.proofs.reporting.report_step.Statement.{statement}
 use Rattle.desk.proofs.reporting.report_step.Tie as tie
 
@@ -23,7 +23,7 @@ put-lists-requires c κs =
     let line = command-line-reach _ _ _ _ _ _ _ (c .before .before .before .before .before .put-command-line .ensures) in
     let places = c .before .before .positions-at .ensures in (
       omega (arith, places),
-      λ n e. room-for n _ _ _ _ _ _ _ places (code-fits _ _ _ (start .args .from) (start .pre .1 .0) (start .pre .1 .1) _ _ _ (step .does) n e) (omega (arith, c .before .before .before .before .before .before .before .before .words .given)) (start .pre .1 .3) line (omega (arith, start .pre .1 .4, c .before .before .before .before .out .given)),
+      λ e. room-for _ _ _ _ _ _ _ _ places (step-fits _ _ _ (start .args .from) (start .pre .1 .0) (start .pre .1 .1) _ _ _ step e) (omega (arith, c .before .before .before .before .before .before .before .before .words .given)) (start .pre .1 .3) line (omega (arith, start .pre .1 .4, c .before .before .before .before .out .given)),
     )
 
 goes-on-requires : tie.Need-goes-on-requires
@@ -47,11 +47,11 @@ returns c =
     let step = c .before .before .before .before .before .before .before .before .before .before .before .before .before .before .before .before .before .step-lawful .ensures in
     let line = c .before .before .before .before .before .before .before .before .before .before .before .put-command-line .ensures in
     let lists = lists-at _ _ _ _ (c .before .before .before .before .before .before .before .before .positions-at .ensures) (c .before .before .before .before .before .put-lists .ensures) in
-    let fits = code-fits _ _ _ (start .args .from) (start .pre .1 .0) (start .pre .1 .1) _ _ _ (step .does) in (
-      step-printed _ _ _ (start .args .from) (start .pre .1 .0) (start .pre .1 .1) _ _ _ (step .does) _ refl refl (c .before .goes-on .ensures) refl _ _ _ _ line lists (step .sound),
+    let fits = step-fits _ _ _ (start .args .from) (start .pre .1 .0) (start .pre .1 .1) _ _ _ step in (
+      step-printed _ _ _ (start .args .from) (start .pre .1 .0) (start .pre .1 .1) _ _ _ step _ refl refl (c .before .goes-on .ensures) refl _ _ _ _ line lists (start .pre .0 .0),
       (
-        omega (arith, command-line-reach _ _ _ _ _ _ _ line, lists-reach _ _ _ _ _ _ _ (λ k. c .before .before .before .before .before .before .before .before .before .before .before .before .before .slice-known5 .given k .fits) (omega arith) (λ n e. omega (arith, fits n e, start .pre .1 .3)) lists),
-        λ e. step-next _ _ _ (start .args .from) (start .pre .1 .0) (start .pre .1 .1) _ _ _ (step .does) _ (c .before .goes-on .ensures) e (start .pre .1 .2),
+        omega (arith, command-line-reach _ _ _ _ _ _ _ line, lists-reach _ _ _ _ _ _ _ (λ k. c .before .before .before .before .before .before .before .before .before .before .before .before .before .slice-known5 .given k .fits) (omega arith) (λ e. omega (arith, fits e, start .pre .1 .3)) lists),
+        λ e. step-next _ _ _ (start .args .from) (start .pre .1 .0) (start .pre .1 .1) _ _ _ step _ (c .before .goes-on .ensures) e (start .pre .1 .2),
       ),
     )
 

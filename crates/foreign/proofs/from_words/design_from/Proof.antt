@@ -4,27 +4,6 @@ use borrow.Author.Needs.{needs}
 use Rattle.foreign.proofs.from_words.design_from.Statement.{statement}
 use Rattle.foreign.proofs.from_words.design_from.Tie as tie
 
-count-at-requires : tie.Need-count-at-requires
-count-at-requires c κs = search needs
-
-tables-from-requires : tie.Need-tables-from-requires
-tables-from-requires c κs = search needs
-
-count-at-requires-2 : tie.Need-count-at-requires-2
-count-at-requires-2 c κs = search needs
-
-constraints-from-requires : tie.Need-constraints-from-requires
-constraints-from-requires c κs = search needs
-
-count-at-requires-3 : tie.Need-count-at-requires-3
-count-at-requires-3 c κs = search needs
-
-fillings-from-requires : tie.Need-fillings-from-requires
-fillings-from-requires c κs = search needs
-
-count-at-requires-4 : tie.Need-count-at-requires-4
-count-at-requires-4 c κs = search needs
-
 returns : tie.Need-returns
 returns c =
     let k = c .before .before .before in
@@ -35,12 +14,5 @@ returns c =
 pub design-from-spec : {M : Type 1} → statement M
 design-from-spec =
     tie.close
-    (tie.spec
-    count-at-requires
-    tables-from-requires
-    count-at-requires-2
-    constraints-from-requires
-    count-at-requires-3
-    fillings-from-requires
-    count-at-requires-4
-    returns)
+    (tie.spec (λ c κs. search needs) (λ c κs. search needs) (λ c κs. search needs) (λ c κs. search needs) (λ c κs. search needs)
+    (λ c κs. search needs) (λ c κs. search needs) returns)

@@ -4,14 +4,9 @@ use borrow.Author.Needs.{needs}
 use Rattle.foreign.proofs.from_words.held_from.Statement.{statement}
 use Rattle.foreign.proofs.from_words.held_from.Tie as tie
 
-count-at-requires : tie.Need-count-at-requires
-count-at-requires c κs = search needs
-
-values-from-requires : tie.Need-values-from-requires
-values-from-requires c κs = search needs
-
 returns : tie.Need-returns
 returns c = held-is _ _ _ (c .before .count-at .ensures) (c .values-from .ensures)
 
 pub held-from-spec : {M : Type 1} → statement M
-held-from-spec = tie.close (tie.spec count-at-requires values-from-requires returns)
+held-from-spec =
+    tie.close (tie.spec (λ c κs. search needs) (λ c κs. search needs) returns)

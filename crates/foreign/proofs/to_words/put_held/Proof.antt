@@ -7,15 +7,6 @@ use borrow.Author.Needs.{needs}
 use Rattle.foreign.proofs.to_words.put_held.Statement.{statement}
 use Rattle.foreign.proofs.to_words.put_held.Tie as tie
 
-cast-words : tie.Need-cast-words
-cast-words c = search needs
-
-slice-write-words : tie.Need-slice-write-words
-slice-write-words c = search needs
-
-put-values-requires : tie.Need-put-values-requires
-put-values-requires c κs = search needs
-
 same-length : tie.Need-same-length
 same-length c =
     let p = c .before .before in
@@ -30,4 +21,5 @@ returns c =
 
 pub put-held-spec : {M : Type 1} → statement M
 put-held-spec =
-    tie.close (tie.spec cast-words slice-write-words put-values-requires same-length returns)
+    tie.close
+    (tie.spec (λ c. search needs) (λ c. search needs) (λ c κs. search needs) same-length returns)

@@ -32,6 +32,9 @@ element-copy-out-y c = search needs
 returns-2 : tie.Need-returns-2 Inv-loop μ-loop
 returns-2 c = tt
 
+same-value-requires : tie.Need-same-value-requires Inv-loop μ-loop
+same-value-requires c κs = search needs
+
 returns-3 : tie.Need-returns-3 Inv-loop μ-loop
 returns-3 c = tt
 
@@ -60,6 +63,7 @@ same-held-spec =
     mul-y
     element-copy-out-y
     returns-2
+    same-value-requires
     returns-3
     add-i
     loop-less
