@@ -30,6 +30,9 @@ const STARTS: usize = 65;
 /// A query's working memory: for each position and row.
 const POSITIONS: usize = 2_560;
 
+/// The numbers that an answer can have at most.
+const NUMBERS: usize = 2;
+
 // A Rattle slice goes across as a pointer and a length, and an array of a fixed
 // size as a pointer, which is what a reference to an array is in Rust.
 #[link(name = "foreign", kind = "static")]
@@ -79,7 +82,8 @@ extern "C" {
         sums: &mut [u64; POSITIONS],
         froms: &mut [u16; POSITIONS],
         links: &mut [u16; POSITIONS],
-    ) -> u64;
+        numbers: &mut [u64; NUMBERS],
+    ) -> u8;
 
     fn wurzsige_run(
         script: *const u8,
@@ -151,9 +155,10 @@ impl Contestant for ProvedDesk {
     }
 }
 
-/// A call of `wurzsige_step` or `wurzsige_run`, which take the same operands.
+/// A call of `wurzsige_step` or `wurzsige_run`, which take the same operands; a
+/// step takes the place for its answer's numbers behind them.
 macro_rules! call {
-    ($function:ident, $lent:expr, $script:expr) => {
+    ($function:ident, $lent:expr, $script:expr $(, $numbers:expr)?) => {
         // SAFETY: each pointer goes with its slice's length, the slices and
         // arrays don't overlap, and the state is as the last call left it.
         unsafe {
@@ -182,6 +187,7 @@ macro_rules! call {
                 &mut $lent.sums,
                 &mut $lent.froms,
                 &mut $lent.links,
+                $($numbers,)?
             )
         }
     };
@@ -239,23 +245,24 @@ impl Lent {
 
 impl OpenDesk for Lent {
     fn answer(&mut self, operation: &Operation) -> Answer {
-        let code = call!(wurzsige_step, self, operation.bytes);
-        let value = (code / 16) as usize;
-        match code % 16 {
-            1 => Answer::Loaded(value % 1_024),
-            2 => Answer::Held,
-            3 => Answer::NoCandidate,
-            4 => Answer::Dropped(value),
-            5 => Answer::Ground(value as u8),
-            6 => Answer::Sent,
-            7 => {
+        let mut numbers = [0; NUMBERS];
+        let word = call!(wurzsige_step, self, operation.bytes, &mut numbers);
+        let number = numbers[0];
+        match word {
+            0 => Answer::Loaded(number as usize),
+            1 => Answer::Held,
+            2 => Answer::NoCandidate,
+            3 => Answer::Dropped(number as usize),
+            4 => Answer::Ground(number as u8),
+            5 => Answer::Sent,
+            6 => {
                 // A QUERY's number of joins is its eighth byte.
                 let positions = usize::from(operation.bytes[7]) + 1;
-                let words = &self.words[..value * positions];
+                let words = &self.words[..number as usize * positions];
                 Answer::Lists(words.iter().map(|&word| word as usize).collect())
             }
-            8 => Answer::Refused(value as u8),
-            kind => unreachable!("no answer has kind {kind}"),
+            7 => Answer::Refused(number as u8),
+            word => unreachable!("no answer has the word {word}"),
         }
     }
 

@@ -25,6 +25,16 @@ pub enum Reply {
     OutOfTime,
 }
 
+impl Reply {
+    /// The report of a program that ended well.
+    pub fn report(&self) -> Option<&[u8]> {
+        match self {
+            Reply::Report(report) => Some(report),
+            _ => None,
+        }
+    }
+}
+
 impl fmt::Display for Reply {
     fn fmt(&self, out: &mut fmt::Formatter<'_>) -> fmt::Result {
         match self {

@@ -1,13 +1,13 @@
-//! Compares a desk program with the second implementation on generated
-//! scripts, byte by byte of the reports.
+//! Compares a desk program with the second implementation, or with another desk
+//! program, on generated scripts, byte by byte of the reports.
 //!
 //! - [`generate`] makes the scripts from a seed, each from its own number.
 //! - [`desk`] runs the desk program as a child process.
 //! - [`run`] puts the two side by side and stops at the first difference.
 //! - [`examples`] are scripts with their reports, which the desk is held to too.
 //! - [`reduce`] makes the script of a difference small.
-//! - [`tally`] counts which answers, causes and extremes were reached, so that a
-//!   run that never reached one can't pass for a good one.
+//! - [`tally`] counts commands, and which answers, causes and extremes were
+//!   reached, so that a run that never reached one can't pass for a good one.
 //! - [`faults`] makes reads and writes of the desk program fail.
 
 #![forbid(unsafe_code)]

@@ -1,27 +1,32 @@
-//! `compare [--seed N] [--seeds N] [--scripts N] [--examples DIRECTORY] [DESK]`:
-//! compares the desk program with the second implementation on generated
-//! scripts.
+//! `compare [--seed N] [--seeds N] [--scripts N] [--examples DIRECTORY]
+//! [--against OTHER] [DESK]`: compares the desk program with the second
+//! implementation on generated scripts, or with the desk program OTHER.
 //!
 //! Without the argument DESK, the environment variable DESK names the program.
-//! It fails if the two differ on a script, or if some answer, cause or extreme
-//! was never reached. With `--seeds`, the seeds after the first are taken from
-//! the clock; they are printed, so that a failure can be repeated. With
-//! `--examples`, the desk has to give the reports of the examples there too.
+//! It fails if the two differ in a byte of standard output on a script, or if
+//! one of them ends with a status other than 0, by a signal or with anything on
+//! standard error; then it prints the first such script and both replies in
+//! full, and after them a small one. It prints how many scripts there were, how
+//! many commands of each kind and how many answers of each kind, and fails if
+//! some answer, cause or extreme was never reached. With `--seeds`, the seeds
+//! after the first are taken from the clock; they are printed, so that a failure
+//! can be repeated. `--scripts` is for each seed. With `--examples`, both have to
+//! give the reports of the examples there too.
 
 use std::env;
 use std::ffi::OsString;
+use std::io;
 use std::path::{Path, PathBuf};
 use std::process::ExitCode;
 use std::time::{Duration, Instant, SystemTime, UNIX_EPOCH};
 
 use compare::desk::{Program, Reply};
 use compare::examples::examples;
-use compare::generate;
-use compare::run::{compare, Comparison, Desk};
+use compare::run::{compare, Side, Sides, SECOND_IMPLEMENTATION};
 use compare::tally::Tally;
 
-const USAGE: &str =
-    "usage: compare [--seed N] [--seeds N] [--scripts N] [--examples DIRECTORY] [DESK]";
+const USAGE: &str = "usage: compare [--seed N] [--seeds N] [--scripts N] \
+    [--examples DIRECTORY] [--against OTHER] [DESK]";
 const TIME_LIMIT: Duration = Duration::from_secs(10);
 
 struct Options {
@@ -29,6 +34,7 @@ struct Options {
     seeds: u64,
     scripts: u64,
     examples: Option<PathBuf>,
+    against: Option<PathBuf>,
     desk: PathBuf,
 }
 
@@ -50,13 +56,15 @@ fn options(
 ) -> Result<Options, String> {
     let mut arguments = arguments;
     let mut desk = desk.map(PathBuf::from);
-    let (mut seed, mut seeds, mut scripts, mut examples) = (1, 1, 20_000, None);
+    let (mut seed, mut seeds, mut scripts) = (1, 1, 20_000);
+    let (mut examples, mut against) = (None, None);
     while let Some(argument) = arguments.next() {
         match argument.to_str() {
             Some("--seed") => seed = number(arguments.next())?,
             Some("--seeds") => seeds = number(arguments.next())?,
             Some("--scripts") => scripts = number(arguments.next())?,
             Some("--examples") => examples = Some(arguments.next().ok_or(USAGE)?.into()),
+            Some("--against") => against = Some(arguments.next().ok_or(USAGE)?.into()),
             Some(other) if other.starts_with("--") => return Err(USAGE.into()),
             _ => desk = Some(argument.into()),
         }
@@ -67,6 +75,7 @@ fn options(
         seeds,
         scripts,
         examples,
+        against,
         desk,
     })
 }
@@ -89,19 +98,40 @@ fn seeds(options: &Options) -> Vec<u64> {
 
 /// Compares, prints what came of it, and tells whether all was well.
 fn run(options: &Options) -> Result<bool, String> {
+    let name = options.desk.display().to_string();
+    let desk = Side {
+        name: &name,
+        desk: &program(&options.desk),
+    };
+    let Some(path) = &options.against else {
+        return run_both(options, &[desk, SECOND_IMPLEMENTATION]);
+    };
+    let name = path.display().to_string();
+    let other = Side {
+        name: &name,
+        desk: &program(path),
+    };
+    run_both(options, &[desk, other])
+}
+
+fn program(path: &Path) -> impl Fn(&[u8]) -> io::Result<Reply> + Sync {
     let program = Program {
-        path: options.desk.clone(),
+        path: path.into(),
         time_limit: TIME_LIMIT,
     };
-    let desk = |script: &[u8]| program.reply(script);
+    move |script| program.reply(script)
+}
+
+fn run_both(options: &Options, sides: &Sides) -> Result<bool, String> {
+    let mut tally = Tally::default();
+    println!("{}, held to {}", sides[0].name, sides[1].name);
     if let Some(directory) = &options.examples {
-        if !examples_are_right(&desk, directory)? {
+        if !examples_are_right(sides, directory, &mut tally)? {
             return Ok(false);
         }
     }
-    let mut tally = Tally::default();
     for seed in seeds(options) {
-        if !seed_is_right(&desk, options, seed, &mut tally)? {
+        if !seed_is_right(sides, seed, options.scripts, &mut tally)? {
             return Ok(false);
         }
     }
@@ -113,15 +143,24 @@ fn run(options: &Options) -> Result<bool, String> {
     Ok(missing.is_empty())
 }
 
-fn examples_are_right(desk: &impl Desk, directory: &Path) -> Result<bool, String> {
+fn examples_are_right(sides: &Sides, directory: &Path, tally: &mut Tally) -> Result<bool, String> {
     let examples = examples(directory).map_err(|error| error.to_string())?;
     let mut right = true;
     for example in &examples {
-        let reply = desk(&example.script).map_err(|error| error.to_string())?;
-        if reply != Reply::Report(example.report.clone()) {
-            println!("{} differs:\n{reply}", example.path.display());
-            right = false;
+        for side in sides {
+            let reply = side
+                .reply(&example.script)
+                .map_err(|error| error.to_string())?;
+            if reply != Reply::Report(example.report.clone()) {
+                println!(
+                    "{} differs, {}:\n{reply}",
+                    example.path.display(),
+                    side.name
+                );
+                right = false;
+            }
         }
+        tally.add(&example.script, &String::from_utf8_lossy(&example.report));
     }
     if right {
         println!("{} examples, no difference", examples.len());
@@ -130,24 +169,20 @@ fn examples_are_right(desk: &impl Desk, directory: &Path) -> Result<bool, String
 }
 
 fn seed_is_right(
-    desk: &impl Desk,
-    options: &Options,
+    sides: &Sides,
     seed: u64,
+    scripts: u64,
     tally: &mut Tally,
 ) -> Result<bool, String> {
-    let Options {
-        scripts,
-        desk: path,
-        ..
-    } = options;
-    let failed = |error| format!("{}: {error}", path.display());
-    println!("{}: {scripts} scripts of seed {seed}", path.display());
+    println!("{scripts} scripts of seed {seed}");
     let start = Instant::now();
-    let outcome = compare(desk, seed, *scripts).map_err(failed)?;
-    if let Some(number) = outcome.difference {
-        println!("script {number} of seed {seed} differs");
-        let comparison = Comparison::of(desk, generate::script(seed, number)).map_err(failed)?;
-        print!("{}", comparison.reduced(desk).map_err(failed)?);
+    let outcome = compare(sides, seed, scripts).map_err(|error| error.to_string())?;
+    if let Some(difference) = outcome.difference {
+        println!("script {} of seed {seed} differs", difference.number);
+        print!("{}", difference.comparison);
+        let reduced = difference.comparison.reduced(sides);
+        println!("made small");
+        print!("{}", reduced.map_err(|error| error.to_string())?);
         return Ok(false);
     }
     println!(

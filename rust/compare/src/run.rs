@@ -1,4 +1,4 @@
-//! The comparison itself: both implementations on script after script.
+//! The comparison itself: two desks on script after script.
 
 use std::fmt;
 use std::io;
@@ -17,25 +17,58 @@ const THREADS: usize = 2;
 /// its script by then stays out.
 const REDUCING_TIME: Duration = Duration::from_secs(30);
 
-/// The desk under comparison: a script in, its reply out.
-pub trait Desk: Fn(&[u8]) -> io::Result<Reply> + Sync {}
+/// A desk: a script in, its reply out.
+pub type Desk<'a> = dyn Fn(&[u8]) -> io::Result<Reply> + Sync + 'a;
 
-impl<D: Fn(&[u8]) -> io::Result<Reply> + Sync> Desk for D {}
+/// A desk under the name that its replies are printed with.
+#[derive(Clone, Copy)]
+pub struct Side<'a> {
+    /// The name.
+    pub name: &'a str,
+    /// The desk.
+    pub desk: &'a Desk<'a>,
+}
+
+impl Side<'_> {
+    /// What the desk gives for a script. A failure tells which desk it was.
+    pub fn reply(&self, script: &[u8]) -> io::Result<Reply> {
+        (self.desk)(script)
+            .map_err(|error| io::Error::new(error.kind(), format!("{}: {error}", self.name)))
+    }
+}
+
+/// The desk under comparison, and the one that it is held to.
+pub type Sides<'a> = [Side<'a>; 2];
+
+/// The second implementation, within this process.
+pub const SECOND_IMPLEMENTATION: Side<'static> = Side {
+    name: "the second implementation",
+    desk: &|script| Ok(Reply::Report(reference::report(script).into_bytes())),
+};
 
 /// What a comparison came to.
 #[derive(Debug, Default)]
-pub struct Outcome {
-    /// What the scripts and the second implementation's reports showed.
+pub struct Outcome<'a> {
+    /// What the scripts and the reports that the desk is held to showed.
     pub tally: Tally,
-    /// The number of the first script on which the two differ.
-    pub difference: Option<u64>,
+    /// The first script on which the two differ.
+    pub difference: Option<Difference<'a>>,
+}
+
+/// A generated script on which the two differ.
+#[derive(Debug)]
+pub struct Difference<'a> {
+    /// Its number among those of its seed.
+    pub number: u64,
+    /// Both replies on it.
+    pub comparison: Comparison<'a>,
 }
 
 /// Compares on the first `count` scripts of a seed, or until a difference.
-pub fn compare(desk: &impl Desk, seed: u64, count: u64) -> io::Result<Outcome> {
+pub fn compare<'a>(sides: &Sides<'a>, seed: u64, count: u64) -> io::Result<Outcome<'a>> {
     let next = AtomicU64::new(0);
     let work = || {
-        let outcome = compare_some(desk, seed, count, &next);
+        let outcome = compare_some(sides, seed, count, &next);
         // Whatever ended this thread's work before the last script ends the
         // other's too.
         next.store(count, Ordering::Relaxed);
@@ -48,76 +81,89 @@ pub fn compare(desk: &impl Desk, seed: u64, count: u64) -> io::Result<Outcome> {
             let part = thread.join().expect("comparing doesn't panic")?;
             whole.tally.merge(part.tally);
             let differences = whole.difference.into_iter().chain(part.difference);
-            whole.difference = differences.min();
+            whole.difference = differences.min_by_key(|difference| difference.number);
         }
         Ok(whole)
     })
 }
 
 /// One thread's share: the scripts that no other thread has taken.
-fn compare_some(desk: &impl Desk, seed: u64, count: u64, next: &AtomicU64) -> io::Result<Outcome> {
+fn compare_some<'a>(
+    sides: &Sides<'a>,
+    seed: u64,
+    count: u64,
+    next: &AtomicU64,
+) -> io::Result<Outcome<'a>> {
     let mut outcome = Outcome::default();
     loop {
         let number = next.fetch_add(1, Ordering::Relaxed);
         if number >= count {
             return Ok(outcome);
         }
-        let comparison = Comparison::of(desk, generate::script(seed, number))?;
-        outcome.tally.add(&comparison.script, &comparison.expected);
+        let comparison = Comparison::of(sides, generate::script(seed, number))?;
         if comparison.differs() {
-            outcome.difference = Some(number);
+            outcome.difference = Some(Difference { number, comparison });
             return Ok(outcome);
         }
+        comparison.count_in(&mut outcome.tally);
     }
 }
 
-/// Both reports on one script.
+/// Both replies on one script.
 #[derive(Clone, Debug)]
-pub struct Comparison {
+pub struct Comparison<'a> {
     /// The script.
     pub script: Vec<u8>,
-    /// What the desk gave.
-    pub reply: Reply,
-    /// What the second implementation printed.
-    pub expected: String,
+    /// The names of the two desks.
+    pub names: [&'a str; 2],
+    /// What the desk gave, and what the one that it is held to gave.
+    pub replies: [Reply; 2],
 }
 
-impl Comparison {
-    /// Runs both on a script.
-    pub fn of(desk: &impl Desk, script: Vec<u8>) -> io::Result<Comparison> {
+impl<'a> Comparison<'a> {
+    /// Gives both a script.
+    pub fn of(sides: &Sides<'a>, script: Vec<u8>) -> io::Result<Comparison<'a>> {
+        let [desk, other] = sides;
         Ok(Comparison {
-            reply: desk(&script)?,
-            expected: reference::report(&script),
+            names: [desk.name, other.name],
+            replies: [desk.reply(&script)?, other.reply(&script)?],
             script,
         })
     }
 
-    /// Whether the two differ in any byte, or the desk didn't end well.
+    /// Whether the two differ in any byte, or didn't end well.
     pub fn differs(&self) -> bool {
-        match &self.reply {
-            Reply::Report(report) => report != self.expected.as_bytes(),
-            _ => true,
+        let [reply, expected] = &self.replies;
+        reply.report().is_none() || reply != expected
+    }
+
+    /// Counts what the script and the report that the desk is held to show.
+    pub fn count_in(&self, tally: &mut Tally) {
+        let [_, expected] = &self.replies;
+        if let Some(report) = expected.report() {
+            tally.add(&self.script, &String::from_utf8_lossy(report));
         }
     }
 
     /// A difference on a smaller script than this one's.
-    pub fn reduced(&self, desk: &impl Desk) -> io::Result<Comparison> {
+    pub fn reduced(&self, sides: &Sides<'a>) -> io::Result<Comparison<'a>> {
         let start = Instant::now();
         let script = reduce(&self.script, |script| {
             start.elapsed() < REDUCING_TIME
-                && Comparison::of(desk, script.to_vec()).is_ok_and(|both| both.differs())
+                && Comparison::of(sides, script.to_vec()).is_ok_and(|both| both.differs())
         });
-        Comparison::of(desk, script)
+        Comparison::of(sides, script)
     }
 }
 
-impl fmt::Display for Comparison {
+impl fmt::Display for Comparison<'_> {
     fn fmt(&self, out: &mut fmt::Formatter<'_>) -> fmt::Result {
         writeln!(out, "script, {} bytes:", self.script.len())?;
         write!(out, "{}", notation::disassemble(&self.script))?;
-        writeln!(out, "the desk:")?;
-        write!(out, "{}", self.reply)?;
-        writeln!(out, "the second implementation:")?;
-        write!(out, "{}", self.expected)
+        for (name, reply) in self.names.iter().zip(&self.replies) {
+            writeln!(out, "{name}:")?;
+            write!(out, "{reply}")?;
+        }
+        Ok(())
     }
 }

@@ -1,4 +1,5 @@
-//! Counts the answers, causes and extremes that scripts and their reports show.
+//! Counts scripts and their commands, and the answers, causes and extremes that
+//! they and their reports show.
 
 use std::collections::BTreeMap;
 use std::fmt;
@@ -54,13 +55,39 @@ pub const OUTCOMES: [&str; 37] = [
     "2^32 - 1 queried with lists",
 ];
 
+/// The kinds of commands, and last what can't be read as one.
+const COMMANDS: [&str; 10] = [
+    "table",
+    "constraint",
+    "filling",
+    "row",
+    "end",
+    "refer",
+    "drop",
+    "probe",
+    "query",
+    "no command",
+];
+
 /// The fewest words that are too many.
 const TOO_MANY_WORDS: usize = ANSWER_WORDS + 2;
 
-/// How often each outcome was reached.
+/// How many scripts there were, with how many commands of each kind, and how
+/// often each outcome was reached.
 #[derive(Clone, Debug, Default)]
 pub struct Tally {
+    scripts: u64,
+    commands: BTreeMap<&'static str, Commands>,
     counts: BTreeMap<String, u64>,
+}
+
+/// The commands of one kind.
+#[derive(Clone, Copy, Debug, Default, PartialEq, Eq)]
+struct Commands {
+    /// All that stand in scripts.
+    given: u64,
+    /// Those of accepted designs, and those behind END with an answer.
+    answered: u64,
 }
 
 impl Tally {
@@ -69,13 +96,24 @@ impl Tally {
         let Some((head, operations)) = report.split_once('\n') else {
             return;
         };
+        let pieces = split(script);
+        let is_end = |piece: &Piece| *piece == Piece::Command(Command::End);
+        let end = pieces.iter().position(is_end);
         let design = head_outcome(head);
         let accepted = design == "design accepted";
+        let answers = answers(operations);
+        self.scripts += 1;
+        self.count_commands(
+            &pieces,
+            match end {
+                Some(end) if accepted => end + 1 + answers.len(),
+                _ => 0,
+            },
+        );
         self.count(design, 1);
         if !accepted {
             return;
         }
-        let answers = answers(operations);
         for answer in &answers {
             self.count(answer.outcome(), 1);
             self.count_answer_extremes(answer);
@@ -83,7 +121,9 @@ impl Tally {
         if answers.len() > 10_000 {
             self.count("over 10,000 commands".into(), 1);
         }
-        self.count_top_values(script, &answers);
+        if let Some(end) = end {
+            self.count_top_values(&pieces[..end], &pieces[end + 1..], &answers);
+        }
         if answers
             .iter()
             .any(|answer| answer.text.starts_with("refused 11 "))
@@ -94,6 +134,12 @@ impl Tally {
 
     /// Adds the counts of another tally.
     pub fn merge(&mut self, other: Tally) {
+        self.scripts += other.scripts;
+        for (kind, commands) in other.commands {
+            let sum = self.commands.entry(kind).or_default();
+            sum.given += commands.given;
+            sum.answered += commands.answered;
+        }
         for (outcome, count) in other.counts {
             self.count(outcome, count);
         }
@@ -107,6 +153,16 @@ impl Tally {
 
     fn count(&mut self, outcome: String, count: u64) {
         *self.counts.entry(outcome).or_default() += count;
+    }
+
+    /// Counts the pieces of a script, of which the first `answered` had an
+    /// answer.
+    fn count_commands(&mut self, pieces: &[Piece], answered: usize) {
+        for (number, piece) in pieces.iter().enumerate() {
+            let commands = self.commands.entry(kind(piece)).or_default();
+            commands.given += 1;
+            commands.answered += u64::from(number < answered);
+        }
     }
 
     fn count_answer_extremes(&mut self, answer: &Answer) {
@@ -127,13 +183,7 @@ impl Tally {
 
     /// Counts where the largest value stands, for commands that did something
     /// with it.
-    fn count_top_values(&mut self, script: &[u8], answers: &[Answer]) {
-        let pieces = split(script);
-        let is_end = |piece: &Piece| *piece == Piece::Command(Command::End);
-        let Some(end) = pieces.iter().position(is_end) else {
-            return;
-        };
-        let (design, operations) = pieces.split_at(end);
+    fn count_top_values(&mut self, design: &[Piece], operations: &[Piece], answers: &[Answer]) {
         let in_a_row = |piece: &Piece| match piece {
             Piece::Command(Command::Row(row)) => row.cells.contains(&u32::MAX),
             _ => false,
@@ -141,7 +191,7 @@ impl Tally {
         if design.iter().any(in_a_row) {
             self.count("2^32 - 1 in a row".into(), 1);
         }
-        for (piece, answer) in operations[1..].iter().zip(answers) {
+        for (piece, answer) in operations.iter().zip(answers) {
             if let Some(outcome) = top_value_outcome(piece, answer) {
                 self.count(outcome.into(), 1);
             }
@@ -164,11 +214,36 @@ impl Tally {
 
 impl fmt::Display for Tally {
     fn fmt(&self, out: &mut fmt::Formatter<'_>) -> fmt::Result {
+        writeln!(out, "{:>9}  scripts", self.scripts)?;
+        writeln!(out, "{:>9}  {:>9}  commands", "given", "answered")?;
+        for kind in COMMANDS {
+            let Commands { given, answered } = self.commands.get(kind).copied().unwrap_or_default();
+            writeln!(out, "{given:>9}  {answered:>9}  {kind}")?;
+        }
+        writeln!(out, "{:>9}  outcomes", "reached")?;
         for outcome in OUTCOMES {
             let count = self.counts.get(outcome).copied().unwrap_or(0);
             writeln!(out, "{count:>9}  {outcome}")?;
         }
         Ok(())
+    }
+}
+
+/// The name that a piece of a script counts under.
+fn kind(piece: &Piece) -> &'static str {
+    let Piece::Command(command) = piece else {
+        return "no command";
+    };
+    match command {
+        Command::Table(_) => "table",
+        Command::Constraint(_) => "constraint",
+        Command::Filling(_) => "filling",
+        Command::Row(_) => "row",
+        Command::End => "end",
+        Command::Refer(_) => "refer",
+        Command::Drop(_) => "drop",
+        Command::Probe(_) => "probe",
+        Command::Query(_) => "query",
     }
 }
 
@@ -288,6 +363,33 @@ mod tests {
             ("refused 1".into(), 1),
         ];
         assert_eq!(counted(&reports), expected);
+    }
+
+    #[test]
+    fn commands_are_counted_with_and_without_an_answer() {
+        let mut tally = Tally::default();
+        for text in [
+            "table 1\nend\nend\nprobe 0.0 = 1\nbytes 0xff 0xff\n",
+            "end\nrefer 0 1\n",
+            "row 0\nend\nrefer 0 1\n",
+        ] {
+            let script = assemble(text).expect("a right text");
+            let mut other = Tally::default();
+            other.add(&script, &reference::report(&script));
+            tally.merge(other);
+        }
+        let counted = |kind| {
+            let commands: Commands = tally.commands[kind];
+            (commands.given, commands.answered)
+        };
+        assert_eq!(tally.scripts, 3);
+        assert_eq!(counted("table"), (1, 1));
+        assert_eq!(counted("row"), (1, 0));
+        assert_eq!(counted("end"), (4, 3));
+        assert_eq!(counted("probe"), (1, 1));
+        assert_eq!(counted("refer"), (2, 1));
+        assert_eq!(counted("no command"), (1, 1));
+        assert!(tally.commands.keys().all(|kind| COMMANDS.contains(kind)));
     }
 
     #[test]

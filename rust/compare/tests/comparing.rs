@@ -5,7 +5,7 @@ use std::io;
 
 use compare::desk::Reply;
 use compare::generate;
-use compare::run::{compare, Comparison};
+use compare::run::{compare, Desk, Side, Sides, SECOND_IMPLEMENTATION};
 
 const SEED: u64 = 1;
 const SCRIPTS: u64 = 3_000;
@@ -18,50 +18,61 @@ fn altered(alter: impl Fn(String) -> String + Sync) -> impl Fn(&[u8]) -> io::Res
     }
 }
 
+/// A desk beside the second implementation.
+fn sides<'a>(desk: &'a Desk<'a>) -> Sides<'a> {
+    let name = "the desk";
+    [Side { name, desk }, SECOND_IMPLEMENTATION]
+}
+
 #[test]
 fn a_right_desk_passes_and_everything_is_reached() {
-    let outcome = compare(&altered(|report| report), SEED, SCRIPTS).expect("no failure");
-    assert_eq!(outcome.difference, None);
+    let desk = altered(|report| report);
+    let outcome = compare(&sides(&desk), SEED, SCRIPTS).expect("no failure");
+    assert!(outcome.difference.is_none());
     assert_eq!(outcome.tally.missing(), [""; 0]);
 }
 
-/// Runs a wrong desk and gives the difference found, made small.
-fn difference(alter: impl Fn(String) -> String + Sync) -> Comparison {
+/// Runs a wrong desk and gives the difference found, made small: its script,
+/// and the whole of it as text.
+fn difference(alter: impl Fn(String) -> String + Sync) -> (Vec<u8>, String) {
     let desk = altered(alter);
-    let outcome = compare(&desk, SEED, SCRIPTS).expect("no failure");
-    let number = outcome.difference.expect("a difference");
-    let found = Comparison::of(&desk, generate::script(SEED, number)).expect("no failure");
-    assert!(found.differs());
-    let reduced = found.reduced(&desk).expect("no failure");
+    let sides = sides(&desk);
+    let outcome = compare(&sides, SEED, SCRIPTS).expect("no failure");
+    let found = outcome.difference.expect("a difference");
+    assert_eq!(
+        found.comparison.script,
+        generate::script(SEED, found.number)
+    );
+    assert!(found.comparison.differs());
+    let reduced = found.comparison.reduced(&sides).expect("no failure");
     assert!(reduced.differs());
-    reduced
+    let text = reduced.to_string();
+    (reduced.script, text)
 }
 
 #[test]
 fn a_wrong_ground_is_found_and_made_small() {
-    let reduced = difference(|report| report.replace("ground 2", "ground 1"));
-    let text = reduced.to_string();
+    let (script, text) = difference(|report| report.replace("ground 2", "ground 1"));
     assert!(text.contains("probe") && text.contains("refer"), "{text}");
     assert!(text.contains("constraint"), "{text}");
-    assert!(reduced.script.len() < 300, "{text}");
+    assert!(script.len() < 300, "{text}");
 }
 
 #[test]
 fn a_wrong_place_is_found_and_made_small() {
-    let reduced = difference(|report| report.replace("refused 3 ", "refused 3 1"));
-    assert!(notation::split(&reduced.script).len() <= 3, "{reduced}");
+    let (script, text) = difference(|report| report.replace("refused 3 ", "refused 3 1"));
+    assert!(notation::split(&script).len() <= 3, "{text}");
 }
 
 #[test]
 fn a_missing_line_end_is_found() {
-    let reduced = difference(|report| report.trim_end().into());
-    assert_eq!(reduced.script, []);
+    let (script, _) = difference(|report| report.trim_end().into());
+    assert_eq!(script, []);
 }
 
 #[test]
 fn a_list_left_out_is_found() {
-    let reduced = difference(|report| report.replace("\n0 1\n", "\n"));
-    let text = reduced.to_string();
+    let (_, text) = difference(|report| report.replace("\n0 1\n", "\n"));
     assert!(text.contains("query") && text.contains("join"), "{text}");
 }
 
@@ -74,15 +85,20 @@ fn a_desk_that_fails_to_answer_differs() {
         Reply::OutOfTime,
     ] {
         let desk = |_: &[u8]| Ok(reply.clone());
-        let outcome = compare(&desk, SEED, 10).expect("no failure");
-        assert!(outcome.difference.is_some());
+        let name = "the desk";
+        let beside_itself = [Side { name, desk: &desk }; 2];
+        for sides in [sides(&desk), beside_itself] {
+            let outcome = compare(&sides, SEED, 10).expect("no failure");
+            assert!(outcome.difference.is_some());
+        }
     }
 }
 
 #[test]
 fn a_desk_that_cannot_be_run_is_a_failure() {
     let desk = |_: &[u8]| Err(io::ErrorKind::NotFound.into());
-    let outcome = compare(&desk, SEED, 10);
+    let sides = sides(&desk);
+    let outcome = compare(&sides, SEED, 10);
     assert_eq!(
         outcome.map_err(|error| error.kind()).err(),
         Some(io::ErrorKind::NotFound)

@@ -32,9 +32,14 @@ fn write_shell_programs() {
             "'{}' | sed 's/no candidate/held/'",
             reference_desk().display()
         );
+        let one_byte = format!(
+            "'{}' | sed '0,/ ground 2$/s// ground 3/'",
+            reference_desk().display()
+        );
         let careless = format!("'{}' 2>/dev/null", reference_desk().display());
         for (name, body) in [
             ("wrong", wrong.as_str()),
+            ("one-byte", one_byte.as_str()),
             ("hasty", "echo refused 4 0"),
             ("echoing", "cat"),
             ("dying", "kill -6 $$"),
@@ -91,13 +96,56 @@ fn a_desk_with_one_wrong_line() {
     assert_eq!(output.status.code(), Some(1), "{text}");
     assert!(text.contains("of seed 5 differs"), "{text}");
     let (_, difference) = text.split_once(" bytes:\n").expect("a script");
-    let (script, reports) = difference.split_once("the desk:\n").expect("reports");
+    let (_, difference) = difference.split_once("made small\n").expect("a small one");
+    let (script, reports) = difference.split_once("/wrong:\n").expect("reports");
     assert!(script.contains("\nend\nrefer "), "{text}");
     assert!(script.lines().count() < 15, "{text}");
     let reports = reports.split_once("the second implementation:\n");
     let (wrong, right) = reports.expect("two reports");
     assert!(wrong.ends_with("\n0 held\n"), "{text}");
     assert!(right.ends_with("\n0 no candidate\n"), "{text}");
+}
+
+fn run_against(other: &Path, desk: &Path, more: &[&Path]) -> (Output, String) {
+    write_shell_programs();
+    let output = Command::new(env!("CARGO_BIN_EXE_compare"))
+        .args(["--scripts", "2000", "--against"])
+        .args([other, desk])
+        .args(more)
+        .output()
+        .expect("compare runs");
+    let text = String::from_utf8_lossy(&output.stdout).into_owned();
+    (output, text)
+}
+
+#[test]
+fn a_desk_program_against_another() {
+    let examples = Path::new(env!("CARGO_MANIFEST_DIR")).join("../../examples");
+    let more = [Path::new("--examples"), &examples];
+    let (output, text) = run_against(&reference_desk(), &reference_desk(), &more);
+    assert!(output.status.success(), "{text}");
+    assert!(text.contains(" examples, no difference"), "{text}");
+    let scripts = text.lines().find_map(|line| line.strip_suffix("  scripts"));
+    let scripts: usize = scripts
+        .and_then(|count| count.trim().parse().ok())
+        .expect("a count");
+    assert!(scripts > 2_000, "{text}");
+    let (_, commands) = text.split_once("  commands\n").expect("commands");
+    let (commands, _) = commands.split_once("  outcomes").expect("outcomes");
+    assert!(commands.contains("  query\n"), "{text}");
+    assert!(!commands.contains(" 0  "), "{text}");
+}
+
+#[test]
+fn one_other_byte_in_what_a_desk_is_held_to() {
+    let (output, text) = run_against(&shell_program("one-byte"), &reference_desk(), &[]);
+    assert_eq!(output.status.code(), Some(1), "{text}");
+    assert!(text.contains(" of seed 1 differs\nscript, "), "{text}");
+    let (_, small) = text.split_once("made small\n").expect("a small one");
+    let (_, reports) = small.split_once("/reference-desk:\n").expect("reports");
+    let (report, rest) = reports.split_once("ground 2\n").expect("a ground");
+    let (_, other) = rest.split_once("/one-byte:\n").expect("two reports");
+    assert!(other.starts_with(&format!("{report}ground 3\n")), "{text}");
 }
 
 #[test]
@@ -110,7 +158,7 @@ fn several_seeds_are_printed_and_the_first_is_the_one_given() {
     let text = String::from_utf8_lossy(&output.stdout);
     let seeds: Vec<&str> = text
         .lines()
-        .filter_map(|line| Some(line.split_once("1500 scripts of seed ")?.1))
+        .filter_map(|line| line.strip_prefix("1500 scripts of seed "))
         .collect();
     assert_eq!((seeds.len(), seeds[0]), (2, "5"), "{text}");
     assert_ne!(seeds[1], "5", "{text}");

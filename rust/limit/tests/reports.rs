@@ -1,19 +1,18 @@
 //! The reports, byte for byte beside the second implementation's.
 
+use compare::desk::Reply;
 use compare::generate;
 use compare::random::Random;
+use compare::run::{Comparison, Side, SECOND_IMPLEMENTATION};
 
 fn assert_same(script: &[u8], name: &str) {
-    let expected = reference::report(script);
-    assert!(
-        limit::report(script) == expected.as_bytes(),
-        "{name}:\n{}",
-        compare::run::Comparison {
-            reply: compare::desk::Reply::Report(limit::report(script)),
-            expected,
-            script: script.to_vec(),
-        }
-    );
+    let limit = Side {
+        name: "limit",
+        desk: &|script| Ok(Reply::Report(limit::report(script))),
+    };
+    let comparison = Comparison::of(&[limit, SECOND_IMPLEMENTATION], script.to_vec());
+    let comparison = comparison.expect("no process that could fail");
+    assert!(!comparison.differs(), "{name}:\n{comparison}");
 }
 
 #[test]
