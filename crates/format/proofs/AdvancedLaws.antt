@@ -87,7 +87,7 @@ after-fillings d e = zero-count (d .rows) e
 
 -- ---- each command that is read
 
-pub record TookTable (p q : Draft) (t : State-table.Table) : Type 0 where
+pub record AddedTable (p q : Draft) (t : State-table.Table) : Type 0 where
   pub constraints : p .design .constraints ≡ 0
   pub fillings : p .design .fillings ≡ 0
   pub rows : p .design .rows ≡ 0
@@ -95,49 +95,49 @@ pub record TookTable (p q : Draft) (t : State-table.Table) : Type 0 where
   pub fits : tableFits t ≡ true
   pub is : redesigned p (withTable (p .design) t) ≡ q
 
-pub record TookConstraint (p q : Draft) (c : State-constraint.Constraint) : Type 0 where
+pub record AddedConstraint (p q : Draft) (c : State-constraint.Constraint) : Type 0 where
   pub fillings : p .design .fillings ≡ 0
   pub rows : p .design .rows ≡ 0
   pub room : p .design .constraints < 16
   pub fits : constraintFits (p .design) (p .design .constraints) c ≡ true
   pub is : redesigned p (withConstraint (p .design) c) ≡ q
 
-pub record TookFilling (p q : Draft) (f : State-filling.Filling) : Type 0 where
+pub record AddedFilling (p q : Draft) (f : State-filling.Filling) : Type 0 where
   pub rows : p .design .rows ≡ 0
   pub room : p .design .fillings < 8
   pub fits : fillingFits (p .design) (p .design .fillings) f ≡ true
   pub is : redesigned p (withFilling (p .design) f) ≡ q
 
 -- q is the draft with the row put in
-pub record TookRow (p q r : Draft) : Type 0 where
+pub record AddedRow (p q r : Draft) : Type 0 where
   pub room : p .design .rows < 512
   pub fits : rowTest (schemeOf (q .design)) (databaseOf (q .design .rows) (q .cells) (q .tables)) (p .design .rows) ≡ true
   pub is : q ≡ r
 
 module _ (p q : Draft) (s : List ℕ) (i : ℕ) where
-  pub took-table : (t : State-table.Table) → advanced p s i (Table t) ≡ on q → TookTable p q t
+  pub added-table : (t : State-table.Table) → advanced p s i (Table t) ≡ on q → AddedTable p q t
   unfolding advanced
-  took-table t e =
+  added-table t e =
       let x = all-three (afterTables (p .design)) (leb 8 (p .design .tables)) (not (tableFits t)) 3 4 5 (redesigned p (withTable (p .design) t)) q e in
       let y = after-tables (p .design) (x .0) in
       record { constraints = y .0; fillings = y .1; rows = y .2; room = leb-false _ _ (x .1); fits = not-false _ (x .2); is = x .3 }
 
-  pub took-constraint : (c : State-constraint.Constraint) → advanced p s i (Constraint c) ≡ on q → TookConstraint p q c
+  pub added-constraint : (c : State-constraint.Constraint) → advanced p s i (Constraint c) ≡ on q → AddedConstraint p q c
   unfolding advanced
-  took-constraint c e =
+  added-constraint c e =
       let x = all-three (afterConstraints (p .design)) (leb 16 (p .design .constraints)) (not (constraintFits (p .design) (p .design .constraints) c)) 3 4 5 (redesigned p (withConstraint (p .design) c)) q e in
       let y = after-constraints (p .design) (x .0) in
       record { fillings = y .0; rows = y .1; room = leb-false _ _ (x .1); fits = not-false _ (x .2); is = x .3 }
 
-  pub took-filling : (f : State-filling.Filling) → advanced p s i (Filling f) ≡ on q → TookFilling p q f
+  pub added-filling : (f : State-filling.Filling) → advanced p s i (Filling f) ≡ on q → AddedFilling p q f
   unfolding advanced
-  took-filling f e =
+  added-filling f e =
       let x = all-three (afterFillings (p .design)) (leb 8 (p .design .fillings)) (not (fillingFits (p .design) (p .design .fillings) f)) 3 4 5 (redesigned p (withFilling (p .design) f)) q e in
       record { rows = after-fillings (p .design) (x .0); room = leb-false _ _ (x .1); fits = not-false _ (x .2); is = x .3 }
 
-  pub took-row : (t : ℕ) → advanced p s i (Row t) ≡ on q → TookRow p (withRow p s i t) q
+  pub added-row : (t : ℕ) → advanced p s i (Row t) ≡ on q → AddedRow p (withRow p s i t) q
   unfolding advanced rowAdvanced
-  took-row t e =
+  added-row t e =
       let r = withRow p s i t in
       let S = schemeOf (r .design) in
       let D = databaseOf (r .design .rows) (r .cells) (r .tables) in
@@ -147,32 +147,32 @@ module _ (p q : Draft) (s : List ℕ) (i : ℕ) where
 
   -- ... and what is read so
 
-  pub take-table : (t : State-table.Table) → TookTable p q t → advanced p s i (Table t) ≡ on q
+  pub adds-table : (t : State-table.Table) → AddedTable p q t → advanced p s i (Table t) ≡ on q
   unfolding advanced
-  take-table t h =
+  adds-table t h =
       none (afterTables (p .design)) (leb 8 (p .design .tables)) (not (tableFits t)) 3 4 5 (on (redesigned p (withTable (p .design) t)))
       (neither (ltb 0 (p .design .constraints)) (ltb 0 (p .design .fillings) || ltb 0 (p .design .rows)) (ap (ltb 0) (h .constraints))
       (neither (ltb 0 (p .design .fillings)) (ltb 0 (p .design .rows)) (ap (ltb 0) (h .fillings)) (ap (ltb 0) (h .rows))))
       (lt-leb 8 (p .design .tables) (h .room)) (ap not (h .fits)) ∙ ap on (h .is)
 
-  pub take-constraint : (c : State-constraint.Constraint) → TookConstraint p q c → advanced p s i (Constraint c) ≡ on q
+  pub adds-constraint : (c : State-constraint.Constraint) → AddedConstraint p q c → advanced p s i (Constraint c) ≡ on q
   unfolding advanced
-  take-constraint c h =
+  adds-constraint c h =
       none (afterConstraints (p .design)) (leb 16 (p .design .constraints)) (not (constraintFits (p .design) (p .design .constraints) c)) 3 4 5
       (on (redesigned p (withConstraint (p .design) c)))
       (neither (ltb 0 (p .design .fillings)) (ltb 0 (p .design .rows)) (ap (ltb 0) (h .fillings)) (ap (ltb 0) (h .rows)))
       (lt-leb 16 (p .design .constraints) (h .room)) (ap not (h .fits)) ∙ ap on (h .is)
 
-  pub take-filling : (f : State-filling.Filling) → TookFilling p q f → advanced p s i (Filling f) ≡ on q
+  pub adds-filling : (f : State-filling.Filling) → AddedFilling p q f → advanced p s i (Filling f) ≡ on q
   unfolding advanced
-  take-filling f h =
+  adds-filling f h =
       none (afterFillings (p .design)) (leb 8 (p .design .fillings)) (not (fillingFits (p .design) (p .design .fillings) f)) 3 4 5
       (on (redesigned p (withFilling (p .design) f)))
       (ap (ltb 0) (h .rows)) (lt-leb 8 (p .design .fillings) (h .room)) (ap not (h .fits)) ∙ ap on (h .is)
 
-  pub take-row : (t : ℕ) → TookRow p (withRow p s i t) q → advanced p s i (Row t) ≡ on q
+  pub adds-row : (t : ℕ) → AddedRow p (withRow p s i t) q → advanced p s i (Row t) ≡ on q
   unfolding advanced rowAdvanced
-  take-row t h =
+  adds-row t h =
       let r = withRow p s i t in
       let S = schemeOf (r .design) in
       let D = databaseOf (r .design .rows) (r .cells) (r .tables) in

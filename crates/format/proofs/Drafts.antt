@@ -22,7 +22,7 @@ use Rattle.format.specs.Commands.{rowCellAt}
 use Rattle.format.specs.Reading.{Draft, emptyDraft, withTable, withConstraint, withFilling, withRows, withRow}
 use Rattle.format.proofs.LawfulLaws.{Parts, RowParts, SameRow, rowTest, constraint-fits-same, filling-fits-same, same-row, live-same, row-test-same}
 use Rattle.format.proofs.Cut.{cutList, cut-at, cut-none, cut-more, cut-whole, cut-eight, unused-table, unused-constraint, unused-filling, unused-member, unused-cell}
-use Rattle.format.proofs.AdvancedLaws.{TookTable, TookConstraint, TookFilling, TookRow}
+use Rattle.format.proofs.AdvancedLaws.{AddedTable, AddedConstraint, AddedFilling, AddedRow}
 
 abbrev noCells : List ℕ
 noCells = tab 4096 (λ _. 0)
@@ -127,7 +127,7 @@ all-rows d cells tables p a b =
 -- ---- each item is read
 
 module _ (d : Design) (p : Parts d) (k : ℕ) where
-  pub next-table : k < d .tables → TookTable (withTables d k) (withTables d (k + 1)) (tableAt d k)
+  pub next-table : k < d .tables → AddedTable (withTables d k) (withTables d (k + 1)) (tableAt d k)
   unfolding withTables withTable
   next-table l =
       let h = p .tables in
@@ -142,7 +142,7 @@ module _ (d : Design) (p : Parts d) (k : ℕ) where
             (cut-more noTable 8 (tableAt d) k (omega arith));
       }
 
-  pub next-constraint : k < d .constraints → TookConstraint (withConstraints d k) (withConstraints d (k + 1)) (constraintAt d k)
+  pub next-constraint : k < d .constraints → AddedConstraint (withConstraints d k) (withConstraints d (k + 1)) (constraintAt d k)
   unfolding withConstraints withConstraint
   next-constraint l =
       let h = p .constraints in
@@ -158,7 +158,7 @@ module _ (d : Design) (p : Parts d) (k : ℕ) where
             (cut-more noConstraint 16 (constraintAt d) k (omega arith));
       }
 
-  pub next-filling : k < d .fillings → TookFilling (withFillings d k) (withFillings d (k + 1)) (fillingAt d k)
+  pub next-filling : k < d .fillings → AddedFilling (withFillings d k) (withFillings d (k + 1)) (fillingAt d k)
   unfolding withFillings withFilling
   next-filling l =
       let h = p .fillings in
@@ -196,7 +196,7 @@ module _ (d : Design) (cells tables : List ℕ) (rows : RowParts d cells tables)
       (λ q h. live-same (k + 1) (d .rows) _ cells _ tables q (omega arith) (omega arith)) ∙
       sym (used-is k (d .rows) (rowTest (schemeOf d) D k) (zeroRow D k) l) ∙ rows .row k (omega arith)
 
-  pub next-row : TookRow (withAllRows d cells tables k) (withRow (withAllRows d cells tables k) s i t) (withAllRows d cells tables (k + 1))
+  pub next-row : AddedRow (withAllRows d cells tables k) (withRow (withAllRows d cells tables k) s i t) (withAllRows d cells tables (k + 1))
   unfolding withAllRows withRows
   next-row =
       record {

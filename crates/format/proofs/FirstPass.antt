@@ -35,8 +35,8 @@ use Rattle.format.proofs.reading.Outcome.{the-type}
 use Rattle.format.proofs.LawfulLaws.{whole, SameRow, same-row, live-same, repeats-same}
 use Rattle.format.proofs.Seen.{Seen, seen-table, seen-constraint, seen-filling, seen-row, seen-end, seen-refused, seen}
 use Rattle.format.proofs.Seen.{table-no-row, constraint-no-row, filling-no-row}
-use Rattle.format.proofs.AdvancedLaws.{not-on, on-complete, end-on, took-table, took-constraint, took-filling}
-use Rattle.format.proofs.ReadingLaws.{readAll, all-on, all-complete, all-refused, Whole, Ends, taken-complete}
+use Rattle.format.proofs.AdvancedLaws.{not-on, on-complete, end-on, added-table, added-constraint, added-filling}
+use Rattle.format.proofs.ReadingLaws.{readAll, all-on, all-complete, all-refused, Whole, Ends, advanced-complete}
 use Rattle.format.proofs.AdvancesLaws.{kept-put}
 use Rattle.format.proofs.AdmittedLaws.{no-row, Admitted, row-admitted, admitted-whole, stops}
 use Rattle.format.proofs.Reached.{Sizes, Fitting, fit-table, fit-constraint, fit-filling, fit-row, fit-empty}
@@ -139,13 +139,13 @@ along-admitted s w p i a q e = go (seen s i)
 
     go : Seen s i (commandAt s i) (widthOf (byteAt s i)) → Along s w q (i + widthOf (byteAt s i))
     go (seen-table b u f c) =
-        let h = took-table p q s i _ (ap (admitted p s i) (sym c) ∙ e) in
+        let h = added-table p q s i _ (ap (admitted p s i) (sym c) ∙ e) in
         early (λ t g. absurd (table-no-row _ t (sym c ∙ g))) (h .rows) (no-more (h .is) (h .rows)) (subst Fitting (h .is) (fit-table p (a .fitting) q _ h))
     go (seen-constraint b u f c) =
-        let h = took-constraint p q s i _ (ap (admitted p s i) (sym c) ∙ e) in
+        let h = added-constraint p q s i _ (ap (admitted p s i) (sym c) ∙ e) in
         early (λ t g. absurd (constraint-no-row _ t (sym c ∙ g))) (h .rows) (no-more (h .is) (h .rows)) (subst Fitting (h .is) (fit-constraint p (a .fitting) q _ h))
     go (seen-filling b u f c) =
-        let h = took-filling p q s i _ (ap (admitted p s i) (sym c) ∙ e) in
+        let h = added-filling p q s i _ (ap (admitted p s i) (sym c) ∙ e) in
         early (λ t g. absurd (filling-no-row _ t (sym c ∙ g))) (h .rows) (no-more (h .is) (h .rows)) (subst Fitting (h .is) (fit-filling p (a .fitting) q _ h))
     go (seen-row b u f c) =
         let t = byteAt s (i + 1) in
@@ -218,7 +218,7 @@ module _ (s : List ℕ) (w : DesignRead) (p : Draft) (i : ℕ) (a : Along s w p 
   completed e = complete-is (admitted p s i (commandAt s i)) (told Complete e)
 
   pub complete-ends : r .outcome ≡ Complete → Ends s i
-  complete-ends e = taken-complete s i p (stops p s i (commandAt s i) complete on-complete (completed e))
+  complete-ends e = advanced-complete s i p (stops p s i (commandAt s i) complete on-complete (completed e))
 
   pub along-complete : r .outcome ≡ Complete → Stopped w (record { verdict = Accepted (i + 1); design = p .design; at = i }) cells tables
   along-complete e =

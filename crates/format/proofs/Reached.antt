@@ -34,8 +34,8 @@ use Rattle.format.proofs.LawfulLaws.{Parts, RowParts, whole, whole-rows
 use Rattle.format.proofs.Growing.{grow-table, grow-constraint, grow-filling, count-rows, grow-row, no-rows}
 use Rattle.format.proofs.Items.{itemsBytes, design-items, more-table, more-constraint, more-filling, more-row, table-part, constraint-part, filling-part, row-part}
 use Rattle.format.proofs.Seen.{Seen, seen-table, seen-constraint, seen-filling, seen-row, seen-end, seen-refused, seen}
-use Rattle.format.proofs.AdvancedLaws.{TookTable, TookConstraint, TookFilling, TookRow, took-table, took-constraint, took-filling, took-row, not-on, end-on}
-use Rattle.format.proofs.ReadingLaws.{Ends, taken-complete}
+use Rattle.format.proofs.AdvancedLaws.{AddedTable, AddedConstraint, AddedFilling, AddedRow, added-table, added-constraint, added-filling, added-row, not-on, end-on}
+use Rattle.format.proofs.ReadingLaws.{Ends, advanced-complete}
 
 -- the arrays of a draft have the sizes of their types
 pub record Sizes (p : Draft) : Type 0 where
@@ -59,7 +59,7 @@ pub record Reached (s : List ℕ) (p : Draft) (i : ℕ) : Type 0 where
 -- ---- one more command
 
 module _ (p : Draft) (r : Fitting p) where
-  pub fit-table : (q : Draft) (t : State-table.Table) → TookTable p q t → Fitting (redesigned p (withTable (p .design) t))
+  pub fit-table : (q : Draft) (t : State-table.Table) → AddedTable p q t → Fitting (redesigned p (withTable (p .design) t))
   unfolding withTable
   fit-table q t h =
       let z = r .sizes in
@@ -68,7 +68,7 @@ module _ (p : Draft) (r : Fitting p) where
         sizes = record { table = length-set (p .design .table) (p .design .tables) t ∙ z .table; constraint = z .constraint; filling = z .filling; cells = z .cells; tables = z .tables };
       }
 
-  pub fit-constraint : (q : Draft) (c : State-constraint.Constraint) → TookConstraint p q c → Fitting (redesigned p (withConstraint (p .design) c))
+  pub fit-constraint : (q : Draft) (c : State-constraint.Constraint) → AddedConstraint p q c → Fitting (redesigned p (withConstraint (p .design) c))
   unfolding withConstraint
   fit-constraint q c h =
       let z = r .sizes in
@@ -77,7 +77,7 @@ module _ (p : Draft) (r : Fitting p) where
         sizes = record { table = z .table; constraint = length-set (p .design .constraint) (p .design .constraints) c ∙ z .constraint; filling = z .filling; cells = z .cells; tables = z .tables };
       }
 
-  pub fit-filling : (q : Draft) (f : State-filling.Filling) → TookFilling p q f → Fitting (redesigned p (withFilling (p .design) f))
+  pub fit-filling : (q : Draft) (f : State-filling.Filling) → AddedFilling p q f → Fitting (redesigned p (withFilling (p .design) f))
   unfolding withFilling
   fit-filling q f h =
       let z = r .sizes in
@@ -101,7 +101,7 @@ goes-on : (s xs ys x : List ℕ) (i w : ℕ) → xs ≡ take i s → ys ≡ xs +
 goes-on s xs ys x i w a b c = b ∙ ap₂ _++_ a c ∙ sym (take-add i w s)
 
 module _ (s : List ℕ) (p q : Draft) (i : ℕ) (r : Reached s p i) where
-  reach-table : (t : State-table.Table) → tableBytes t ≡ take 3 (drop i s) → TookTable p q t → Reached s q (i + 3)
+  reach-table : (t : State-table.Table) → tableBytes t ≡ take 3 (drop i s) → AddedTable p q t → Reached s q (i + 3)
   unfolding withTable
   reach-table t e h =
       let b : itemsBytes (withTable (p .design) t) (p .cells) (p .tables) ≡ take (i + 3) s =
@@ -109,7 +109,7 @@ module _ (s : List ℕ) (p q : Draft) (i : ℕ) (r : Reached s p i) where
       subst (λ (x : Draft). Reached s x (i + 3)) (h .is)
       (record { fitting = fit-table p (r .fitting) q t h; rows = no-rows (p .design) (withTable (p .design) t) (p .cells) (p .tables) (h .rows) (h .rows) (r .rows); bytes = b })
 
-  reach-constraint : (c : State-constraint.Constraint) → constraintBytes c ≡ take 5 (drop i s) → TookConstraint p q c → Reached s q (i + 5)
+  reach-constraint : (c : State-constraint.Constraint) → constraintBytes c ≡ take 5 (drop i s) → AddedConstraint p q c → Reached s q (i + 5)
   unfolding withConstraint
   reach-constraint c e h =
       let b : itemsBytes (withConstraint (p .design) c) (p .cells) (p .tables) ≡ take (i + 5) s =
@@ -117,7 +117,7 @@ module _ (s : List ℕ) (p q : Draft) (i : ℕ) (r : Reached s p i) where
       subst (λ (x : Draft). Reached s x (i + 5)) (h .is)
       (record { fitting = fit-constraint p (r .fitting) q c h; rows = no-rows (p .design) (withConstraint (p .design) c) (p .cells) (p .tables) (h .rows) (h .rows) (r .rows); bytes = b })
 
-  reach-filling : (f : State-filling.Filling) → fillingBytes f ≡ take 11 (drop i s) → TookFilling p q f → Reached s q (i + 11)
+  reach-filling : (f : State-filling.Filling) → fillingBytes f ≡ take 11 (drop i s) → AddedFilling p q f → Reached s q (i + 11)
   unfolding withFilling
   reach-filling f e h =
       let b : itemsBytes (withFilling (p .design) f) (p .cells) (p .tables) ≡ take (i + 11) s =
@@ -125,7 +125,7 @@ module _ (s : List ℕ) (p q : Draft) (i : ℕ) (r : Reached s p i) where
       subst (λ (x : Draft). Reached s x (i + 11)) (h .is)
       (record { fitting = fit-filling p (r .fitting) q f h; rows = no-rows (p .design) (withFilling (p .design) f) (p .cells) (p .tables) (h .rows) (h .rows) (r .rows); bytes = b })
 
-  reach-row : (t : ℕ) → 4 ∷ t ∷ collect 8 (λ _. true) (λ c. u32Bytes (rowCellAt s i c)) ≡ take 34 (drop i s) → TookRow p (withRow p s i t) q → Reached s q (i + 34)
+  reach-row : (t : ℕ) → 4 ∷ t ∷ collect 8 (λ _. true) (λ c. u32Bytes (rowCellAt s i c)) ≡ take 34 (drop i s) → AddedRow p (withRow p s i t) q → Reached s q (i + 34)
   unfolding withRow withRows schemeOf
   reach-row t e h =
       let z = r .fitting .sizes in
@@ -144,10 +144,10 @@ module _ (s : List ℕ) (small : (j : ℕ) → byteAt s j < 256) where
       at w h x = subst (λ (k : ℕ). Reached s q (i + k)) (sym h) x
 
       go : Seen s i (commandAt s i) (widthOf (byteAt s i)) → Reached s q (i + widthOf (byteAt s i))
-      go (seen-table a w f c) = at 3 w (reach-table s p q i r _ (table-part s i a f) (took-table p q s i _ (ap (advanced p s i) (sym c) ∙ e)))
-      go (seen-constraint a w f c) = at 5 w (reach-constraint s p q i r _ (constraint-part s i a f) (took-constraint p q s i _ (ap (advanced p s i) (sym c) ∙ e)))
-      go (seen-filling a w f c) = at 11 w (reach-filling s p q i r _ (filling-part s i small a f) (took-filling p q s i _ (ap (advanced p s i) (sym c) ∙ e)))
-      go (seen-row a w f c) = at 34 w (reach-row s p q i r _ (row-part s i small a f) (took-row p q s i _ (ap (advanced p s i) (sym c) ∙ e)))
+      go (seen-table a w f c) = at 3 w (reach-table s p q i r _ (table-part s i a f) (added-table p q s i _ (ap (advanced p s i) (sym c) ∙ e)))
+      go (seen-constraint a w f c) = at 5 w (reach-constraint s p q i r _ (constraint-part s i a f) (added-constraint p q s i _ (ap (advanced p s i) (sym c) ∙ e)))
+      go (seen-filling a w f c) = at 11 w (reach-filling s p q i r _ (filling-part s i small a f) (added-filling p q s i _ (ap (advanced p s i) (sym c) ∙ e)))
+      go (seen-row a w f c) = at 34 w (reach-row s p q i r _ (row-part s i small a f) (added-row p q s i _ (ap (advanced p s i) (sym c) ∙ e)))
       go (seen-end a w f c) = absurd (end-on p s i q (ap (advanced p s i) (sym c) ∙ e))
       go (seen-refused n h k) = absurd (not-on n q (sym (h p) ∙ e))
 
@@ -228,7 +228,7 @@ module _ (s : List ℕ) (small : (j : ℕ) → byteAt s j < 256) where
       ⊎-elim (λ (h : (x : Draft) × (advanced p s i (commandAt s i) ≡ on x) × (readFrom n s x (i + widthOf (byteAt s i)) ≡ accepted q j)).
       reads n (h .0) (i + widthOf (byteAt s i)) q j (reach-on s small p (h .0) i r (h .1)) (h .2))
       (λ (h : (advanced p s i (commandAt s i) ≡ complete) × (p ≡ q) × (i + widthOf (byteAt s i) ≡ j)).
-      subst (λ (x : Draft). Accepted s x j) (h .1) (subst (λ (k : ℕ). Accepted s p k) (h .2) (ended p i r (taken-complete s i p (h .0)))))
+      subst (λ (x : Draft). Accepted s x j) (h .1) (subst (λ (k : ℕ). Accepted s p k) (h .2) (ended p i r (advanced-complete s i p (h .0)))))
       (accepted-how (readFrom n s) p i (widthOf (byteAt s i)) (advanced p s i (commandAt s i)) q j e)
 
   pub reads-lawful : (p : Draft) (i : ℕ) → readDesign s ≡ accepted p i → Accepted s p i

@@ -17,7 +17,7 @@ use Rattle.format.specs.Writing.{tableBytes, constraintBytes, fillingByt
 use Rattle.format.proofs.WritingLaws.{length-table, length-constraint, length-filling, length-row}
 use Rattle.format.proofs.LawfulLaws.{Parts, RowParts}
 use Rattle.format.proofs.Items.{tablesBytes, constraintsBytes, fillingsBytes, rowsBytes}
-use Rattle.format.proofs.AdvancedLaws.{take-table, take-constraint, take-filling, take-row, end-completes}
+use Rattle.format.proofs.AdvancedLaws.{adds-table, adds-constraint, adds-filling, adds-row, end-completes}
 use Rattle.format.proofs.ReadingLaws.{readAll, all-on, all-complete}
 use Rattle.format.proofs.Reached.{Sizes}
 use Rattle.format.proofs.Drafts.{withTables, withConstraints, withFillings, withAllRows, draft-start, all-tables, all-constraints, all-fillings, all-rows, next-table, next-constraint, next-filling, next-row}
@@ -107,17 +107,17 @@ module _ (d : Design) (cells tables : List ℕ) (p : Parts d) (r : RowParts d ce
   turn-table : (k : ℕ) → k < d .tables → Turn s (withTables d) 0 3 k
   turn-table k l =
       let x = reads-table s (0 + 3 * k) (tableAt d k) (stands-piece s 0 3 (λ i. tableBytes (tableAt d i)) (λ i. length-table _) (d .tables) stand-tables k l) in
-      record { advanced = ap (advanced (withTables d k) s (0 + 3 * k)) (x .command) ∙ take-table _ _ s (0 + 3 * k) (tableAt d k) (next-table d p k l); width = x .width }
+      record { advanced = ap (advanced (withTables d k) s (0 + 3 * k)) (x .command) ∙ adds-table _ _ s (0 + 3 * k) (tableAt d k) (next-table d p k l); width = x .width }
 
   turn-constraint : (k : ℕ) → k < d .constraints → Turn s (withConstraints d) (constraintsFrom d) 5 k
   turn-constraint k l =
       let x = reads-constraint s (constraintsFrom d + 5 * k) (constraintAt d k) (stands-piece s (constraintsFrom d) 5 (λ i. constraintBytes (constraintAt d i)) (λ i. length-constraint _) (d .constraints) stand-constraints k l) in
-      record { advanced = ap (advanced (withConstraints d k) s (constraintsFrom d + 5 * k)) (x .command) ∙ take-constraint _ _ s (constraintsFrom d + 5 * k) (constraintAt d k) (next-constraint d p k l); width = x .width }
+      record { advanced = ap (advanced (withConstraints d k) s (constraintsFrom d + 5 * k)) (x .command) ∙ adds-constraint _ _ s (constraintsFrom d + 5 * k) (constraintAt d k) (next-constraint d p k l); width = x .width }
 
   turn-filling : (k : ℕ) → k < d .fillings → Turn s (withFillings d) (fillingsFrom d) 11 k
   turn-filling k l =
       let x = reads-filling s (fillingsFrom d + 11 * k) (fillingAt d k) (n .low k) (n .high k) (stands-piece s (fillingsFrom d) 11 (λ i. fillingBytes (fillingAt d i)) (λ i. length-filling _) (d .fillings) stand-fillings k l) in
-      record { advanced = ap (advanced (withFillings d k) s (fillingsFrom d + 11 * k)) (x .command) ∙ take-filling _ _ s (fillingsFrom d + 11 * k) (fillingAt d k) (next-filling d p k l); width = x .width }
+      record { advanced = ap (advanced (withFillings d k) s (fillingsFrom d + 11 * k)) (x .command) ∙ adds-filling _ _ s (fillingsFrom d + 11 * k) (fillingAt d k) (next-filling d p k l); width = x .width }
 
   turn-row : (k : ℕ) → k < d .rows → Turn s (withAllRows d cells tables) (rowsFrom d) 34 k
   turn-row k l =
@@ -127,7 +127,7 @@ module _ (d : Design) (cells tables : List ℕ) (p : Parts d) (r : RowParts d ce
       record {
         advanced =
             ap (advanced (withAllRows d cells tables k) s i) (x .command) ∙
-            take-row _ _ s i (byteAt s (i + 1))
+            adds-row _ _ s i (byteAt s (i + 1))
             (next-row d cells tables r (p .rows) k l s i (byteAt s (i + 1)) (row-table s i cells tables k y) (row-cells s i cells tables k y (n .cell)));
         width = x .width;
       }

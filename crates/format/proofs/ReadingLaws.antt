@@ -32,8 +32,8 @@ whole-or s i never = go (seen s i)
     go (seen-end a w f c) = record { some = omega arith; fits = omega arith }
     go (seen-refused n h k) = absurd (never n h k)
 
-pub taken-whole : (s : List ℕ) (i : ℕ) (p q : Draft) → advanced p s i (commandAt s i) ≡ on q → Whole s i
-taken-whole s i p q e = whole-or s i (λ n h k. not-on n q (sym (h p) ∙ e))
+pub advanced-whole : (s : List ℕ) (i : ℕ) (p q : Draft) → advanced p s i (commandAt s i) ≡ on q → Whole s i
+advanced-whole s i p q e = whole-or s i (λ n h k. not-on n q (sym (h p) ∙ e))
 
 -- ---- END alone completes a design
 
@@ -42,8 +42,8 @@ pub record Ends (s : List ℕ) (i : ℕ) : Type 0 where
   pub width : widthOf (byteAt s i) ≡ 1
   pub fits : i + 1 ≤ length s
 
-pub taken-complete : (s : List ℕ) (i : ℕ) (p : Draft) → advanced p s i (commandAt s i) ≡ complete → Ends s i
-taken-complete s i p e = go (only-end p s i (commandAt s i) e) (seen s i)
+pub advanced-complete : (s : List ℕ) (i : ℕ) (p : Draft) → advanced p s i (commandAt s i) ≡ complete → Ends s i
+advanced-complete s i p e = go (only-end p s i (commandAt s i) e) (seen s i)
   where
     go : commandAt s i ≡ End → Seen s i (commandAt s i) (widthOf (byteAt s i)) → Ends s i
     go h (seen-table a w f c) = let z : _≡_ {A = ℕ} 0 1 = cc in omega arith
@@ -72,7 +72,7 @@ fuel zero m s p i h k = sym (past-end m s p i (omega arith))
 fuel (suc n) zero s p i h k = past-end (suc n) s p i (omega arith)
 fuel (suc n) (suc m) s p i h k =
     same-on (readFrom n s) (readFrom m s) p i (widthOf (byteAt s i)) (advanced p s i (commandAt s i))
-    (λ q e. let x = taken-whole s i p q e in fuel n m s q (i + widthOf (byteAt s i)) (omega arith) (omega arith))
+    (λ q e. let x = advanced-whole s i p q e in fuel n m s q (i + widthOf (byteAt s i)) (omega arith) (omega arith))
 
 -- ---- the reading from a place on, with as many turns as there are bytes left
 
@@ -83,7 +83,7 @@ module _ (s : List ℕ) (p : Draft) (i : ℕ) where
   pub all-on : (q : Draft) → advanced p s i (commandAt s i) ≡ on q → readAll s p i ≡ readAll s q (i + widthOf (byteAt s i))
   unfolding readAll readFrom
   all-on q e =
-      let x = taken-whole s i p q e in
+      let x = advanced-whole s i p q e in
       ap (readOn (readFrom (length s - i) s) p i (widthOf (byteAt s i))) e ∙
       fuel (length s - i) (suc (length s - (i + widthOf (byteAt s i)))) s q (i + widthOf (byteAt s i)) (omega arith) (omega arith)
 

@@ -66,7 +66,7 @@ queryAt s i =
 
 -- cell c of the ROW at place i
 unfoldable pub rowCellAt : List ℕ → ℕ → ℕ → ℕ
-rowCellAt s i c = u32At s (i + 2 + 4 * c)
+rowCellAt s i c = valueAt s (i + 2 + 4 * c) .number
 
 -- ---- the command whose byte is b, with its operands behind place i
 

@@ -100,7 +100,7 @@ fn join_at(script: &[u8], i: usize) -> Join
 }
 
 // The operands of a TABLE, a CONSTRAINT and a FILLING whose byte stands at place i.
-fn table_at(script: &[u8], i: usize) -> Table
+fn table_operands(script: &[u8], i: usize) -> Table
     requires { ⌜ i + 3 ≤ length (now script) ⌝ }
     ensures { λ r. ⌜ r ≡ record { columns = byteAt (now (script .entry)) (i + 1); unique = byteAt (now (script .entry)) (i + 2) } ⌝ }
 {
@@ -110,7 +110,7 @@ fn table_at(script: &[u8], i: usize) -> Table
     }
 }
 
-fn constraint_at(script: &[u8], i: usize) -> Constraint
+fn constraint_operands(script: &[u8], i: usize) -> Constraint
     requires { ⌜ i + 5 ≤ length (now script) ⌝ }
     ensures { λ r. ⌜ r ≡ record { source = columnAt (now (script .entry)) (i + 1); target = columnAt (now (script .entry)) (i + 3) } ⌝ }
 {
@@ -120,7 +120,7 @@ fn constraint_at(script: &[u8], i: usize) -> Constraint
     }
 }
 
-fn filling_at(script: &[u8], i: usize) -> Filling
+fn filling_operands(script: &[u8], i: usize) -> Filling
     requires { ⌜ i + 11 ≤ length (now script) ⌝ }
     ensures { λ r. ⌜ r ≡ record { column = columnAt (now (script .entry)) (i + 1); low = u32At (now (script .entry)) (i + 3); high = u32At (now (script .entry)) (i + 7) } ⌝ }
 {
@@ -162,7 +162,7 @@ pub(crate) fn row_cell(script: &[u8], at: usize, c: usize) -> u32
     requires { ⌜ (c < 8) × (at + 34 ≤ length (now script)) ⌝ }
     ensures { λ r. ⌜ r ≡ rowCellAt (now (script .entry)) at c ⌝ }
 {
-    u32_at(script, at + 2 + 4 * c)
+    value_at(script, at + 2 + 4 * c).number
 }
 
 // ---- the command whose byte is b, with its operands behind place i
@@ -172,13 +172,13 @@ fn design_operands(b: u8, script: &[u8], i: usize) -> Command
     ensures { λ r. ⌜ r ≡ designCommandAt b (now (script .entry)) i ⌝ }
 {
     if b == 0x01 {
-        return Command::Table(table_at(script, i));
+        return Command::Table(table_operands(script, i));
     }
     if b == 0x02 {
-        return Command::Constraint(constraint_at(script, i));
+        return Command::Constraint(constraint_operands(script, i));
     }
     if b == 0x03 {
-        return Command::Filling(filling_at(script, i));
+        return Command::Filling(filling_operands(script, i));
     }
     if b == 0x04 {
         return Command::Row(script[i + 1]);

@@ -1,6 +1,7 @@
 // Scripts as bytes: the command at a place, reading a design with its rows, writing it, and (in proofs/) that the two undo each other.
 mod bytes;
 mod command;
+mod kinds;
 mod opening;
 mod reader;
 mod reading;

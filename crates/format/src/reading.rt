@@ -10,11 +10,12 @@ ghost use Rattle.state.specs.Design.{emptyDesign};
 ghost use Rattle.format.specs.declared.command.Command.the-variants as C;
 ghost use Rattle.format.specs.declared.reading.Outcome.the-variants as O;
 ghost use Rattle.format.specs.Commands.{commandAt, rowCellAt};
-ghost use Rattle.format.specs.Reading.{afterTables, afterConstraints, withTable, withConstraint, withFilling, withRows, draft, readFrom};
+ghost use Rattle.format.specs.Reading.{withTable, withConstraint, withFilling, withRows, draft, readFrom};
 ghost use Rattle.format.specs.Admitting.{causeOf, Advances, Stopped};
 use crate::command::Command;
 use crate::command::row_cell;
 use crate::command::width_of;
+use crate::kinds::order_cause;
 use crate::reader::command_at;
 use crate::verdict::Verdict;
 use state::Constraint;
@@ -94,28 +95,6 @@ fn store_cells(script: &[u8], at: usize, cells: &mut [u32], r: usize)
 
 // ---- one command
 
-// Whether something of a later kind than a table has been read, or than a constraint. Constant time.
-fn after_tables(d: Design) -> bool
-    ensures { λ b. ⌜ b ≡ afterTables d ⌝ }
-{
-    if 0 < d.constraints {
-        return true;
-    }
-    if 0 < d.fillings {
-        return true;
-    }
-    0 < d.rows
-}
-
-fn after_constraints(d: Design) -> bool
-    ensures { λ b. ⌜ b ≡ afterConstraints d ⌝ }
-{
-    if 0 < d.fillings {
-        return true;
-    }
-    0 < d.rows
-}
-
 // A command that is refused leaves the design as it was.
 fn refused(d: Design, cause: u8) -> Advance
     ensures { λ r. ⌜ r ≡ record { outcome = O.Cause cause; design = d } ⌝ }
@@ -130,11 +109,9 @@ fn refused(d: Design, cause: u8) -> Advance
 fn take_table(d: Design, t: Table) -> Advance
     ensures { λ r. ⌜ ((s cells tables : List ℕ) (i : ℕ) → Advances (draft d cells tables) s i (C.Table t) r cells tables) ⌝ }
 {
-    if after_tables(d) {
-        return refused(d, 3);
-    }
-    if Design::TABLES <= d.tables {
-        return refused(d, 4);
+    let cause = order_cause(d, 0x01);
+    if cause != 0 {
+        return refused(d, cause);
     }
     if !lawful::table_fits(t) {
         return refused(d, 5);
@@ -149,14 +126,11 @@ fn take_table(d: Design, t: Table) -> Advance
 fn take_constraint(d: Design, c: Constraint) -> Advance
     ensures { λ r. ⌜ ((s cells tables : List ℕ) (i : ℕ) → Advances (draft d cells tables) s i (C.Constraint c) r cells tables) ⌝ }
 {
-    if after_constraints(d) {
-        return refused(d, 3);
+    let cause = order_cause(d, 0x02);
+    if cause != 0 {
+        return refused(d, cause);
     }
-    let n = d.constraints;
-    if Design::CONSTRAINTS <= n {
-        return refused(d, 4);
-    }
-    if !lawful::constraint_fits(d, n, c) {
+    if !lawful::constraint_fits(d, d.constraints, c) {
         return refused(d, 5);
     }
     Advance {
@@ -169,14 +143,11 @@ fn take_constraint(d: Design, c: Constraint) -> Advance
 fn take_filling(d: Design, f: Filling) -> Advance
     ensures { λ r. ⌜ ((s cells tables : List ℕ) (i : ℕ) → Advances (draft d cells tables) s i (C.Filling f) r cells tables) ⌝ }
 {
-    if 0 < d.rows {
-        return refused(d, 3);
+    let cause = order_cause(d, 0x03);
+    if cause != 0 {
+        return refused(d, cause);
     }
-    let n = d.fillings;
-    if Design::FILLINGS <= n {
-        return refused(d, 4);
-    }
-    if !lawful::filling_fits(d, n, f) {
+    if !lawful::filling_fits(d, d.fillings, f) {
         return refused(d, 5);
     }
     Advance {
@@ -197,10 +168,11 @@ fn take_row(
     requires { ⌜ (at + 34 ≤ length (now script)) × (length (now cells) ≡ 4096) × (length (now tables) ≡ 512) ⌝ }
     ensures { λ r. ⌜ Advances (draft d (now (cells .entry)) (now (tables .entry))) (now (script .entry)) at (C.Row t) r (now (cells .exit)) (now (tables .exit)) ⌝ }
 {
-    let n = d.rows;
-    if Design::ROWS <= n {
-        return refused(d, 4);
+    let cause = order_cause(d, 0x04);
+    if cause != 0 {
+        return refused(d, cause);
     }
+    let n = d.rows;
     store_cells(script, at, cells, n);
     tables[n] = t;
     let e = with_rows(d, n + 1);

@@ -1,18 +1,21 @@
 // Writing a design with its rows: its tables, constraints, fillings and rows in order of their numbers, then END.
 ghost use mathlib.Core.Path.{_≡_};
-ghost use mathlib.Core.Bool.{true};
 ghost use mathlib.Core.List.{List};
-ghost use Prim.Native.Nat.{ℕ, _+_, _*_, _≤_, _<_};
+ghost use Prim.Native.Nat.{ℕ, _+_, _≤_, _<_};
 ghost use lib.ListN.{length};
 ghost use lib.Seq.{sets};
-ghost use Rattle.finite.specs.Finite.{collect};
-ghost use Rattle.state.specs.Design.{InRange, Backed, tableAt, constraintAt, fillingAt};
-ghost use Rattle.format.specs.Writing.{tableBytes, constraintBytes, fillingBytes, cellsBytes, rowBytes, designBytes};
+ghost use Rattle.finite.specs.Writing.{Wrote};
+ghost use Rattle.state.specs.Design.{InRange, Backed};
+ghost use Rattle.format.specs.Kinds.{countOf};
+ghost use Rattle.format.specs.Writing.{tableBytes, constraintBytes, fillingBytes, valueBytes, cellsBytes, rowBytes, designBytes, itemBytes, kindBytes};
 use crate::bytes::put_u32;
+use crate::kinds::count_of;
+use state::Cell;
 use state::Constraint;
 use state::Design;
 use state::Filling;
 use state::Table;
+use state::cell_at;
 
 // How many bytes the design is written in, whatever its rows hold. Constant time.
 pub fn design_length(d: Design) -> usize
@@ -22,19 +25,20 @@ pub fn design_length(d: Design) -> usize
     3 * d.tables + 5 * d.constraints + 11 * d.fillings + 34 * d.rows + 1
 }
 
-// One command each, from place `at` on. Constant time.
-fn put_table(out: &mut [u8], at: usize, t: Table)
+// One command each, from place `at` on, and the place after it. Constant time.
+fn put_table(out: &mut [u8], at: usize, t: Table) -> usize
     requires { ⌜ at + 3 ≤ length (now out) ⌝ }
-    ensures { λ _. ⌜ now (out .exit) ≡ sets (now (out .entry)) at (tableBytes t) ⌝ }
+    ensures { λ r. ⌜ Wrote (now (out .entry)) (now (out .exit)) at r (tableBytes t) ⌝ }
 {
     out[at] = 0x01;
     out[at + 1] = t.columns;
     out[at + 2] = t.unique;
+    at + 3
 }
 
-fn put_constraint(out: &mut [u8], at: usize, c: Constraint)
+fn put_constraint(out: &mut [u8], at: usize, c: Constraint) -> usize
     requires { ⌜ at + 5 ≤ length (now out) ⌝ }
-    ensures { λ _. ⌜ now (out .exit) ≡ sets (now (out .entry)) at (constraintBytes c) ⌝ }
+    ensures { λ r. ⌜ Wrote (now (out .entry)) (now (out .exit)) at r (constraintBytes c) ⌝ }
 {
     let s = c.source;
     let t = c.target;
@@ -43,11 +47,12 @@ fn put_constraint(out: &mut [u8], at: usize, c: Constraint)
     out[at + 2] = s.place;
     out[at + 3] = t.table;
     out[at + 4] = t.place;
+    at + 5
 }
 
-fn put_filling(out: &mut [u8], at: usize, f: Filling)
+fn put_filling(out: &mut [u8], at: usize, f: Filling) -> usize
     requires { ⌜ at + 11 ≤ length (now out) ⌝ }
-    ensures { λ _. ⌜ now (out .exit) ≡ sets (now (out .entry)) at (fillingBytes f) ⌝ }
+    ensures { λ r. ⌜ Wrote (now (out .entry)) (now (out .exit)) at r (fillingBytes f) ⌝ }
 {
     let k = f.column;
     out[at] = 0x03;
@@ -55,6 +60,14 @@ fn put_filling(out: &mut [u8], at: usize, f: Filling)
     out[at + 2] = k.place;
     put_u32(out, at + 3, f.low);
     put_u32(out, at + 7, f.high);
+    at + 11
+}
+
+fn put_value(out: &mut [u8], at: usize, v: Cell)
+    requires { ⌜ at + 4 ≤ length (now out) ⌝ }
+    ensures { λ _. ⌜ now (out .exit) ≡ sets (now (out .entry)) at (valueBytes v) ⌝ }
+{
+    put_u32(out, at, v.number);
 }
 
 // The eight cells of row r.
@@ -63,61 +76,52 @@ fn put_cells(out: &mut [u8], at: usize, cells: &[u32], r: usize)
     ensures { λ _. ⌜ now (out .exit) ≡ sets (now (out .entry)) at (cellsBytes (now (cells .entry)) r) ⌝ }
 {
     for c in 0..8usize {
-        put_u32(out, at + 4 * c, cells[8 * r + c]);
+        put_value(out, at + 4 * c, cell_at(cells, r, c));
     }
 }
 
-fn put_row(out: &mut [u8], at: usize, cells: &[u32], tables: &[u8], r: usize)
+fn put_row(out: &mut [u8], at: usize, cells: &[u32], tables: &[u8], r: usize) -> usize
     requires { ⌜ (r < 512) × Backed (now cells) (now tables) × (at + 34 ≤ length (now out)) ⌝ }
-    ensures { λ _. ⌜ now (out .exit) ≡ sets (now (out .entry)) at (rowBytes (now (cells .entry)) (now (tables .entry)) r) ⌝ }
+    ensures { λ z. ⌜ Wrote (now (out .entry)) (now (out .exit)) at z (rowBytes (now (cells .entry)) (now (tables .entry)) r) ⌝ }
 {
     out[at] = 0x04;
     out[at + 1] = tables[r];
     put_cells(out, at + 2, cells, r);
+    at + 34
 }
 
-// All commands of a kind, from place `at` on; the place after them. One step for each.
-fn put_tables(d: Design, out: &mut [u8], at: usize) -> usize
-    requires { ⌜ (d .tables ≤ 8) × (at + 3 * d .tables ≤ length (now out)) ⌝ }
-    ensures { λ r. ⌜ (r ≡ at + 3 * d .tables) × (now (out .exit) ≡ sets (now (out .entry)) at (collect (d .tables) (λ _. true) (λ i. tableBytes (tableAt d i)))) ⌝ }
+// The command of kind b that has number i among them.
+fn put_item(
+    d: Design,
+    cells: &[u32],
+    tables: &[u8],
+    b: u8,
+    i: usize,
+    out: &mut [u8],
+    at: usize,
+) -> usize
+    requires { ⌜ (i < countOf d b) × InRange d × Backed (now cells) (now tables)
+        × (at + length (itemBytes d (now cells) (now tables) b i) ≤ length (now out)) ⌝ }
+    ensures { λ r. ⌜ Wrote (now (out .entry)) (now (out .exit)) at r (itemBytes d (now (cells .entry)) (now (tables .entry)) b i) ⌝ }
 {
-    let n = d.tables;
-    for i in 0..n {
-        put_table(out, at + 3 * i, d.table[i]);
+    match b {
+        0x01 => put_table(out, at, d.table[i]),
+        0x02 => put_constraint(out, at, d.constraint[i]),
+        0x03 => put_filling(out, at, d.filling[i]),
+        _ => put_row(out, at, cells, tables, i),
     }
-    at + 3 * n
 }
 
-fn put_constraints(d: Design, out: &mut [u8], at: usize) -> usize
-    requires { ⌜ (d .constraints ≤ 16) × (at + 5 * d .constraints ≤ length (now out)) ⌝ }
-    ensures { λ r. ⌜ (r ≡ at + 5 * d .constraints) × (now (out .exit) ≡ sets (now (out .entry)) at (collect (d .constraints) (λ _. true) (λ i. constraintBytes (constraintAt d i)))) ⌝ }
+// All commands of kind b. One step for each.
+fn put_kind(d: Design, cells: &[u32], tables: &[u8], b: u8, out: &mut [u8], at: usize) -> usize
+    requires { ⌜ InRange d × Backed (now cells) (now tables) × (at + length (kindBytes d (now cells) (now tables) b) ≤ length (now out)) ⌝ }
+    ensures { λ r. ⌜ Wrote (now (out .entry)) (now (out .exit)) at r (kindBytes d (now (cells .entry)) (now (tables .entry)) b) ⌝ }
 {
-    let n = d.constraints;
-    for i in 0..n {
-        put_constraint(out, at + 5 * i, d.constraint[i]);
+    let mut place = at;
+    for i in 0..count_of(d, b) {
+        place = put_item(d, cells, tables, b, i, out, place);
     }
-    at + 5 * n
-}
-
-fn put_fillings(d: Design, out: &mut [u8], at: usize) -> usize
-    requires { ⌜ (d .fillings ≤ 8) × (at + 11 * d .fillings ≤ length (now out)) ⌝ }
-    ensures { λ r. ⌜ (r ≡ at + 11 * d .fillings) × (now (out .exit) ≡ sets (now (out .entry)) at (collect (d .fillings) (λ _. true) (λ i. fillingBytes (fillingAt d i)))) ⌝ }
-{
-    let n = d.fillings;
-    for i in 0..n {
-        put_filling(out, at + 11 * i, d.filling[i]);
-    }
-    at + 11 * n
-}
-
-fn put_rows(rows: usize, cells: &[u32], tables: &[u8], out: &mut [u8], at: usize) -> usize
-    requires { ⌜ (rows ≤ 512) × Backed (now cells) (now tables) × (at + 34 * rows ≤ length (now out)) ⌝ }
-    ensures { λ r. ⌜ (r ≡ at + 34 * rows) × (now (out .exit) ≡ sets (now (out .entry)) at (collect rows (λ _. true) (rowBytes (now (cells .entry)) (now (tables .entry))))) ⌝ }
-{
-    for i in 0..rows {
-        put_row(out, at + 34 * i, cells, tables, i);
-    }
-    at + 34 * rows
+    place
 }
 
 // Writes the design with its rows from the first byte on; how many bytes that took. One step for each table, constraint and filling, eight
@@ -126,10 +130,10 @@ pub fn write_design(d: Design, cells: &[u32], tables: &[u8], out: &mut [u8]) -> 
     requires { ⌜ InRange d × Backed (now cells) (now tables) × (length (designBytes d (now cells) (now tables)) ≤ length (now out)) ⌝ }
     ensures { λ n. ⌜ (n ≡ length (designBytes d (now (cells .entry)) (now (tables .entry)))) × (now (out .exit) ≡ sets (now (out .entry)) 0 (designBytes d (now (cells .entry)) (now (tables .entry)))) ⌝ }
 {
-    let a = put_tables(d, out, 0);
-    let b = put_constraints(d, out, a);
-    let c = put_fillings(d, out, b);
-    let e = put_rows(d.rows, cells, tables, out, c);
+    let a = put_kind(d, cells, tables, 0x01, out, 0);
+    let b = put_kind(d, cells, tables, 0x02, out, a);
+    let c = put_kind(d, cells, tables, 0x03, out, b);
+    let e = put_kind(d, cells, tables, 0x04, out, c);
     out[e] = 0x05;
     e + 1
 }

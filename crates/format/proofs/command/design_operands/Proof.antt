@@ -7,26 +7,26 @@ use Rattle.format.specs.Commands.{designWidth}
 use Rattle.format.proofs.command.design_operands.Statement.{statement}
 use Rattle.format.proofs.command.design_operands.Tie as tie
 
-table-at-requires : tie.Need-table-at-requires
+table-operands-requires : tie.Need-table-operands-requires
 unfolding designWidth
-table-at-requires c κs = omega (arith, ap designWidth (c .if1 .taken))
+table-operands-requires c κs = omega (arith, ap designWidth (c .if1 .taken))
 
 returns : tie.Need-returns
-returns c = command-table _ _ _ _ (c .table-at .ensures) (c .before .if1 .taken)
+returns c = command-table _ _ _ _ (c .table-operands .ensures) (c .before .if1 .taken)
 
-constraint-at-requires : tie.Need-constraint-at-requires
+constraint-operands-requires : tie.Need-constraint-operands-requires
 unfolding designWidth
-constraint-at-requires c κs = omega (arith, ap designWidth (c .if2 .taken))
+constraint-operands-requires c κs = omega (arith, ap designWidth (c .if2 .taken))
 
 returns-2 : tie.Need-returns-2
-returns-2 c = command-constraint _ _ _ _ (c .constraint-at .ensures) (c .before .if2 .taken)
+returns-2 c = command-constraint _ _ _ _ (c .constraint-operands .ensures) (c .before .if2 .taken)
 
-filling-at-requires : tie.Need-filling-at-requires
+filling-operands-requires : tie.Need-filling-operands-requires
 unfolding designWidth
-filling-at-requires c κs = omega (arith, ap designWidth (c .if3 .taken))
+filling-operands-requires c κs = omega (arith, ap designWidth (c .if3 .taken))
 
 returns-3 : tie.Need-returns-3
-returns-3 c = command-filling _ _ _ _ (c .filling-at .ensures) (c .before .if3 .taken)
+returns-3 c = command-filling _ _ _ _ (c .filling-operands .ensures) (c .before .if3 .taken)
 
 add-t8 : tie.Need-add-t8
 add-t8 c = search needs
@@ -45,11 +45,11 @@ pub design-operands-spec : {M : Type 1} → statement M
 design-operands-spec =
     tie.close
     (tie.spec
-    table-at-requires
+    table-operands-requires
     returns
-    constraint-at-requires
+    constraint-operands-requires
     returns-2
-    filling-at-requires
+    filling-operands-requires
     returns-3
     add-t8
     shared-slice-read-t10

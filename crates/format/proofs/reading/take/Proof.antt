@@ -2,7 +2,7 @@
 use mathlib.Core.Path.{refl, sym, _∙_}
 use borrow.Author.Needs.{needs}
 use Rattle.format.proofs.Seen.{row-whole}
-use Rattle.format.proofs.AdvancesLaws.{took-as, took-refused, took-complete, kept-all, operation-refused, unknown-refused, short-refused, end-admitted}
+use Rattle.format.proofs.AdvancesLaws.{advances-as, advances-refused, advances-complete, kept-all, operation-refused, unknown-refused, short-refused, end-admitted}
 use Rattle.format.proofs.reading.take.Statement.{statement}
 use Rattle.format.proofs.reading.take.Tie as tie
 
@@ -52,13 +52,13 @@ refused-requires-3 : tie.Need-refused-requires-3
 refused-requires-3 c κs = search needs
 
 returns : tie.Need-returns
-returns c = took-as _ _ _ _ _ _ _ _ (c .before .before .c .given .1) (c .take-table .ensures _ _ _ _)
+returns c = advances-as _ _ _ _ _ _ _ _ (c .before .before .c .given .1) (c .take-table .ensures _ _ _ _)
 
 returns-2 : tie.Need-returns-2
-returns-2 c = took-as _ _ _ _ _ _ _ _ (c .before .before .c2 .given .1) (c .take-constraint .ensures _ _ _ _)
+returns-2 c = advances-as _ _ _ _ _ _ _ _ (c .before .before .c2 .given .1) (c .take-constraint .ensures _ _ _ _)
 
 returns-3 : tie.Need-returns-3
-returns-3 c = took-as _ _ _ _ _ _ _ _ (c .before .before .c3 .given .1) (c .take-filling .ensures _ _ _ _)
+returns-3 c = advances-as _ _ _ _ _ _ _ _ (c .before .before .c3 .given .1) (c .take-filling .ensures _ _ _ _)
 
 same-length : tie.Need-same-length
 same-length c = search needs
@@ -67,19 +67,19 @@ same-length-2 : tie.Need-same-length-2
 same-length-2 c = search needs
 
 returns-4 : tie.Need-returns-4
-returns-4 c = took-as _ _ _ _ _ _ _ _ (c .before .before .before .before .before .before .before .before .c4 .given .1) (c .before .before .before .before .take-row .ensures)
+returns-4 c = advances-as _ _ _ _ _ _ _ _ (c .before .before .before .before .before .before .before .before .c4 .given .1) (c .before .before .before .before .take-row .ensures)
 
 returns-5 : tie.Need-returns-5
-returns-5 c = took-as _ _ _ _ _ _ _ _ (c .enum-told .given .1) (took-complete _ _ _ _ _ _ _ refl refl (end-admitted _ _ _))
+returns-5 c = advances-as _ _ _ _ _ _ _ _ (c .enum-told .given .1) (advances-complete _ _ _ _ _ _ _ refl refl (end-admitted _ _ _))
 
 returns-6 : tie.Need-returns-6
-returns-6 c = took-as _ _ _ _ _ _ _ _ (c .before .enum-told2 .given .1) (took-refused _ _ _ _ _ _ _ 3 _ (c .refused .ensures) (operation-refused _ _ _ _) (kept-all _ _ _))
+returns-6 c = advances-as _ _ _ _ _ _ _ _ (c .before .enum-told2 .given .1) (advances-refused _ _ _ _ _ _ _ 3 _ (c .refused .ensures) (operation-refused _ _ _ _) (kept-all _ _ _))
 
 returns-7 : tie.Need-returns-7
-returns-7 c = took-as _ _ _ _ _ _ _ _ (c .before .enum-told3 .given .1) (took-refused _ _ _ _ _ _ _ 2 _ (c .refused2 .ensures) (unknown-refused _ _ _) (kept-all _ _ _))
+returns-7 c = advances-as _ _ _ _ _ _ _ _ (c .before .enum-told3 .given .1) (advances-refused _ _ _ _ _ _ _ 2 _ (c .refused2 .ensures) (unknown-refused _ _ _) (kept-all _ _ _))
 
 returns-8 : tie.Need-returns-8
-returns-8 c = took-as _ _ _ _ _ _ _ _ (c .before .enum-told4 .given .1) (took-refused _ _ _ _ _ _ _ 1 _ (c .refused3 .ensures) (short-refused _ _ _) (kept-all _ _ _))
+returns-8 c = advances-as _ _ _ _ _ _ _ _ (c .before .enum-told4 .given .1) (advances-refused _ _ _ _ _ _ _ 1 _ (c .refused3 .ensures) (short-refused _ _ _) (kept-all _ _ _))
 
 pub take-spec : {M : Type 1} → statement M
 take-spec =

@@ -1,57 +1,58 @@
 -- `format::reading::take_constraint` meets its contract: each early return is one refusal. Assumes nothing.
-use mathlib.Core.Path.{refl, sym, _∙_}
+use native.Mathlib.Omega.{arith}
+use mathlib.Core.Path.{refl, sym, ap, _∙_}
 use borrow.Author.Needs.{needs}
 use borrow.Author.Tests.{not-true, not-false}
-use Rattle.format.proofs.AdvancesLaws.{took-refused, took-on, kept-all, constraint-late, constraint-many, constraint-wrong, constraint-right}
+use Rattle.format.specs.Reading.{draft}
+use Rattle.format.specs.Kinds.{countOf, mostOf}
+use Rattle.format.proofs.KindLaws.{item-refused, item-wrong, item-right, order-room}
+use Rattle.format.proofs.AdvancesLaws.{advances-refused, advances-on, kept-all, constraint-item}
 use Rattle.format.proofs.reading.take_constraint.Statement.{statement}
 use Rattle.format.proofs.reading.take_constraint.Tie as tie
 
-after-constraints-requires : tie.Need-after-constraints-requires
-after-constraints-requires c κs = search needs
+order-cause-requires : tie.Need-order-cause-requires
+order-cause-requires c κs = search needs
 
 refused-requires : tie.Need-refused-requires
 refused-requires c κs = search needs
 
 returns : tie.Need-returns
-returns c = λ s cells tables i. took-refused _ _ _ _ _ _ _ 3 _ (c .refused .ensures) (constraint-late _ _ _ _ (sym (c .before .before .after-constraints .ensures) ∙ c .before .if1 .taken)) (kept-all _ _ _)
+returns c =
+    λ s cells tables i. advances-refused _ _ _ _ _ _ _ _ _ (c .refused .ensures)
+    (constraint-item _ _ _ _ ∙ item-refused _ 2 _ _ _ (c .before .before .order-cause .ensures) (c .before .if1 .taken)) (kept-all _ _ _)
+
+constraint-fits-requires : tie.Need-constraint-fits-requires
+unfolding countOf mostOf
+constraint-fits-requires c κs = let l = order-room _ 2 _ (c .before .order-cause .ensures) (c .if1 .left) in omega arith
 
 refused-requires-2 : tie.Need-refused-requires-2
 refused-requires-2 c κs = search needs
 
 returns-2 : tie.Need-returns-2
 returns-2 c =
-    λ s cells tables i. took-refused _ _ _ _ _ _ _ 4 _ (c .refused2 .ensures) (constraint-many _ _ _ _ (sym (c .before .before .before .after-constraints .ensures) ∙ c .before .before .if1 .left) (c .before .if2 .taken)) (kept-all _ _ _)
+    λ s cells tables i. advances-refused _ _ _ _ _ _ _ 5 _ (c .refused2 .ensures)
+    (constraint-item _ _ _ _ ∙ item-wrong _ 2 _ _ _ (c .before .before .before .before .order-cause .ensures) (c .before .before .before .if1 .left) (sym (c .before .before .constraint-fits .ensures) ∙ not-true _ (c .before .if2 .taken)))
+    (kept-all _ _ _)
 
-constraint-fits-requires : tie.Need-constraint-fits-requires
-constraint-fits-requires c κs = search needs
-
-refused-requires-3 : tie.Need-refused-requires-3
-refused-requires-3 c κs = search needs
+with-constraint-requires : tie.Need-with-constraint-requires
+unfolding countOf mostOf
+with-constraint-requires c κs = order-room _ 2 _ (c .before .before .before .order-cause .ensures) (c .before .before .if1 .left)
 
 returns-3 : tie.Need-returns-3
 returns-3 c =
-    λ s cells tables i. took-refused _ _ _ _ _ _ _ 5 _ (c .refused3 .ensures)
-    (constraint-wrong _ _ _ _ (sym (c .before .before .before .before .before .after-constraints .ensures) ∙ c .before .before .before .before .if1 .left) (c .before .before .before .if2 .left) (sym (c .before .before .constraint-fits .ensures) ∙ not-true _ (c .before .if3 .taken))) (kept-all _ _ _)
-
-with-constraint-requires : tie.Need-with-constraint-requires
-with-constraint-requires c κs = search needs
-
-returns-4 : tie.Need-returns-4
-returns-4 c =
-    λ s cells tables i. took-on _ _ _ _ _ _ _ refl
-    (constraint-right _ _ _ _ (sym (c .before .before .before .before .before .after-constraints .ensures) ∙ c .before .before .before .before .if1 .left) (c .before .before .before .if2 .left) _ (sym (c .before .before .constraint-fits .ensures) ∙ not-false _ (c .before .if3 .left)) (c .with-constraint .ensures)) (kept-all _ _ _)
+    λ s cells tables i. advances-on _ _ _ _ _ _ _ refl
+    (constraint-item _ _ _ _ ∙ item-right _ 2 _ _ _ (c .before .before .before .before .order-cause .ensures) (c .before .before .before .if1 .left) _ (sym (c .before .before .constraint-fits .ensures) ∙ not-false _ (c .before .if2 .left)) (ap (λ x. draft x cells tables) (sym (c .with-constraint .ensures))))
+    (kept-all _ _ _)
 
 pub take-constraint-spec : {M : Type 1} → statement M
 take-constraint-spec =
     tie.close
     (tie.spec
-    after-constraints-requires
+    order-cause-requires
     refused-requires
     returns
+    constraint-fits-requires
     refused-requires-2
     returns-2
-    constraint-fits-requires
-    refused-requires-3
-    returns-3
     with-constraint-requires
-    returns-4)
+    returns-3)

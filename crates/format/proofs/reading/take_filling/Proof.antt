@@ -1,52 +1,58 @@
 -- `format::reading::take_filling` meets its contract: each early return is one refusal. Assumes nothing.
-use mathlib.Core.Path.{refl, sym, _∙_}
+use native.Mathlib.Omega.{arith}
+use mathlib.Core.Path.{refl, sym, ap, _∙_}
 use borrow.Author.Needs.{needs}
-use borrow.Author.Tests.{not-true, not-false, lt-ltb, le-ltb}
-use Rattle.format.proofs.AdvancesLaws.{took-refused, took-on, kept-all, filling-late, filling-many, filling-wrong, filling-right}
+use borrow.Author.Tests.{not-true, not-false}
+use Rattle.format.specs.Reading.{draft}
+use Rattle.format.specs.Kinds.{countOf, mostOf}
+use Rattle.format.proofs.KindLaws.{item-refused, item-wrong, item-right, order-room}
+use Rattle.format.proofs.AdvancesLaws.{advances-refused, advances-on, kept-all, filling-item}
 use Rattle.format.proofs.reading.take_filling.Statement.{statement}
 use Rattle.format.proofs.reading.take_filling.Tie as tie
+
+order-cause-requires : tie.Need-order-cause-requires
+order-cause-requires c κs = search needs
 
 refused-requires : tie.Need-refused-requires
 refused-requires c κs = search needs
 
 returns : tie.Need-returns
-returns c = λ s cells tables i. took-refused _ _ _ _ _ _ _ 3 _ (c .refused .ensures) (filling-late _ _ _ _ (lt-ltb _ _ (c .before .if1 .taken))) (kept-all _ _ _)
+returns c =
+    λ s cells tables i. advances-refused _ _ _ _ _ _ _ _ _ (c .refused .ensures)
+    (filling-item _ _ _ _ ∙ item-refused _ 3 _ _ _ (c .before .before .order-cause .ensures) (c .before .if1 .taken)) (kept-all _ _ _)
+
+filling-fits-requires : tie.Need-filling-fits-requires
+unfolding countOf mostOf
+filling-fits-requires c κs = let l = order-room _ 3 _ (c .before .order-cause .ensures) (c .if1 .left) in omega arith
 
 refused-requires-2 : tie.Need-refused-requires-2
 refused-requires-2 c κs = search needs
 
 returns-2 : tie.Need-returns-2
-returns-2 c = λ s cells tables i. took-refused _ _ _ _ _ _ _ 4 _ (c .refused2 .ensures) (filling-many _ _ _ _ (le-ltb _ _ (c .before .before .if1 .left)) (c .before .if2 .taken)) (kept-all _ _ _)
+returns-2 c =
+    λ s cells tables i. advances-refused _ _ _ _ _ _ _ 5 _ (c .refused2 .ensures)
+    (filling-item _ _ _ _ ∙ item-wrong _ 3 _ _ _ (c .before .before .before .before .order-cause .ensures) (c .before .before .before .if1 .left) (sym (c .before .before .filling-fits .ensures) ∙ not-true _ (c .before .if2 .taken)))
+    (kept-all _ _ _)
 
-filling-fits-requires : tie.Need-filling-fits-requires
-filling-fits-requires c κs = search needs
-
-refused-requires-3 : tie.Need-refused-requires-3
-refused-requires-3 c κs = search needs
+with-filling-requires : tie.Need-with-filling-requires
+unfolding countOf mostOf
+with-filling-requires c κs = order-room _ 3 _ (c .before .before .before .order-cause .ensures) (c .before .before .if1 .left)
 
 returns-3 : tie.Need-returns-3
 returns-3 c =
-    λ s cells tables i. took-refused _ _ _ _ _ _ _ 5 _ (c .refused3 .ensures)
-    (filling-wrong _ _ _ _ (le-ltb _ _ (c .before .before .before .before .if1 .left)) (c .before .before .before .if2 .left) (sym (c .before .before .filling-fits .ensures) ∙ not-true _ (c .before .if3 .taken))) (kept-all _ _ _)
-
-with-filling-requires : tie.Need-with-filling-requires
-with-filling-requires c κs = search needs
-
-returns-4 : tie.Need-returns-4
-returns-4 c =
-    λ s cells tables i. took-on _ _ _ _ _ _ _ refl
-    (filling-right _ _ _ _ (le-ltb _ _ (c .before .before .before .before .if1 .left)) (c .before .before .before .if2 .left) _ (sym (c .before .before .filling-fits .ensures) ∙ not-false _ (c .before .if3 .left)) (c .with-filling .ensures)) (kept-all _ _ _)
+    λ s cells tables i. advances-on _ _ _ _ _ _ _ refl
+    (filling-item _ _ _ _ ∙ item-right _ 3 _ _ _ (c .before .before .before .before .order-cause .ensures) (c .before .before .before .if1 .left) _ (sym (c .before .before .filling-fits .ensures) ∙ not-false _ (c .before .if2 .left)) (ap (λ x. draft x cells tables) (sym (c .with-filling .ensures))))
+    (kept-all _ _ _)
 
 pub take-filling-spec : {M : Type 1} → statement M
 take-filling-spec =
     tie.close
     (tie.spec
+    order-cause-requires
     refused-requires
     returns
+    filling-fits-requires
     refused-requires-2
     returns-2
-    filling-fits-requires
-    refused-requires-3
-    returns-3
     with-filling-requires
-    returns-4)
+    returns-3)

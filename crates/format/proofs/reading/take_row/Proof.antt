@@ -4,30 +4,43 @@ use mathlib.Core.Path.{refl, sym, _∙_}
 use borrow.Author.Needs.{needs}
 use borrow.Author.Tests.{not-true, not-false}
 use lib.ListN.{length-set}
-use Rattle.format.proofs.AdvancesLaws.{took-refused, took-on, row-put, kept-all, kept-put, rows-many, row-wrong, row-right}
+use Rattle.format.specs.Kinds.{countOf, mostOf}
+use Rattle.format.proofs.KindLaws.{order-room, item-refused, item-wrong, item-right}
+use Rattle.format.proofs.AdvancesLaws.{advances-refused, advances-on, row-item, row-put, kept-all, kept-put}
 use Rattle.format.proofs.reading.take_row.Statement.{statement}
 use Rattle.format.proofs.reading.take_row.Tie as tie
+
+order-cause-requires : tie.Need-order-cause-requires
+order-cause-requires c κs = search needs
 
 refused-requires : tie.Need-refused-requires
 refused-requires c κs = search needs
 
 returns : tie.Need-returns
-returns c = took-refused _ _ _ _ _ _ _ 4 _ (c .refused .ensures) (rows-many _ _ _ _ (c .before .if1 .taken)) (kept-all _ _ _)
+returns c =
+    advances-refused _ _ _ _ _ _ _ _ _ (c .refused .ensures)
+    (row-item _ _ _ _ _ refl ∙ item-refused _ 4 _ _ _ (c .before .before .order-cause .ensures) (c .before .if1 .taken)) (kept-all _ _ _)
 
 store-cells-requires : tie.Need-store-cells-requires
-store-cells-requires c κs = search needs
+unfolding countOf mostOf
+store-cells-requires c κs = let l = order-room _ 4 _ (c .before .before .order-cause .ensures) (c .before .if1 .left) in search needs
 
 slice-write-tables : tie.Need-slice-write-tables
-slice-write-tables c = search needs
+unfolding countOf mostOf
+slice-write-tables c = let l = order-room _ 4 _ (c .before .before .before .before .before .order-cause .ensures) (c .before .before .before .before .if1 .left) in search needs
 
 add-with-rows : tie.Need-add-with-rows
-add-with-rows c = search needs
+unfolding countOf mostOf
+add-with-rows c = let l = order-room _ 4 _ (c .before .before .before .before .before .order-cause .ensures) (c .before .before .before .before .if1 .left) in search needs
 
 with-rows-requires : tie.Need-with-rows-requires
 with-rows-requires c κs = search needs
 
 row-fits-requires : tie.Need-row-fits-requires
-row-fits-requires c κs = (omega arith, record { rows = omega (arith, c .before .before .before .before .before .store-cells .kept); members = simp length-set (omega arith) })
+unfolding countOf mostOf
+row-fits-requires c κs =
+    let l = order-room _ 4 _ (c .before .before .before .before .before .before .before .before .order-cause .ensures) (c .before .before .before .before .before .before .before .if1 .left) in
+    (omega arith, record { rows = omega (arith, c .before .before .before .before .before .store-cells .kept); members = simp length-set (omega arith) })
 
 refused-requires-2 : tie.Need-refused-requires-2
 refused-requires-2 c κs = search needs
@@ -40,9 +53,9 @@ same-length-2 c = search needs
 
 returns-2 : tie.Need-returns-2
 returns-2 c =
-    took-refused _ _ _ _ _ _ _ 5 _ (c .refused2 .ensures)
-    (row-wrong _ _ _ _ (c .before .before .before .before .before .before .before .before .before .before .if1 .left) _ _ _ (row-put _ _ _ _ _ _ (c .before .before .before .before .before .with-rows .ensures) (c .before .before .before .before .before .before .before .before .store-cells .ensures))
-    (sym (c .before .before .row-fits .ensures) ∙ not-true _ (c .before .if2 .taken)))
+    advances-refused _ _ _ _ _ _ _ 5 _ (c .refused2 .ensures)
+    (row-item _ _ _ _ _ (row-put _ _ _ _ _ _ (c .before .before .before .before .before .with-rows .ensures) (c .before .before .before .before .before .before .before .before .store-cells .ensures)) ∙
+    item-wrong _ 4 _ _ _ (c .before .before .before .before .before .before .before .before .before .before .before .order-cause .ensures) (c .before .before .before .before .before .before .before .before .before .before .if1 .left) (sym (c .before .before .row-fits .ensures) ∙ not-true _ (c .before .if2 .taken)))
     (kept-put _ _ _ _ _ _ _ (c .before .before .before .before .before .before .before .before .store-cells .ensures))
 
 same-length-3 : tie.Need-same-length-3
@@ -53,14 +66,16 @@ same-length-4 c = search needs
 
 returns-3 : tie.Need-returns-3
 returns-3 c =
-    took-on _ _ _ _ _ _ _ refl
-    (row-right _ _ _ _ (c .before .before .before .before .before .before .before .before .before .if1 .left) _ _ _ (row-put _ _ _ _ _ _ (c .before .before .before .before .with-rows .ensures) (c .before .before .before .before .before .before .before .store-cells .ensures)) (sym (c .before .row-fits .ensures) ∙ not-false _ (c .if2 .left)))
+    advances-on _ _ _ _ _ _ _ refl
+    (row-item _ _ _ _ _ (row-put _ _ _ _ _ _ (c .before .before .before .before .with-rows .ensures) (c .before .before .before .before .before .before .before .store-cells .ensures)) ∙
+    item-right _ 4 _ _ _ (c .before .before .before .before .before .before .before .before .before .before .order-cause .ensures) (c .before .before .before .before .before .before .before .before .before .if1 .left) _ (sym (c .before .row-fits .ensures) ∙ not-false _ (c .if2 .left)) refl)
     (kept-put _ _ _ _ _ _ _ (c .before .before .before .before .before .before .before .store-cells .ensures))
 
 pub take-row-spec : {M : Type 1} → statement M
 take-row-spec =
     tie.close
     (tie.spec
+    order-cause-requires
     refused-requires
     returns
     store-cells-requires

@@ -1,17 +1,16 @@
 -- `format::writing::put_cells` meets its contract: the cells passed are stored. Assumes nothing.
-use Prim.Native.Nat.{_+_, _-_, _*_, _≤_}
+use Prim.Native.Nat.{_-_, _≤_}
 use native.Mathlib.Omega.{arith}
 use borrow.Author.Needs.{needs}
-use lib.ListN.{getD}
 use Rattle.finite.proofs.Stores.{Pieces, pieces-start, pieces-more, pieces-end}
-use Rattle.format.specs.Bytes.{u32Bytes}
-use Rattle.format.specs.Writing.{cellsBytes}
-use Rattle.format.proofs.WritingLaws.{length-u32}
+use Rattle.state.specs.Meaning.{cellAt}
+use Rattle.format.specs.Writing.{valueBytes, cellsBytes}
+use Rattle.format.proofs.WritingLaws.{length-u32, stored-value}
 use Rattle.format.proofs.writing.put_cells.Statement.{statement}
 use Rattle.format.proofs.writing.put_cells.Tie as tie
 
 abbrev Inv-loop : tie.InvT-loop
-Inv-loop out₀ at cells r c₀ out c = (c ≤ 8) × Pieces (λ j. u32Bytes (getD cells (8 * r + j) 0)) out₀ at c out
+Inv-loop out₀ at cells r c₀ out c = (c ≤ 8) × Pieces (λ j. valueBytes (cellAt cells r j)) out₀ at c out
 
 abbrev μ-loop : tie.MeasureT-loop
 μ-loop out₀ at cells r c₀ out c = 8 - c
@@ -19,26 +18,17 @@ abbrev μ-loop : tie.MeasureT-loop
 loop-holds : tie.Need-loop-holds Inv-loop μ-loop
 loop-holds c = (omega arith, pieces-start _ _ _)
 
-mul-put-u32 : tie.Need-mul-put-u32 Inv-loop μ-loop
-mul-put-u32 c = search needs
+mul-put-value : tie.Need-mul-put-value Inv-loop μ-loop
+mul-put-value c = search needs
 
-add-put-u32 : tie.Need-add-put-u32 Inv-loop μ-loop
-add-put-u32 c = omega arith
+add-put-value : tie.Need-add-put-value Inv-loop μ-loop
+add-put-value c = omega arith
 
-mul-put-u32-2 : tie.Need-mul-put-u32-2 Inv-loop μ-loop
-mul-put-u32-2 c = search needs
+cell-at-requires : tie.Need-cell-at-requires Inv-loop μ-loop
+cell-at-requires c κs = omega arith
 
-add-put-u32-2 : tie.Need-add-put-u32-2 Inv-loop μ-loop
-add-put-u32-2 c = omega arith
-
-mul-put-u32-3 : tie.Need-mul-put-u32-3 Inv-loop μ-loop
-mul-put-u32-3 c = search needs
-
-shared-slice-read-put-u32 : tie.Need-shared-slice-read-put-u32 Inv-loop μ-loop
-shared-slice-read-put-u32 c = omega arith
-
-put-u32-requires : tie.Need-put-u32-requires Inv-loop μ-loop
-put-u32-requires c κs = omega arith
+put-value-requires : tie.Need-put-value-requires Inv-loop μ-loop
+put-value-requires c κs = omega arith
 
 add-c : tie.Need-add-c Inv-loop μ-loop
 add-c c = omega arith
@@ -47,7 +37,8 @@ loop-less : tie.Need-loop-less Inv-loop μ-loop
 loop-less c = omega arith
 
 loop-again : tie.Need-loop-again Inv-loop μ-loop
-loop-again c = (omega arith, pieces-more _ _ _ 4 (λ j. length-u32 _) _ _ _ (c .before .before .before .before .before .before .loop .inv .1) (c .before .before .put-u32 .ensures))
+loop-again c =
+    (omega arith, pieces-more _ _ _ 4 (λ j. length-u32 _) _ _ _ (c .before .before .before .before .before .before .loop .inv .1) (stored-value _ _ _ _ _ (c .before .before .put-value .ensures) (c .before .before .before .cell-at .ensures)))
 
 same-length : tie.Need-same-length Inv-loop μ-loop
 same-length c = omega arith
@@ -63,13 +54,10 @@ put-cells-spec =
     Inv-loop
     μ-loop
     loop-holds
-    mul-put-u32
-    add-put-u32
-    mul-put-u32-2
-    add-put-u32-2
-    mul-put-u32-3
-    shared-slice-read-put-u32
-    put-u32-requires
+    mul-put-value
+    add-put-value
+    cell-at-requires
+    put-value-requires
     add-c
     loop-less
     loop-again

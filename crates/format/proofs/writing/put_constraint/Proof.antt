@@ -2,7 +2,7 @@
 use native.Mathlib.Omega.{arith}
 use borrow.Author.Needs.{needs}
 use lib.ListN.{length-set}
-use Rattle.format.proofs.WritingLaws.{stored-constraint}
+use Rattle.format.proofs.WritingLaws.{wrote-constraint}
 use Rattle.format.proofs.writing.put_constraint.Statement.{statement}
 use Rattle.format.proofs.writing.put_constraint.Tie as tie
 
@@ -33,11 +33,14 @@ add-out-4 c = search needs
 slice-write-out-5 : tie.Need-slice-write-out-5
 slice-write-out-5 c = simp length-set (omega arith)
 
+add-result : tie.Need-add-result
+add-result c = search needs
+
 same-length : tie.Need-same-length
 same-length c = search needs
 
 returns : tie.Need-returns
-returns c = stored-constraint (c .before .before .args .out .now) (c .before .before .args .at) (c .before .before .args .c)
+returns c = wrote-constraint (c .before .before .args .out .now) (c .before .before .args .at) (c .before .before .args .c)
 
 pub put-constraint-spec : {M : Type 1} → statement M
 put-constraint-spec =
@@ -52,5 +55,6 @@ put-constraint-spec =
     slice-write-out-4
     add-out-4
     slice-write-out-5
+    add-result
     same-length
     returns)

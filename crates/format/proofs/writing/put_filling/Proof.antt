@@ -3,7 +3,7 @@ use native.Mathlib.Omega.{arith}
 use mathlib.Core.Path.{_∙_}
 use borrow.Author.Needs.{needs}
 use lib.ListN.{length-set}
-use Rattle.format.proofs.WritingLaws.{stored-filling}
+use Rattle.format.proofs.WritingLaws.{wrote-filling}
 use Rattle.format.proofs.writing.put_filling.Statement.{statement}
 use Rattle.format.proofs.writing.put_filling.Tie as tie
 
@@ -34,11 +34,14 @@ add-put-u32-2 c = search needs
 put-u32-requires-2 : tie.Need-put-u32-requires-2
 put-u32-requires-2 c κs = let h = simp length-set at (c .before .before .before .put-u32 .kept .0) in omega arith
 
+add-result : tie.Need-add-result
+add-result c = search needs
+
 same-length : tie.Need-same-length
 same-length c = c .before .before .put-u322 .kept .0 ∙ (simp length-set at (c .before .before .before .before .before .before .put-u32 .kept .0))
 
 returns : tie.Need-returns
-returns c = stored-filling (c .before .before .before .before .before .before .before .before .before .before .args .out .now) _ _ (c .before .before .before .before .before .before .before .before .before .before .args .at) (c .before .before .before .before .before .before .before .before .before .before .args .f) (c .before .before .before .before .before .before .put-u32 .ensures) (c .before .before .put-u322 .ensures)
+returns c = wrote-filling (c .before .before .before .before .before .before .before .before .before .before .args .out .now) _ _ (c .before .before .before .before .before .before .before .before .before .before .args .at) (c .before .before .before .before .before .before .before .before .before .before .args .f) (c .before .before .before .before .before .before .put-u32 .ensures) (c .before .before .put-u322 .ensures)
 
 pub put-filling-spec : {M : Type 1} → statement M
 put-filling-spec =
@@ -53,5 +56,6 @@ put-filling-spec =
     put-u32-requires
     add-put-u32-2
     put-u32-requires-2
+    add-result
     same-length
     returns)

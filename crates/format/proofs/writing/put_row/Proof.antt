@@ -2,7 +2,7 @@
 use native.Mathlib.Omega.{arith}
 use borrow.Author.Needs.{needs}
 use lib.ListN.{length-set}
-use Rattle.format.proofs.WritingLaws.{stored-row}
+use Rattle.format.proofs.WritingLaws.{wrote-row}
 use Rattle.format.proofs.writing.put_row.Statement.{statement}
 use Rattle.format.proofs.writing.put_row.Tie as tie
 
@@ -24,11 +24,14 @@ add-put-cells c = search needs
 put-cells-requires : tie.Need-put-cells-requires
 put-cells-requires c κs = simp length-set (omega arith)
 
+add-result : tie.Need-add-result
+add-result c = search needs
+
 same-length : tie.Need-same-length
 same-length c = simp length-set at (c .before .before .put-cells .kept .0)
 
 returns : tie.Need-returns
-returns c = stored-row (c .before .before .before .before .before .before .before .before .args .out .now) _ _ (c .before .before .before .before .before .before .before .before .args .tables .now) (c .before .before .before .before .before .before .before .before .args .at) _ (c .before .before .put-cells .ensures)
+returns c = wrote-row (c .before .before .before .before .before .before .before .before .args .out .now) _ _ (c .before .before .before .before .before .before .before .before .args .tables .now) (c .before .before .before .before .before .before .before .before .args .at) _ (c .before .before .put-cells .ensures)
 
 pub put-row-spec : {M : Type 1} → statement M
 put-row-spec =
@@ -40,5 +43,6 @@ put-row-spec =
     slice-write-out-2
     add-put-cells
     put-cells-requires
+    add-result
     same-length
     returns)

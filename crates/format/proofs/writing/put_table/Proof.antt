@@ -2,7 +2,7 @@
 use native.Mathlib.Omega.{arith}
 use borrow.Author.Needs.{needs}
 use lib.ListN.{length-set}
-use Rattle.format.proofs.WritingLaws.{stored-table}
+use Rattle.format.proofs.WritingLaws.{wrote-table}
 use Rattle.format.proofs.writing.put_table.Statement.{statement}
 use Rattle.format.proofs.writing.put_table.Tie as tie
 
@@ -21,11 +21,14 @@ add-out-2 c = search needs
 slice-write-out-3 : tie.Need-slice-write-out-3
 slice-write-out-3 c = simp length-set (omega arith)
 
+add-result : tie.Need-add-result
+add-result c = search needs
+
 same-length : tie.Need-same-length
 same-length c = search needs
 
 returns : tie.Need-returns
-returns c = stored-table (c .args .out .now) (c .args .at) (c .args .t)
+returns c = wrote-table (c .args .out .now) (c .args .at) (c .args .t)
 
 pub put-table-spec : {M : Type 1} → statement M
 put-table-spec =
@@ -36,5 +39,6 @@ put-table-spec =
     slice-write-out-2
     add-out-2
     slice-write-out-3
+    add-result
     same-length
     returns)

@@ -1,76 +1,65 @@
 -- `format::writing::write_design` meets its contract: each kind goes behind the one before. Assumes nothing.
 use native.Mathlib.Omega.{arith}
-use mathlib.Core.Path.{_∙_}
-use borrow.Author.Needs.{needs}
-use lib.ListN.{length-set}
-use Rattle.format.proofs.WritingLaws.{length-design, room, stored-design}
+use Rattle.finite.proofs.Writing.{behind, wrote-one, wrote-long}
+use Rattle.format.proofs.WritingLaws.{length-most, room-start, room-first, room-next, wrote-design}
 use Rattle.format.proofs.writing.write_design.Statement.{statement}
 use Rattle.format.proofs.writing.write_design.Tie as tie
 
-put-tables-requires : tie.Need-put-tables-requires
-put-tables-requires c κs = let h = room _ _ _ _ (c .before .before .before .before .pre .2) in omega (arith, c .before .before .before .before .pre .0)
+put-kind-requires : tie.Need-put-kind-requires
+put-kind-requires c κs = (
+  c .before .before .before .before .pre .0,
+  c .before .before .before .before .pre .1,
+  room-first _ _ _ _ (room-start _ _ _ (c .before .before .before .before .args .out .now) (c .before .before .before .before .pre .2)),
+)
 
-put-constraints-requires : tie.Need-put-constraints-requires
-put-constraints-requires c κs = let h = room _ _ _ _ (c .before .before .before .before .before .before .before .before .pre .2) in omega (arith, c .before .before .before .before .before .before .before .before .pre .0, c .before .before .before .put-tables .ensures .0, c .before .before .before .put-tables .kept .1 .0)
+put-kind-requires-2 : tie.Need-put-kind-requires-2
+put-kind-requires-2 c κs = (
+  c .before .before .before .before .before .before .before .before .pre .0,
+  c .before .before .before .before .before .before .before .before .pre .1,
+  room-first _ _ _ _ (room-next _ _ _ _ (room-start _ _ _ _ (c .before .before .before .before .before .before .before .before .pre .2)) _ _ (c .before .before .before .put-kind .ensures)),
+)
 
-put-fillings-requires : tie.Need-put-fillings-requires
-put-fillings-requires c κs =
-    let h = room _ _ _ _ (c .before .before .before .before .before .before .before .before .before .before .before .before .pre .2) in
-    omega (arith, c .before .before .before .before .before .before .before .before .before .before .before .before .pre .0, c .before .before .before .put-constraints .ensures .0, c .before .before .before .before .before .before .before .put-tables .ensures .0, c .before .before .before .put-constraints .kept .1 .0, c .before .before .before .before .before .before .before .put-tables .kept .1 .0)
+put-kind-requires-3 : tie.Need-put-kind-requires-3
+put-kind-requires-3 c κs = (
+  c .before .before .before .before .before .before .before .before .before .before .before .before .pre .0,
+  c .before .before .before .before .before .before .before .before .before .before .before .before .pre .1,
+  room-first _ _ _ _ (room-next _ _ _ _ (room-next _ _ _ _ (room-start _ _ _ _ (c .before .before .before .before .before .before .before .before .before .before .before .before .pre .2)) _ _ (c .before .before .before .before .before .before .before .put-kind .ensures)) _ _ (c .before .before .before .put-kind2 .ensures)),
+)
 
-put-rows-requires : tie.Need-put-rows-requires
-put-rows-requires c κs =
-    let h = room _ _ _ _ (c .before .before .before .before .before .before .before .before .before .before .before .before .before .before .before .before .pre .2) in (
-      c .before .before .before .before .before .before .before .before .before .before .before .before .before .before .before .before .pre .0 .rows,
-      c .before .before .before .before .before .before .before .before .before .before .before .before .before .before .before .before .pre .1,
-      omega (
-        arith,
-        c .before .before .before .put-fillings .ensures .0,
-        c .before .before .before .before .before .before .before .put-constraints .ensures .0,
-        c .before .before .before .before .before .before .before .before .before .before .before .put-tables .ensures .0,
-        c .before .before .before .put-fillings .kept .1 .0,
-        c .before .before .before .before .before .before .before .put-constraints .kept .1 .0,
-        c .before .before .before .before .before .before .before .before .before .before .before .put-tables .kept .1 .0,
-      ),
-    )
+put-kind-requires-4 : tie.Need-put-kind-requires-4
+put-kind-requires-4 c κs = (
+  c .before .before .before .before .before .before .before .before .before .before .before .before .before .before .before .before .pre .0,
+  c .before .before .before .before .before .before .before .before .before .before .before .before .before .before .before .before .pre .1,
+  room-first _ _ _ _ (room-next _ _ _ _ (room-next _ _ _ _ (room-next _ _ _ _ (room-start _ _ _ _ (c .before .before .before .before .before .before .before .before .before .before .before .before .before .before .before .before .pre .2)) _ _ (c .before .before .before .before .before .before .before .before .before .before .before .put-kind .ensures)) _ _ (c .before .before .before .before .before .before .before .put-kind2 .ensures)) _ _ (c .before .before .before .put-kind3 .ensures)),
+)
 
 slice-write-out : tie.Need-slice-write-out
 slice-write-out c =
-    let h = room _ _ _ _ (c .before .before .before .before .before .before .before .before .before .before .before .before .before .before .before .before .before .before .before .pre .2) in
-    omega (
-      arith,
-      c .before .before .put-rows .ensures .0,
-      c .before .before .before .before .before .before .put-fillings .ensures .0,
-      c .before .before .before .before .before .before .before .before .before .before .put-constraints .ensures .0,
-      c .before .before .before .before .before .before .before .before .before .before .before .before .before .before .put-tables .ensures .0,
-      c .before .before .put-rows .kept .1 .1 .1 .0,
-      c .before .before .before .before .before .before .put-fillings .kept .1 .0,
-      c .before .before .before .before .before .before .before .before .before .before .put-constraints .kept .1 .0,
-      c .before .before .before .before .before .before .before .before .before .before .before .before .before .before .put-tables .kept .1 .0,
-    )
+    let l = room-first _ _ _ _ (room-next _ _ _ _ (room-next _ _ _ _ (room-next _ _ _ _ (room-next _ _ _ _ (room-start _ _ _ _ (c .before .before .before .before .before .before .before .before .before .before .before .before .before .before .before .before .before .before .before .pre .2)) _ _ (c .before .before .before .before .before .before .before .before .before .before .before .before .before .before .put-kind .ensures)) _ _ (c .before .before .before .before .before .before .before .before .before .before .put-kind2 .ensures)) _ _ (c .before .before .before .before .before .before .put-kind3 .ensures)) _ _ (c .before .before .put-kind4 .ensures)) in
+    omega arith
 
 add-result : tie.Need-add-result
-add-result c = search needs
+add-result c =
+    let d = c .before .before .before .before .before .before .before .before .before .before .before .before .before .before .before .before .before .before .before .args .d in
+    let cells = c .before .before .before .before .before .before .before .before .before .before .before .before .before .before .before .before .before .before .before .args .cells .now in
+    let tables = c .before .before .before .before .before .before .before .before .before .before .before .before .before .before .before .before .before .before .before .args .tables .now in
+    let w = wrote-design d cells tables _ _ _ (behind (c .before .before .before .before .before .before .before .before .before .before .before .before .before .before .put-kind .ensures) (behind (c .before .before .before .before .before .before .before .before .before .before .put-kind2 .ensures) (behind (c .before .before .before .before .before .before .put-kind3 .ensures) (behind (c .before .before .put-kind4 .ensures) (wrote-one _ _ 5))))) in
+    omega (arith, w .0, length-most d cells tables (c .before .before .before .before .before .before .before .before .before .before .before .before .before .before .before .before .before .before .before .pre .0))
 
 same-length : tie.Need-same-length
-same-length c =
-    simp length-set (c .before .before .put-rows .kept .1 .1 .1 .0 ∙ c .before .before .before .before .before .before .put-fillings .kept .1 .0 ∙ c .before .before .before .before .before .before .before .before .before .before .put-constraints .kept .1 .0 ∙ c .before .before .before .before .before .before .before .before .before .before .before .before .before .before .put-tables .kept .1 .0)
+same-length c = wrote-long _ _ _ _ _ (behind (c .before .before .before .before .before .before .before .before .before .before .before .before .before .before .put-kind .ensures) (behind (c .before .before .before .before .before .before .before .before .before .before .put-kind2 .ensures) (behind (c .before .before .before .before .before .before .put-kind3 .ensures) (behind (c .before .before .put-kind4 .ensures) (wrote-one _ _ _)))))
 
 returns : tie.Need-returns
-returns c =
-    let t = c .before .before .before .before .before .before .before .before .before .before .before .before .before .before .put-tables .ensures in let k = c .before .before .before .before .before .before .before .before .before .before .put-constraints .ensures in let f = c .before .before .before .before .before .before .put-fillings .ensures in let r = c .before .before .put-rows .ensures in (
-      omega (arith, length-design (c .before .before .before .before .before .before .before .before .before .before .before .before .before .before .before .before .before .before .before .args .d) (c .before .before .before .before .before .before .before .before .before .before .before .before .before .before .before .before .before .before .before .args .cells .now) (c .before .before .before .before .before .before .before .before .before .before .before .before .before .before .before .before .before .before .before .args .tables .now), t .0, k .0, f .0, r .0),
-      stored-design _ _ _ _ _ _ _ _ _ _ _ _ (t .0) (t .1) (k .0) (k .1) (f .0) (f .1) (r .0) (r .1),
-    )
+returns c = wrote-design _ _ _ _ _ _ (behind (c .before .before .before .before .before .before .before .before .before .before .before .before .before .before .put-kind .ensures) (behind (c .before .before .before .before .before .before .before .before .before .before .put-kind2 .ensures) (behind (c .before .before .before .before .before .before .put-kind3 .ensures) (behind (c .before .before .put-kind4 .ensures) (wrote-one _ _ _)))))
 
 pub write-design-spec : {M : Type 1} → statement M
 write-design-spec =
     tie.close
     (tie.spec
-    put-tables-requires
-    put-constraints-requires
-    put-fillings-requires
-    put-rows-requires
+    put-kind-requires
+    put-kind-requires-2
+    put-kind-requires-3
+    put-kind-requires-4
     slice-write-out
     add-result
     same-length

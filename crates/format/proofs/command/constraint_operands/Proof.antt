@@ -1,7 +1,7 @@
--- `format::command::constraint_at` meets its contract. Assumes nothing.
+-- `format::command::constraint_operands` meets its contract. Assumes nothing.
 use borrow.Author.Needs.{needs}
-use Rattle.format.proofs.command.constraint_at.Statement.{statement}
-use Rattle.format.proofs.command.constraint_at.Tie as tie
+use Rattle.format.proofs.command.constraint_operands.Statement.{statement}
+use Rattle.format.proofs.command.constraint_operands.Tie as tie
 
 add-column-at : tie.Need-add-column-at
 add-column-at c = search needs
@@ -18,7 +18,7 @@ column-at-requires-2 c κs = search needs
 returns : tie.Need-returns
 returns c = cc
 
-pub constraint-at-spec : {M : Type 1} → statement M
-constraint-at-spec =
+pub constraint-operands-spec : {M : Type 1} → statement M
+constraint-operands-spec =
     tie.close
     (tie.spec add-column-at column-at-requires add-column-at-2 column-at-requires-2 returns)

@@ -1,10 +1,10 @@
--- `format::reading::after_constraints` meets its contract. Assumes nothing.
+-- `format::kinds::after_constraints` meets its contract. Assumes nothing.
 use mathlib.Core.Path.{refl}
 use borrow.Author.Tests.{lt-ltb, le-ltb}
 use lib.Dec.{ltb}
 use Rattle.finite.proofs.Bools.{or-left, or-go}
-use Rattle.format.proofs.reading.after_constraints.Statement.{statement}
-use Rattle.format.proofs.reading.after_constraints.Tie as tie
+use Rattle.format.proofs.kinds.after_constraints.Statement.{statement}
+use Rattle.format.proofs.kinds.after_constraints.Tie as tie
 
 returns : tie.Need-returns
 returns c = or-left (ltb 0 (c .before .before .args .d .fillings)) _ (lt-ltb _ _ (c .if1 .taken))

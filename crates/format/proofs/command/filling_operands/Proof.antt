@@ -1,7 +1,7 @@
--- `format::command::filling_at` meets its contract. Assumes nothing.
+-- `format::command::filling_operands` meets its contract. Assumes nothing.
 use borrow.Author.Needs.{needs}
-use Rattle.format.proofs.command.filling_at.Statement.{statement}
-use Rattle.format.proofs.command.filling_at.Tie as tie
+use Rattle.format.proofs.command.filling_operands.Statement.{statement}
+use Rattle.format.proofs.command.filling_operands.Tie as tie
 
 add-column-at : tie.Need-add-column-at
 add-column-at c = search needs
@@ -24,8 +24,8 @@ u32-at-requires-2 c κs = search needs
 returns : tie.Need-returns
 returns c = cc
 
-pub filling-at-spec : {M : Type 1} → statement M
-filling-at-spec =
+pub filling-operands-spec : {M : Type 1} → statement M
+filling-operands-spec =
     tie.close
     (tie.spec
     add-column-at

@@ -1,0 +1,33 @@
+-- The four kinds of commands before a design's END, each by its byte: 0x01 TABLE, 0x02 CONSTRAINT, 0x03 FILLING, 0x04 ROW. Assumes nothing.
+use Prim.Native.Nat.{ℕ}
+use mathlib.Core.Bool.{Bool, false, cond}
+use lib.Dec.{eqb, leb}
+use Rattle.state.specs.declared.design.Design.{Design}
+use Rattle.format.specs.Reading.{afterTables, afterConstraints, afterFillings}
+
+-- how many of a kind the design has, and how many it can have
+unfoldable pub countOf : Design → ℕ → ℕ
+countOf d b =
+    cond (eqb b 0x01) (d .tables)
+    (cond (eqb b 0x02) (d .constraints)
+    (cond (eqb b 0x03) (d .fillings)
+    (d .rows)))
+
+unfoldable pub mostOf : ℕ → ℕ
+mostOf b =
+    cond (eqb b 0x01) 8
+    (cond (eqb b 0x02) 16
+    (cond (eqb b 0x03) 8
+    512))
+
+-- something of a later kind has been read
+unfoldable pub isLate : Design → ℕ → Bool
+isLate d b =
+    cond (eqb b 0x01) (afterTables d)
+    (cond (eqb b 0x02) (afterConstraints d)
+    (cond (eqb b 0x03) (afterFillings d)
+    false))
+
+-- cause 3 or 4 of one more command of a kind, 0 if neither applies
+unfoldable pub orderCause : Design → ℕ → ℕ
+orderCause d b = cond (isLate d b) 3 (cond (leb (mostOf b) (countOf d b)) 4 0)
