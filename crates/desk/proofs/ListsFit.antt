@@ -13,10 +13,11 @@ use Rattle.model.specs.Scheme.{Scheme, isColumn, candidate}
 use Rattle.model.specs.Database.{Database}
 use Rattle.model.specs.Probe
 use Rattle.model.specs.Holding.{Pair, holds, hasRoom, heldIn}
-use Rattle.model.specs.Runs.{Question, probe, refer, drop, marked, Cache}
+use Rattle.model.specs.Even.{lowestUneven}
+use Rattle.model.specs.Runs.{Question, probe, evenness, refer, drop, marked, Cache}
 use Rattle.model.specs.Query as Q
 use Rattle.model.specs.Query.{joinsOf, operandsFit, wordsOf, mostJoins}
-use Rattle.model.specs.Answers.{Answer, held, noCandidate, ground, sent, lists, shown, hasLists, unless, orAnswer, questionAnswer, queryGround, fullLists, queryAnswer, answer}
+use Rattle.model.specs.Answers.{Answer, held, noCandidate, ground, sent, lists, even, uneven, evenAnswer, shown, hasLists, unless, orAnswer, questionAnswer, queryGround, fullLists, queryAnswer, answer}
 use Rattle.model.proofs.ListLaws.{fitting-words}
 use Rattle.state.specs.declared.design.Table as State-table
 use Rattle.state.specs.declared.design.Constraint as State-constraint
@@ -72,10 +73,11 @@ module _ (p room : ℕ) where
         unless-within (not (holds (c .held) x)) 10 _ (λ _ h. clash h refl)))
 
     question-within : (q : Question) → Within (questionAnswer S D c q)
-    unfolding questionAnswer hasLists shown
+    unfolding questionAnswer evenAnswer hasLists shown
     question-within (probe k v) =
         let g = Probe.probe S D (heldIn S (c .held)) (marked (c .marks)) k v in
         unless-within (not (isColumn S k)) 5 _ (λ _. unless-within (isBlank v) 9 _ (λ _. or-within (ltb 0 g) (ground g) sent (λ h. clash h refl) (λ h. clash h refl)))
+    question-within evenness = or-within (ltb (lowestUneven S) (S .constraints)) (uneven _ _) even (λ h. clash h refl) (λ h. clash h refl)
 
     module _ (q : Q.Query) (four : length (q .pairs) ≡ 4) (positions : q .joins + 1 ≡ p) where
       -- as many lists as there are
@@ -116,20 +118,22 @@ module _ (s : State) (words script : List ℕ) (i : ℕ) where
   -- the operation at place i, whose byte is b
   operation-within : (b : ℕ) → Here (answerAt s (operationOf (operationAt b script i) (length words)))
   unfolding answerAt answer operationAt
-  operation-within b = go (eqb b 0x10) (eqb b 0x11) (eqb b 0x12)
+  operation-within b = go (eqb b 0x10) (eqb b 0x11) (eqb b 0x12) (eqb b 0x14)
     where
-      op : Bool → Bool → Bool → Operation
-      op x y z =
+      op : Bool → Bool → Bool → Bool → Operation
+      op x y z v =
           cond x (O.Refer (heldValueAt script i))
           (cond y (O.Drop (heldValueAt script i))
           (cond z (O.Probe (columnAt script (i + 1)) (valueAt script (i + 3)))
-          (O.Query (queryAt script i))))
+          (cond v O.Evenness
+          (O.Query (queryAt script i)))))
 
-      go : (x y z : Bool) → Here (answerAt s (operationOf (op x y z) (length words)))
-      go true y z = guarded-within _ (refer-within _ _ (scheme s) (database s) (cache s) _)
-      go false true z = guarded-within _ (drop-within _ _ (scheme s) (database s) (cache s) _)
-      go false false true = guarded-within _ (question-within _ _ (scheme s) (database s) (cache s) _)
-      go false false false = guarded-within _ (query-within _ _ (scheme s) (database s) (cache s) _ refl refl)
+      go : (x y z v : Bool) → Here (answerAt s (operationOf (op x y z v) (length words)))
+      go true y z v = guarded-within _ (refer-within _ _ (scheme s) (database s) (cache s) _)
+      go false true z v = guarded-within _ (drop-within _ _ (scheme s) (database s) (cache s) _)
+      go false false true v = guarded-within _ (question-within _ _ (scheme s) (database s) (cache s) _)
+      go false false false true = guarded-within _ (question-within _ _ (scheme s) (database s) (cache s) _)
+      go false false false false = guarded-within _ (query-within _ _ (scheme s) (database s) (cache s) _ refl refl)
 
   -- the command at place i
   command-within : (j : ℕ) → Here (carried s words script i j (commandAt script i) .answer)

@@ -44,16 +44,16 @@ module _ (b : ℕ) where
   unfolding designWidth
   design-width-none h₁ h₂ h₃ h₄ h₅ = rw (ne-eqb b 1 h₁, ne-eqb b 2 h₂, ne-eqb b 3 h₃, ne-eqb b 4 h₄, ne-eqb b 5 h₅)
 
-  pub operation-width-none : (b ≡ 16 → ⊥) → (b ≡ 17 → ⊥) → (b ≡ 18 → ⊥) → (b ≡ 19 → ⊥) → operationWidth b ≡ 0
+  pub operation-width-none : (b ≡ 16 → ⊥) → (b ≡ 17 → ⊥) → (b ≡ 18 → ⊥) → (b ≡ 19 → ⊥) → (b ≡ 20 → ⊥) → operationWidth b ≡ 0
   unfolding operationWidth
-  operation-width-none h₁ h₂ h₃ h₄ = rw (ne-eqb b 16 h₁, ne-eqb b 17 h₂, ne-eqb b 18 h₃, ne-eqb b 19 h₄)
+  operation-width-none h₁ h₂ h₃ h₄ h₅ = rw (ne-eqb b 16 h₁, ne-eqb b 17 h₂, ne-eqb b 18 h₃, ne-eqb b 19 h₄, ne-eqb b 20 h₅)
 
   -- what is left of the design's bytes is END's, and of the operations' QUERY's
   pub is-end : (designWidth b ≡ 0 → ⊥) → (b ≡ 1 → ⊥) → (b ≡ 2 → ⊥) → (b ≡ 3 → ⊥) → (b ≡ 4 → ⊥) → b ≡ 5
   is-end w h₁ h₂ h₃ h₄ = ⊎-elim (λ (e : b ≡ 5). e) (λ (n : b ≡ 5 → ⊥). absurd (w (design-width-none h₁ h₂ h₃ h₄ n))) (same-number b 5)
 
-  pub is-query : (operationWidth b ≡ 0 → ⊥) → (b ≡ 16 → ⊥) → (b ≡ 17 → ⊥) → (b ≡ 18 → ⊥) → b ≡ 19
-  is-query w h₁ h₂ h₃ = ⊎-elim (λ (e : b ≡ 19). e) (λ (n : b ≡ 19 → ⊥). absurd (w (operation-width-none h₁ h₂ h₃ n))) (same-number b 19)
+  pub is-query : (operationWidth b ≡ 0 → ⊥) → (b ≡ 16 → ⊥) → (b ≡ 17 → ⊥) → (b ≡ 18 → ⊥) → (b ≡ 20 → ⊥) → b ≡ 19
+  is-query w h₁ h₂ h₃ h₅ = ⊎-elim (λ (e : b ≡ 19). e) (λ (n : b ≡ 19 → ⊥). absurd (w (operation-width-none h₁ h₂ h₃ n h₅))) (same-number b 19)
 
 -- a command takes at most 34 bytes
 pick : (x : Bool) (m n : ℕ) → m ≤ 34 → n ≤ 34 → cond x m n ≤ 34
@@ -70,7 +70,7 @@ operation-most : (b : ℕ) → operationWidth b ≤ 34
 unfolding operationWidth
 operation-most b =
     pick (eqb b 16) 6 _ (omega arith) (pick (eqb b 17) 6 _ (omega arith) (pick (eqb b 18) 7 _ (omega arith)
-    (pick (eqb b 19) 16 0 (omega arith) (omega arith))))
+    (pick (eqb b 19) 16 _ (omega arith) (pick (eqb b 20) 1 0 (omega arith) (omega arith)))))
 
 pub width-most : (b : ℕ) → widthOf b ≤ 34
 unfolding widthOf
@@ -125,6 +125,10 @@ module _ (b : ℕ) (s : List ℕ) (i : ℕ) where
   pub operation-probe : (k : Column) (v : Cell) → k ≡ columnAt s (i + 1) → v ≡ valueAt s (i + 3) → b ≡ 18 → O.Probe k v ≡ operationAt b s i
   unfolding operationAt
   operation-probe k v p q e = ap₂ O.Probe p q ∙ ap (λ (j : ℕ). operationAt j s i) (sym e)
+
+  pub operation-evenness : b ≡ 20 → O.Evenness ≡ operationAt b s i
+  unfolding operationAt
+  operation-evenness e = ap (λ (j : ℕ). operationAt j s i) (sym e)
 
   pub operation-query : (q : Query) → q ≡ queryAt s i → b ≡ 19 → O.Query q ≡ operationAt b s i
   unfolding operationAt

@@ -31,7 +31,8 @@ operationWidth b =
     cond (eqb b 0x10) 6
     (cond (eqb b 0x11) 6
     (cond (eqb b 0x12) 7
-    (cond (eqb b 0x13) 16 0)))
+    (cond (eqb b 0x13) 16
+    (cond (eqb b 0x14) 1 0))))
 
 unfoldable pub widthOf : ℕ → ℕ
 widthOf b = cond (ltb b 0x10) (designWidth b) (operationWidth b)
@@ -83,7 +84,8 @@ operationAt b s i =
     cond (eqb b 0x10) (O.Refer (heldValueAt s i))
     (cond (eqb b 0x11) (O.Drop (heldValueAt s i))
     (cond (eqb b 0x12) (O.Probe (columnAt s (i + 1)) (valueAt s (i + 3)))
-    (O.Query (queryAt s i))))
+    (cond (eqb b 0x14) O.Evenness
+    (O.Query (queryAt s i)))))
 
 unfoldable pub operandsAt : ℕ → List ℕ → ℕ → Command
 operandsAt b s i = cond (ltb b 0x10) (designCommandAt b s i) (Operate (operationAt b s i))

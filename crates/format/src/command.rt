@@ -54,6 +54,7 @@ fn operation_width(b: u8) -> usize
         0x11 => 6,
         0x12 => 7,
         0x13 => 16,
+        0x14 => 1,
         _ => 0,
     }
 }
@@ -194,6 +195,7 @@ fn operation_at(b: u8, script: &[u8], i: usize) -> Operation
         0x10 => Operation::Refer(held_value_at(script, i)),
         0x11 => Operation::Drop(held_value_at(script, i)),
         0x12 => Operation::Probe(column_at(script, i + 1), value_at(script, i + 3)),
+        0x14 => Operation::Evenness,
         _ => Operation::Query(query_at(script, i)),
     }
 }

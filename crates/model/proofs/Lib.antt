@@ -9,7 +9,11 @@ pub mod Loads
 pub mod Exact
 pub mod Marks
 pub mod HoldingLaws
+pub mod ReachLaws
+pub mod EvenRounds
+pub mod EvenLaws
 pub mod RunLaws
+pub mod EvenRefers
 pub mod Fresh
 pub mod Demand3
 pub mod QueryLaws

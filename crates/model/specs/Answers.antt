@@ -11,11 +11,12 @@ use Rattle.model.specs.Scheme.{candidate, Scheme, isColumn}
 use Rattle.model.specs.Database.{Database}
 use Rattle.model.specs.Probe
 use Rattle.model.specs.Rounds.{addedRows, laterRounds, reached}
+use Rattle.model.specs.Even.{unevenFrom, lowestUneven}
 use Rattle.model.specs.Holding.{holds, hasRoom, withoutPair, heldIn}
-use Rattle.model.specs.Runs.{Question, probe, Operation, refer, drop, ask, query, marked, Cache, referLevels, reloadLevels}
+use Rattle.model.specs.Runs.{Question, probe, evenness, Operation, refer, drop, ask, query, marked, Cache, referLevels, reloadLevels}
 use Rattle.model.specs.Query.{Query, joinsOf, operandsFit, fitting, wordsOf}
 
--- `loaded` rows rounds, `held`, `no candidate`, `dropped` rows, `ground` g, `sent`, `answer` lists, `refused` number
+-- `loaded` rows rounds, `held`, `no candidate`, `dropped` rows, `ground` g, `sent`, `answer` lists, `refused` number; `even`, `uneven` i j (02, Req 01)
 pub data Answer : Type 0 where
   loaded : ℕ → ℕ → Answer
   held noCandidate : Answer
@@ -24,6 +25,8 @@ pub data Answer : Type 0 where
   sent : Answer
   lists : ℕ → Answer
   refused : ℕ → Answer
+  even : Answer
+  uneven : ℕ → ℕ → Answer
 
 -- an answer as the report shows it: its word, by number, and the numbers behind it. Whatever depends on what an answer is goes through this
 pub record Shown : Type 0 where
@@ -45,6 +48,8 @@ shown (ground g) = record { word = 4; numbers = g ∷ [] }
 shown sent = record { word = 5; numbers = [] }
 shown (lists n) = record { word = listsWord; numbers = n ∷ [] }
 shown (refused n) = record { word = refusedWord; numbers = n ∷ [] }
+shown even = record { word = 8; numbers = [] }
+shown (uneven i j) = record { word = 9; numbers = i ∷ j ∷ [] }
 
 -- the answer has lists; the answer is a refusal
 unfoldable pub hasLists : Answer → Bool
@@ -66,12 +71,17 @@ orAnswer false a b = b
 abbrev pub groundOf : ℕ → Answer
 groundOf n = orAnswer (ltb 0 n) (ground n) sent
 
+-- "`even`, or `uneven` with the lowest i and then the lowest j"
+unfoldable pub evenAnswer : Scheme → Answer
+evenAnswer S = orAnswer (ltb (lowestUneven S) (S .constraints)) (uneven (lowestUneven S) (unevenFrom S (lowestUneven S))) even
+
 -- what a question answers
 unfoldable pub questionAnswer : Scheme → Database → Cache → Question → Answer
 questionAnswer S D c (probe k v) =
     unless (not (isColumn S k)) 5
     (unless (isBlank v) 9
     (groundOf (Probe.probe S D (heldIn S (c .held)) (marked (c .marks)) k v)))
+questionAnswer S D c evenness = evenAnswer S
 
 -- ---- queries
 

@@ -5,6 +5,7 @@ pub mod Database
 pub mod Cache
 pub mod Probe
 pub mod Rounds
+pub mod Even
 pub mod Holding
 pub mod Query
 pub mod Runs

@@ -17,6 +17,8 @@ use Rattle.model.specs.Query.{Query}
 -- a question, which changes nothing
 pub data Question : Type 0 where
   probe : Column → Cell → Question
+  -- whether the design is even
+  evenness : Question
 
 -- REFER, DROP, a question, and QUERY with how many answer words are lent
 pub data Operation : Type 0 where

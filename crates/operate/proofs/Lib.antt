@@ -1,2 +1,3 @@
--- Performed: from what the operations' own functions give to what any of them gives.
+-- Performed: from the four operations to any. EvenBound: how many rounds a REFER of an even design takes.
 pub mod Performed
+pub mod EvenBound

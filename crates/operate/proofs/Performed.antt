@@ -8,12 +8,12 @@ use lib.ListN.{length}
 use lib.Seq.{sets}
 use Rattle.model.specs.Holding.{Pair}
 use Rattle.model.specs.Query.{Query}
-use Rattle.model.specs.Runs.{Question, Operation, refer, drop, ask, query, cacheAfter}
-use Rattle.model.specs.Answers.{Answer, refused, written}
+use Rattle.model.specs.Runs.{Question, evenness, Operation, refer, drop, ask, query, cacheAfter}
+use Rattle.model.specs.Answers.{Answer, refused, evenAnswer, questionAnswer, answer, written}
 use Rattle.state.specs.declared.operation.Operation as State-operation
 use Rattle.state.specs.Meaning.{operationOf}
 use Rattle.state.specs.Lent.{State, cache, scheme, database, sound, causeAt, answerAt, wordsAt, Answered, Performed}
-use Rattle.lawful.proofs.SoundState.{after, unchanged, words-at, cause-answer, cause-state, cause-words}
+use Rattle.lawful.proofs.SoundState.{after, answer-at, unchanged, words-at, cause-answer, cause-state, cause-words}
 
 -- ---- a state known sound
 
@@ -44,6 +44,11 @@ module _ (s : State) (e : sound s ≡ true) (w : List ℕ) where
         w′ ≡ sets w 0 (wordsAt s (query q room)) → Performed s w (query q room) a s w′
     unfolding cacheAfter
     query-performs q room a w′ h k = record { answered = asked (query q room) refl a h; words = k }
+
+-- whether a design is even depends on the design alone
+pub even-answers : (s : State) → sound s ≡ true → (a : Answer) → a ≡ evenAnswer (scheme s) → a ≡ answerAt s (ask evenness)
+unfolding answer questionAnswer
+even-answers s e a h = h ∙ sym (answer-at s e (ask evenness))
 
 -- ---- whatever is lent
 

@@ -10,6 +10,7 @@ use cache::cause;
 use cache::drop_lawful;
 use cache::probe_lawful;
 use cache::refer_lawful;
+use even::evenness;
 use query::query_lawful;
 use state::Answer;
 use state::Design;
@@ -105,6 +106,10 @@ pub fn perform_lawful(
                 froms,
                 links,
             );
+            Outcome { held, answer }
+        }
+        Operation::Evenness => {
+            let answer = evenness(design);
             Outcome { held, answer }
         }
     }

@@ -1,5 +1,5 @@
 -- An answer's text: its word, its numbers, and the place of a refusal; and a refused design's line as an answer. Assumes nothing.
-use Prim.Native.Nat.{ℕ, zero, suc, _≤_}
+use Prim.Native.Nat.{ℕ, _+_, _≤_}
 use native.Mathlib.Omega.{arith}
 use mathlib.Core.Path.{_≡_, refl, sym, ap, subst, _∙_}
 use mathlib.Core.Bool.{Bool, true, false, cond}
@@ -23,19 +23,19 @@ refusal-line n place = simp append-assoc
 pub in-word : {o o′ : List ℕ} {n z : ℕ} {w k : ℕ} → w ≡ k → Wrote o o′ n z (wordText k) → Wrote o o′ n z (wordText w)
 in-word {o} {o′} {n} {z} e h = subst (λ (x : ℕ). Wrote o o′ n z (wordText x)) (sym e) h
 
--- a number that is none of the words' lies past them, and there is no word
-pub past-words : (w : ℕ) → (w ≡ 0 → ⊥) → (w ≡ 1 → ⊥) → (w ≡ 2 → ⊥) → (w ≡ 3 → ⊥) → (w ≡ 4 → ⊥) → (w ≡ 5 → ⊥) → (w ≡ 6 → ⊥) → (w ≡ 7 → ⊥) → 8 ≤ w
-past-words zero a b c d e f g h = absurd (a refl)
-past-words (suc zero) a b c d e f g h = absurd (b refl)
-past-words (suc (suc zero)) a b c d e f g h = absurd (c refl)
-past-words (suc (suc (suc zero))) a b c d e f g h = absurd (d refl)
-past-words (suc (suc (suc (suc zero)))) a b c d e f g h = absurd (e refl)
-past-words (suc (suc (suc (suc (suc zero))))) a b c d e f g h = absurd (f refl)
-past-words (suc (suc (suc (suc (suc (suc zero)))))) a b c d e f g h = absurd (g refl)
-past-words (suc (suc (suc (suc (suc (suc (suc zero))))))) a b c d e f g h = absurd (h refl)
-past-words (suc (suc (suc (suc (suc (suc (suc (suc w)))))))) a b c d e f g h = omega arith
+-- a number that is not one of the words' lies past them, and there is no word
+least : (w : ℕ) → 0 ≤ w
+least w = omega arith
 
-pub no-word : (o : List ℕ) (n w : ℕ) → 8 ≤ w → Wrote o o n n (wordText w)
+next : (w n : ℕ) → (w ≡ n → ⊥) → n ≤ w → n + 1 ≤ w
+next w n m l = omega arith
+
+pub past-words : (w : ℕ) → (w ≡ 0 → ⊥) → (w ≡ 1 → ⊥) → (w ≡ 2 → ⊥) → (w ≡ 3 → ⊥) → (w ≡ 4 → ⊥) → (w ≡ 5 → ⊥) → (w ≡ 6 → ⊥) → (w ≡ 7 → ⊥) →
+    (w ≡ 8 → ⊥) → (w ≡ 9 → ⊥) → 10 ≤ w
+past-words w a b c d e f g h i j =
+    next w 9 j (next w 8 i (next w 7 h (next w 6 g (next w 5 f (next w 4 e (next w 3 d (next w 2 c (next w 1 b (next w 0 a (least w))))))))))
+
+pub no-word : (o : List ℕ) (n w : ℕ) → 10 ≤ w → Wrote o o n n (wordText w)
 unfolding wordText
 no-word o n w l = wrote-as o o n n n [] (wordText w) refl (sym (List·getD-eq-default answer-words [] l)) (wrote-none o n)
 

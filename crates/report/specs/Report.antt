@@ -31,7 +31,7 @@ decimal n = decimalBy 20 n
 abbrev pub spaced : ℕ → List ℕ
 spaced n = space ∷ decimal n
 
--- "loaded", "held", "no candidate", "dropped", "ground", "sent", "answer", "refused", "design"
+-- "loaded", "held", "no candidate", "dropped", "ground", "sent", "answer", "refused", "even", "uneven", "design"
 abbrev pub loaded-word : List ℕ
 loaded-word = 108 ∷ 111 ∷ 97 ∷ 100 ∷ 101 ∷ 100 ∷ []
 
@@ -56,12 +56,18 @@ answer-word = 97 ∷ 110 ∷ 115 ∷ 119 ∷ 101 ∷ 114 ∷ []
 abbrev pub refused-word : List ℕ
 refused-word = 114 ∷ 101 ∷ 102 ∷ 117 ∷ 115 ∷ 101 ∷ 100 ∷ []
 
+abbrev pub even-word : List ℕ
+even-word = 101 ∷ 118 ∷ 101 ∷ 110 ∷ []
+
+abbrev pub uneven-word : List ℕ
+uneven-word = 117 ∷ 110 ∷ 101 ∷ 118 ∷ 101 ∷ 110 ∷ []
+
 abbrev pub design-word : List ℕ
 design-word = 100 ∷ 101 ∷ 115 ∷ 105 ∷ 103 ∷ 110 ∷ []
 
 -- the words of the answers, in the order of their numbers (`shown`)
 abbrev pub answer-words : List (List ℕ)
-answer-words = loaded-word ∷ held-word ∷ no-candidate-words ∷ dropped-word ∷ ground-word ∷ sent-word ∷ answer-word ∷ refused-word ∷ []
+answer-words = loaded-word ∷ held-word ∷ no-candidate-words ∷ dropped-word ∷ ground-word ∷ sent-word ∷ answer-word ∷ refused-word ∷ even-word ∷ uneven-word ∷ []
 
 unfoldable pub wordText : ℕ → List ℕ
 wordText w = getD answer-words w []

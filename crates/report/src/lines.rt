@@ -30,6 +30,8 @@ fn put_word(out: &mut [u8], at: usize, word: u8) -> usize
         5 => put_bytes(out, at, b"sent", 4),
         6 => put_bytes(out, at, b"answer", 6),
         7 => put_bytes(out, at, b"refused", 7),
+        8 => put_bytes(out, at, b"even", 4),
+        9 => put_bytes(out, at, b"uneven", 6),
         _ => at,
     }
 }

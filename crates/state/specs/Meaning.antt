@@ -131,6 +131,7 @@ operationOf (O.Refer v) room = Runs.refer (pairOf v)
 operationOf (O.Drop v) room = Runs.drop (pairOf v)
 operationOf (O.Probe k v) room = Runs.ask (Runs.probe (columnOf k) (cellOf v))
 operationOf (O.Query q) room = Runs.query (queryOf q) room
+operationOf O.Evenness room = Runs.ask Runs.evenness
 
 -- ---- answers: document 01's word, number and values for each case
 
@@ -143,6 +144,8 @@ answerOf (A.Ground g) = Answers.ground g
 answerOf A.Sent = Answers.sent
 answerOf (A.Lists n) = Answers.lists n
 answerOf (A.Refused n) = Answers.refused n
+answerOf A.Even = Answers.even
+answerOf (A.Uneven i j) = Answers.uneven i j
 
 -- a word with its numbers
 abbrev pub shownOf : Shown → Answers.Shown

@@ -17,6 +17,9 @@ pub enum Answer {
     Lists(usize),
     // the cause's number
     Refused(u8),
+    Even,
+    // the two constraints that make a design uneven
+    Uneven(u8, u8),
 }
 
 // An answer as the report shows it: its word, by number, how many numbers stand behind it, and these, 0 where there are fewer.
@@ -52,6 +55,8 @@ pub fn show(answer: Answer) -> Shown
         Answer::Sent => words(5, 0, 0, 0),
         Answer::Lists(n) => words(6, 1, n as u64, 0),
         Answer::Refused(cause) => words(7, 1, cause as u64, 0),
+        Answer::Even => words(8, 0, 0, 0),
+        Answer::Uneven(i, j) => words(9, 2, i as u64, j as u64),
     }
 }
 

@@ -25,4 +25,6 @@ pub enum Operation {
     Drop(HeldValue),
     Probe(Column, Cell),
     Query(Query),
+    // whether the design is even
+    Evenness,
 }

@@ -3,7 +3,7 @@ use native.Mathlib.Omega.{arith}
 use mathlib.Core.Path.{ap}
 use borrow.Author.Needs.{needs}
 use Rattle.format.specs.Commands.{operationWidth}
-use Rattle.format.proofs.CommandLaws.{operation-refer, operation-drop, operation-probe, operation-query, is-query}
+use Rattle.format.proofs.CommandLaws.{operation-refer, operation-drop, operation-probe, operation-evenness, operation-query, is-query}
 use Rattle.format.proofs.command.operation_at.Statement.{statement}
 use Rattle.format.proofs.command.operation_at.Tie as tie
 
@@ -31,7 +31,7 @@ value-at-requires c κs = omega (arith, ap operationWidth (c .before .match .key
 
 query-at-requires : tie.Need-query-at-requires
 unfolding operationWidth
-query-at-requires c κs = omega (arith, ap operationWidth (is-query _ (c .before .before .pre .0) (c .match .rest .0 .0 .1) (c .match .rest .0 .1) (c .match .rest .1)))
+query-at-requires c κs = omega (arith, ap operationWidth (is-query _ (c .before .before .pre .0) (c .match .rest .0 .0 .0 .1) (c .match .rest .0 .0 .1) (c .match .rest .0 .1) (c .match .rest .1)))
 
 returns : tie.Need-returns
 returns c = operation-refer _ _ _ _ (c .held-value-at .ensures) (c .before .match .keys1)
@@ -43,9 +43,12 @@ returns-3 : tie.Need-returns-3
 returns-3 c = operation-probe _ _ _ _ _ (c .before .column-at .ensures) (c .value-at .ensures) (c .before .before .match .keys3)
 
 returns-4 : tie.Need-returns-4
-returns-4 c =
+returns-4 c = operation-evenness _ _ _ (c .match .keys4)
+
+returns-5 : tie.Need-returns-5
+returns-5 c =
     let r = c .before .match .rest in
-    operation-query _ _ _ _ (c .query-at .ensures) (is-query _ (c .before .before .before .pre .0) (r .0 .0 .1) (r .0 .1) (r .1))
+    operation-query _ _ _ _ (c .query-at .ensures) (is-query _ (c .before .before .before .pre .0) (r .0 .0 .0 .1) (r .0 .0 .1) (r .0 .1) (r .1))
 
 pub operation-at-spec : {M : Type 1} → statement M
 operation-at-spec =
@@ -61,4 +64,5 @@ operation-at-spec =
     returns
     returns-2
     returns-3
-    returns-4)
+    returns-4
+    returns-5)

@@ -1,7 +1,8 @@
 -- `operate::performing::perform_lawful` meets its contract: what the operation's own function gives. Assumes nothing.
 use borrow.Author.Needs.{needs}
-use Rattle.state.proofs.Arrays.{held-sized}
-use Rattle.operate.proofs.Performed.{refer-performs, drop-performs, ask-performs, query-performs, in-case}
+use Rattle.state.proofs.Arrays.{sized, held-sized}
+use Rattle.lawful.proofs.Asked.{sound-range}
+use Rattle.operate.proofs.Performed.{refer-performs, drop-performs, ask-performs, query-performs, even-answers, in-case}
 use Rattle.operate.proofs.performing.perform_lawful.Statement.{statement}
 use Rattle.operate.proofs.performing.perform_lawful.Tie as tie
 
@@ -28,6 +29,13 @@ enum-known-op-4 c = search needs
 
 query-lawful-requires : tie.Need-query-lawful-requires
 query-lawful-requires c κs = search needs
+
+enum-told : tie.Need-enum-told
+enum-told c = search needs
+
+evenness-requires : tie.Need-evenness-requires
+evenness-requires c κs =
+    let b = c .before .before .before .before .before .before in sound-range _ (b .pre .0) (sized (b .args .design) _ (b .good .1 .0))
 
 same-length : tie.Need-same-length
 same-length c = search needs
@@ -63,6 +71,12 @@ returns-4 c =
     in-case _ _ _ _ _ _ _ _ (o .op4 .given .1)
     (query-performs _ (b .pre .0) _ (held-sized (b .args .held) _ (b .good .1 .1 .1 .1 .1 .1 .1 .1 .1 .1 .0)) _ _ _ _ (q .query-lawful .ensures .answer) (q .query-lawful .ensures .words))
 
+returns-5 : tie.Need-returns-5
+returns-5 c =
+    let b = c .before .before .before .before .before .before .before in
+    in-case _ _ _ _ _ _ _ _ (c .before .enum-told .given .1)
+    (ask-performs _ (b .pre .0) _ (held-sized (b .args .held) _ (b .good .1 .1 .1 .1 .1 .1 .1 .1 .1 .1 .0)) _ _ (even-answers _ (b .pre .0) _ (c .evenness .ensures)))
+
 pub perform-lawful-spec : {M : Type 1} → statement M
 perform-lawful-spec =
     tie.close
@@ -75,6 +89,8 @@ perform-lawful-spec =
     probe-lawful-requires
     enum-known-op-4
     query-lawful-requires
+    enum-told
+    evenness-requires
     same-length
     returns
     same-length-2
@@ -83,4 +99,5 @@ perform-lawful-spec =
     returns-3
     same-length-4
     same-length-5
-    returns-4)
+    returns-4
+    returns-5)

@@ -53,6 +53,18 @@ slice-aggregate-put-bytes-8 c = search needs
 put-bytes-requires-8 : tie.Need-put-bytes-requires-8
 put-bytes-requires-8 c κs = search needs
 
+slice-aggregate-put-bytes-9 : tie.Need-slice-aggregate-put-bytes-9
+slice-aggregate-put-bytes-9 c = search needs
+
+put-bytes-requires-9 : tie.Need-put-bytes-requires-9
+put-bytes-requires-9 c κs = search needs
+
+slice-aggregate-put-bytes-10 : tie.Need-slice-aggregate-put-bytes-10
+slice-aggregate-put-bytes-10 c = search needs
+
+put-bytes-requires-10 : tie.Need-put-bytes-requires-10
+put-bytes-requires-10 c κs = search needs
+
 same-length : tie.Need-same-length
 same-length c = search needs
 
@@ -109,8 +121,25 @@ returns-8 : tie.Need-returns-8
 unfolding wordText
 returns-8 c = in-word (c .before .before .before .before .before .match .keys8) (c .before .before .put-bytes8 .ensures)
 
+same-length-9 : tie.Need-same-length-9
+same-length-9 c = search needs
+
 returns-9 : tie.Need-returns-9
-returns-9 c = let r = c .match .rest in no-word _ _ _ (past-words _ (r .0 .0 .0 .0 .0 .0 .0 .1) (r .0 .0 .0 .0 .0 .0 .1) (r .0 .0 .0 .0 .0 .1) (r .0 .0 .0 .0 .1) (r .0 .0 .0 .1) (r .0 .0 .1) (r .0 .1) (r .1))
+unfolding wordText
+returns-9 c = in-word (c .before .before .before .before .before .match .keys9) (c .before .before .put-bytes9 .ensures)
+
+same-length-10 : tie.Need-same-length-10
+same-length-10 c = search needs
+
+returns-10 : tie.Need-returns-10
+unfolding wordText
+returns-10 c = in-word (c .before .before .before .before .before .match .keys10) (c .before .before .put-bytes10 .ensures)
+
+returns-11 : tie.Need-returns-11
+returns-11 c =
+    let r = c .match .rest in
+    let q = r .0 .0 .0 .0 .0 in
+    no-word _ _ _ (past-words _ (q .0 .0 .0 .0 .1) (q .0 .0 .0 .1) (q .0 .0 .1) (q .0 .1) (q .1) (r .0 .0 .0 .0 .1) (r .0 .0 .0 .1) (r .0 .0 .1) (r .0 .1) (r .1))
 
 pub put-word-spec : {M : Type 1} → statement M
 put-word-spec =
@@ -132,6 +161,10 @@ put-word-spec =
     put-bytes-requires-7
     slice-aggregate-put-bytes-8
     put-bytes-requires-8
+    slice-aggregate-put-bytes-9
+    put-bytes-requires-9
+    slice-aggregate-put-bytes-10
+    put-bytes-requires-10
     same-length
     returns
     same-length-2
@@ -148,4 +181,8 @@ put-word-spec =
     returns-7
     same-length-8
     returns-8
-    returns-9)
+    same-length-9
+    returns-9
+    same-length-10
+    returns-10
+    returns-11)

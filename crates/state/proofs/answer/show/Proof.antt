@@ -60,6 +60,24 @@ cast-words-2 c = search needs
 words-requires-8 : tie.Need-words-requires-8
 words-requires-8 c κs = search needs
 
+enum-told-4 : tie.Need-enum-told-4
+enum-told-4 c = search needs
+
+words-requires-9 : tie.Need-words-requires-9
+words-requires-9 c κs = search needs
+
+enum-known-answer-6 : tie.Need-enum-known-answer-6
+enum-known-answer-6 c = search needs
+
+cast-words-3 : tie.Need-cast-words-3
+cast-words-3 c = search needs
+
+cast-words-4 : tie.Need-cast-words-4
+cast-words-4 c = search needs
+
+words-requires-10 : tie.Need-words-requires-10
+words-requires-10 c κs = search needs
+
 returns : tie.Need-returns
 unfolding shown
 returns c = shows-case (c .words .ensures) (c .before .before .answer .given .1) refl
@@ -92,6 +110,14 @@ returns-8 : tie.Need-returns-8
 unfolding shown
 returns-8 c = shows-case (c .words8 .ensures) (c .before .before .answer5 .given .1) refl
 
+returns-9 : tie.Need-returns-9
+unfolding shown
+returns-9 c = shows-case (c .words9 .ensures) (c .before .enum-told4 .given .1) refl
+
+returns-10 : tie.Need-returns-10
+unfolding shown
+returns-10 c = shows-case (c .words10 .ensures) (c .before .before .answer6 .given .1) refl
+
 pub show-spec : {M : Type 1} → statement M
 show-spec =
     tie.close
@@ -114,6 +140,12 @@ show-spec =
     enum-known-answer-5
     cast-words-2
     words-requires-8
+    enum-told-4
+    words-requires-9
+    enum-known-answer-6
+    cast-words-3
+    cast-words-4
+    words-requires-10
     returns
     returns-2
     returns-3
@@ -121,4 +153,6 @@ show-spec =
     returns-5
     returns-6
     returns-7
-    returns-8)
+    returns-8
+    returns-9
+    returns-10)

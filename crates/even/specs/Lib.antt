@@ -1,0 +1,2 @@
+-- Reading: an eight by eight array of bools.
+pub mod Reading

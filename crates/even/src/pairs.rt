@@ -1,0 +1,61 @@
+// Whether a design is even: the lowest pair of constraints that makes it uneven, if there is one.
+ghost use mathlib.Core.Path.{_≡_};
+ghost use Prim.Native.Nat.{_<_};
+ghost use Rattle.finite.specs.Finite.{first};
+ghost use Rattle.model.specs.Answers.{evenAnswer};
+ghost use Rattle.model.specs.Even.{isUneven, reaches, square, unevenFrom};
+ghost use Rattle.state.specs.Design.{InRange};
+ghost use Rattle.state.specs.Meaning.{answerOf, schemeOf};
+use crate::reaching::reachable;
+use state::Answer;
+use state::Design;
+
+// Whether constraints i and j make the design uneven, where m tells which tables reach which. Constant time.
+fn is_uneven(d: Design, m: [[bool; 8]; 8], i: usize, j: usize) -> bool
+    requires { ⌜ InRange d × (i < 16) × (j < 16) × (m ≡ square (reaches (schemeOf d))) ⌝ }
+    ensures { λ b. ⌜ b ≡ isUneven (schemeOf d) i j ⌝ }
+{
+    let a = d.constraint[i];
+    let b = d.constraint[j];
+    if a.target.table != b.source.table {
+        return false;
+    }
+    if a.target.place == b.source.place {
+        return false;
+    }
+    m[b.target.table as usize][a.source.table as usize]
+}
+
+// The lowest j with which constraint i makes the design uneven; the number of constraints if there is none. One look at each constraint.
+fn uneven_from(d: Design, m: [[bool; 8]; 8], i: usize) -> usize
+    requires { ⌜ InRange d × (i < 16) × (m ≡ square (reaches (schemeOf d))) ⌝ }
+    ensures { λ j. ⌜ j ≡ unevenFrom (schemeOf d) i ⌝ }
+{
+    let n = d.constraints;
+    let mut j: usize = 0;
+    while j < n {
+        if is_uneven(d, m, i, j) {
+            return j;
+        }
+        j += 1;
+    }
+    n
+}
+
+// Whether the design is even, or the lowest i and then the lowest j that make it uneven. Tables cubed, and constraints squared.
+pub fn evenness(d: Design) -> Answer
+    requires { ⌜ InRange d ⌝ }
+    ensures { λ a. ⌜ answerOf a ≡ evenAnswer (schemeOf d) ⌝ }
+{
+    let m = reachable(d);
+    let n = d.constraints;
+    let mut i: usize = 0;
+    while i < n {
+        let j = uneven_from(d, m, i);
+        if j < n {
+            return Answer::Uneven(i as u8, j as u8);
+        }
+        i += 1;
+    }
+    Answer::Even
+}
