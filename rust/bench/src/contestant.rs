@@ -117,6 +117,10 @@ pub enum Answer {
     Sent,
     /// The words of a query's lists.
     Lists(Vec<usize>),
+    /// The design is even.
+    Even,
+    /// The design is uneven, by constraints i and j.
+    Uneven(usize, usize),
     /// A cause of refusal.
     Refused(u8),
     /// Given up after [`TIME_LIMIT`].

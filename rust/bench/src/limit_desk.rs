@@ -36,6 +36,8 @@ impl OpenDesk for Desk {
                 let words = &self.words()[..lists * positions];
                 Answer::Lists(words.iter().map(|&word| word as usize).collect())
             }
+            LimitAnswer::Even => Answer::Even,
+            LimitAnswer::Uneven { i, j } => Answer::Uneven(usize::from(i), usize::from(j)),
             LimitAnswer::Refused(cause) => Answer::Refused(cause),
         }
     }

@@ -58,5 +58,7 @@ fn answered(answer: ReferenceAnswer) -> Answer {
         ReferenceAnswer::Ground(ground) => Answer::Ground(ground),
         ReferenceAnswer::Sent => Answer::Sent,
         ReferenceAnswer::Lists(lists) => Answer::Lists(lists.concat()),
+        ReferenceAnswer::Even => Answer::Even,
+        ReferenceAnswer::Uneven { i, j } => Answer::Uneven(i, j),
     }
 }

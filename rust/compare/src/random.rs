@@ -53,6 +53,13 @@ impl Random {
         &choices[self.below(choices.len())]
     }
 
+    /// Puts the items into any order.
+    pub fn shuffle<T>(&mut self, items: &mut [T]) {
+        for place in 1..items.len() {
+            items.swap(place, self.below(place + 1));
+        }
+    }
+
     /// One of the choices if there are any.
     pub fn pick_any<'a, T>(&mut self, choices: &'a [T]) -> Option<&'a T> {
         (!choices.is_empty()).then(|| self.pick(choices))
@@ -61,6 +68,8 @@ impl Random {
 
 #[cfg(test)]
 mod tests {
+    use std::collections::BTreeSet;
+
     use super::*;
 
     fn first_numbers(seed: u64, number: u64) -> Vec<u64> {
@@ -74,6 +83,19 @@ mod tests {
         assert_ne!(first_numbers(1, 2), first_numbers(1, 3));
         assert_ne!(first_numbers(1, 2), first_numbers(2, 2));
         assert_ne!(first_numbers(1, 2), first_numbers(2, 1));
+    }
+
+    #[test]
+    fn shuffling_reaches_every_order() {
+        let mut random = Random::new(1, 1);
+        let orders = (0..200).map(|_| {
+            let mut items = [0, 1, 2];
+            random.shuffle(&mut items);
+            items
+        });
+        let orders: BTreeSet<[usize; 3]> = orders.collect();
+        assert_eq!(orders.len(), 6);
+        assert!(orders.iter().all(|order| order.iter().sum::<usize>() == 3));
     }
 
     #[test]

@@ -1,6 +1,7 @@
 //! Counts scripts and their commands, and the answers, causes and extremes that
 //! they and their reports show.
 
+use std::cmp::Ordering;
 use std::collections::BTreeMap;
 use std::fmt;
 
@@ -9,17 +10,18 @@ use reference::ANSWER_WORDS;
 
 /// Every answer and cause that a script can reach through the desk program, by
 /// the names that [`Tally`] counts under, and extremes where something might
-/// overflow.
+/// overflow or fall short.
 ///
 /// After END there is no cause 4 or 6, since design commands are refused with
 /// 3. Causes 7 and 12 are about lent memory, which no script can spoil. No
 /// answer needs 4,097 words: that has no divisor from 2 to 5, and 512 rows make
 /// no more than 512 lists of one.
-pub const OUTCOMES: [&str; 37] = [
+pub const OUTCOMES: [&str; 45] = [
     "design accepted",
     "design refused 1",
     "design refused 2",
     "design refused 3",
+    "design refused 3 for a report",
     "design refused 4 for a count",
     "design refused 4 for the script's length",
     "design refused 5",
@@ -34,6 +36,12 @@ pub const OUTCOMES: [&str; 37] = [
     "sent",
     "answer without lists",
     "answer with lists",
+    "even",
+    "even with a cycle",
+    "uneven with i = j",
+    "uneven with i < j",
+    "uneven with i > j",
+    "uneven by a way of 7 steps",
     "refused 1",
     "refused 2",
     "refused 3",
@@ -45,6 +53,7 @@ pub const OUTCOMES: [&str; 37] = [
     "over 10,000 commands",
     "loaded in over 255 rounds",
     "loaded 512 rows",
+    "loaded in 15 rounds, 8 tables, even",
     "answer of 4,095 words",
     "answer of 4,096 words",
     "refused 11 for 4,098 words",
@@ -56,7 +65,7 @@ pub const OUTCOMES: [&str; 37] = [
 ];
 
 /// The kinds of commands, and last what can't be read as one.
-const COMMANDS: [&str; 10] = [
+const COMMANDS: [&str; 11] = [
     "table",
     "constraint",
     "filling",
@@ -66,6 +75,7 @@ const COMMANDS: [&str; 10] = [
     "drop",
     "probe",
     "query",
+    "even",
     "no command",
 ];
 
@@ -99,7 +109,7 @@ impl Tally {
         let pieces = split(script);
         let is_end = |piece: &Piece| *piece == Piece::Command(Command::End);
         let end = pieces.iter().position(is_end);
-        let design = head_outcome(head);
+        let design = head_outcome(script, head);
         let accepted = design == "design accepted";
         let answers = answers(operations);
         self.scripts += 1;
@@ -123,6 +133,7 @@ impl Tally {
         }
         if let Some(end) = end {
             self.count_top_values(&pieces[..end], &pieces[end + 1..], &answers);
+            self.count_evenness(head, &links(&pieces[..end]), &answers);
         }
         if answers
             .iter()
@@ -198,6 +209,33 @@ impl Tally {
         }
     }
 
+    /// Counts what is rare among designs that a report is on: uneven ones with a
+    /// way through eight tables, and even ones with a cycle, or with a load of as
+    /// many rounds as eight tables allow.
+    fn count_evenness(&mut self, head: &str, links: &[Link], answers: &[Answer]) {
+        let is_report = |answer: &&Answer| matches!(answer.words()[0], "even" | "uneven");
+        let Some(report) = answers.iter().find(is_report) else {
+            return;
+        };
+        if let ["uneven", i, j] = report.words()[..] {
+            if way(links, number(i), number(j)) == Some(7) {
+                self.count("uneven by a way of 7 steps".into(), 1);
+            }
+            return;
+        }
+        if has_cycle(links) {
+            self.count("even with a cycle".into(), 1);
+        }
+        let most_rounds = |answer: &&Answer| match answer.words()[..] {
+            ["loaded", _, rounds] => rounds == "15",
+            _ => false,
+        };
+        let loads = answers.iter().filter(most_rounds).count() as u64;
+        if head.starts_with("design 8 ") && loads > 0 {
+            self.count("loaded in 15 rounds, 8 tables, even".into(), loads);
+        }
+    }
+
     /// Counts the answers that two more words would have been enough for.
     fn count_few_words_too_many(&mut self, script: &[u8], expected: &[Answer]) {
         let report = reference::report_lending(script, TOO_MANY_WORDS);
@@ -244,6 +282,7 @@ fn kind(piece: &Piece) -> &'static str {
         Command::Drop(_) => "drop",
         Command::Probe(_) => "probe",
         Command::Query(_) => "query",
+        Command::Even => "even",
     }
 }
 
@@ -282,6 +321,11 @@ impl Answer<'_> {
         match self.words()[..] {
             ["answer", "0"] => "answer without lists".into(),
             ["answer", _] => "answer with lists".into(),
+            ["uneven", i, j] => match number(i).cmp(&number(j)) {
+                Ordering::Equal => "uneven with i = j".into(),
+                Ordering::Less => "uneven with i < j".into(),
+                Ordering::Greater => "uneven with i > j".into(),
+            },
             ["refused", cause, _] => format!("refused {cause}"),
             ["loaded", ..] => "loaded".into(),
             ["dropped", ..] => "dropped".into(),
@@ -290,11 +334,69 @@ impl Answer<'_> {
     }
 }
 
+fn number(word: &str) -> Option<usize> {
+    word.parse().ok()
+}
+
+/// A constraint's source and target tables.
+type Link = (u8, u8);
+
+/// The constraints among the commands of a design.
+fn links(design: &[Piece]) -> Vec<Link> {
+    let link = |piece: &Piece| match piece {
+        Piece::Command(Command::Constraint(link)) => Some((link.source.table, link.target.table)),
+        _ => None,
+    };
+    design.iter().filter_map(link).collect()
+}
+
+/// The fewest steps from constraint j's target table to constraint i's source
+/// table.
+fn way(links: &[Link], i: Option<usize>, j: Option<usize>) -> Option<usize> {
+    let (to, _) = *links.get(i?)?;
+    let (_, from) = *links.get(j?)?;
+    let mut reached = vec![from];
+    for steps in 0..=links.len() {
+        if reached.contains(&to) {
+            return Some(steps);
+        }
+        let next = links.iter().filter(|(source, _)| reached.contains(source));
+        let next: Vec<u8> = next.map(|&(_, target)| target).collect();
+        reached.extend(next);
+    }
+    None
+}
+
+/// Whether constraints lead from a table to itself, perhaps through others: once
+/// those that lead to a table that none leaves are taken out, again and again,
+/// some are left.
+fn has_cycle(links: &[Link]) -> bool {
+    let mut links = links.to_vec();
+    loop {
+        let count = links.len();
+        let left: Vec<u8> = links.iter().map(|&(source, _)| source).collect();
+        links.retain(|(_, target)| left.contains(target));
+        if links.len() == count {
+            return count > 0;
+        }
+    }
+}
+
+/// Whether the command at a place of the script is a report.
+fn is_report(script: &[u8], place: &str) -> bool {
+    let rest = number(place).and_then(|place| script.get(place..));
+    let pieces = rest.map(split).unwrap_or_default();
+    pieces.first() == Some(&Piece::Command(Command::Even))
+}
+
 /// The outcome that a report's first line shows. Only an over-long script is
 /// refused with 4 at place 0: there, no count is passed yet.
-fn head_outcome(line: &str) -> String {
+fn head_outcome(script: &[u8], line: &str) -> String {
     let words: Vec<&str> = line.split(' ').collect();
     match words[..] {
+        ["refused", "3", place] if is_report(script, place) => {
+            "design refused 3 for a report".into()
+        }
         ["refused", "4", "0"] => "design refused 4 for the script's length".into(),
         ["refused", "4", _] => "design refused 4 for a count".into(),
         ["refused", cause, _] => format!("design refused {cause}"),
@@ -363,6 +465,71 @@ mod tests {
             ("refused 1".into(), 1),
         ];
         assert_eq!(counted(&reports), expected);
+    }
+
+    /// What is counted for scripts in the notation and their reports.
+    fn counted_for(texts: &[&str]) -> Vec<(String, u64)> {
+        let mut tally = Tally::default();
+        for text in texts {
+            let script = assemble(text).expect("a right text");
+            tally.add(&script, &reference::report(&script));
+        }
+        tally.counts.into_iter().collect()
+    }
+
+    #[test]
+    fn even_and_uneven_designs_are_counted() {
+        let texts = [
+            "end\neven\neven\n",
+            "table 1\nconstraint 0.0 -> 0.0\nend\neven\n",
+            "table 1\ntable 2\nconstraint 0.0 -> 1.0\nend\neven\n",
+            "table 2\nconstraint 0.0 -> 0.1\nend\neven\n",
+            "table 1\ntable 2\nconstraint 0.0 -> 1.0\nconstraint 1.1 -> 0.0\nend\neven\n",
+            "table 1\ntable 2\nconstraint 1.1 -> 0.0\nconstraint 0.0 -> 1.0\nend\neven\n",
+        ];
+        let expected = [
+            ("design accepted".into(), 6),
+            ("even".into(), 4),
+            ("even with a cycle".into(), 1),
+            ("uneven with i < j".into(), 1),
+            ("uneven with i = j".into(), 1),
+            ("uneven with i > j".into(), 1),
+        ];
+        assert_eq!(counted_for(&texts), expected);
+    }
+
+    #[test]
+    fn reports_before_end_are_counted_apart() {
+        let texts = [
+            "even\n",
+            "table 1\neven\nend\n",
+            "table 1\nprobe 0.0 = 1\nend\n",
+        ];
+        let expected = [
+            ("design refused 3".into(), 1),
+            ("design refused 3 for a report".into(), 2),
+        ];
+        assert_eq!(counted_for(&texts), expected);
+    }
+
+    #[test]
+    fn cycles_are_found_behind_other_tables() {
+        assert!(!has_cycle(&[]));
+        assert!(!has_cycle(&[(0, 1), (1, 2), (0, 2)]));
+        assert!(has_cycle(&[(1, 1)]));
+        assert!(has_cycle(&[(0, 1), (1, 2), (2, 1), (2, 3)]));
+    }
+
+    #[test]
+    fn ways_are_counted_by_their_steps() {
+        let links = [(0, 1), (1, 2), (2, 3), (3, 0), (0, 2), (5, 6)];
+        let steps = |i, j| way(&links, Some(i), Some(j));
+        assert_eq!(steps(1, 0), Some(0));
+        assert_eq!(steps(0, 0), Some(3));
+        assert_eq!(steps(0, 4), Some(2));
+        assert_eq!(steps(3, 3), Some(2));
+        assert_eq!(steps(5, 0), None);
+        assert_eq!(steps(9, 0), None);
     }
 
     #[test]

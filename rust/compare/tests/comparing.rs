@@ -6,6 +6,7 @@ use std::io;
 use compare::desk::Reply;
 use compare::generate;
 use compare::run::{compare, Desk, Side, Sides, SECOND_IMPLEMENTATION};
+use notation::{Command, Piece};
 
 const SEED: u64 = 1;
 const SCRIPTS: u64 = 3_000;
@@ -55,7 +56,7 @@ fn a_wrong_ground_is_found_and_made_small() {
     let (script, text) = difference(|report| report.replace("ground 2", "ground 1"));
     assert!(text.contains("probe") && text.contains("refer"), "{text}");
     assert!(text.contains("constraint"), "{text}");
-    assert!(script.len() < 300, "{text}");
+    assert!(script.len() < 400, "{text}");
 }
 
 #[test]
@@ -68,6 +69,37 @@ fn a_wrong_place_is_found_and_made_small() {
 fn a_missing_line_end_is_found() {
     let (script, _) = difference(|report| report.trim_end().into());
     assert_eq!(script, []);
+}
+
+/// Checks that a script has tables, so many constraints, END and a report, and
+/// nothing else.
+fn assert_bare(script: &[u8], constraints: usize, text: &str) {
+    let mut pieces = notation::split(script);
+    pieces.retain(|piece| !matches!(piece, Piece::Command(Command::Table(_))));
+    let (links, rest) = pieces.split_at(constraints);
+    let is_link = |piece: &Piece| matches!(piece, Piece::Command(Command::Constraint(_)));
+    assert!(links.iter().all(is_link), "{text}");
+    assert_eq!(
+        rest,
+        [Command::End, Command::Even].map(Piece::Command),
+        "{text}"
+    );
+}
+
+#[test]
+fn a_design_wrongly_called_even_is_found_and_made_small() {
+    let (script, text) = difference(|report| report.replace(" uneven 0 0\n", " even\n"));
+    assert_bare(&script, 1, &text);
+}
+
+#[test]
+fn exchanged_constraints_are_found_and_made_small() {
+    let exchange = |line: &str| match line.split(' ').collect::<Vec<_>>()[..] {
+        [number, "uneven", i, j] => format!("{number} uneven {j} {i}\n"),
+        _ => format!("{line}\n"),
+    };
+    let (script, text) = difference(|report| report.lines().map(exchange).collect());
+    assert_bare(&script, 2, &text);
 }
 
 #[test]

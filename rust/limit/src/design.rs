@@ -100,7 +100,7 @@ pub fn width(command: u8) -> usize {
         0x02 => 5,
         0x03 => 11,
         0x04 => ROW_WIDTH,
-        0x05 => 1,
+        0x05 | 0x14 => 1,
         0x10 | 0x11 => 6,
         0x12 => 7,
         0x13 => 16,

@@ -5,6 +5,7 @@ use std::hint::black_box;
 use crate::cache::Cache;
 use crate::catalog::Catalog;
 use crate::design::{u32_at, width, Column, Design, Refusal};
+use crate::even::Evenness;
 use crate::query::Listing;
 
 /// What a command answers.
@@ -29,6 +30,15 @@ pub enum Answer {
     Sent,
     /// The number of a query's lists.
     Lists(usize),
+    /// The design is even.
+    Even,
+    /// The design is uneven, by two constraints or one.
+    Uneven {
+        /// The constraint that ends at a table.
+        i: u8,
+        /// The constraint that starts at another column of it.
+        j: u8,
+    },
     /// A cause of refusal.
     Refused(u8),
 }
@@ -39,6 +49,7 @@ pub struct Desk {
     catalog: Catalog,
     cache: Cache,
     listing: Listing,
+    evenness: Evenness,
 }
 
 impl Desk {
@@ -106,6 +117,7 @@ impl Desk {
                 self.cache.probe(design, catalog, column, value)
             }
             0x13 => self.listing.query(design, catalog, &self.cache, bytes),
+            0x14 => self.evenness.of(design),
             _ => Answer::Refused(3),
         };
         (answer, width)

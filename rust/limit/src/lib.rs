@@ -1,5 +1,5 @@
-//! A desk written for speed alone, from document 01: the benchmark's measure of
-//! how fast the work can be done.
+//! A desk written for speed alone, from documents 01 and 02: the benchmark's
+//! measure of how fast the work can be done.
 //!
 //! The rows of a column that have the same value are a *group*. What a group is
 //! and which group a constraint demands of a row depend on the design alone, so
@@ -11,7 +11,7 @@
 //! - [`catalog`] has the groups and the links between them.
 //! - [`cache`] has the cached rows and loads values.
 //! - [`dropping`] drops them.
-//! - [`probe`] and [`query`] answer.
+//! - [`probe`], [`query`] and [`even`] answer.
 //! - [`desk`] carries out a script's commands.
 //! - [`mod@report`] prints.
 //!
@@ -25,6 +25,7 @@ pub mod catalog;
 pub mod design;
 pub mod desk;
 pub mod dropping;
+pub mod even;
 pub mod probe;
 pub mod query;
 pub mod report;

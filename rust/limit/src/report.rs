@@ -101,6 +101,8 @@ fn put_answer(text: &mut Vec<u8>, answer: Answer, place: usize) {
         Answer::Ground(ground) => (b"ground ", &[usize::from(ground)]),
         Answer::Sent => (b"sent", &[]),
         Answer::Lists(count) => (b"answer ", &[count]),
+        Answer::Even => (b"even", &[]),
+        Answer::Uneven { i, j } => (b"uneven ", &[usize::from(i), usize::from(j)]),
         Answer::Refused(cause) => (b"refused ", &[usize::from(cause), place]),
     };
     text.extend_from_slice(word);

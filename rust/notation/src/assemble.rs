@@ -86,6 +86,7 @@ impl<'a> Operands<'a> {
             "drop" => Command::Drop(self.pair()?),
             "probe" => Command::Probe(self.probe()?),
             "query" => Command::Query(self.query()?),
+            "even" => Command::Even,
             "bytes" => return self.raw_bytes(),
             other => return fault(name.column, format!("`{other}` is no command")),
         };

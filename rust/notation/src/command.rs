@@ -16,10 +16,11 @@ const REFER: u8 = 0x10;
 const DROP: u8 = 0x11;
 const PROBE: u8 = 0x12;
 const QUERY: u8 = 0x13;
+const EVEN: u8 = 0x14;
 
 /// The bytes that begin a command.
-pub const COMMAND_BYTES: [u8; 9] = [
-    TABLE, CONSTRAINT, FILLING, ROW, END, REFER, DROP, PROBE, QUERY,
+pub const COMMAND_BYTES: [u8; 10] = [
+    TABLE, CONSTRAINT, FILLING, ROW, END, REFER, DROP, PROBE, QUERY, EVEN,
 ];
 
 /// A column of a table, both by number.
@@ -152,6 +153,8 @@ pub enum Command {
     Probe(Probe),
     /// An equality-join query.
     Query(Query),
+    /// Ask whether the design is even.
+    Even,
 }
 
 impl Command {
@@ -180,6 +183,7 @@ impl Command {
                 .u32(query.value)
                 .u8(query.joins)
                 .joins(&query.pairs),
+            Command::Even => writer.u8(EVEN),
         };
         writer.0
     }
@@ -220,6 +224,7 @@ impl Command {
                 joins: reader.u8()?,
                 pairs: reader.joins()?,
             }),
+            EVEN => Command::Even,
             _ => return None,
         };
         Some((command, reader.0))

@@ -44,6 +44,7 @@ impl fmt::Display for Command {
                 Some(joins) => write_query(out, query, joins),
                 None => write_bytes(out, &self.bytes()),
             },
+            Command::Even => write!(out, "even"),
         }
     }
 }

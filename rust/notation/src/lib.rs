@@ -15,6 +15,7 @@
 //! probe COLUMN = VALUE                          probe 1.1 = 8
 //! query COLUMN = VALUE [join POSITION by CONSTRAINT ..]
 //!                                               query 0.1 = 3 join 0 by 0 join 1 by 1
+//! even                                          even
 //! bytes BYTE ..                                 bytes 0xff 0x01
 //! ```
 //!

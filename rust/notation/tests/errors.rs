@@ -82,6 +82,8 @@ fn messages() {
             63,
             "expected the end of the line, found `join`",
         ),
+        ("even 1", 6, "expected the end of the line, found `1`"),
+        ("uneven", 1, "`uneven` is no command"),
         ("bytes", 6, "expected a byte, found the end of the line"),
         ("bytes 0x100", 7, "a byte is at most 255, not 0x100"),
         ("probe 0.0 = 1;", 14, "`;` has no meaning here"),

@@ -44,6 +44,7 @@ fn one_of_each() -> Vec<Command> {
         Command::Drop(pair),
         Command::Probe(Probe { column, value: 2 }),
         Command::Query(Query::new(column, 2, &[join, join])),
+        Command::Even,
     ]
 }
 

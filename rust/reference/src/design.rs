@@ -176,9 +176,11 @@ impl Stage {
             Command::Filling(_) => Some(Stage::Fillings),
             Command::Row(_) => Some(Stage::Rows),
             Command::End => Some(Stage::Ended),
-            Command::Refer(_) | Command::Drop(_) | Command::Probe { .. } | Command::Query(_) => {
-                None
-            }
+            Command::Refer(_)
+            | Command::Drop(_)
+            | Command::Probe { .. }
+            | Command::Query(_)
+            | Command::Even => None,
         }
     }
 }

@@ -1,4 +1,5 @@
-//! The operations: loads, drops and probes (queries are in [`crate::query`]).
+//! The operations: loads, drops and probes (queries are in [`crate::query`], the
+//! report on even designs in [`crate::even`]).
 
 use crate::design::Design;
 use crate::refusal::Cause;
@@ -40,6 +41,15 @@ pub enum Answer {
     Sent,
     /// A query's lists of row numbers.
     Lists(Vec<Vec<usize>>),
+    /// The design is even.
+    Even,
+    /// The design is uneven, by two constraints or one.
+    Uneven {
+        /// The constraint that ends at a table.
+        i: usize,
+        /// The constraint that starts at another column of it.
+        j: usize,
+    },
 }
 
 impl Desk {
@@ -60,6 +70,7 @@ impl Desk {
             Command::Drop(pair) => self.drop(*pair),
             Command::Probe { column, value } => self.probe(*column, *value),
             Command::Query(query) => self.query(query, self.answer_words),
+            Command::Even => Ok(self.design.evenness()),
             _ => Err(Cause::OutOfOrder),
         }
     }

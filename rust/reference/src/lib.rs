@@ -1,4 +1,4 @@
-//! A second implementation of the desk, written from document 01 alone.
+//! A second implementation of the desk, written from documents 01 and 02 alone.
 //!
 //! It exists to be compared with the proved desk: bytes in, report text out.
 //! It is kept as plain as the rules allow, shares no code with the proved part
@@ -10,6 +10,7 @@
 
 pub mod design;
 pub mod desk;
+pub mod even;
 pub mod query;
 pub mod refusal;
 pub mod report;

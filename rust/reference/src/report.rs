@@ -64,6 +64,8 @@ impl fmt::Display for Answer {
             Answer::Ground(ground) => write!(out, "ground {ground}"),
             Answer::Sent => write!(out, "sent"),
             Answer::Lists(lists) => write_lists(out, lists),
+            Answer::Even => write!(out, "even"),
+            Answer::Uneven { i, j } => write!(out, "uneven {i} {j}"),
         }
     }
 }

@@ -1,4 +1,5 @@
-//! The script's commands and how one is read (document 01, "The script").
+//! The script's commands and how one is read (document 01, "The script", and what
+//! document 02 adds).
 //!
 //! Reading settles causes 2 and 1, in that order. Whether a command is in its
 //! order and its operands name anything is looked at where it is carried out.
@@ -111,6 +112,8 @@ pub enum Command {
     },
     /// An equality-join query.
     Query(Query),
+    /// Ask whether the design is even.
+    Even,
 }
 
 /// Reads the command that begins at `place`, and gives it with the place after
@@ -140,6 +143,7 @@ pub fn read_command(script: &[u8], place: usize) -> Result<(Command, usize), Cau
             value: reader.u32()?,
         },
         0x13 => Command::Query(reader.query()?),
+        0x14 => Command::Even,
         _ => return Err(Cause::UnknownCommand),
     };
     Ok((command, reader.place))

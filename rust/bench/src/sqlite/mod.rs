@@ -125,7 +125,7 @@ impl Desk {
             Command::Drop(pair) => self.drop(pair),
             Command::Probe(probe) => self.probe(probe),
             Command::Query(query) => self.query(&query),
-            command => unreachable!("{command} is no operation"),
+            command => unreachable!("no work has {command}"),
         }
     }
 

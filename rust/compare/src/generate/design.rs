@@ -123,6 +123,18 @@ pub struct Draft {
 impl Draft {
     /// A random design of a shape.
     pub fn random(random: &mut Random, shape: &Shape) -> Draft {
+        Draft::linked(random, shape, |random, design| {
+            add_constraints(random, design, shape);
+        })
+    }
+
+    /// A random design of a shape, but for the constraints, which are added by
+    /// `link`.
+    pub fn linked(
+        random: &mut Random,
+        shape: &Shape,
+        link: impl FnOnce(&mut Random, &mut Design),
+    ) -> Draft {
         let mut draft = Draft {
             design: Design::default(),
             values: Values::new(random.within(shape.values.clone()), random.percent(20)),
@@ -130,7 +142,7 @@ impl Draft {
         for _ in 0..random.within(shape.tables.clone()) {
             draft.design.tables.push(table(random, shape));
         }
-        draft.add_constraints(random, shape);
+        link(random, &mut draft.design);
         draft.add_fillings(random, shape);
         draft.add_rows(random, shape);
         draft
@@ -169,22 +181,6 @@ impl Draft {
             design.add_row(0, &[values.get(place), next]);
         }
         Draft { design, values }
-    }
-
-    fn add_constraints(&mut self, random: &mut Random, shape: &Shape) {
-        let columns = self.design.columns();
-        let constraints = &mut self.design.constraints;
-        let different = columns.len() * columns.len();
-        let count = random.within(shape.constraints.clone()).min(different);
-        while constraints.len() < count {
-            let constraint = Constraint {
-                source: *random.pick(&columns),
-                target: *random.pick(&columns),
-            };
-            if !constraints.contains(&constraint) {
-                constraints.push(constraint);
-            }
-        }
     }
 
     fn add_fillings(&mut self, random: &mut Random, shape: &Shape) {
@@ -229,6 +225,27 @@ impl Draft {
             };
         }
         cells
+    }
+}
+
+fn add_constraints(random: &mut Random, design: &mut Design, shape: &Shape) {
+    let columns = design.columns();
+    let constraints = &mut design.constraints;
+    let different = columns.len() * columns.len();
+    let count = random.within(shape.constraints.clone()).min(different);
+    while constraints.len() < count {
+        let constraint = any_constraint(random, &columns);
+        if !constraints.contains(&constraint) {
+            constraints.push(constraint);
+        }
+    }
+}
+
+/// A constraint between any of the columns.
+pub fn any_constraint(random: &mut Random, columns: &[Column]) -> Constraint {
+    Constraint {
+        source: *random.pick(columns),
+        target: *random.pick(columns),
     }
 }
 

@@ -80,8 +80,8 @@ pub fn all_rows(random: &mut Random) -> Vec<u8> {
     loaded(random, Draft { design, values })
 }
 
-/// Over 10,000 loads and drops on a small design, with an END among them now and
-/// then, up to the longest script or a little less.
+/// Over 10,000 loads and drops on a small design, with an END or a report among
+/// them now and then, up to the longest script or a little less.
 pub fn many_commands(random: &mut Random) -> Vec<u8> {
     let shape = Shape {
         fillings: 1..=2,
@@ -99,7 +99,8 @@ pub fn many_commands(random: &mut Random) -> Vec<u8> {
         };
         let command = match random.below(20) {
             0 => Command::End,
-            1..=10 => Command::Refer(pair),
+            1 => Command::Even,
+            2..=10 => Command::Refer(pair),
             _ => Command::Drop(pair),
         };
         let bytes = command.bytes();
@@ -124,7 +125,7 @@ fn table(columns: u8) -> Table {
     Table { columns, unique: 0 }
 }
 
-fn every_value(column: Column) -> Filling {
+pub fn every_value(column: Column) -> Filling {
     Filling {
         column,
         low: 1,
@@ -132,6 +133,6 @@ fn every_value(column: Column) -> Filling {
     }
 }
 
-fn refer(value: u32) -> Command {
+pub fn refer(value: u32) -> Command {
     Command::Refer(Pair { filling: 0, value })
 }

@@ -3,6 +3,7 @@
 
 mod damage;
 mod design;
+mod even;
 mod extremes;
 mod limits;
 mod operations;
@@ -18,22 +19,26 @@ use spoil::spoil;
 /// A way to make a script, with its share among all scripts.
 type Kind = (usize, fn(&mut Random) -> Vec<u8>);
 
-const KINDS: [Kind; 15] = [
+const KINDS: [Kind; 19] = [
     (40, |random| ordinary(random, &Shape::SPARSE)),
     (25, |random| ordinary(random, &Shape::DENSE)),
     (15, |random| worked(random, Draft::chain)),
     (50, damaged),
     (20, spoilt),
+    (6, early),
     (20, damage::noise),
     (20, limits::design_counts),
     (10, limits::held_values),
     (8, limits::answer_words),
     (4, limits::rows),
-    (1, limits::script_length),
+    (2, limits::script_length),
     (5, extremes::words_around_the_limit),
     (4, extremes::many_rounds),
     (4, extremes::all_rows),
     (2, extremes::many_commands),
+    (12, even::cycles),
+    (4, even::two_rings),
+    (6, even::most_rounds),
 ];
 
 /// The script with the given number among those of a seed.
@@ -65,6 +70,19 @@ fn spoilt(random: &mut Random) -> Vec<u8> {
     let mut commands = draft.design.commands();
     let place = random.below(commands.len());
     commands[place] = spoil(random, &draft.design, commands[place]);
+    with_operations(random, &draft, commands, 3)
+}
+
+/// A design with an operation before its END, a report in half of the cases.
+fn early(random: &mut Random) -> Vec<u8> {
+    let draft = Draft::random(random, &Shape::SPARSE);
+    let mut commands = draft.design.commands();
+    let operation = if random.percent(50) {
+        Command::Even
+    } else {
+        Operator::new(&draft).operation(random)
+    };
+    commands.insert(random.below(commands.len()), operation);
     with_operations(random, &draft, commands, 3)
 }
 

@@ -34,10 +34,11 @@ impl<'a> Operator<'a> {
         if random.percent(MISPLACED) {
             return *random.pick(&self.design.commands());
         }
-        let operation = match random.below(20) {
+        let operation = match random.below(21) {
             0..=6 => Command::Refer(self.refer(random)),
             7..=10 => Command::Drop(self.drop(random)),
             11..=14 => Command::Probe(self.probe(random)),
+            15 => Command::Even,
             _ => Command::Query(self.query(random)),
         };
         if random.percent(SPOILT) {

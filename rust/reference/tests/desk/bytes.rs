@@ -1,5 +1,5 @@
-//! Commands as bytes, written out once more from document 01's table so that
-//! the tests don't lean on the code they test.
+//! Commands as bytes, written out once more from document 01's table, and from
+//! document 02, so that the tests don't lean on the code they test.
 
 /// A table and a column by number.
 pub type Column = (u8, u8);
@@ -60,8 +60,13 @@ pub fn raw_query(column: Column, value: u32, joins: u8, pairs: [(u8, u8); 4]) ->
     bytes
 }
 
-/// One of each command, with its name, in the order of document 01's table.
-pub fn one_of_each() -> [(&'static str, Vec<u8>); 9] {
+pub fn even() -> Vec<u8> {
+    vec![0x14]
+}
+
+/// One of each command, with its name, in the order of document 01's table, and
+/// then what document 02 adds.
+pub fn one_of_each() -> [(&'static str, Vec<u8>); 10] {
     [
         ("table", table(1, 0)),
         ("constraint", constraint((0, 0), (0, 0))),
@@ -72,6 +77,7 @@ pub fn one_of_each() -> [(&'static str, Vec<u8>); 9] {
         ("drop", drop(0, 1)),
         ("probe", probe((0, 0), 1)),
         ("query", query((0, 0), 1, &[])),
+        ("even", even()),
     ]
 }
 

@@ -1,9 +1,13 @@
 //! Whole scripts through the second implementation, with reports that were
-//! worked out by hand from document 01.
+//! worked out by hand from documents 01 and 02.
 
 mod bytes;
 mod cases;
 mod design_refusals;
+mod even;
+mod generated;
 mod limits;
 mod operation_refusals;
 mod queries;
+mod random;
+mod rounds;

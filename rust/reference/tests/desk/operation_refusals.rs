@@ -37,7 +37,7 @@ fn an_operation_cut_short_is_the_last() {
 #[test]
 fn an_unknown_byte_is_the_last() {
     let place = DESIGN_A_LENGTH + 6;
-    let lines = lines_after_a(&[refer(0, 3), vec![0x14], drop(0, 3)]);
+    let lines = lines_after_a(&[refer(0, 3), vec![0x16], drop(0, 3)]);
     assert_eq!(
         lines,
         ["0 loaded 5 2".into(), format!("1 refused 2 {place}")]
