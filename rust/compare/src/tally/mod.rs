@@ -1,83 +1,25 @@
 //! Counts scripts and their commands, and the answers, causes and extremes that
 //! they and their reports show.
+//!
+//! - `names` has what is counted.
+//! - `answer` takes a report apart.
+//! - `links` tells how a design's tables are linked.
 
-use std::cmp::Ordering;
+mod answer;
+mod links;
+mod names;
+
 use std::collections::BTreeMap;
 use std::fmt;
 
 use notation::{split, Command, Piece};
 use reference::ANSWER_WORDS;
 
-/// Every answer and cause that a script can reach through the desk program, by
-/// the names that [`Tally`] counts under, and extremes where something might
-/// overflow or fall short.
-///
-/// After END there is no cause 4 or 6, since design commands are refused with
-/// 3. Causes 7 and 12 are about lent memory, which no script can spoil. No
-/// answer needs 4,097 words: that has no divisor from 2 to 5, and 512 rows make
-/// no more than 512 lists of one.
-pub const OUTCOMES: [&str; 45] = [
-    "design accepted",
-    "design refused 1",
-    "design refused 2",
-    "design refused 3",
-    "design refused 3 for a report",
-    "design refused 4 for a count",
-    "design refused 4 for the script's length",
-    "design refused 5",
-    "design refused 6",
-    "loaded",
-    "held",
-    "no candidate",
-    "dropped",
-    "ground 1",
-    "ground 2",
-    "ground 3",
-    "sent",
-    "answer without lists",
-    "answer with lists",
-    "even",
-    "even with a cycle",
-    "uneven with i = j",
-    "uneven with i < j",
-    "uneven with i > j",
-    "uneven by a way of 7 steps",
-    "refused 1",
-    "refused 2",
-    "refused 3",
-    "refused 5",
-    "refused 8",
-    "refused 9",
-    "refused 10",
-    "refused 11",
-    "over 10,000 commands",
-    "loaded in over 255 rounds",
-    "loaded 512 rows",
-    "loaded in 15 rounds, 8 tables, even",
-    "answer of 4,095 words",
-    "answer of 4,096 words",
-    "refused 11 for 4,098 words",
-    "2^32 - 1 in a row",
-    "2^32 - 1 loaded with rows",
-    "2^32 - 1 dropped with rows",
-    "2^32 - 1 probed with a ground",
-    "2^32 - 1 queried with lists",
-];
+use answer::{answers, number, Answer};
+use links::{has_cycle, links, way, Link};
+use names::{kind, COMMANDS};
 
-/// The kinds of commands, and last what can't be read as one.
-const COMMANDS: [&str; 11] = [
-    "table",
-    "constraint",
-    "filling",
-    "row",
-    "end",
-    "refer",
-    "drop",
-    "probe",
-    "query",
-    "even",
-    "no command",
-];
+pub use names::OUTCOMES;
 
 /// The fewest words that are too many.
 const TOO_MANY_WORDS: usize = ANSWER_WORDS + 2;
@@ -267,121 +209,6 @@ impl fmt::Display for Tally {
     }
 }
 
-/// The name that a piece of a script counts under.
-fn kind(piece: &Piece) -> &'static str {
-    let Piece::Command(command) = piece else {
-        return "no command";
-    };
-    match command {
-        Command::Table(_) => "table",
-        Command::Constraint(_) => "constraint",
-        Command::Filling(_) => "filling",
-        Command::Row(_) => "row",
-        Command::End => "end",
-        Command::Refer(_) => "refer",
-        Command::Drop(_) => "drop",
-        Command::Probe(_) => "probe",
-        Command::Query(_) => "query",
-        Command::Even => "even",
-    }
-}
-
-/// A command's line in a report, and the lists after it.
-struct Answer<'a> {
-    /// The line without the command's number.
-    text: &'a str,
-    /// The words of all its lists.
-    list_words: usize,
-}
-
-/// The answers of a report without its head.
-fn answers(operations: &str) -> Vec<Answer<'_>> {
-    let mut answers: Vec<Answer> = Vec::new();
-    for line in operations.lines() {
-        let (_, rest) = line.split_once(' ').unwrap_or((line, ""));
-        if rest.starts_with(char::is_alphabetic) {
-            answers.push(Answer {
-                text: rest,
-                list_words: 0,
-            });
-        } else if let Some(answer) = answers.last_mut() {
-            answer.list_words += line.split(' ').count();
-        }
-    }
-    answers
-}
-
-impl Answer<'_> {
-    fn words(&self) -> Vec<&str> {
-        self.text.split(' ').collect()
-    }
-
-    /// The outcome that the answer counts under.
-    fn outcome(&self) -> String {
-        match self.words()[..] {
-            ["answer", "0"] => "answer without lists".into(),
-            ["answer", _] => "answer with lists".into(),
-            ["uneven", i, j] => match number(i).cmp(&number(j)) {
-                Ordering::Equal => "uneven with i = j".into(),
-                Ordering::Less => "uneven with i < j".into(),
-                Ordering::Greater => "uneven with i > j".into(),
-            },
-            ["refused", cause, _] => format!("refused {cause}"),
-            ["loaded", ..] => "loaded".into(),
-            ["dropped", ..] => "dropped".into(),
-            _ => self.text.into(),
-        }
-    }
-}
-
-fn number(word: &str) -> Option<usize> {
-    word.parse().ok()
-}
-
-/// A constraint's source and target tables.
-type Link = (u8, u8);
-
-/// The constraints among the commands of a design.
-fn links(design: &[Piece]) -> Vec<Link> {
-    let link = |piece: &Piece| match piece {
-        Piece::Command(Command::Constraint(link)) => Some((link.source.table, link.target.table)),
-        _ => None,
-    };
-    design.iter().filter_map(link).collect()
-}
-
-/// The fewest steps from constraint j's target table to constraint i's source
-/// table.
-fn way(links: &[Link], i: Option<usize>, j: Option<usize>) -> Option<usize> {
-    let (to, _) = *links.get(i?)?;
-    let (_, from) = *links.get(j?)?;
-    let mut reached = vec![from];
-    for steps in 0..=links.len() {
-        if reached.contains(&to) {
-            return Some(steps);
-        }
-        let next = links.iter().filter(|(source, _)| reached.contains(source));
-        let next: Vec<u8> = next.map(|&(_, target)| target).collect();
-        reached.extend(next);
-    }
-    None
-}
-
-/// Whether constraints lead from a table to itself, perhaps through others: once
-/// those that lead to a table that none leaves are taken out, again and again,
-/// some are left.
-fn has_cycle(links: &[Link]) -> bool {
-    let mut links = links.to_vec();
-    loop {
-        let count = links.len();
-        let left: Vec<u8> = links.iter().map(|&(source, _)| source).collect();
-        links.retain(|(_, target)| left.contains(target));
-        if links.len() == count {
-            return count > 0;
-        }
-    }
-}
-
 /// Whether the command at a place of the script is a report.
 fn is_report(script: &[u8], place: &str) -> bool {
     let rest = number(place).and_then(|place| script.get(place..));
@@ -510,26 +337,6 @@ mod tests {
             ("design refused 3 for a report".into(), 2),
         ];
         assert_eq!(counted_for(&texts), expected);
-    }
-
-    #[test]
-    fn cycles_are_found_behind_other_tables() {
-        assert!(!has_cycle(&[]));
-        assert!(!has_cycle(&[(0, 1), (1, 2), (0, 2)]));
-        assert!(has_cycle(&[(1, 1)]));
-        assert!(has_cycle(&[(0, 1), (1, 2), (2, 1), (2, 3)]));
-    }
-
-    #[test]
-    fn ways_are_counted_by_their_steps() {
-        let links = [(0, 1), (1, 2), (2, 3), (3, 0), (0, 2), (5, 6)];
-        let steps = |i, j| way(&links, Some(i), Some(j));
-        assert_eq!(steps(1, 0), Some(0));
-        assert_eq!(steps(0, 0), Some(3));
-        assert_eq!(steps(0, 4), Some(2));
-        assert_eq!(steps(3, 3), Some(2));
-        assert_eq!(steps(5, 0), None);
-        assert_eq!(steps(9, 0), None);
     }
 
     #[test]

@@ -1,0 +1,57 @@
+//! The answers of a report, taken from its lines.
+
+use std::cmp::Ordering;
+
+/// A command's line in a report, and the lists after it.
+pub struct Answer<'a> {
+    /// The line without the command's number.
+    pub text: &'a str,
+    /// The words of all its lists.
+    pub list_words: usize,
+}
+
+/// The answers of a report without its head.
+pub fn answers(operations: &str) -> Vec<Answer<'_>> {
+    let mut answers: Vec<Answer> = Vec::new();
+    for line in operations.lines() {
+        let (_, rest) = line.split_once(' ').unwrap_or((line, ""));
+        if rest.starts_with(char::is_alphabetic) {
+            answers.push(Answer {
+                text: rest,
+                list_words: 0,
+            });
+        } else if let Some(answer) = answers.last_mut() {
+            answer.list_words += line.split(' ').count();
+        }
+    }
+    answers
+}
+
+impl Answer<'_> {
+    /// The words of its line.
+    pub fn words(&self) -> Vec<&str> {
+        self.text.split(' ').collect()
+    }
+
+    /// The outcome that the answer counts under.
+    pub fn outcome(&self) -> String {
+        match self.words()[..] {
+            ["answer", "0"] => "answer without lists".into(),
+            ["answer", _] => "answer with lists".into(),
+            ["uneven", i, j] => match number(i).cmp(&number(j)) {
+                Ordering::Equal => "uneven with i = j".into(),
+                Ordering::Less => "uneven with i < j".into(),
+                Ordering::Greater => "uneven with i > j".into(),
+            },
+            ["refused", cause, _] => format!("refused {cause}"),
+            ["loaded", ..] => "loaded".into(),
+            ["dropped", ..] => "dropped".into(),
+            _ => self.text.into(),
+        }
+    }
+}
+
+/// A word that is a number.
+pub fn number(word: &str) -> Option<usize> {
+    word.parse().ok()
+}
