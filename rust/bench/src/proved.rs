@@ -262,6 +262,8 @@ impl OpenDesk for Lent {
                 Answer::Lists(words.iter().map(|&word| word as usize).collect())
             }
             7 => Answer::Refused(number as u8),
+            8 => Answer::Even,
+            9 => Answer::Uneven(number as usize, numbers[1] as usize),
             word => unreachable!("no answer has the word {word}"),
         }
     }

@@ -6,6 +6,7 @@ use bench::contestants;
 use bench::measure::{check, measure};
 use bench::work::opening::openings;
 use bench::work::{self, growing, unreached, Work};
+use notation::Command;
 
 const SIZES: [usize; 4] = [64, 128, 256, 512];
 
@@ -227,6 +228,29 @@ fn all_contestants_do_the_same() {
     }
     let small = &growing::works(SIZES[0])[0];
     assert!(measure(&contestants, small).is_ok());
+}
+
+/// No work asks for a report on its design, and SQLite has none. The others have
+/// to say the same all the same.
+#[test]
+fn reports_on_designs_agree() {
+    let (mut even, mut uneven) = (0, 0);
+    let operations = Operations::from(&[Command::Even][..]);
+    for work in work::all() {
+        let design = Opening::from(&work.design);
+        let contestants = contestants().into_iter();
+        let mut answers: Vec<Answer> = contestants
+            .filter(|contestant| contestant.name() != "SQLite")
+            .map(|contestant| contestant.open(&design).answer(&operations.list[0]))
+            .collect();
+        answers.dedup();
+        match answers[..] {
+            [Answer::Even] => even += 1,
+            [Answer::Uneven(..)] => uneven += 1,
+            _ => panic!("{}: {answers:?}", work.name),
+        }
+    }
+    assert!(even > 0 && uneven > 0);
 }
 
 /// Answers everything with "sent".

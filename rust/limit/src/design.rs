@@ -3,10 +3,9 @@
 //! Cause 6 isn't looked at here: a repeated value shows when the rows of a
 //! unique column are put into groups ([`crate::catalog`]).
 
-use crate::{CELLS, CONSTRAINTS, ROWS};
+use crate::{CELLS, CONSTRAINTS, ROWS, TABLES};
 
 const LONGEST_SCRIPT: usize = 65_536;
-const TABLES: usize = 8;
 const FILLINGS: usize = 8;
 
 /// The bytes of a ROW command.

@@ -5,7 +5,7 @@
 
 use crate::design::Design;
 use crate::desk::Answer;
-use crate::{CELLS, CONSTRAINTS};
+use crate::{CELLS, CONSTRAINTS, TABLES};
 
 /// What is known: nothing if all zeros.
 pub struct Evenness {
@@ -38,8 +38,8 @@ impl Evenness {
         let reaching = reaching(design);
         // For each table, the constraints that start there; and the same for each
         // column.
-        let mut starting = [0u16; CELLS];
-        let mut starting_at = [0u16; CELLS * CELLS];
+        let mut starting = [0u16; TABLES];
+        let mut starting_at = [0u16; TABLES * CELLS];
         for (number, constraint) in constraints.iter().enumerate() {
             starting[usize::from(constraint.source.table)] |= 1 << number;
             starting_at[constraint.source.number()] |= 1 << number;
@@ -59,17 +59,17 @@ impl Evenness {
 
 /// For each table, the constraints whose target table reaches it in no or more
 /// steps.
-fn reaching(design: &Design) -> [u16; CELLS] {
-    const { assert!(CONSTRAINTS <= 16 && CELLS <= 8) };
+fn reaching(design: &Design) -> [u16; TABLES] {
+    const { assert!(CONSTRAINTS <= 16 && TABLES <= 8) };
     let constraints = &design.constraint[..design.constraints];
-    let mut reached = [0u8; CELLS];
+    let mut reached = [0u8; TABLES];
     for (table, reached) in reached.iter_mut().enumerate() {
         *reached = 1 << table;
     }
     for constraint in constraints {
         reached[usize::from(constraint.source.table)] |= 1 << constraint.target.table;
     }
-    for through in 0..CELLS {
+    for through in 0..TABLES {
         let more = reached[through];
         for reached in &mut reached {
             if *reached >> through & 1 == 1 {
@@ -77,7 +77,7 @@ fn reaching(design: &Design) -> [u16; CELLS] {
             }
         }
     }
-    let mut reaching = [0u16; CELLS];
+    let mut reaching = [0u16; TABLES];
     for (number, constraint) in constraints.iter().enumerate() {
         let mut tables = reached[usize::from(constraint.target.table)];
         while tables != 0 {

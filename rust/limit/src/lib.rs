@@ -33,6 +33,9 @@ pub mod report;
 pub use desk::{Answer, Desk};
 pub use report::report;
 
+/// The most tables of a design.
+pub const TABLES: usize = 8;
+
 /// The most rows of a design.
 pub const ROWS: usize = 512;
 
