@@ -158,8 +158,13 @@ fn hostile_probes_and_queries_answer_as_meant() {
     }
     let query = last("one bucket: query with 4 joins");
     assert_eq!(query.as_deref(), Some("answer 1"));
-    let refused = last("4,032 lists of two: query refused by 11").expect("an answer");
-    assert!(refused.starts_with("refused 11 "), "{refused}");
+    for name in [
+        "4,032 lists of two: query refused by 11",
+        "4,032 lists of two: query refused by 11, its load undone",
+    ] {
+        let refused = last(name).expect("an answer");
+        assert!(refused.starts_with("refused 11 "), "{refused}");
+    }
 }
 
 #[test]
@@ -168,6 +173,13 @@ fn the_clinic_answers_its_queries_and_probes() {
     let queries = clinic("clinic: query with 4 joins", 10);
     let lists = |answer: &String| answer.starts_with("answer ") && answer != "answer 0";
     assert!(queries[10..].iter().all(lists), "{queries:?}");
+    let fetches = clinic("clinic: query that loads its ward, and drop", 20);
+    for both in fetches.chunks(2) {
+        assert!(
+            lists(&both[0]) && both[1].starts_with("dropped "),
+            "{both:?}"
+        );
+    }
     let probes = clinic("clinic: probe", 200);
     for kind in ["ground 1", "ground 2", "ground 3", "sent"] {
         assert!(probes.iter().any(|answer| answer == kind), "no {kind}");

@@ -4,8 +4,8 @@
 //! own is: then all its rows are cached, and it needn't be walked again. A new
 //! epoch empties the cache at once.
 
-use crate::catalog::Catalog;
-use crate::design::{Design, Filling};
+use crate::catalog::{Catalog, NO_FILLING};
+use crate::design::{Column, Design};
 use crate::desk::Answer;
 use crate::dropping::Doubt;
 use crate::{CELLS, CONSTRAINTS, NO_ROW, ROWS};
@@ -66,8 +66,7 @@ impl Cache {
         if value == 0 {
             return Answer::Refused(9);
         }
-        let Filling { column, low, high } = design.filling[usize::from(filling)];
-        if !(low..=high).contains(&value) {
+        if !design.is_candidate(filling, value) {
             return Answer::NoCandidate;
         }
         if self.holds(filling, value) {
@@ -76,6 +75,32 @@ impl Cache {
         if self.held_count == MOST_HELD {
             return Answer::Refused(8);
         }
+        self.hold(design, catalog, filling, value)
+    }
+
+    /// Refers a value of the column that isn't held, as a query does that has no
+    /// ground. Gives the filling, or nothing if the value can't be referred.
+    pub fn fetch(
+        &mut self,
+        design: &Design,
+        catalog: &Catalog,
+        column: Column,
+        value: u32,
+    ) -> Option<u8> {
+        let filling = catalog.filling[column.number()];
+        if filling == NO_FILLING
+            || !design.is_candidate(filling, value)
+            || self.held_count == MOST_HELD
+        {
+            return None;
+        }
+        self.hold(design, catalog, filling, value);
+        Some(filling)
+    }
+
+    /// Holds a value from now on, for which there is room.
+    fn hold(&mut self, design: &Design, catalog: &Catalog, filling: u8, value: u32) -> Answer {
+        let column = design.filling[usize::from(filling)].column;
         let head = catalog.find(column, value);
         self.held[self.held_count] = key(filling, value);
         self.held_head[self.held_count] = head;

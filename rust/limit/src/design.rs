@@ -166,6 +166,13 @@ impl Design {
         self.unique[usize::from(column.table)] >> column.place & 1 == 1
     }
 
+    /// Whether the value is a candidate of the filling, which is there.
+    #[inline(always)]
+    pub fn is_candidate(&self, filling: u8, value: u32) -> bool {
+        let Filling { low, high, .. } = self.filling[usize::from(filling)];
+        (low..=high).contains(&value)
+    }
+
     /// Adds what a design command says, or gives the cause of its refusal, or 0.
     fn add(&mut self, bytes: &[u8]) -> u8 {
         let column = |place: usize| Column {

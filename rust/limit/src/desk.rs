@@ -116,7 +116,7 @@ impl Desk {
                 let value = u32_at(bytes, 3);
                 self.cache.probe(design, catalog, column, value)
             }
-            0x13 => self.listing.query(design, catalog, &self.cache, bytes),
+            0x13 => self.listing.query(design, catalog, &mut self.cache, bytes),
             0x14 => self.evenness.of(design),
             _ => Answer::Refused(3),
         };

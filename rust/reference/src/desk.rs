@@ -1,5 +1,6 @@
-//! The operations: loads, drops and probes (queries are in [`crate::query`], the
-//! report on even designs in [`crate::even`]).
+//! The operations: loads, drops and probes, and how a question refers its value
+//! first (queries are in [`crate::query`], the report on even designs in
+//! [`crate::even`]).
 
 use crate::design::Design;
 use crate::refusal::Cause;
@@ -13,7 +14,7 @@ pub struct Desk {
     pub(crate) design: Design,
     pub(crate) cached: Vec<bool>,
     held: Vec<Pair>,
-    answer_words: usize,
+    pub(crate) answer_words: usize,
 }
 
 /// What an operation answers.
@@ -69,7 +70,7 @@ impl Desk {
             Command::Refer(pair) => self.refer(*pair),
             Command::Drop(pair) => self.drop(*pair),
             Command::Probe { column, value } => self.probe(*column, *value),
-            Command::Query(query) => self.query(query, self.answer_words),
+            Command::Query(query) => self.query(query),
             Command::Even => Ok(self.design.evenness()),
             _ => Err(Cause::OutOfOrder),
         }
@@ -77,17 +78,15 @@ impl Desk {
 
     fn refer(&mut self, pair: Pair) -> Result<Answer, Cause> {
         self.check_pair(pair)?;
-        let filling = self.design.fillings[pair.filling];
-        if !(filling.low..=filling.high).contains(&pair.value) {
+        if !self.is_candidate(pair) {
             return Ok(Answer::NoCandidate);
         }
         if self.held.contains(&pair) {
             return Ok(Answer::Held);
         }
         Cause::NoPlaceFree.unless(self.held.len() < MOST_HELD)?;
-        self.held.push(pair);
         let before = self.cached_rows();
-        let rounds = self.load(pair);
+        let rounds = self.hold(pair);
         let rows = self.cached_rows() - before;
         Ok(Answer::Loaded { rows, rounds })
     }
@@ -113,6 +112,45 @@ impl Desk {
             .map_or(Answer::Sent, Answer::Ground))
     }
 
+    /// Answers a question about a value of a column, which has been checked. If
+    /// it has no ground, the value is referred first, so that it has one; if it
+    /// can't be referred, the question is sent. With a refusal the reference is
+    /// undone (document 02, Req 02).
+    pub(crate) fn answer_fetching(
+        &mut self,
+        column: Column,
+        value: u32,
+        answer: impl Fn(&Desk) -> Result<Answer, Cause>,
+    ) -> Result<Answer, Cause> {
+        if self.ground(column, value).is_some() {
+            return answer(self);
+        }
+        let Some(pair) = self.pair_to_refer(column, value) else {
+            return Ok(Answer::Sent);
+        };
+        let before = (self.held.clone(), self.cached.clone());
+        self.hold(pair);
+        let answered = answer(self);
+        if answered.is_err() {
+            (self.held, self.cached) = before;
+        }
+        answered
+    }
+
+    /// The pair that a question about a value refers, if the column has a
+    /// filling, the value is a candidate and fewer than 64 are held.
+    fn pair_to_refer(&self, column: Column, value: u32) -> Option<Pair> {
+        let mut fillings = self.design.fillings.iter();
+        let filling = fillings.position(|filling| filling.column == column)?;
+        let pair = Pair { filling, value };
+        (self.is_candidate(pair) && self.held.len() < MOST_HELD).then_some(pair)
+    }
+
+    fn is_candidate(&self, pair: Pair) -> bool {
+        let filling = self.design.fillings[pair.filling];
+        (filling.low..=filling.high).contains(&pair.value)
+    }
+
     fn check_pair(&self, pair: Pair) -> Result<(), Cause> {
         Cause::WrongOperand.unless(pair.filling < self.design.fillings.len())?;
         Cause::ValueZero.unless(pair.value != 0)
@@ -120,6 +158,13 @@ impl Desk {
 
     fn cached_rows(&self) -> usize {
         self.cached.iter().filter(|&&cached| cached).count()
+    }
+
+    /// Holds a value from now on, and gives the number of later rounds that
+    /// added a row.
+    fn hold(&mut self, pair: Pair) -> usize {
+        self.held.push(pair);
+        self.load(pair)
     }
 
     /// Caches what a held value demands, round by round, and gives the number

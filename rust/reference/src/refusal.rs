@@ -26,7 +26,8 @@ pub enum Cause {
     ValueZero = 9,
     /// DROP of a pair not held.
     NotHeld = 10,
-    /// QUERY with a ground whose list needs more words than are lent.
+    /// QUERY with a ground, or referred first, whose list needs more words than
+    /// are lent.
     AnswerTooLong = 11,
 }
 

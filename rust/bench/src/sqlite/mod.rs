@@ -167,8 +167,13 @@ impl Desk {
 
     fn query(&mut self, query: &Query) -> Result<Answer, OutOfTime> {
         let Query { column, value, .. } = *query;
+        let mut fetched = None;
         if self.probe(Probe { column, value })? == Answer::Sent {
-            return Ok(Answer::Sent);
+            fetched = self.pair_to_refer(column, value);
+            match fetched {
+                None => return Ok(Answer::Sent),
+                Some(pair) => self.refer(pair)?,
+            };
         }
         let statement = self.queries.get_mut(&shape(query));
         let statement = statement.expect("a statement that has been prepared");
@@ -177,10 +182,23 @@ impl Desk {
             words.extend(row.iter().map(|&number| number as usize));
             words.len() <= ANSWER_WORDS
         })?;
-        Ok(if words.len() > ANSWER_WORDS {
-            Answer::Refused(11)
-        } else {
-            Answer::Lists(words)
+        if words.len() <= ANSWER_WORDS {
+            return Ok(Answer::Lists(words));
+        }
+        if let Some(pair) = fetched {
+            self.drop(pair)?;
+        }
+        Ok(Answer::Refused(11))
+    }
+
+    /// What a query without a ground refers first.
+    fn pair_to_refer(&self, column: Column, value: u32) -> Option<Pair> {
+        let mut fillings = (0..).zip(&self.design.fillings);
+        let (number, filling) = fillings.find(|(_, filling)| filling.column == column)?;
+        let is_candidate = (filling.low..=filling.high).contains(&value);
+        is_candidate.then_some(Pair {
+            filling: number,
+            value,
         })
     }
 }

@@ -3,7 +3,9 @@
 
 use notation::{Command, Design};
 
-use super::{column, constraint, filling, join, load_and_drop, probe, query, refer, table, Work};
+use super::{
+    column, constraint, drop, filling, join, load_and_drop, probe, query, refer, table, Work,
+};
 
 const WARDS: u32 = 10;
 const SUBJECTS: u32 = 40;
@@ -24,6 +26,11 @@ pub fn works() -> Vec<Work> {
     vec![
         work("clinic: query with 4 joins", all_wards(), &queries(true)),
         work("clinic: query without joins", all_wards(), &queries(false)),
+        work(
+            "clinic: query that loads its ward, and drop",
+            vec![],
+            &fetches(),
+        ),
         work(
             "clinic: probe",
             (1..=WARDS / 2).map(|ward| refer(0, ward)).collect(),
@@ -100,6 +107,13 @@ fn queries(joined: bool) -> Vec<Command> {
     (1..=WARDS)
         .map(|ward| query(column(0, 1), ward, joins))
         .collect()
+}
+
+/// For each ward: the query with joins while it isn't held, and its drop.
+fn fetches() -> Vec<Command> {
+    let drops = (1..=WARDS).map(|ward| drop(0, ward));
+    let both = queries(true).into_iter().zip(drops);
+    both.flat_map(|(query, drop)| [query, drop]).collect()
 }
 
 /// Probes of columns 0 and 1 of all tables; a third of the values are small.

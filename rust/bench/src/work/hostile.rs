@@ -1,6 +1,6 @@
 //! Works that are meant to be slow, and can't be made for fewer rows.
 
-use notation::Design;
+use notation::{Command, Design};
 
 use super::growing::{eight_linked_columns, sharing_a_bucket, sixteen_at_a_column};
 use super::{
@@ -13,7 +13,11 @@ pub fn works() -> Vec<Work> {
         absent_values(),
         bucket_query(),
         absent_probe(),
-        refused_answer(),
+        refused_answer("4,032 lists of two: query refused by 11", vec![refer(0, 1)]),
+        refused_answer(
+            "4,032 lists of two: query refused by 11, its load undone",
+            vec![],
+        ),
     ]
 }
 
@@ -78,8 +82,9 @@ fn absent_probe() -> Work {
     )
 }
 
-/// A query whose 4,032 lists of two are more than can be answered.
-fn refused_answer() -> Work {
+/// A query whose 4,032 lists of two are more than can be answered. If its value
+/// isn't held before, all rows are loaded for it each time, and go again.
+fn refused_answer(name: &'static str, before: Vec<Command>) -> Work {
     let mut design = Design {
         tables: vec![table(1, 0), table(1, 0)],
         constraints: vec![constraint(column(0, 0), column(1, 0))],
@@ -89,10 +94,6 @@ fn refused_answer() -> Work {
     for number in 0..MOST_ROWS {
         design.add_row(u8::from(number >= 8), &[1]);
     }
-    Work::repeating(
-        "4,032 lists of two: query refused by 11",
-        design,
-        vec![refer(0, 1)],
-        &[query(column(0, 0), 1, &[join(0, 0)])],
-    )
+    let query = query(column(0, 0), 1, &[join(0, 0)]);
+    Work::repeating(name, design, before, &[query])
 }

@@ -5,6 +5,7 @@ mod bytes;
 mod cases;
 mod design_refusals;
 mod even;
+mod fetching;
 mod generated;
 mod limits;
 mod operation_refusals;

@@ -100,12 +100,19 @@ fn a_refused_query_leaves_the_next_one_alone() {
 }
 
 #[test]
-fn a_query_without_a_ground_is_sent_however_many_lists_it_has() {
-    let sizes = [50, 41];
-    let mut script = star(&sizes);
-    script.extend(drop(0, 1));
-    script.extend(star_query(&sizes));
-    assert!(operations(&script).ends_with("2 sent\n"));
+fn a_query_that_is_sent_is_sent_however_many_lists_it_has() {
+    let script = [
+        table(1, 0),
+        table(1, 0),
+        constraint((0, 0), (1, 0)),
+        filling((0, 0), 2, 9),
+        row(0, &[1]).repeat(50),
+        row(1, &[1]).repeat(41),
+        end(),
+        query((0, 0), 1, &[(0, 0)]),
+    ]
+    .concat();
+    assert_eq!(operations(&script), "0 sent\n");
 }
 
 #[test]
