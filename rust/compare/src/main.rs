@@ -1,6 +1,7 @@
 //! `compare [--seed N] [--seeds N] [--scripts N] [--examples DIRECTORY]
-//! [--against OTHER] [DESK]`: compares the desk program with the second
-//! implementation on generated scripts, or with the desk program OTHER.
+//! [--before REQUEST] [--against OTHER] [DESK]`: compares the desk program with
+//! the second implementation on generated scripts, or with the desk program
+//! OTHER.
 //!
 //! Without the argument DESK, the environment variable DESK names the program.
 //! It fails if the two differ in a byte of standard output on a script, or if
@@ -11,28 +12,33 @@
 //! some answer, cause or extreme was never reached. With `--seeds`, the seeds
 //! after the first are taken from the clock; they are printed, so that a failure
 //! can be repeated. `--scripts` is for each seed. With `--examples`, both have to
-//! give the reports of the examples there too.
+//! give the reports of the examples there too. With `--before`, what a request of
+//! document 02 and those after it have changed is taken out of the scripts, so
+//! that OTHER may be a desk from before that request.
 
 use std::env;
 use std::ffi::OsString;
 use std::io;
 use std::path::{Path, PathBuf};
 use std::process::ExitCode;
+use std::str::FromStr;
 use std::time::{Duration, Instant, SystemTime, UNIX_EPOCH};
 
 use compare::desk::{Program, Reply};
 use compare::examples::examples;
-use compare::run::{compare, Side, Sides, SECOND_IMPLEMENTATION};
+use compare::level::Level;
+use compare::run::{compare, Scripts, Side, Sides, SECOND_IMPLEMENTATION};
 use compare::tally::Tally;
 
 const USAGE: &str = "usage: compare [--seed N] [--seeds N] [--scripts N] \
-    [--examples DIRECTORY] [--against OTHER] [DESK]";
+    [--examples DIRECTORY] [--before REQUEST] [--against OTHER] [DESK]";
 const TIME_LIMIT: Duration = Duration::from_secs(10);
 
 struct Options {
     seed: u64,
     seeds: u64,
     scripts: u64,
+    level: Level,
     examples: Option<PathBuf>,
     against: Option<PathBuf>,
     desk: PathBuf,
@@ -57,12 +63,13 @@ fn options(
     let mut arguments = arguments;
     let mut desk = desk.map(PathBuf::from);
     let (mut seed, mut seeds, mut scripts) = (1, 1, 20_000);
-    let (mut examples, mut against) = (None, None);
+    let (mut level, mut examples, mut against) = (Level::NOW, None, None);
     while let Some(argument) = arguments.next() {
         match argument.to_str() {
             Some("--seed") => seed = number(arguments.next())?,
             Some("--seeds") => seeds = number(arguments.next())?,
             Some("--scripts") => scripts = number(arguments.next())?,
+            Some("--before") => level = Level::before(number(arguments.next())?),
             Some("--examples") => examples = Some(arguments.next().ok_or(USAGE)?.into()),
             Some("--against") => against = Some(arguments.next().ok_or(USAGE)?.into()),
             Some(other) if other.starts_with("--") => return Err(USAGE.into()),
@@ -74,13 +81,14 @@ fn options(
         seed,
         seeds,
         scripts,
+        level,
         examples,
         against,
         desk,
     })
 }
 
-fn number(argument: Option<OsString>) -> Result<u64, String> {
+fn number<N: FromStr>(argument: Option<OsString>) -> Result<N, String> {
     let number = argument.and_then(|argument| argument.to_str()?.parse().ok());
     number.ok_or(USAGE.into())
 }
@@ -131,12 +139,17 @@ fn run_both(options: &Options, sides: &Sides) -> Result<bool, String> {
         }
     }
     for seed in seeds(options) {
-        if !seed_is_right(sides, seed, options.scripts, &mut tally)? {
+        let scripts = Scripts {
+            seed,
+            count: options.scripts,
+            level: options.level,
+        };
+        if !scripts_are_right(sides, scripts, &mut tally)? {
             return Ok(false);
         }
     }
     println!("{tally}");
-    let missing = tally.missing();
+    let missing = tally.missing(options.level);
     for name in &missing {
         println!("never reached: {name}");
     }
@@ -168,15 +181,11 @@ fn examples_are_right(sides: &Sides, directory: &Path, tally: &mut Tally) -> Res
     Ok(right)
 }
 
-fn seed_is_right(
-    sides: &Sides,
-    seed: u64,
-    scripts: u64,
-    tally: &mut Tally,
-) -> Result<bool, String> {
-    println!("{scripts} scripts of seed {seed}");
+fn scripts_are_right(sides: &Sides, scripts: Scripts, tally: &mut Tally) -> Result<bool, String> {
+    let Scripts { seed, count, .. } = scripts;
+    println!("{count} scripts of seed {seed}");
     let start = Instant::now();
-    let outcome = compare(sides, seed, scripts).map_err(|error| error.to_string())?;
+    let outcome = compare(sides, scripts).map_err(|error| error.to_string())?;
     if let Some(difference) = outcome.difference {
         println!("script {} of seed {seed} differs", difference.number);
         print!("{}", difference.comparison);

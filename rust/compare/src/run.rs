@@ -8,6 +8,7 @@ use std::time::{Duration, Instant};
 
 use crate::desk::Reply;
 use crate::generate;
+use crate::level::Level;
 use crate::reduce::reduce;
 use crate::tally::Tally;
 
@@ -46,6 +47,24 @@ pub const SECOND_IMPLEMENTATION: Side<'static> = Side {
     desk: &|script| Ok(Reply::Report(reference::report(script).into_bytes())),
 };
 
+/// Generated scripts.
+#[derive(Clone, Copy, Debug)]
+pub struct Scripts {
+    /// Their seed.
+    pub seed: u64,
+    /// How many of the seed's.
+    pub count: u64,
+    /// What they may use.
+    pub level: Level,
+}
+
+impl Scripts {
+    /// The script with the given number.
+    pub fn script(&self, number: u64) -> Vec<u8> {
+        self.level.script(generate::script(self.seed, number))
+    }
+}
+
 /// What a comparison came to.
 #[derive(Debug, Default)]
 pub struct Outcome<'a> {
@@ -64,14 +83,14 @@ pub struct Difference<'a> {
     pub comparison: Comparison<'a>,
 }
 
-/// Compares on the first `count` scripts of a seed, or until a difference.
-pub fn compare<'a>(sides: &Sides<'a>, seed: u64, count: u64) -> io::Result<Outcome<'a>> {
+/// Compares on scripts, or until a difference.
+pub fn compare<'a>(sides: &Sides<'a>, scripts: Scripts) -> io::Result<Outcome<'a>> {
     let next = AtomicU64::new(0);
     let work = || {
-        let outcome = compare_some(sides, seed, count, &next);
+        let outcome = compare_some(sides, scripts, &next);
         // Whatever ended this thread's work before the last script ends the
         // other's too.
-        next.store(count, Ordering::Relaxed);
+        next.store(scripts.count, Ordering::Relaxed);
         outcome
     };
     let mut whole = Outcome::default();
@@ -90,17 +109,16 @@ pub fn compare<'a>(sides: &Sides<'a>, seed: u64, count: u64) -> io::Result<Outco
 /// One thread's share: the scripts that no other thread has taken.
 fn compare_some<'a>(
     sides: &Sides<'a>,
-    seed: u64,
-    count: u64,
+    scripts: Scripts,
     next: &AtomicU64,
 ) -> io::Result<Outcome<'a>> {
     let mut outcome = Outcome::default();
     loop {
         let number = next.fetch_add(1, Ordering::Relaxed);
-        if number >= count {
+        if number >= scripts.count {
             return Ok(outcome);
         }
-        let comparison = Comparison::of(sides, generate::script(seed, number))?;
+        let comparison = Comparison::of(sides, scripts.script(number))?;
         if comparison.differs() {
             outcome.difference = Some(Difference { number, comparison });
             return Ok(outcome);

@@ -4,12 +4,20 @@
 use std::io;
 
 use compare::desk::Reply;
-use compare::generate;
-use compare::run::{compare, Desk, Side, Sides, SECOND_IMPLEMENTATION};
+use compare::level::Level;
+use compare::run::{compare, Desk, Scripts, Side, Sides, SECOND_IMPLEMENTATION};
 use notation::{Command, Piece};
 
-const SEED: u64 = 1;
-const SCRIPTS: u64 = 3_000;
+const SCRIPTS: Scripts = Scripts {
+    seed: 1,
+    count: 3_000,
+    level: Level::NOW,
+};
+
+const FEW: Scripts = Scripts {
+    count: 10,
+    ..SCRIPTS
+};
 
 /// The second implementation as the desk, with its report altered.
 fn altered(alter: impl Fn(String) -> String + Sync) -> impl Fn(&[u8]) -> io::Result<Reply> + Sync {
@@ -28,9 +36,23 @@ fn sides<'a>(desk: &'a Desk<'a>) -> Sides<'a> {
 #[test]
 fn a_right_desk_passes_and_everything_is_reached() {
     let desk = altered(|report| report);
-    let outcome = compare(&sides(&desk), SEED, SCRIPTS).expect("no failure");
+    let outcome = compare(&sides(&desk), SCRIPTS).expect("no failure");
     assert!(outcome.difference.is_none());
-    assert_eq!(outcome.tally.missing(), [""; 0]);
+    assert_eq!(outcome.tally.missing(Level::NOW), [""; 0]);
+}
+
+#[test]
+fn everything_of_a_level_is_reached_too() {
+    let desk = altered(|report| report);
+    for request in [1, 2] {
+        let level = Level::before(request);
+        let scripts = Scripts { level, ..SCRIPTS };
+        let outcome = compare(&sides(&desk), scripts).expect("no failure");
+        assert_eq!(outcome.tally.missing(level), [""; 0], "before {request}");
+        let now = outcome.tally.missing(Level::NOW);
+        assert!(now.contains(&"query referred with lists"), "{now:?}");
+        assert_eq!(now.contains(&"even"), request == 1, "{now:?}");
+    }
 }
 
 /// Runs a wrong desk and gives the difference found, made small: its script,
@@ -38,12 +60,9 @@ fn a_right_desk_passes_and_everything_is_reached() {
 fn difference(alter: impl Fn(String) -> String + Sync) -> (Vec<u8>, String) {
     let desk = altered(alter);
     let sides = sides(&desk);
-    let outcome = compare(&sides, SEED, SCRIPTS).expect("no failure");
+    let outcome = compare(&sides, SCRIPTS).expect("no failure");
     let found = outcome.difference.expect("a difference");
-    assert_eq!(
-        found.comparison.script,
-        generate::script(SEED, found.number)
-    );
+    assert_eq!(found.comparison.script, SCRIPTS.script(found.number));
     assert!(found.comparison.differs());
     let reduced = found.comparison.reduced(&sides).expect("no failure");
     assert!(reduced.differs());
@@ -120,7 +139,7 @@ fn a_desk_that_fails_to_answer_differs() {
         let name = "the desk";
         let beside_itself = [Side { name, desk: &desk }; 2];
         for sides in [sides(&desk), beside_itself] {
-            let outcome = compare(&sides, SEED, 10).expect("no failure");
+            let outcome = compare(&sides, FEW).expect("no failure");
             assert!(outcome.difference.is_some());
         }
     }
@@ -130,7 +149,7 @@ fn a_desk_that_fails_to_answer_differs() {
 fn a_desk_that_cannot_be_run_is_a_failure() {
     let desk = |_: &[u8]| Err(io::ErrorKind::NotFound.into());
     let sides = sides(&desk);
-    let outcome = compare(&sides, SEED, 10);
+    let outcome = compare(&sides, FEW);
     assert_eq!(
         outcome.map_err(|error| error.kind()).err(),
         Some(io::ErrorKind::NotFound)

@@ -137,6 +137,14 @@ fn a_desk_program_against_another() {
 }
 
 #[test]
+fn scripts_from_before_a_request() {
+    let more = [Path::new("--before"), Path::new("2")];
+    let (output, text) = run_against(&reference_desk(), &reference_desk(), &more);
+    assert!(output.status.success(), "{text}");
+    assert!(text.contains(" 0  query referred with lists\n"), "{text}");
+}
+
+#[test]
 fn one_other_byte_in_what_a_desk_is_held_to() {
     let (output, text) = run_against(&shell_program("one-byte"), &reference_desk(), &[]);
     assert_eq!(output.status.code(), Some(1), "{text}");

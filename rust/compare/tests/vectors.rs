@@ -111,6 +111,8 @@ fn words_behind(vector: &Vector) -> String {
 #[test]
 fn the_second_implementation_gives_what_is_expected() {
     let list = file("stdin");
+    // What the program has room for.
+    assert!(list.len() < 65_536 && list.lines().count() < 4_096);
     let mut held = 0;
     for vector in vectors(&list) {
         let got = match vector.kind {

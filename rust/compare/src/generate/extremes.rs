@@ -4,6 +4,7 @@
 use notation::{encode, Column, Command, Constraint, Design, Filling, Join, Pair, Query, Table};
 
 use super::design::{Draft, Shape, Values};
+use super::fetching::around;
 use super::with_operations;
 use crate::random::Random;
 
@@ -43,9 +44,9 @@ pub fn words_around_the_limit(random: &mut Random) -> Vec<u8> {
         position: 0,
         constraint: 0,
     };
-    let query = Command::Query(Query::new(asked, key, &[join]));
+    let query = Query::new(asked, key, &[join]);
     let draft = Draft { design, values };
-    let commands = [draft.design.commands(), vec![refer(key), query]].concat();
+    let commands = [draft.design.commands(), around(random, query)].concat();
     with_operations(random, &draft, commands, 5)
 }
 

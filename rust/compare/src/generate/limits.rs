@@ -5,6 +5,7 @@ use std::mem::discriminant;
 use notation::{encode, Column, Command, Constraint, Design, Filling, Join, Pair, Query, Table};
 
 use super::design::{Draft, Shape, Values};
+use super::fetching::around;
 use super::operations::Operator;
 use super::spoil::spoil;
 use super::with_operations;
@@ -112,12 +113,12 @@ pub fn answer_words(random: &mut Random) -> Vec<u8> {
     ];
     let sizes = *random.pick(&SIZES);
     let joins: Vec<Join> = (1..sizes.len() as u8).map(star_join).collect();
-    let query = Command::Query(Query::new(first_column(0), 1, &joins));
+    let query = Query::new(first_column(0), 1, &joins);
     let draft = Draft {
         design: star(sizes),
         values: Values::new(1, false),
     };
-    let commands = [draft.design.commands(), vec![refer(1), query]].concat();
+    let commands = [draft.design.commands(), around(random, query)].concat();
     with_operations(random, &draft, commands, 5)
 }
 

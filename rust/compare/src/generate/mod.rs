@@ -5,6 +5,7 @@ mod damage;
 mod design;
 mod even;
 mod extremes;
+mod fetching;
 mod limits;
 mod operations;
 mod spoil;
@@ -19,7 +20,7 @@ use spoil::spoil;
 /// A way to make a script, with its share among all scripts.
 type Kind = (usize, fn(&mut Random) -> Vec<u8>);
 
-const KINDS: [Kind; 19] = [
+const KINDS: [Kind; 21] = [
     (40, |random| ordinary(random, &Shape::SPARSE)),
     (25, |random| ordinary(random, &Shape::DENSE)),
     (15, |random| worked(random, Draft::chain)),
@@ -39,6 +40,8 @@ const KINDS: [Kind; 19] = [
     (12, even::cycles),
     (4, even::two_rings),
     (6, even::most_rounds),
+    (20, fetching::visits),
+    (8, fetching::last_place),
 ];
 
 /// The script with the given number among those of a seed.

@@ -14,7 +14,7 @@ const SPOILT: usize = 8;
 /// should.
 const MISPLACED: usize = 2;
 
-/// Makes operations, and remembers what they referred to.
+/// Makes operations, and remembers what they referred to, or may have.
 pub struct Operator<'a> {
     design: &'a Design,
     values: Values,
@@ -39,13 +39,36 @@ impl<'a> Operator<'a> {
             7..=10 => Command::Drop(self.drop(random)),
             11..=14 => Command::Probe(self.probe(random)),
             15 => Command::Even,
-            _ => Command::Query(self.query(random)),
+            _ => {
+                let probe = self.probe(random);
+                Command::Query(self.query(random, probe))
+            }
         };
         if random.percent(SPOILT) {
             spoil(random, self.design, operation)
         } else {
             operation
         }
+    }
+
+    /// A query of a value that may not be held, in a filling column, and then
+    /// operations on the same value, or on another now and then.
+    pub fn visit(&mut self, random: &mut Random) -> Vec<Command> {
+        let pair = self.pair(random);
+        let Some(probe) = self.probe_of(pair) else {
+            return vec![self.operation(random)];
+        };
+        let mut commands = vec![Command::Query(self.query(random, probe))];
+        for _ in 0..random.below(5) {
+            commands.push(match random.below(9) {
+                0 | 1 => Command::Probe(probe),
+                2 | 3 => Command::Refer(pair),
+                4 | 5 => Command::Drop(pair),
+                6 | 7 => Command::Query(self.query(random, probe)),
+                _ => self.operation(random),
+            });
+        }
+        commands
     }
 
     /// A pair to refer to, remembered from now on.
@@ -95,7 +118,11 @@ impl<'a> Operator<'a> {
     }
 
     fn referred_probe(&self, random: &mut Random) -> Option<Probe> {
-        let pair = random.pick_any(&self.referred)?;
+        self.probe_of(*random.pick_any(&self.referred)?)
+    }
+
+    /// The filling's column and the value of a pair.
+    fn probe_of(&self, pair: Pair) -> Option<Probe> {
         let filling = self.design.fillings.get(usize::from(pair.filling))?;
         Some(Probe {
             column: filling.column,
@@ -116,8 +143,13 @@ impl<'a> Operator<'a> {
         })
     }
 
-    fn query(&self, random: &mut Random) -> Query {
-        let Probe { column, value } = self.probe(random);
+    /// A query of a column and a value. The pair that it may refer is remembered.
+    fn query(&mut self, random: &mut Random, probe: Probe) -> Query {
+        let Probe { column, value } = probe;
+        let mut fillings = (0..).zip(&self.design.fillings);
+        if let Some((filling, _)) = fillings.find(|(_, filling)| filling.column == column) {
+            self.referred.push(Pair { filling, value });
+        }
         let mut tables = vec![column.table];
         let mut joins = Vec::new();
         for _ in 0..random.within(0..=PAIRS) {

@@ -33,6 +33,16 @@ impl Answer<'_> {
         self.text.split(' ').collect()
     }
 
+    /// Whether it is the refusal of lists for which there are too few words.
+    pub fn is_too_long(&self) -> bool {
+        self.text.starts_with("refused 11 ")
+    }
+
+    /// Whether it is a query's answer.
+    pub fn has_lists(&self) -> bool {
+        self.text.starts_with("answer ")
+    }
+
     /// The outcome that the answer counts under.
     pub fn outcome(&self) -> String {
         match self.words()[..] {

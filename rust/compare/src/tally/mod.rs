@@ -4,8 +4,10 @@
 //! - `names` has what is counted.
 //! - `answer` takes a report apart.
 //! - `links` tells how a design's tables are linked.
+//! - `fetching` tells what came of queries that refer.
 
 mod answer;
+mod fetching;
 mod links;
 mod names;
 
@@ -15,6 +17,7 @@ use std::fmt;
 use notation::{split, Command, Piece};
 use reference::ANSWER_WORDS;
 
+use crate::level::Level;
 use answer::{answers, number, Answer};
 use links::{has_cycle, links, way, Link};
 use names::{kind, COMMANDS};
@@ -77,11 +80,13 @@ impl Tally {
             self.count_top_values(&pieces[..end], &pieces[end + 1..], &answers);
             self.count_evenness(head, &links(&pieces[..end]), &answers);
         }
-        if answers
-            .iter()
-            .any(|answer| answer.text.starts_with("refused 11 "))
-        {
+        if answers.iter().any(Answer::is_too_long) {
             self.count_few_words_too_many(script, &answers);
+        }
+        if pieces.iter().any(|piece| kind(piece) == "query") {
+            for outcome in fetching::outcomes(script) {
+                self.count(outcome.into(), 1);
+            }
         }
     }
 
@@ -98,10 +103,13 @@ impl Tally {
         }
     }
 
-    /// The outcomes never reached.
-    pub fn missing(&self) -> Vec<&'static str> {
-        let reached = |outcome: &&str| self.counts.contains_key(*outcome);
-        OUTCOMES.into_iter().filter(|name| !reached(name)).collect()
+    /// The outcomes of a level that were never reached.
+    pub fn missing(&self, level: Level) -> Vec<&'static str> {
+        let of_level = OUTCOMES.into_iter().filter(|(since, _)| level.has(*since));
+        let names = of_level.map(|(_, name)| name);
+        names
+            .filter(|name| !self.counts.contains_key(*name))
+            .collect()
     }
 
     fn count(&mut self, outcome: String, count: u64) {
@@ -183,9 +191,9 @@ impl Tally {
         let report = reference::report_lending(script, TOO_MANY_WORDS);
         let operations = report.split_once('\n').map_or("", |(_, rest)| rest);
         let lent_more = answers(operations);
-        let answered = expected.iter().zip(&lent_more);
-        let changed = answered.filter(|(one, other)| one.text != other.text);
-        let count = changed.count() as u64;
+        let both = expected.iter().zip(&lent_more);
+        let enough = both.filter(|(one, other)| one.is_too_long() && other.has_lists());
+        let count = enough.count() as u64;
         if count > 0 {
             self.count("refused 11 for 4,098 words".into(), count);
         }
@@ -201,7 +209,7 @@ impl fmt::Display for Tally {
             writeln!(out, "{given:>9}  {answered:>9}  {kind}")?;
         }
         writeln!(out, "{:>9}  outcomes", "reached")?;
-        for outcome in OUTCOMES {
+        for (_, outcome) in OUTCOMES {
             let count = self.counts.get(outcome).copied().unwrap_or(0);
             writeln!(out, "{count:>9}  {outcome}")?;
         }
@@ -407,13 +415,34 @@ mod tests {
     #[test]
     fn what_was_not_reached_is_missing() {
         let mut tally = Tally::default();
-        assert_eq!(tally.missing(), OUTCOMES);
+        let names = OUTCOMES.map(|(_, name)| name);
+        assert_eq!(tally.missing(Level::NOW), names);
         let mut other = Tally::default();
         other.add(&[], "refused 6 3\n");
         tally.merge(other);
-        let rest = OUTCOMES
-            .into_iter()
-            .filter(|name| *name != "design refused 6");
-        assert_eq!(tally.missing(), rest.collect::<Vec<_>>());
+        let rest = names.into_iter().filter(|name| *name != "design refused 6");
+        assert_eq!(tally.missing(Level::NOW), rest.collect::<Vec<_>>());
+    }
+
+    #[test]
+    fn only_what_a_level_has_can_be_missing() {
+        let missing = |request| Tally::default().missing(Level::before(request));
+        assert!(missing(2).contains(&"even") && !missing(1).contains(&"even"));
+        let referred = "query referred with lists";
+        assert!(missing(3).contains(&referred) && !missing(2).contains(&referred));
+        assert!(missing(1).contains(&"loaded"));
+    }
+
+    /// Two more words would change what is held behind the query, and so the
+    /// probe; only the query counts.
+    #[test]
+    fn a_few_words_too_many_are_counted_once() {
+        let rows = "row 0 1 2\n".repeat(50) + "row 0 1 3\n";
+        let rows = rows + &"row 1 2\n".repeat(40) + &"row 1 3\n".repeat(49);
+        let design = "table 2\ntable 1\nconstraint 0.1 -> 1.0\nfilling 0.0 1..9\n";
+        let operations = "query 0.0 = 1 join 0 by 0\nprobe 0.0 = 1\n";
+        let counted = counted_for(&[&format!("{design}{rows}end\n{operations}")]);
+        assert!(counted.contains(&("refused 11 for 4,098 words".into(), 1)));
+        assert!(counted.contains(&("query refused 11, its reference undone".into(), 1)));
     }
 }

@@ -1,0 +1,133 @@
+//! Levels of the desk: what it answered before a request of document 02.
+
+use notation::{split, Piece};
+
+use crate::replay::Replay;
+
+/// The requests that scripts may use.
+#[derive(Clone, Copy, Debug, PartialEq, Eq)]
+pub struct Level {
+    /// The first one that they may not.
+    before: u32,
+}
+
+impl Level {
+    /// All requests there are.
+    pub const NOW: Level = Level { before: u32::MAX };
+
+    /// The requests before a number.
+    pub fn before(request: u32) -> Level {
+        Level { before: request }
+    }
+
+    /// Whether scripts may use the request with this number; 0 is document 01.
+    pub fn has(self, request: u32) -> bool {
+        request < self.before
+    }
+
+    /// The script without what it must not use: a desk of this level and any
+    /// later one report the same on what is left.
+    pub fn script(self, script: Vec<u8>) -> Vec<u8> {
+        if self == Level::NOW {
+            return script;
+        }
+        let mut pieces = split(&script);
+        pieces.retain(|piece| self.has(request_of(piece)));
+        let script: Vec<u8> = pieces.iter().flat_map(Piece::bytes).collect();
+        if self.has(2) {
+            script
+        } else {
+            without_fetching(&script)
+        }
+    }
+}
+
+/// The request that a piece's command came with, even if it is cut short.
+fn request_of(piece: &Piece) -> u32 {
+    match piece.bytes().first() {
+        Some(0x14) => 1,
+        _ => 0,
+    }
+}
+
+/// The script without the queries that refer their value first.
+fn without_fetching(script: &[u8]) -> Vec<u8> {
+    let Some(mut replay) = Replay::new(script) else {
+        return script.to_vec();
+    };
+    let mut kept = script[..replay.place()].to_vec();
+    while replay.command().is_some() {
+        let place = replay.place();
+        if replay.fetches() {
+            replay.skip();
+        } else {
+            replay.perform();
+            kept.extend(&script[place..replay.place()]);
+        }
+    }
+    kept.extend(&script[replay.place()..]);
+    kept
+}
+
+#[cfg(test)]
+mod tests {
+    use super::*;
+    use crate::generate;
+    use notation::{assemble, disassemble};
+
+    #[test]
+    fn only_queries_that_refer_are_taken_out() {
+        let text = "table 1\ntable 1\nconstraint 0.0 -> 1.0\nfilling 0.0 1..9\nrow 0 1\nend\n\
+            query 0.0 = 1\nquery 0.0 = 10\nquery 1.0 = 1\neven\nrefer 0 1\nquery 0.0 = 1\n\
+            query 0.0 = 2\nquery 1.0 = 1\nquery 0.0 = 0\nbytes 0xff\n";
+        let left = text
+            .replacen("query 0.0 = 1\n", "", 1)
+            .replace("query 0.0 = 2\n", "");
+        let script = assemble(text).expect("a right text");
+        let script = Level::before(2).script(script);
+        assert_eq!(disassemble(&script), left);
+        let script = Level::before(1).script(script);
+        assert_eq!(disassemble(&script), left.replace("even\n", ""));
+    }
+
+    #[test]
+    fn an_undone_reference_is_one_too() {
+        let rows = "row 0 1\n".repeat(50) + &"row 1 1\n".repeat(41);
+        let design = "table 1\ntable 1\nconstraint 0.0 -> 1.0\nfilling 0.0 1..9\n";
+        let text = format!("{design}{rows}end\nquery 0.0 = 1 join 0 by 0\nprobe 0.0 = 1\n");
+        let script = assemble(&text).expect("a right text");
+        assert!(reference::report(&script).ends_with("0 refused 11 3117\n1 sent\n"));
+        let script = Level::before(2).script(script);
+        assert!(reference::report(&script).ends_with("\n0 sent\n"));
+    }
+
+    #[test]
+    fn refused_designs_and_the_last_level_stay_as_they_are() {
+        for number in 0..500 {
+            let script = generate::script(4, number);
+            assert_eq!(Level::NOW.script(script.clone()), script);
+            if Replay::new(&script).is_none() {
+                let before = Level::before(2).script(script.clone());
+                assert_eq!(before, script);
+            }
+        }
+    }
+
+    #[test]
+    fn nothing_is_referred_by_what_is_left() {
+        let mut taken_out = 0;
+        for number in 0..1_000 {
+            let script = generate::script(4, number);
+            let left = Level::before(2).script(script.clone());
+            taken_out += usize::from(left != script);
+            let Some(mut replay) = Replay::new(&left) else {
+                continue;
+            };
+            while replay.command().is_some() {
+                assert!(!replay.fetches(), "{}", disassemble(&left));
+                replay.perform();
+            }
+        }
+        assert!(taken_out > 200, "{taken_out}");
+    }
+}

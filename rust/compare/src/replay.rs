@@ -1,0 +1,77 @@
+//! Scripts replayed on the second implementation, command by command: what a
+//! report doesn't show can be asked in between.
+
+use reference::design::Design;
+use reference::desk::{Answer, Desk};
+use reference::refusal::Cause;
+use reference::script::{read_command, Command};
+use reference::ANSWER_WORDS;
+
+/// A script with an accepted design, up to some command behind END.
+pub struct Replay<'a> {
+    script: &'a [u8],
+    place: usize,
+    desk: Desk,
+}
+
+impl Replay<'_> {
+    /// Reads the design, if it is accepted.
+    pub fn new(script: &[u8]) -> Option<Replay<'_>> {
+        let (design, place) = Design::read(script).ok()?;
+        Some(Replay {
+            script,
+            place,
+            desk: Desk::new(design, ANSWER_WORDS),
+        })
+    }
+
+    /// The byte at which the next command begins.
+    pub fn place(&self) -> usize {
+        self.place
+    }
+
+    /// The next command, if it can be read.
+    pub fn command(&self) -> Option<Command> {
+        let read = read_command(self.script, self.place).ok();
+        read.map(|(command, _)| command)
+    }
+
+    /// The ground of the value that the next command asks for, if it is a query
+    /// with right operands: nothing if it has none.
+    pub fn ground(&self) -> Option<u8> {
+        let Some(Command::Query(query)) = self.command() else {
+            return None;
+        };
+        let (column, value) = (query.column, query.value);
+        let probed = self.desk.clone().perform(&Command::Probe { column, value });
+        match probed {
+            Ok(Answer::Ground(ground)) => Some(ground),
+            _ => None,
+        }
+    }
+
+    /// Whether the next command has no ground and refers its value first, be it
+    /// that the reference is undone.
+    pub fn fetches(&self) -> bool {
+        let Some(command @ Command::Query(_)) = self.command() else {
+            return false;
+        };
+        let answer = self.desk.clone().perform(&command);
+        let is_answered = matches!(answer, Ok(Answer::Lists(_)) | Err(Cause::AnswerTooLong));
+        is_answered && self.ground().is_none()
+    }
+
+    /// Passes over the next command.
+    pub fn skip(&mut self) {
+        if let Ok((_, next)) = read_command(self.script, self.place) {
+            self.place = next;
+        }
+    }
+
+    /// Carries out the next command. There is no answer if it can't be read.
+    pub fn perform(&mut self) -> Option<Result<Answer, Cause>> {
+        let command = self.command()?;
+        self.skip();
+        Some(self.desk.perform(&command))
+    }
+}

@@ -1,0 +1,183 @@
+//! What came of queries that have no ground, or refer their value first, and of
+//! operations on such a value afterwards.
+
+use reference::design::Design;
+use reference::desk::Answer;
+use reference::refusal::Cause;
+use reference::script::{Column, Command, Pair};
+
+use crate::replay::Replay;
+
+const MOST_HELD: usize = 64;
+
+/// The outcomes of a script's queries, in its order. A script whose design is
+/// refused has none.
+pub fn outcomes(script: &[u8]) -> Vec<&'static str> {
+    let design = Design::read(script).map(|(design, _)| design);
+    let (Ok(design), Some(replay)) = (design, Replay::new(script)) else {
+        return Vec::new();
+    };
+    let mut watch = Watch {
+        design,
+        replay,
+        held: Vec::new(),
+        undone: Vec::new(),
+    };
+    let mut outcomes = Vec::new();
+    while let Some(command) = watch.replay.command() {
+        outcomes.extend(watch.outcome(command));
+    }
+    outcomes
+}
+
+/// A script on its way.
+struct Watch<'a> {
+    design: Design,
+    replay: Replay<'a>,
+    /// The pairs held, and whether a query referred them.
+    held: Vec<(Pair, bool)>,
+    /// The pairs whose reference was undone last, and which aren't held.
+    undone: Vec<Pair>,
+}
+
+impl Watch<'_> {
+    /// Carries out the next command, and gives what came of it.
+    fn outcome(&mut self, command: Command) -> Option<&'static str> {
+        let (ground, fetches) = (self.replay.ground(), self.replay.fetches());
+        let answer = self.replay.perform()?;
+        match (command, answer) {
+            (Command::Refer(pair), Ok(answer)) => self.refer(pair, &answer),
+            (Command::Drop(pair), Ok(_)) => {
+                let place = self.held.iter().position(|(held, _)| *held == pair)?;
+                let (_, by_query) = self.held.remove(place);
+                by_query.then_some("drop of what a query referred")
+            }
+            (Command::Query(query), answer) => {
+                let pair = self.pair(query.column, query.value);
+                if let Some(pair) = pair.filter(|_| fetches) {
+                    return Some(self.fetch(pair, &answer));
+                }
+                match answer {
+                    Ok(Answer::Sent) => Some(self.sent(pair)),
+                    Ok(_) if matches!(ground, Some(2 | 3)) => {
+                        let candidate = pair.filter(|pair| self.is_candidate(*pair));
+                        candidate.map(|_| "query of a candidate by ground 2 or 3")
+                    }
+                    _ => None,
+                }
+            }
+            _ => None,
+        }
+    }
+
+    fn refer(&mut self, pair: Pair, answer: &Answer) -> Option<&'static str> {
+        match answer {
+            Answer::Loaded { .. } => {
+                self.held.push((pair, false));
+                let undone = self.undone.contains(&pair);
+                self.undone.retain(|other| *other != pair);
+                undone.then_some("load behind an undone reference")
+            }
+            Answer::Held if self.held.contains(&(pair, true)) => Some("held since a query"),
+            _ => None,
+        }
+    }
+
+    /// What came of a query that referred the pair first.
+    fn fetch(&mut self, pair: Pair, answer: &Result<Answer, Cause>) -> &'static str {
+        self.undone.retain(|other| *other != pair);
+        let Ok(Answer::Lists(lists)) = answer else {
+            self.undone.push(pair);
+            return "query refused 11, its reference undone";
+        };
+        self.held.push((pair, true));
+        match (lists.is_empty(), self.held.len()) {
+            (_, MOST_HELD) => "query referred at 63 held values",
+            (true, _) => "query referred without lists",
+            (false, _) => "query referred with lists",
+        }
+    }
+
+    /// Why a query was sent, of which this is the pair to refer.
+    fn sent(&self, pair: Option<Pair>) -> &'static str {
+        match pair {
+            None => "query sent for no filling",
+            Some(pair) if !self.is_candidate(pair) => "query sent for no candidate",
+            Some(_) => "query sent at 64 held values",
+        }
+    }
+
+    /// The filling of a column, with the value.
+    fn pair(&self, column: Column, value: u32) -> Option<Pair> {
+        let mut fillings = self.design.fillings.iter();
+        let filling = fillings.position(|filling| filling.column == column)?;
+        Some(Pair { filling, value })
+    }
+
+    fn is_candidate(&self, pair: Pair) -> bool {
+        let filling = self.design.fillings[pair.filling];
+        (filling.low..=filling.high).contains(&pair.value)
+    }
+}
+
+#[cfg(test)]
+mod tests {
+    use super::*;
+    use notation::assemble;
+
+    const DESIGN: &str = "table 2 unique 1\ntable 1\nconstraint 0.0 -> 1.0\n\
+        filling 0.0 1..90\nfilling 0.1 1..9\nrow 0 1 7\nrow 1 1\nend\n";
+
+    /// The outcomes of operations on a design.
+    fn outcomes_of(operations: &str) -> Vec<&'static str> {
+        let script = assemble(&format!("{DESIGN}{operations}"));
+        outcomes(&script.expect("a right text"))
+    }
+
+    #[test]
+    fn queries_that_refer_and_what_follows_them() {
+        let operations = "query 0.0 = 1 join 0 by 0\nrefer 0 1\ndrop 0 1\nquery 0.0 = 2\n\
+            refer 0 1\nrefer 0 1\nquery 0.0 = 1\nquery 0.1 = 7\nquery 1.0 = 1\ndrop 0 1\n";
+        let expected = [
+            "query referred with lists",
+            "held since a query",
+            "drop of what a query referred",
+            "query referred without lists",
+            "query of a candidate by ground 2 or 3",
+        ];
+        assert_eq!(outcomes_of(operations), expected);
+    }
+
+    #[test]
+    fn queries_that_are_sent() {
+        let held: String = (1..=64).map(|value| format!("refer 0 {value}\n")).collect();
+        let operations = format!("query 1.0 = 1\nquery 0.0 = 91\n{held}query 0.0 = 65\n");
+        let expected = [
+            "query sent for no filling",
+            "query sent for no candidate",
+            "query sent at 64 held values",
+        ];
+        assert_eq!(outcomes_of(&operations), expected);
+    }
+
+    #[test]
+    fn the_last_place_is_told_apart() {
+        let held: String = (1..=63).map(|value| format!("refer 0 {value}\n")).collect();
+        let expected = ["query referred at 63 held values"];
+        assert_eq!(outcomes_of(&format!("{held}query 0.0 = 64\n")), expected);
+    }
+
+    #[test]
+    fn references_that_are_undone() {
+        let rows = "row 0 1\n".repeat(50) + &"row 1 1\n".repeat(41);
+        let design = "table 1\ntable 1\nconstraint 0.0 -> 1.0\nfilling 0.0 1..9\n";
+        let query = "query 0.0 = 1 join 0 by 0\n";
+        let text = format!("{design}{rows}end\n{query}{query}refer 0 1\n{query}drop 0 1\n");
+        let expected = [
+            "query refused 11, its reference undone",
+            "query refused 11, its reference undone",
+            "load behind an undone reference",
+        ];
+        assert_eq!(outcomes(&assemble(&text).expect("a right text")), expected);
+    }
+}
