@@ -1,7 +1,8 @@
--- HeldRecord: the record and what it holds. LoadLaws: the levels of a load over lent rows. Covered: why a drop adds no row.
+-- HeldRecord: the record and what it holds. TakenLaws: whether a REFER takes a pair. LoadLaws: the levels of a load over lent rows. Covered: why a drop adds no row.
 -- DistinctLaws: when rows have no value twice in a unique column. Answering: the answers along the order of causes. Steps, ProbeSteps: what the
 -- code's tests say of the answer and of the state afterwards. ThinForm, Thin: the wrappers over a record that is lent.
 pub mod HeldRecord
+pub mod TakenLaws
 pub mod LoadLaws
 pub mod Covered
 pub mod DistinctLaws

@@ -6,6 +6,7 @@ mod loads;
 mod outcome;
 mod probing;
 mod referring;
+mod taking;
 mod tests;
 mod values;
 
@@ -15,4 +16,6 @@ pub use lending::refer;
 pub use outcome::Outcome;
 pub use probing::probe_lawful;
 pub use referring::refer_lawful;
+pub use taking::filling_for;
+pub use taking::takes;
 pub use tests::cause;

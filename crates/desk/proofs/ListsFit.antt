@@ -16,8 +16,8 @@ use Rattle.model.specs.Holding.{Pair, holds, hasRoom, heldIn}
 use Rattle.model.specs.Even.{lowestUneven}
 use Rattle.model.specs.Runs.{Question, probe, evenness, refer, drop, marked, Cache}
 use Rattle.model.specs.Query as Q
-use Rattle.model.specs.Query.{joinsOf, operandsFit, wordsOf, mostJoins}
-use Rattle.model.specs.Answers.{Answer, held, noCandidate, ground, sent, lists, even, uneven, evenAnswer, shown, hasLists, unless, orAnswer, questionAnswer, queryGround, fullLists, queryAnswer, answer}
+use Rattle.model.specs.Query.{joinsOf, operandsFit, wordsOf, fullLists, mostJoins}
+use Rattle.model.specs.Answers.{Answer, held, noCandidate, ground, sent, lists, even, uneven, evenAnswer, shown, hasLists, unless, orAnswer, questionAnswer, isAnswered, queryAnswer, answer}
 use Rattle.model.proofs.ListLaws.{fitting-words}
 use Rattle.state.specs.declared.design.Table as State-table
 use Rattle.state.specs.declared.design.Constraint as State-constraint
@@ -102,7 +102,7 @@ module _ (p room : ℕ) where
       query-within =
           let n = length (wordsOf (fullLists S D q)) in
           unless-within (not (operandsFit S q)) 5 _ (λ fit. unless-within (isBlank (q .value)) 9 _ (λ _.
-          or-within (eqb (queryGround S D c q) 0) sent _ (λ h. clash h refl)
+          or-within (not (isAnswered S D c q)) sent _ (λ h. clash h refl)
           (unless-within (not (leb n room)) 11 _ (λ l _.
           all-within (not-false (operandsFit S q) fit) (leb-true n room (not-false (leb n room) l))))))
 

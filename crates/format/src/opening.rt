@@ -13,6 +13,7 @@ use crate::repeating::first_repeat;
 use crate::verdict::DesignReading;
 use crate::verdict::Verdict;
 use state::Design;
+use state::copy_bytes;
 
 pub const MOST_BYTES: usize = 65536;
 
@@ -70,21 +71,12 @@ fn read_rows(
 
 // ---- into lent buffers
 
-// Stores the rows of an accepted design, 4,096 cells and 512 row tables, and marks no row. Longer buffers are untouched past these.
+// Stores the cells of an accepted design. Longer buffers are untouched past these.
 fn copy_cells(from: &[u32], to: &mut [u32])
     requires { ⌜ (length (now from) ≡ 4096) × (4096 ≤ length (now to)) ⌝ }
     ensures { λ _. ⌜ now (to .exit) ≡ now (from .entry) ++ drop 4096 (now (to .entry)) ⌝ }
 {
     for i in 0..Design::CELLS {
-        to[i] = from[i];
-    }
-}
-
-fn copy_bytes(from: &[u8], to: &mut [u8])
-    requires { ⌜ (length (now from) ≡ 512) × (512 ≤ length (now to)) ⌝ }
-    ensures { λ _. ⌜ now (to .exit) ≡ now (from .entry) ++ drop 512 (now (to .entry)) ⌝ }
-{
-    for i in 0..Design::ROWS {
         to[i] = from[i];
     }
 }

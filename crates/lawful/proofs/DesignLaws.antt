@@ -1,6 +1,7 @@
 -- What the tests of a design say, both ways, and what the layers above use of a lawful design. Assumes nothing.
 use Prim.Native.Nat.{ℕ, _≤_, _<_}
 use native.Mathlib.Nat.{lt-of-lt-of-le}
+use native.Mathlib.Decide.{decLt}
 use native.Mathlib.Omega.{arith}
 use mathlib.Core.Path.{_≡_, sym, ap, _∙_}
 use mathlib.Core.Bool.{true, false, and-eq-true-iff}
@@ -11,6 +12,7 @@ use Rattle.finite.proofs.Search.{none-before, not-before}
 use Rattle.model.specs.Cell.{numbered, isBlank}
 use Rattle.model.specs.Scheme as Model
 use Rattle.model.specs.Scheme.{ColumnOf, Scheme, isColumn, sameColumn, candidate}
+use Rattle.model.specs.Demand.{FillingAt, FillingsApart}
 use Rattle.model.proofs.DatabaseLaws.{same-column, same-column-self}
 use Rattle.state.specs.declared.design.Table.{Table}
 use Rattle.state.specs.declared.design.Column.{Column}
@@ -227,3 +229,16 @@ low-full d e f l v c =
     let h : fillingAt d f .low ≤ v = leb-true _ _ (and-eq-true-iff _ _ .0 c .0) in
     let g = design-says d e .filling f l .low in
     ne-eqb v 0 (λ z. omega arith)
+
+-- no two fillings of a lawful design have one column
+pub fillings-apart : (d : Design) → lawfulDesign d ≡ true → FillingsApart (schemeOf d)
+unfolding FillingsApart schemeOf
+fillings-apart d e k f g a b = order (decLt f g) (decLt g f)
+  where
+    same : columnOf (fillingAt d f .column) ≡ columnOf (fillingAt d g .column)
+    same = same-column _ k (a .column) ∙ sym (same-column _ k (b .column))
+
+    order : Dec (f < g) → Dec (g < f) → f ≡ g
+    order (yes l) m = absurd (design-says d e .fillingOnce f g l (b .below) (columns-same _ _ same))
+    order (no l) (yes m) = absurd (design-says d e .fillingOnce g f m (a .below) (sym (columns-same _ _ same)))
+    order (no l) (no m) = omega arith

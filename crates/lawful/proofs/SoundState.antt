@@ -15,8 +15,8 @@ use Rattle.model.specs.Answers.{Answer, refused, unless, answer, written}
 use Rattle.model.specs.Runs.{Operation, marks, Cache, cacheAfter}
 use Rattle.model.proofs.Marks.{length-marks}
 use Rattle.model.proofs.HoldingLaws.{HoldingFits, step-fit}
-use Rattle.model.proofs.RunLaws.{step-held}
-use Rattle.model.proofs.Fresh.{Fresh, step-fresh}
+use Rattle.model.proofs.RunLaws.{Sound, step-held}
+use Rattle.model.proofs.Fresh.{Fresh, fresh-sound, step-fresh}
 use Rattle.state.specs.declared.design.Design.{Design}
 use Rattle.state.specs.declared.held.Held.{Held}
 use Rattle.state.specs.Meaning.{schemeOf, databaseOf, holdingOf, heldOf, cacheOf}
@@ -84,6 +84,14 @@ fresh-lawful d cells tables h m rest f =
     all-true 512 _ (λ r k. eq-eqb _ _ (List·getD-append m rest 0 r (omega (arith, fresh-long d cells tables _ f)) ∙
     ap (λ (xs : List ℕ). getD xs r 0) (f .reloaded) ∙ tab-at 0 512 _ r k))
 
+-- the cache of a sound state has the marks of a reload, and is the smallest row set for what it holds
+module _ (s : State) (e : sound s ≡ true) where
+  pub sound-fresh : Fresh (scheme s) (database s) (cache s)
+  sound-fresh = lawful-fresh (s .design) (s .cells) (s .tables) (s .held) (s .marks) (parts s e .long .marks) (parts s e .marks)
+
+  pub sound-smallest : Sound (scheme s) (database s) (cache s)
+  sound-smallest = fresh-sound (scheme s) (database s) (cache s) sound-fresh
+
 -- ---- an operation
 
 -- the cache that it leaves
@@ -92,13 +100,11 @@ after s o = cacheAfter (scheme s) (database s) (cache s) o
 
 module _ (s : State) (e : sound s ≡ true) (o : Operation) where
   after-fresh : Fresh (scheme s) (database s) (after s o)
-  after-fresh =
-      step-fresh (scheme s) (database s) (cache s) o
-      (lawful-fresh (s .design) (s .cells) (s .tables) (s .held) (s .marks) (parts s e .long .marks) (parts s e .marks))
+  after-fresh = step-fresh (scheme s) (database s) (cache s) o (sound-fresh s e)
 
-  after-fit : HoldingFits (scheme s) (after s o .held)
+  pub after-fit : HoldingFits (scheme s) (after s o .held)
   after-fit =
-      rw (step-held (scheme s) (database s) (cache s) o)
+      rw (step-held (cache s) o (sound-smallest s e))
       (step-fit (scheme s) (database s) (holdingOf (s .held)) o (holding-fits (s .design) (s .held) (parts s e .held)))
 
   pub answer-at : answerAt s o ≡ answer (scheme s) (database s) (cache s) o

@@ -1,26 +1,28 @@
--- Demand 2: a probe or a query that isn't refused is sent exactly if there is no ground; else a query's lists are those of the full tables.
+-- Demand 2: a probe or a query that isn't refused is sent exactly if there is no ground, for a query on the cache after the reference; else a query's lists
+-- are those of the full tables.
 -- Assumes nothing.
 use Prim.Native.Nat.{ℕ}
 use native.Mathlib.Omega.{arith}
-use mathlib.Core.Path.{_≡_, refl, sym, ap, _∙_}
-use mathlib.Core.Logic.{_↔_, _≢_, _⊎_, inl, inr, ⊎-elim}
-use mathlib.Core.Bool.{Bool, true, false, not}
-use borrow.Author.Tests.{eqb-true, eq-eqb, ltb-false}
+use mathlib.Core.Path.{_≡_, refl, sym, ap, subst, _∙_}
+use mathlib.Core.Logic.{_↔_, _≢_, ⊎-elim}
+use mathlib.Core.Bool.{Bool, true, false, not, _||_}
+use borrow.Author.Tests.{eqb-true, eqb-false, eq-eqb, ltb-false}
 use lib.Dec.{eqb, leb, ltb}
 use lib.ListN.{length}
-use Rattle.finite.proofs.Bools.{dec, clash}
+use Rattle.finite.proofs.Bools.{dec, both, clash}
 use Rattle.model.specs.Cell.{Cell, isBlank}
 use Rattle.model.specs.Scheme.{Column, Scheme, isColumn}
 use Rattle.model.specs.Database.{Database, Lawful}
 use Rattle.model.specs.Probe as Probe
 use Rattle.model.specs.Holding.{heldIn}
-use Rattle.model.specs.Runs.{probe, marked, Cache}
-use Rattle.model.specs.Query.{Query, operandsFit, wordsOf}
-use Rattle.model.specs.Answers.{Answer, sent, lists, ground, unless, orAnswer, groundOf, questionAnswer, queryGround, queryAnswer, queryWords, hasLists, shown, writtenWith, fullLists}
-use Rattle.model.specs.Demand.{Groundless, Unrefused, Demand2}
+use Rattle.model.specs.Runs.{probe, query, taken, pairFor, answerable, marked, Cache, cacheAfter}
+use Rattle.model.specs.Query.{Query, joinsOf, operandsFit, fitting, wordsOf, fullLists}
+use Rattle.model.specs.Answers.{Answer, sent, lists, ground, unless, orAnswer, groundOf, questionAnswer, queryGround, isAnswered, queryAnswer, queryWords, hasLists, shown, writtenWith}
+use Rattle.model.specs.Demand.{Groundless, Unrefused, FillingsApart, Unreferred, Demand2}
 use Rattle.model.proofs.ProbeLaws.{probe-sent}
 use Rattle.model.proofs.QueryLaws.{query-lists}
-use Rattle.model.proofs.RunLaws.{Sound}
+use Rattle.model.proofs.RunLaws.{Sound, step-sound}
+use Rattle.model.proofs.Referring.{untaken, unreferred, ground-keeps, untaken-keeps, refers-pair, pair-ground}
 
 lists-not-sent : (a : Answer) (n : ℕ) → a ≡ lists n → a ≡ sent → ⊥
 lists-not-sent a n e f = let z : _≡_ {A = ℕ} 0 1 = cc in omega arith
@@ -64,42 +66,115 @@ module _ (S : Scheme) (D : Database) (c : Cache) (k : Column) (v : Cell) where
 -- the answer by its four tests
 module _ (n : ℕ) where
   abbrev byTests : Bool → Bool → Bool → Bool → Answer
-  byTests fit blank none room = unless (not fit) 5 (unless blank 9 (orAnswer none sent (unless (not room) 11 (lists n))))
+  byTests fit blank answered room = unless (not fit) 5 (unless blank 9 (orAnswer (not answered) sent (unless (not room) 11 (lists n))))
 
   -- unless it is refused, the operands fit, and it is sent or has its lists
-  tests : (fit blank none room : Bool) → Unrefused (byTests fit blank none room) →
-      (fit ≡ true) × (((none ≡ true) × (byTests fit blank none room ≡ sent)) ⊎ ((none ≡ false) × (byTests fit blank none room ≡ lists n)))
+  data Tested (fit blank answered room : Bool) (a : Answer) : Type 0 where
+    sends : fit ≡ true → blank ≡ false → answered ≡ false → a ≡ sent → Tested fit blank answered room a
+    answers : fit ≡ true → blank ≡ false → answered ≡ true → room ≡ true → a ≡ lists n → Tested fit blank answered room a
+
+  tests : (fit blank answered room : Bool) → Unrefused (byTests fit blank answered room) → Tested fit blank answered room (byTests fit blank answered room)
   tests false b g w u = absurd (u 5 refl)
   tests true true g w u = absurd (u 9 refl)
-  tests true false true w u = (refl, inl (refl, refl))
-  tests true false false true u = (refl, inr (refl, refl))
-  tests true false false false u = absurd (u 11 refl)
+  tests true false false w u = sends refl refl refl refl
+  tests true false true true u = answers refl refl refl refl refl
+  tests true false true false u = absurd (u 11 refl)
 
-module _ {S : Scheme} {D : Database} (l : Lawful S D) (c : Cache) (s : Sound S D c) (room : ℕ) (q : Query) (u : Unrefused (queryAnswer S D c room q)) where
-  parted : (operandsFit S q ≡ true) × (((eqb (queryGround S D c q) 0 ≡ true) × (queryAnswer S D c room q ≡ sent)) ⊎
-      ((eqb (queryGround S D c q) 0 ≡ false) × (queryAnswer S D c room q ≡ lists (length (fullLists S D q)))))
+module _ {S : Scheme} {D : Database} (l : Lawful S D) (apart : FillingsApart S) (c : Cache) (s : Sound S D c) (room : ℕ) (q : Query)
+    (u : Unrefused (queryAnswer S D c room q)) where
+  abbrev after : Cache
+  after = cacheAfter S D c (query q room)
+
+  abbrev enough : Bool
+  enough = leb (length (wordsOf (fullLists S D q))) room
+
+  abbrev Parts : Type 0
+  Parts = Tested (length (fullLists S D q)) (operandsFit S q) (isBlank (q .value)) (isAnswered S D c q) enough (queryAnswer S D c room q)
+
+  parted : Parts
   unfolding queryAnswer
-  parted =
-      tests (length (fullLists S D q)) (operandsFit S q) (isBlank (q .value)) (eqb (queryGround S D c q) 0) (leb (length (wordsOf (fullLists S D q))) room) u
+  parted = tests (length (fullLists S D q)) (operandsFit S q) (isBlank (q .value)) (isAnswered S D c q) enough u
 
-  no-ground : queryAnswer S D c room q ≡ sent → Groundless S D c (q .column) (q .value)
-  unfolding queryGround
-  no-ground e =
-      ⊎-elim (λ p. none-found S D c (q .column) (q .value) (eqb-true (queryGround S D c q) 0 (p .0))) (λ p. absurd (lists-not-sent _ _ (p .1) e)) (parted .1)
+  -- ---- one that is sent
 
-  sent-without : queryGround S D c q ≡ 0 → queryAnswer S D c room q ≡ sent
-  sent-without e = ⊎-elim (λ p. p .1) (λ p. clash (eq-eqb (queryGround S D c q) 0 e) (p .0)) (parted .1)
+  -- it has no ground, and its pair is not taken
+  unanswered : isAnswered S D c q ≡ false → (queryGround S D c q ≡ 0) × (taken S (c .held) (pairFor S q) ≡ false)
+  unfolding isAnswered
+  unanswered e = (eqb-true _ 0 (go (eqb (queryGround S D c q) 0) (taken S (c .held) (pairFor S q)) e .0), go (eqb (queryGround S D c q) 0) (taken S (c .held) (pairFor S q)) e .1)
+    where
+      go : (g t : Bool) → not g || t ≡ false → (g ≡ true) × (t ≡ false)
+      go true false e = (refl, refl)
+      go true true e = clash refl e
+      go false t e = clash refl e
+
+  -- ---- one that is answered
+
+  -- it has a ground afterwards
+  answered-ground : operandsFit S q ≡ true → isBlank (q .value) ≡ false → isAnswered S D c q ≡ true → enough ≡ true → queryGround S D after q ≢ 0
+  unfolding isAnswered answerable
+  answered-ground f b y w =
+      ⊎-elim
+      (λ (g : eqb (queryGround S D c q) 0 ≡ true).
+      let t : taken S (c .held) (pairFor S q) ≡ true = ap (λ (x : Bool). not x || taken S (c .held) (pairFor S q)) (sym g) ∙ y in
+      let o = pair-ground S D c q t b in
+      λ z. let k = ap (λ (e : Cache). queryGround S D e q) (refers-pair S D c q room (both f (both (ap not b) w)) (eqb-true _ 0 g) t) in omega (arith, o, k, z))
+      (λ (g : eqb (queryGround S D c q) 0 ≡ false).
+      λ z. eqb-false _ 0 g (sym (ap (λ (e : Cache). queryGround S D e q) (ground-keeps S D c q room (eqb-false _ 0 g))) ∙ z))
+      (dec (eqb (queryGround S D c q) 0))
 
   listed : queryAnswer S D c room q ≢ sent → queryAnswer S D c room q ≡ lists (length (fullLists S D q))
-  listed n = ⊎-elim (λ p. absurd (n (p .1))) (λ p. p .1) (parted .1)
+  listed n = go parted
+    where
+      go : Parts → queryAnswer S D c room q ≡ lists (length (fullLists S D q))
+      go (sends f b a e) = absurd (n e)
+      go (answers f b a w e) = e
+
+  -- ---- the two together
+
+  no-ground : queryAnswer S D c room q ≡ sent → Groundless S D c (q .column) (q .value) × (taken S (c .held) (pairFor S q) ≡ false)
+  unfolding queryGround
+  no-ground e = go parted
+    where
+      go : Parts → Groundless S D c (q .column) (q .value) × (taken S (c .held) (pairFor S q) ≡ false)
+      go (sends f b a e′) = (none-found S D c (q .column) (q .value) (unanswered a .0), unanswered a .1)
+      go (answers f b a w e′) = absurd (lists-not-sent _ _ e′ e)
+
+  no-ground-after : queryAnswer S D c room q ≡ sent → Groundless S D after (q .column) (q .value)
+  no-ground-after e =
+      subst (λ (d : Cache). Groundless S D d (q .column) (q .value)) (sym (untaken-keeps S D c q room (no-ground e .1))) (no-ground e .0)
+
+  sent-without : queryGround S D after q ≡ 0 → queryAnswer S D c room q ≡ sent
+  sent-without z = go parted
+    where
+      go : Parts → queryAnswer S D c room q ≡ sent
+      go (sends f b a e) = e
+      go (answers f b a w e) = absurd (answered-ground f b a w z)
+
+  sent-unreferred : Groundless S D c (q .column) (q .value) → Unreferred S (c .held) (q .column) (q .value) → queryAnswer S D c room q ≡ sent
+  unfolding queryGround isAnswered
+  sent-unreferred g r = go parted
+    where
+      go : Parts → queryAnswer S D c room q ≡ sent
+      go (sends f b a e) = e
+      go (answers f b a w e) =
+          let z = found-none S D c (q .column) (q .value) g in
+          absurd (unreferred S (c .held) q apart r (ap (λ (x : Bool). not x || taken S (c .held) (pairFor S q)) (sym (eq-eqb _ 0 z)) ∙ a))
+
+  lists-cached : queryAnswer S D c room q ≢ sent → fullLists S D q ≡ fitting S D (marked (after .marks)) (q .column) (q .value) (joinsOf q)
+  lists-cached n = go parted
+    where
+      go : Parts → fullLists S D q ≡ fitting S D (marked (after .marks)) (q .column) (q .value) (joinsOf q)
+      go (sends f b a e) = absurd (n e)
+      go (answers f b a w e) = sym (query-lists l after (step-sound c (query q room) s) q f (answered-ground f b a w))
 
   -- THEOREM: demand 2, in every sound cache of a lawful database, of a query that isn't refused
   pub demand2 : Demand2 S D c room q
   unfolding queryGround queryWords writtenWith hasLists shown
   demand2 =
       record {
-        backend = (no-ground, λ g. sent-without (found-none S D c (q .column) (q .value) g));
+        backend = (no-ground-after, λ g. sent-without (found-none S D after (q .column) (q .value) g));
+        unreferred = (λ e. (no-ground e .0, untaken S (c .held) q (no-ground e .0 .held) (no-ground e .1)), λ p. sent-unreferred (p .0) (p .1));
         count = listed;
         words = λ n. ap (λ (a : Answer). writtenWith a (wordsOf (fullLists S D q))) (listed n);
-        cached = λ n. sym (query-lists l c s q (parted .0) (λ e. n (sent-without e)));
+        cached = lists-cached;
       }

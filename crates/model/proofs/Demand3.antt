@@ -16,7 +16,7 @@ pub demand3-from : {S : Scheme} {D : Database} → Lawful S D → (c : Cache) �
 demand3-from {S} {D} lawful c s os = record { smallest = m; probes = λ k col v f n. exact lawful m col v f n }
   where
     m : Smallest S D (heldIn S (heldFrom S D (c .held) os)) (marked (cacheFrom S D c os .marks))
-    m = rw (run-held S D c os) at (run-sound c os s)
+    m = rw (run-held c os s) at (run-sound c os s)
 
 -- demand 3: the same after any run from the empty cache
 pub demand3 : {S : Scheme} {D : Database} → Lawful S D → (os : List Operation) →
@@ -27,4 +27,4 @@ demand3 {S} {D} lawful os = demand3-from lawful (emptyCache D) (empty-sound S D)
 -- after a run the cache holds what the run holds, in order
 pub run-holds : (S : Scheme) (D : Database) (os : List Operation) → cacheFrom S D (emptyCache D) os .held ≡ heldFrom S D nothingHeld os
 unfolding emptyCache
-run-holds S D os = run-held S D (emptyCache D) os
+run-holds S D os = run-held (emptyCache D) os (empty-sound S D)

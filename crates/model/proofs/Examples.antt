@@ -7,7 +7,7 @@ use mathlib.Core.List.{List, [], _∷_}
 use borrow.Author.Tests.{ltb-true}
 use lib.Dec.{eqb, ltb}
 use lib.ListN.{length, getD}
-use Rattle.finite.specs.Finite.{any, count, tab, collect}
+use Rattle.finite.specs.Finite.{any, count, tab, collect, firstOf, firstFrom}
 use Rattle.model.specs.Cell.{isBlank, equal, numbered}
 use Rattle.model.specs.Scheme.{Column, sameColumn, Constraint, candidate, Scheme, isColumn}
 use Rattle.model.specs.Database.{Database, has}
@@ -15,9 +15,9 @@ use Rattle.model.specs.Probe
 use Rattle.model.specs.Rounds.{leads, demands, start, reachedFrom, next, levels, reached, load, addedRows, laterRounds}
 use Rattle.finite.specs.Sameness.{listed, remove}
 use Rattle.model.specs.Holding.{samePair, one, pairsHold, pairsWant}
-use Rattle.model.specs.Runs.{probe, Operation, refer, drop, ask, query, taken, marks, marked, Cache, emptyCache, referLevels, reloadLevels, cacheAfter, cacheFrom}
-use Rattle.model.specs.Query.{Join, Query, joinsFit, unused, operandsFit, joinValue, extend, fitting, wordsOf}
-use Rattle.model.specs.Answers.{Answer, loaded, dropped, ground, sent, lists, questionAnswer, queryGround, fullLists, queryAnswer, shown, hasLists, writtenWith, queryWords, answer, written}
+use Rattle.model.specs.Runs.{probe, Operation, refer, drop, ask, query, taken, marks, marked, Cache, emptyCache, referLevels, reloadLevels, fillingFor, answerable, refers, cacheAfter, cacheFrom}
+use Rattle.model.specs.Query.{Join, Query, joinsFit, unused, operandsFit, joinValue, extend, fitting, wordsOf, fullLists}
+use Rattle.model.specs.Answers.{Answer, loaded, dropped, ground, sent, lists, questionAnswer, queryGround, isAnswered, queryAnswer, shown, hasLists, writtenWith, queryWords, answer, written}
 
 -- ---- what a case is, and when it passes
 
@@ -189,6 +189,6 @@ unfolding gives cases a1 a2 a3 a4 a5 a6 a7 b1 b2 b3 b4 b5
     answer written questionAnswer cacheFrom cacheAfter emptyCache taken candidate listed samePair remove referLevels reloadLevels marks marked pairsHold one pairsWant
     load start levels next reachedFrom demands leads reached addedRows laterRounds
     Probe.probe Probe.demanded Probe.uniquelySeen Probe.seen has sameColumn isColumn isBlank equal
-    queryAnswer queryWords queryGround fullLists writtenWith hasLists shown operandsFit joinsFit unused fitting extend joinValue wordsOf
-    any count tab collect
+    queryAnswer queryWords queryGround isAnswered fillingFor answerable refers fullLists writtenWith hasLists shown operandsFit joinsFit unused fitting extend joinValue wordsOf
+    any count tab collect firstOf firstFrom
 all-pass = refl and refl and refl and refl and refl and refl and refl and refl and refl and refl and refl and refl and end

@@ -6,8 +6,8 @@ use mathlib.Core.List.{List}
 use Rattle.model.specs.Scheme.{Scheme}
 use Rattle.model.specs.Database.{Database}
 use Rattle.model.specs.Rounds.{reached}
-use Rattle.model.specs.Holding.{holds, withPair}
-use Rattle.model.specs.Runs.{Operation, refer, drop, ask, query, taken, marks, Cache, reloadLevels, cacheAfter}
+use Rattle.model.specs.Holding.{Pair, holds, withPair}
+use Rattle.model.specs.Runs.{Operation, refer, drop, ask, query, taken, pairFor, refers, marks, marked, Cache, reloadLevels, referred, cacheAfter}
 use Rattle.model.proofs.Loads.{one-smallest}
 use Rattle.model.proofs.Marks.{marks-same}
 use Rattle.model.proofs.RunLaws.{Sound, refer-smallest, held-smallest, reload-sound}
@@ -24,12 +24,15 @@ cond-fresh : {S : Scheme} {D : Database} (b : Bool) (c e : Cache) → Fresh S D 
 cond-fresh true c e m n = m
 cond-fresh false c e m n = n
 
--- an operation leaves one: a load from the smallest set and a reload reach the same rows
+-- a load from the smallest set and a reload reach the same rows
+refer-fresh : (S : Scheme) (D : Database) (c : Cache) (p : Pair) → Fresh S D c → Fresh S D (referred S D c p)
+refer-fresh S D c p f =
+    record { reloaded = marks-same D _ _ (λ r l. one-smallest (refer-smallest c p (fresh-sound S D c f)) (held-smallest S D (withPair (c .held) p)) r) }
+
+-- an operation leaves one
 pub step-fresh : (S : Scheme) (D : Database) (c : Cache) (o : Operation) → Fresh S D c → Fresh S D (cacheAfter S D c o)
 unfolding cacheAfter
-step-fresh S D c (refer p) f =
-    cond-fresh (taken S (c .held) p) _ c
-    (record { reloaded = marks-same D _ _ (λ r l. one-smallest (refer-smallest c p (fresh-sound S D c f)) (held-smallest S D (withPair (c .held) p)) r) }) f
+step-fresh S D c (refer p) f = cond-fresh (taken S (c .held) p) _ c (refer-fresh S D c p f) f
 step-fresh S D c (drop p) f = cond-fresh (holds (c .held) p) _ c (record { reloaded = refl }) f
 step-fresh S D c (ask q) f = f
-step-fresh S D c (query q room) f = f
+step-fresh S D c (query q room) f = cond-fresh (refers S D (c .held) (marked (c .marks)) q room) _ c (refer-fresh S D c (pairFor S q) f) f

@@ -1,4 +1,4 @@
--- Runs of operations: what a cache holds is found from the operands alone, and a cache that is the smallest row set for what it holds stays so. Assumes nothing.
+-- Runs of operations: what a cache holds is found from the rows, the operands and the words lent alone, and a cache that is the smallest row set for what it holds stays so. Assumes nothing.
 use Prim.Native.Nat.{ℕ}
 use mathlib.Core.Path.{_≡_, refl, sym, ap, _∙_, fun-ext}
 use mathlib.Core.Bool.{Bool, true, false, cond, _||_, or-false, or-assoc}
@@ -6,32 +6,14 @@ use mathlib.Core.List.{List, [], _∷_, _++_}
 use Rattle.model.specs.Cell.{Cell}
 use Rattle.model.specs.Scheme.{Column, Scheme}
 use Rattle.model.specs.Database.{Database}
-use Rattle.model.specs.Cache.{Smallest}
+use Rattle.model.specs.Cache.{RowSet, Smallest}
 use Rattle.model.specs.Rounds.{reached}
 use Rattle.model.specs.Holding.{Pair, Holding, holds, withPair, withoutPair, one, pairsHold, pairsWant, heldIn, wanted}
-use Rattle.model.specs.Runs.{Operation, refer, drop, ask, query, taken, heldAfter, heldFrom, marked, Cache, emptyCache, referLevels, reloadLevels, reloaded, cacheAfter, cacheFrom}
+use Rattle.model.specs.Runs.{Operation, refer, drop, ask, query, taken, pairFor, refers, heldAfter, heldFrom, marked, Cache, emptyCache, referLevels, reloadLevels, reloaded, cacheAfter, cacheFrom}
 use Rattle.model.proofs.Loads.{one-smallest, Wants, load-smallest, reload-smallest, none-smallest, none-wants, one-wants, both-want}
 use Rattle.model.proofs.Marks.{marks-smallest}
 
 -- ---- what is held
-
-held-cond : (b : Bool) (c d : Cache) → cond b c d .held ≡ cond b (c .held) (d .held)
-held-cond true c d = refl
-held-cond false c d = refl
-
--- what an operation leaves held is found from the operands alone
-pub step-held : (S : Scheme) (D : Database) (c : Cache) (o : Operation) → cacheAfter S D c o .held ≡ heldAfter S D (c .held) o
-unfolding cacheAfter heldAfter
-step-held S D c (refer p) = held-cond (taken S (c .held) p) _ c
-step-held S D c (drop p) = held-cond (holds (c .held) p) _ c
-step-held S D c (ask q) = refl
-step-held S D c (query q room) = refl
-
--- so is what a run leaves held
-pub run-held : (S : Scheme) (D : Database) (c : Cache) (os : List Operation) → cacheFrom S D c os .held ≡ heldFrom S D (c .held) os
-unfolding cacheFrom heldFrom
-run-held S D c [] = refl
-run-held S D c (o ∷ os) = run-held S D (cacheAfter S D c o) os ∙ ap (λ (h : Holding). heldFrom S D h os) (step-held S D c o)
 
 -- a pair put at the end holds one value more
 pub held-more : (S : Scheme) (h : Holding) (p : Pair) →
@@ -86,7 +68,8 @@ unfolding cacheAfter
 step-sound {S} c (refer p) m = cond-sound (taken S (c .held) p) _ c (marks-smallest (refer-smallest c p m)) m
 step-sound {S} {D} c (drop p) m = cond-sound (holds (c .held) p) _ c (marks-smallest (held-smallest S D (withoutPair (c .held) p))) m
 step-sound c (ask q) m = m
-step-sound c (query q room) m = m
+step-sound {S} {D} c (query q room) m =
+    cond-sound (refers S D (c .held) (marked (c .marks)) q room) _ c (marks-smallest (refer-smallest c (pairFor S q) m)) m
 
 -- so does a run
 pub run-sound : {S : Scheme} {D : Database} (c : Cache) (os : List Operation) → Sound S D c → Sound S D (cacheFrom S D c os)
@@ -103,3 +86,26 @@ reload-sound S D h = marks-smallest (held-smallest S D h)
 -- the rows that a sound cache marks are those that a reload reaches
 pub sound-reloaded : {S : Scheme} {D : Database} (c : Cache) → Sound S D c → (r : ℕ) → marked (c .marks) r ≡ reached (reloadLevels S D (c .held)) r
 sound-reloaded {S} {D} c m = one-smallest m (held-smallest S D (c .held))
+
+-- ---- what a run holds
+
+held-cond : (b : Bool) (c d : Cache) → cond b c d .held ≡ cond b (c .held) (d .held)
+held-cond true c d = refl
+held-cond false c d = refl
+
+-- what an operation leaves held is found from the rows, the operands and the words lent alone
+pub step-held : {S : Scheme} {D : Database} (c : Cache) (o : Operation) → Sound S D c → cacheAfter S D c o .held ≡ heldAfter S D (c .held) o
+unfolding cacheAfter heldAfter
+step-held {S} c (refer p) m = held-cond (taken S (c .held) p) _ c
+step-held c (drop p) m = held-cond (holds (c .held) p) _ c
+step-held c (ask q) m = refl
+step-held {S} {D} c (query q room) m =
+    held-cond (refers S D (c .held) (marked (c .marks)) q room) _ c ∙
+    ap (λ (X : RowSet). cond (refers S D (c .held) X q room) (withPair (c .held) (pairFor S q)) (c .held)) (fun-ext (sound-reloaded c m))
+
+-- so is what a run leaves held
+pub run-held : {S : Scheme} {D : Database} (c : Cache) (os : List Operation) → Sound S D c → cacheFrom S D c os .held ≡ heldFrom S D (c .held) os
+unfolding cacheFrom heldFrom
+run-held c [] m = refl
+run-held {S} {D} c (o ∷ os) m =
+    run-held (cacheAfter S D c o) os (step-sound c o m) ∙ ap (λ (h : Holding). heldFrom S D h os) (step-held c o m)

@@ -1,7 +1,7 @@
 -- What the operations answer, and the causes of refusal that an operation itself can have: 5, 9, then 10, 8 or 11 (01, "What the operations do"
 -- and "Causes of refusal"). Assumes nothing.
 use Prim.Native.Nat.{ℕ}
-use mathlib.Core.Bool.{Bool, true, false, not, cond, _&&_}
+use mathlib.Core.Bool.{Bool, true, false, not, cond, _&&_, _||_}
 use mathlib.Core.List.{List, [], _∷_}
 use lib.Dec.{eqb, leb, ltb}
 use lib.ListN.{length}
@@ -13,8 +13,8 @@ use Rattle.model.specs.Probe
 use Rattle.model.specs.Rounds.{addedRows, laterRounds, reached}
 use Rattle.model.specs.Even.{unevenFrom, lowestUneven}
 use Rattle.model.specs.Holding.{holds, hasRoom, withoutPair, heldIn}
-use Rattle.model.specs.Runs.{Question, probe, evenness, Operation, refer, drop, ask, query, marked, Cache, referLevels, reloadLevels}
-use Rattle.model.specs.Query.{Query, joinsOf, operandsFit, fitting, wordsOf}
+use Rattle.model.specs.Runs.{Question, probe, evenness, Operation, refer, drop, ask, query, taken, pairFor, marked, Cache, referLevels, reloadLevels}
+use Rattle.model.specs.Query.{Query, operandsFit, wordsOf, fullLists}
 
 -- `loaded` rows rounds, `held`, `no candidate`, `dropped` rows, `ground` g, `sent`, `answer` lists, `refused` number; `even`, `uneven` i j (02, Req 01)
 pub data Answer : Type 0 where
@@ -89,16 +89,16 @@ questionAnswer S D c evenness = evenAnswer S
 unfoldable pub queryGround : Scheme → Database → Cache → Query → ℕ
 queryGround S D c q = Probe.probe S D (heldIn S (c .held)) (marked (c .marks)) (q .column) (q .value)
 
--- demand 2: the list from the full tables, as words
-unfoldable pub fullLists : Scheme → Database → Query → List (List ℕ)
-fullLists S D q = fitting S D (D .live) (q .column) (q .value) (joinsOf q)
+-- the query is answered: it has a ground, or it is referred first (02, Req 02)
+unfoldable pub isAnswered : Scheme → Database → Cache → Query → Bool
+isAnswered S D c q = not (eqb (queryGround S D c q) 0) || taken S (c .held) (pairFor S q)
 
 -- the answer where `room` words are lent
 unfoldable pub queryAnswer : Scheme → Database → Cache → ℕ → Query → Answer
 queryAnswer S D c room q =
     unless (not (operandsFit S q)) 5
     (unless (isBlank (q .value)) 9
-    (orAnswer (eqb (queryGround S D c q) 0) sent
+    (orAnswer (not (isAnswered S D c q)) sent
     (unless (not (leb (length (wordsOf (fullLists S D q))) room)) 11
     (lists (length (fullLists S D q))))))
 

@@ -1,18 +1,18 @@
 -- Demand 2, of a question that isn't refused, and demand 3, of what is held and the rows that are cached. Assumes nothing.
-use Prim.Native.Nat.{ℕ}
+use Prim.Native.Nat.{ℕ, _<_}
 use mathlib.Core.Path.{_≡_}
 use mathlib.Core.Logic.{_↔_, _≢_}
-use mathlib.Core.Bool.{false}
+use mathlib.Core.Bool.{true, false}
 use lib.ListN.{length}
 use Rattle.model.specs.Cell.{Cell, Fits, isBlank}
-use Rattle.model.specs.Scheme.{Column, Scheme, ColumnOf}
+use Rattle.model.specs.Scheme.{Column, sameColumn, candidate, Scheme, ColumnOf}
 use Rattle.model.specs.Database.{Database}
 use Rattle.model.specs.Cache.{RowSet, Complete, Smallest, Alike}
 use Rattle.model.specs.Probe.{demanded, uniquelySeen, probe}
-use Rattle.model.specs.Holding.{Holding, heldIn}
-use Rattle.model.specs.Runs.{marked, Cache}
-use Rattle.model.specs.Query.{Query, joinsOf, fitting, wordsOf}
-use Rattle.model.specs.Answers.{Answer, sent, lists, refused, fullLists, queryAnswer, queryWords}
+use Rattle.model.specs.Holding.{Holding, hasRoom, heldIn}
+use Rattle.model.specs.Runs.{query, marked, Cache, cacheAfter}
+use Rattle.model.specs.Query.{Query, joinsOf, fitting, wordsOf, fullLists}
+use Rattle.model.specs.Answers.{Answer, sent, lists, refused, queryAnswer, queryWords}
 
 -- the probing rule finds no ground for v in column k: none of the three applies
 pub record Groundless (S : Scheme) (D : Database) (c : Cache) (k : Column) (v : Cell) : Type 0 where
@@ -23,13 +23,33 @@ pub record Groundless (S : Scheme) (D : Database) (c : Cache) (k : Column) (v : 
 abbrev pub Unrefused : Answer → Type 0
 Unrefused a = (n : ℕ) → a ≢ refused n
 
--- DEMAND 2, of the query q, where `room` words are lent: it goes to the backend if and only if the probing rule finds no ground; else its list
--- equals the list from the full tables, in order, and is the list of cached rows
+-- filling f is one of column k
+pub record FillingAt (S : Scheme) (k : Column) (f : ℕ) : Type 0 where
+  pub below : f < S .fillings
+  pub column : sameColumn (S .filling f .column) k ≡ true
+
+-- no filling column twice, as cause 5 has it
+unfoldable pub FillingsApart : Scheme → Type 0
+FillingsApart S = (k : Column) (f g : ℕ) → FillingAt S k f → FillingAt S k g → f ≡ g
+
+-- why a query of the value v in column k is not referred (02, Req 02): "the column has no filling, the value is no candidate, or 64 values are held"
+pub data Unreferred (S : Scheme) (h : Holding) (k : Column) (v : Cell) : Type 0 where
+  noFilling : ((f : ℕ) → FillingAt S k f → ⊥) → Unreferred S h k v
+  noCandidate : (f : ℕ) → FillingAt S k f → candidate (S .filling f) v ≡ false → Unreferred S h k v
+  full : hasRoom h ≡ false → Unreferred S h k v
+
+-- DEMAND 2, of the query q, where `room` words are lent and c is the cache before it. "Demand 2, its probe as well as its match with the full tables, is
+-- judged on the cache after the reference" (02, Req 02).
 pub record Demand2 (S : Scheme) (D : Database) (c : Cache) (room : ℕ) (q : Query) : Type 0 where
-  pub backend : (queryAnswer S D c room q ≡ sent) ↔ Groundless S D c (q .column) (q .value)
+  -- it goes to the backend if and only if the probing rule finds no ground
+  pub backend : (queryAnswer S D c room q ≡ sent) ↔ Groundless S D (cacheAfter S D c (query q room)) (q .column) (q .value)
+  -- "It is "sent" exactly if it has no ground and one of these is so": it had none before, and is not referred
+  pub unreferred : (queryAnswer S D c room q ≡ sent) ↔ (Groundless S D c (q .column) (q .value) × Unreferred S (c .held) (q .column) (q .value))
+  -- else its list equals the list from the full tables, in order, and is the list of cached rows
   pub count : queryAnswer S D c room q ≢ sent → queryAnswer S D c room q ≡ lists (length (fullLists S D q))
   pub words : queryAnswer S D c room q ≢ sent → queryWords S D c room q ≡ wordsOf (fullLists S D q)
-  pub cached : queryAnswer S D c room q ≢ sent → fullLists S D q ≡ fitting S D (marked (c .marks)) (q .column) (q .value) (joinsOf q)
+  pub cached : queryAnswer S D c room q ≢ sent →
+      fullLists S D q ≡ fitting S D (marked (cacheAfter S D c (query q room) .marks)) (q .column) (q .value) (joinsOf q)
 
 -- the cached rows are the smallest row set for the held values; and for each column of the design and each value other than blank, a probe says
 -- yes exactly when the value is complete in every lawful database, of any number of rows, from which the same rows would have been cached

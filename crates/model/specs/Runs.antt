@@ -1,18 +1,19 @@
--- Operations and runs: what a list of operations leaves held, found from the scheme, the rows and the operands alone, and what it leaves cached (01,
--- "Runs"). Assumes nothing.
+-- Operations and runs: what a list of operations leaves held, found from the scheme, the rows, the operands and the words lent alone, and what it leaves
+-- cached (01, "Runs"; 02, Req 02). Assumes nothing.
 use Prim.Native.Nat.{ℕ}
 use mathlib.Core.Bool.{Bool, false, not, cond, _&&_}
 use mathlib.Core.List.{List, [], _∷_}
-use lib.Dec.{eqb, ltb}
-use lib.ListN.{getD}
-use Rattle.finite.specs.Finite.{tab}
-use Rattle.model.specs.Cell.{Cell}
-use Rattle.model.specs.Scheme.{Column, candidate, Scheme}
+use lib.Dec.{eqb, leb, ltb}
+use lib.ListN.{length, getD}
+use Rattle.finite.specs.Finite.{first, tab}
+use Rattle.model.specs.Cell.{Cell, isBlank}
+use Rattle.model.specs.Scheme.{Column, sameColumn, candidate, Scheme}
 use Rattle.model.specs.Database.{Database, has}
 use Rattle.model.specs.Cache.{RowSet}
+use Rattle.model.specs.Probe
 use Rattle.model.specs.Rounds.{reached, load}
-use Rattle.model.specs.Holding.{Pair, Holding, nothingHeld, holds, hasRoom, withPair, withoutPair, wanted}
-use Rattle.model.specs.Query.{Query}
+use Rattle.model.specs.Holding.{Pair, Holding, nothingHeld, holds, hasRoom, withPair, withoutPair, heldIn, wanted}
+use Rattle.model.specs.Query.{Query, operandsFit, wordsOf, fullLists}
 
 -- a question, which changes nothing
 pub data Question : Type 0 where
@@ -31,16 +32,51 @@ pub data Operation : Type 0 where
 unfoldable pub taken : Scheme → Holding → Pair → Bool
 taken S h p = ltb (p .filling) (S .fillings) && (candidate (S .filling (p .filling)) (p .value) && (not (holds h p) && hasRoom h))
 
--- what is held after an operation, and after a run
+-- the levels of a load of one more value, and of a load of all values from nothing, which a drop makes
+unfoldable pub referLevels : Scheme → Database → RowSet → Pair → List ℕ
+referLevels S D X p = load S D X (has D (S .filling (p .filling) .column) (p .value))
+
+unfoldable pub reloadLevels : Scheme → Database → Holding → List ℕ
+reloadLevels S D h = load S D (λ _. false) (wanted S D h)
+
+-- the rows that are cached for what is held
+abbrev pub cachedFor : Scheme → Database → Holding → RowSet
+cachedFor S D h = reached (reloadLevels S D h)
+
+-- ---- queries that refer (02, Req 02)
+
+-- the filling of a column, of which a lawful design has one at the most; the number of fillings if there is none
+unfoldable pub fillingFor : Scheme → Column → ℕ
+fillingFor S k = first (S .fillings) (λ f. sameColumn (S .filling f .column) k)
+
+-- the pair that a query refers: the filling of its column, and its value
+abbrev pub pairFor : Scheme → Query → Pair
+pairFor S q = record { filling = fillingFor S (q .column); value = q .value }
+
+-- neither 5 nor 9 nor 11 refuses the query, with `room` words lent
+unfoldable pub answerable : Scheme → Database → Query → ℕ → Bool
+answerable S D q room = operandsFit S q && (not (isBlank (q .value)) && leb (length (wordsOf (fullLists S D q))) room)
+
+-- "A QUERY without a ground whose column is a filling column and whose value is a candidate is now referred first": with h held and the rows X cached it
+-- has no ground and its pair is taken, and it isn't refused ("With 11 the reference is undone")
+unfoldable pub refers : Scheme → Database → Holding → RowSet → Query → ℕ → Bool
+refers S D h X q room = answerable S D q room && (eqb (Probe.probe S D (heldIn S h) X (q .column) (q .value)) 0 && taken S h (pairFor S q))
+
+-- ---- what is held
+
+-- after an operation: a query's pair is found "by the definitions and not by what the program answers"
 unfoldable pub heldAfter : Scheme → Database → Holding → Operation → Holding
 heldAfter S D h (refer p) = cond (taken S h p) (withPair h p) h
 heldAfter S D h (drop p) = cond (holds h p) (withoutPair h p) h
 heldAfter S D h (ask q) = h
-heldAfter S D h (query q room) = h
+heldAfter S D h (query q room) = cond (refers S D h (cachedFor S D h) q room) (withPair h (pairFor S q)) h
 
+-- after a run
 unfoldable pub heldFrom : Scheme → Database → Holding → List Operation → Holding
 heldFrom S D h [] = h
 heldFrom S D h (o ∷ os) = heldFrom S D (heldAfter S D h o) os
+
+-- ---- what is cached
 
 -- marks: 1 for a cached row, 0 for another number
 unfoldable pub marks : Database → RowSet → List ℕ
@@ -57,23 +93,19 @@ pub record Cache : Type 0 where
 unfoldable pub emptyCache : Database → Cache
 emptyCache D = record { held = nothingHeld; marks = marks D (λ _. false) }
 
--- the levels of a load of one more value, and of a load of all values from nothing, which a drop makes
-unfoldable pub referLevels : Scheme → Database → RowSet → Pair → List ℕ
-referLevels S D X p = load S D X (has D (S .filling (p .filling) .column) (p .value))
-
-unfoldable pub reloadLevels : Scheme → Database → Holding → List ℕ
-reloadLevels S D h = load S D (λ _. false) (wanted S D h)
+-- a pair more is held, and loaded
+abbrev pub referred : Scheme → Database → Cache → Pair → Cache
+referred S D c p = record { held = withPair (c .held) p; marks = marks D (reached (referLevels S D (marked (c .marks)) p)) }
 
 -- the smallest set for what is held, loaded from nothing
 abbrev pub reloaded : Scheme → Database → Holding → Cache
-reloaded S D h = record { held = h; marks = marks D (reached (reloadLevels S D h)) }
+reloaded S D h = record { held = h; marks = marks D (cachedFor S D h) }
 
 unfoldable pub cacheAfter : Scheme → Database → Cache → Operation → Cache
-cacheAfter S D c (refer p) =
-    cond (taken S (c .held) p) (record { held = withPair (c .held) p; marks = marks D (reached (referLevels S D (marked (c .marks)) p)) }) c
+cacheAfter S D c (refer p) = cond (taken S (c .held) p) (referred S D c p) c
 cacheAfter S D c (drop p) = cond (holds (c .held) p) (reloaded S D (withoutPair (c .held) p)) c
 cacheAfter S D c (ask q) = c
-cacheAfter S D c (query q room) = c
+cacheAfter S D c (query q room) = cond (refers S D (c .held) (marked (c .marks)) q room) (referred S D c (pairFor S q)) c
 
 unfoldable pub cacheFrom : Scheme → Database → Cache → List Operation → Cache
 cacheFrom S D c [] = c

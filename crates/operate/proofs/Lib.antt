@@ -1,3 +1,9 @@
--- Performed: from the four operations to any. EvenBound: how many rounds a REFER of an even design takes.
+-- QueryLists, ReferredCopy, QueryCases, Referred, QuerySteps: a query, with and without a reference. Performed: from each operation to any. EvenBound: how many rounds a REFER of
+-- an even design takes.
+pub mod QueryLists
+pub mod ReferredCopy
+pub mod QueryCases
+pub mod Referred
+pub mod QuerySteps
 pub mod Performed
 pub mod EvenBound

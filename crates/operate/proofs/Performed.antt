@@ -1,5 +1,5 @@
--- From what the functions of the four operations give to what any operation gives: those that ask change nothing, and those that change write no
--- words. Assumes nothing.
+-- From what the functions of the operations give to what any operation gives: those that ask change nothing, and REFER and DROP write no words. (QUERY:
+-- QueryCases.) Assumes nothing.
 use Prim.Native.Nat.{ℕ, _+_}
 use mathlib.Core.Path.{_≡_, refl, sym, ap, _∙_}
 use mathlib.Core.Bool.{true}
@@ -7,8 +7,7 @@ use mathlib.Core.List.{List, []}
 use lib.ListN.{length}
 use lib.Seq.{sets}
 use Rattle.model.specs.Holding.{Pair}
-use Rattle.model.specs.Query.{Query}
-use Rattle.model.specs.Runs.{Question, evenness, Operation, refer, drop, ask, query, cacheAfter}
+use Rattle.model.specs.Runs.{Question, evenness, Operation, refer, drop, ask, cacheAfter}
 use Rattle.model.specs.Answers.{Answer, refused, evenAnswer, questionAnswer, answer, written}
 use Rattle.state.specs.declared.operation.Operation as State-operation
 use Rattle.state.specs.Meaning.{operationOf}
@@ -39,11 +38,6 @@ module _ (s : State) (e : sound s ≡ true) (w : List ℕ) where
     pub ask-performs : (q : Question) (a : Answer) → a ≡ answerAt s (ask q) → Performed s w (ask q) a s w
     unfolding cacheAfter written
     ask-performs q a h = record { answered = asked (ask q) refl a h; words = wordless (ask q) refl }
-
-    pub query-performs : (q : Query) (room : ℕ) (a : Answer) (w′ : List ℕ) → a ≡ answerAt s (query q room) →
-        w′ ≡ sets w 0 (wordsAt s (query q room)) → Performed s w (query q room) a s w′
-    unfolding cacheAfter
-    query-performs q room a w′ h k = record { answered = asked (query q room) refl a h; words = k }
 
 -- whether a design is even depends on the design alone
 pub even-answers : (s : State) → sound s ≡ true → (a : Answer) → a ≡ evenAnswer (scheme s) → a ≡ answerAt s (ask evenness)

@@ -1,1 +1,2 @@
--- No definitions of its own: what an operation answers and leaves is in state (specs/Lent.antt).
+-- Queries: what a query that is referred first stands on.
+pub mod Queries

@@ -5,13 +5,13 @@ ghost use lib.ListN.{length};
 ghost use Rattle.state.specs.Meaning.{answerOf, operationOf};
 ghost use Rattle.state.specs.Lent.{lent, sound, Performed};
 ghost use Rattle.catalog.specs.Catalog.{Catalogued};
+use crate::querying::query_lawful;
 use cache::Outcome;
 use cache::cause;
 use cache::drop_lawful;
 use cache::probe_lawful;
 use cache::refer_lawful;
 use even::evenness;
-use query::query_lawful;
 use state::Answer;
 use state::Design;
 use state::Held;
@@ -19,7 +19,7 @@ use state::Operation;
 
 // The operation on a state known sound, with the catalog of its rows: no test for causes 7 and 12. The last four arrays are working memory, whatever
 // stands in them. REFER costs one load, DROP one reload, PROBE a look for the value for each constraint that ends at the column, and QUERY the probe
-// of its first position, the counting of its lists and the writing of their words.
+// of its first position, a load if that has no ground and its value is taken, the counting of its lists and the writing of their words.
 pub fn perform_lawful(
     op: Operation,
     design: Design,
@@ -87,27 +87,24 @@ pub fn perform_lawful(
             );
             Outcome { held, answer }
         }
-        Operation::Query(q) => {
-            let answer = query_lawful(
-                design,
-                cells,
-                tables,
-                next,
-                first,
-                keys,
-                heads,
-                starts,
-                marks,
-                held,
-                q,
-                words,
-                weights,
-                sums,
-                froms,
-                links,
-            );
-            Outcome { held, answer }
-        }
+        Operation::Query(q) => query_lawful(
+            design,
+            cells,
+            tables,
+            next,
+            first,
+            keys,
+            heads,
+            starts,
+            marks,
+            held,
+            q,
+            words,
+            weights,
+            sums,
+            froms,
+            links,
+        ),
         Operation::Evenness => {
             let answer = evenness(design);
             Outcome { held, answer }

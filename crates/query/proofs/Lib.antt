@@ -1,7 +1,7 @@
 -- SumLaws, Hops, Chains, CapLaws: lists of rows, counted and pruned by weights, over any tests. WeightLaws, PartLaws, Weighing: the tables that
 -- elimination leaves. Stages, EntryLaws, MemoLaws, FindLaws, WayLaws, Turns, Visited, Found: their entries one at a time, kept where a walk comes.
 -- Writing, ListLaws, Walking: what the lister writes from them. OperandLaws, OperandTests, PlanLaws, Bridge, Planned, Answering: from a query's
--- operands to its lists and their count. QueryCases, LawfulQuery: the operation. MarkedRows, ListTheorems: what is listed.
+-- operands to its lists and their count. MarkedRows, ListTheorems: what is listed.
 pub mod SumLaws
 pub mod Hops
 pub mod Chains
@@ -18,9 +18,7 @@ pub mod Bridge
 pub mod PlanLaws
 pub mod Answering
 pub mod OperandTests
-pub mod QueryCases
 pub mod MarkedRows
-pub mod LawfulQuery
 pub mod ListTheorems
 pub mod Visited
 pub mod Stages

@@ -1,10 +1,9 @@
 -- Sums: sums below n, and numbers under a cap. Weights: elimination. Memo: weights found where they are needed, and kept. Ways: the way back through
 -- rows that are not entered. Lists: what the position step and the row trial write. Plan: a query's pairs by number, and the plan made
--- of a query. Queried: what a query answers and writes.
+-- of a query.
 pub mod Sums
 pub mod Weights
 pub mod Lists
 pub mod Plan
-pub mod Queried
 pub mod Memo
 pub mod Ways

@@ -1,4 +1,4 @@
-// QUERY: the fitting lists of marked rows, counted before a word is written, by weights that are found where they are needed and kept, then
+// Queries: the fitting lists of marked rows, counted before a word is written, by weights that are found where they are needed and kept, then
 // listed by a position step and a row trial that call each other.
 mod arithmetic;
 mod entries;
@@ -6,11 +6,9 @@ mod finding;
 mod lister;
 mod listing;
 mod operands;
-mod operations;
 mod plan;
 mod tables;
 mod ways;
 
 pub use listing::list_fitting;
 pub use operands::operands_fit;
-pub use operations::query_lawful;

@@ -10,13 +10,12 @@ use Rattle.model.specs.Database.{Lawful}
 use Rattle.model.specs.Runs.{ask, probe, query}
 use Rattle.model.specs.Query.{Query}
 use Rattle.model.specs.Answers.{Answer, sent, questionAnswer, queryAnswer, answer}
-use Rattle.model.specs.Demand.{Groundless, Unrefused, Demand2}
-use Rattle.model.proofs.RunLaws.{Sound}
-use Rattle.model.proofs.Fresh.{fresh-sound}
+use Rattle.model.specs.Demand.{Groundless, Unrefused, FillingsApart, Demand2}
 use Rattle.model.proofs.Demand2.{probe-sent-exactly, demand2}
 use Rattle.state.specs.Lent.{State, scheme, database, cache, sound, answerAt}
 use Rattle.lawful.proofs.RowsLaws.{Stored, lawful-database}
-use Rattle.lawful.proofs.SoundState.{parts, lawful-fresh, answer-at}
+use Rattle.lawful.proofs.DesignLaws.{fillings-apart}
+use Rattle.lawful.proofs.SoundState.{parts, sound-smallest, answer-at}
 
 module _ (s : State) (e : sound s ≡ true) where
   -- THEOREM: `operate::perform` of a PROBE, and a PROBE of a script
@@ -35,7 +34,7 @@ module _ (s : State) (e : sound s ≡ true) where
   pub queried-exactly : Stored (s .cells) → (room : ℕ) (q : Query) → Unrefused (answerAt s (query q room)) →
       (answerAt s (query q room) ≡ queryAnswer (scheme s) (database s) (cache s) room q) × Demand2 (scheme s) (database s) (cache s) room q
   unfolding answer
-  queried-exactly u room q n = (at, demand2 lawful (cache s) smallest room q (subst Unrefused at n))
+  queried-exactly u room q n = (at, demand2 lawful apart (cache s) (sound-smallest s e) room q (subst Unrefused at n))
     where
       at : answerAt s (query q room) ≡ queryAnswer (scheme s) (database s) (cache s) room q
       at = answer-at s e (query q room)
@@ -43,7 +42,6 @@ module _ (s : State) (e : sound s ≡ true) where
       lawful : Lawful (scheme s) (database s)
       lawful = lawful-database (s .design) (s .cells) (s .tables) (parts s e .rows) u
 
-      smallest : Sound (scheme s) (database s) (cache s)
-      smallest =
-          fresh-sound (scheme s) (database s) (cache s)
-          (lawful-fresh (s .design) (s .cells) (s .tables) (s .held) (s .marks) (parts s e .long .marks) (parts s e .marks))
+      -- no filling column twice
+      apart : FillingsApart (scheme s)
+      apart = fillings-apart (s .design) (parts s e .design)

@@ -2,21 +2,27 @@
 -- Lent buffers give the same rows, whatever lies past the sizes that a design has. Assumes nothing.
 use Prim.Native.Nat.{ℕ, _+_, _*_, _≤_, _<_}
 use native.Mathlib.Omega.{arith}
-use mathlib.Core.Path.{_≡_, refl, sym, ap, subst, _∙_}
-use mathlib.Core.Bool.{Bool, true, false, cond}
+use mathlib.Core.Path.{_≡_, refl, sym, ap, ap₂, subst, fun-ext, _∙_}
+use mathlib.Core.Bool.{Bool, true, false, not, cond, _&&_}
 use mathlib.Core.List.{List, [], _∷_, _++_}
 use borrow.Author.Tests.{ltb-true}
-use lib.Dec.{ltb}
+use lib.Dec.{eqb, leb, ltb}
 use lib.ListN.{length, getD, List·getD-append}
-use Rattle.model.specs.Cell.{Cell, Fits, numbered, blank, equal}
+use Rattle.model.specs.Cell.{Cell, Fits, numbered, blank, isBlank, equal}
 use Rattle.model.specs.Scheme.{Column, Constraint, Scheme}
 use Rattle.model.specs.Database.{Database, Has, Lawful}
 use Rattle.model.specs.Cache.{RowSet, Inside, Held, Complete, Holds, Meets, Smallest, Alike}
-use Rattle.model.specs.Holding.{Holding}
-use Rattle.model.specs.Runs.{Operation, refer, drop, ask, query, heldAfter, heldFrom}
+use Rattle.model.specs.Probe.{probe}
+use Rattle.model.specs.Holding.{Holding, withPair, heldIn}
+use Rattle.model.specs.Query.{Query, joinsOf, operandsFit, fitting, wordsOf, fullLists}
+use Rattle.model.specs.Runs.{Operation, refer, drop, ask, query, taken, cachedFor, pairFor, answerable, refers, heldAfter, heldFrom}
+use Rattle.model.proofs.Loads.{one-smallest}
+use Rattle.model.proofs.RunLaws.{held-smallest}
+use Rattle.model.proofs.QueryLaws.{SameOn, operands-joins, fitting-reads, probe-reads}
 use Rattle.state.specs.Meaning.{databaseOf}
 
 pub record SameRows (D E : Database) : Type 0 where
+  pub size : D .size ≡ E .size
   pub live : (r : ℕ) → D .live r ≡ E .live r
   pub table : (r : ℕ) → D .live r ≡ true → D .table r ≡ E .table r
   pub cell : (r c : ℕ) → D .live r ≡ true → D .cell r c ≡ E .cell r c
@@ -24,6 +30,7 @@ pub record SameRows (D E : Database) : Type 0 where
 pub same-back : {D E : Database} → SameRows D E → SameRows E D
 same-back w =
     record {
+      size = sym (w .size);
       live = λ r. sym (w .live r);
       table = λ r l. sym (w .table r (w .live r ∙ l));
       cell = λ r c l. sym (w .cell r c (w .live r ∙ l));
@@ -80,18 +87,57 @@ alike-same w inside a =
       smallest = a .smallest;
     }
 
--- what a run holds is the same in both
-after-same : (S : Scheme) {D E : Database} → SameRows D E → (h : Holding) (o : Operation) → heldAfter S D h o ≡ heldAfter S E h o
-unfolding heldAfter
-after-same S w h (refer p) = refl
-after-same S w h (drop p) = refl
-after-same S w h (ask q) = refl
-after-same S w h (query q room) = refl
+-- ---- what a run holds is the same in both
 
-pub held-same : (S : Scheme) {D E : Database} → SameRows D E → (h : Holding) (os : List Operation) → heldFrom S D h os ≡ heldFrom S E h os
-unfolding heldFrom
-held-same S w h [] = refl
-held-same S {D} w h (o ∷ os) = ap (λ (g : Holding). heldFrom S D g os) (after-same S w h o) ∙ held-same S w _ os
+module _ (S : Scheme) {D E : Database} (w : SameRows D E) where
+  -- they agree on any set of rows
+  same-on : (X : RowSet) → Inside X (D .live) → SameOn X D E
+  same-on X i =
+      record { size = w .size; live = λ r x. w .live r; table = λ r x. w .table r (i r x); cell = λ r c x. w .cell r c (i r x) }
+
+  -- so the same rows are cached,
+  cached-same : (h : Holding) → cachedFor S D h ≡ cachedFor S E h
+  cached-same h = fun-ext (one-smallest (smallest-same w (held-smallest S D h)) (held-smallest S E h))
+
+  -- a probe has the same ground,
+  ground-same : (h : Holding) (q : Query) →
+      probe S D (heldIn S h) (cachedFor S D h) (q .column) (q .value) ≡ probe S E (heldIn S h) (cachedFor S E h) (q .column) (q .value)
+  ground-same h q =
+      probe-reads S (heldIn S h) (same-on (cachedFor S D h) (held-smallest S D h .meets .rows)) (q .column) (q .value) ∙
+      ap (λ (X : RowSet). probe S E (heldIn S h) X (q .column) (q .value)) (cached-same h)
+
+  -- and a query whose operands fit the same lists
+  lists-same : (q : Query) → operandsFit S q ≡ true → fullLists S D q ≡ fullLists S E q
+  unfolding fullLists
+  lists-same q f =
+      fitting-reads S (same-on (D .live) (λ r x. x)) (q .column) (q .value) (joinsOf q) (operands-joins S q f) ∙
+      ap (λ (X : RowSet). fitting S E X (q .column) (q .value) (joinsOf q)) (fun-ext (w .live))
+
+  answerable-same : (q : Query) (room : ℕ) → answerable S D q room ≡ answerable S E q room
+  unfolding answerable
+  answerable-same q room = go (operandsFit S q) refl
+    where
+      go : (b : Bool) → operandsFit S q ≡ b →
+          b && (not (isBlank (q .value)) && leb (length (wordsOf (fullLists S D q))) room) ≡ b && (not (isBlank (q .value)) && leb (length (wordsOf (fullLists S E q))) room)
+      go true f = ap (λ (ls : List (List ℕ)). not (isBlank (q .value)) && leb (length (wordsOf ls)) room) (lists-same q f)
+      go false f = refl
+
+  refers-same : (h : Holding) (q : Query) (room : ℕ) → refers S D h (cachedFor S D h) q room ≡ refers S E h (cachedFor S E h) q room
+  unfolding refers
+  refers-same h q room =
+      ap₂ (λ (a : Bool) (g : ℕ). a && (eqb g 0 && taken S h (pairFor S q))) (answerable-same q room) (ground-same h q)
+
+  after-same : (h : Holding) (o : Operation) → heldAfter S D h o ≡ heldAfter S E h o
+  unfolding heldAfter
+  after-same h (refer p) = refl
+  after-same h (drop p) = refl
+  after-same h (ask q) = refl
+  after-same h (query q room) = ap (λ (b : Bool). cond b (withPair h (pairFor S q)) h) (refers-same h q room)
+
+  pub held-same : (h : Holding) (os : List Operation) → heldFrom S D h os ≡ heldFrom S E h os
+  unfolding heldFrom
+  held-same h [] = refl
+  held-same h (o ∷ os) = ap (λ (g : Holding). heldFrom S D g os) (after-same h o) ∙ held-same _ os
 
 -- ---- longer buffers
 
@@ -100,6 +146,7 @@ module _ (rows : ℕ) (cells tables more others : List ℕ) (c : length cells �
   unfolding databaseOf
   longer-same =
       record {
+        size = refl;
         live = λ r. refl;
         table = λ r l. let b = below r l in sym (List·getD-append tables others 0 r (omega arith));
         cell = λ r k l. cell-same r k (below r l) (ltb k 8) (ltb-true k 8);

@@ -11,16 +11,13 @@ use lib.Dec.{ltb}
 use lib.ListN.{length, take, drop as past}
 use lib.Seq.{take-at, drop-at}
 use Rattle.finite.proofs.Bools.{both, clash, cond-true, cond-false}
-use Rattle.model.specs.Holding.{Holding}
 use Rattle.model.specs.Runs as Runs
 use Rattle.model.proofs.Fresh.{step-fresh}
-use Rattle.model.proofs.HoldingLaws.{step-fit}
-use Rattle.model.proofs.RunLaws.{step-held}
 use Rattle.state.specs.declared.operation.Operation.{Operation}
 use Rattle.state.specs.Meaning.{holdingOf, heldOf, operationOf}
 use Rattle.state.specs.Lent.{State, scheme, database, cache, longEnough, lawful, sound, causeAt, stateAfter}
-use Rattle.lawful.proofs.HeldLaws.{holding-fits, holding-back}
-use Rattle.lawful.proofs.SoundState.{parts, lawful-fresh, fresh-long, after, held-after, marks-after, sound-after}
+use Rattle.lawful.proofs.HeldLaws.{holding-back}
+use Rattle.lawful.proofs.SoundState.{sound-fresh, fresh-long, after, after-fit, held-after, marks-after, sound-after}
 use Rattle.format.specs.declared.command.Command.{Command}
 use Rattle.format.specs.declared.command.Command.the-variants.{Table, Constraint, Filling, Row, End, Operate, Unknown, Short}
 use Rattle.format.specs.Bytes.{byteAt}
@@ -40,15 +37,10 @@ pub record Settled (s : State) : Type 0 where
 
 module _ (s : State) (e : sound s ≡ true) (o : Runs.Operation) where
   few : length (after s o .held .pairs) ≤ 64
-  few =
-      let f = step-fit (scheme s) (database s) (holdingOf (s .held)) o (holding-fits (s .design) (s .held) (parts s e .held)) in
-      subst (λ (h : Holding). length (h .pairs) ≤ 64) (sym (step-held (scheme s) (database s) (cache s) o)) (f .few)
+  few = after-fit s e o .few
 
   long : length (after s o .marks) ≡ 512
-  long =
-      fresh-long (s .design) (s .cells) (s .tables) (after s o)
-      (step-fresh (scheme s) (database s) (cache s) o
-      (lawful-fresh (s .design) (s .cells) (s .tables) (s .held) (s .marks) (parts s e .long .marks) (parts s e .marks)))
+  long = fresh-long (s .design) (s .cells) (s .tables) (after s o) (step-fresh (scheme s) (database s) (cache s) o (sound-fresh s e))
 
   after-holding : holdingOf (stateAfter s o .held) ≡ after s o .held
   after-holding = ap holdingOf (held-after s e o) ∙ holding-back (after s o .held) few

@@ -4,6 +4,7 @@
 // an operation answers and leaves in specs/Lent.antt.
 mod answer;
 mod cell;
+mod copying;
 mod design;
 mod equality;
 mod held;
@@ -20,6 +21,7 @@ pub use cell::Cell;
 pub use cell::cell_at;
 pub use cell::is_blank;
 pub use cell::same_cell;
+pub use copying::copy_bytes;
 pub use design::Column;
 pub use design::Constraint;
 pub use design::Design;

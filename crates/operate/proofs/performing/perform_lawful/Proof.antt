@@ -2,7 +2,7 @@
 use borrow.Author.Needs.{needs}
 use Rattle.state.proofs.Arrays.{sized, held-sized}
 use Rattle.lawful.proofs.Asked.{sound-range}
-use Rattle.operate.proofs.Performed.{refer-performs, drop-performs, ask-performs, query-performs, even-answers, in-case}
+use Rattle.operate.proofs.Performed.{refer-performs, drop-performs, ask-performs, even-answers, in-case}
 use Rattle.operate.proofs.performing.perform_lawful.Statement.{statement}
 use Rattle.operate.proofs.performing.perform_lawful.Tie as tie
 
@@ -64,12 +64,7 @@ same-length-5 : tie.Need-same-length-5
 same-length-5 c = search needs
 
 returns-4 : tie.Need-returns-4
-returns-4 c =
-    let q = c .before .before in
-    let o = q .before .before .before .before .before .before .before .before in
-    let b = o .before .before .before .before .before .before in
-    in-case _ _ _ _ _ _ _ _ (o .op4 .given .1)
-    (query-performs _ (b .pre .0) _ (held-sized (b .args .held) _ (b .good .1 .1 .1 .1 .1 .1 .1 .1 .1 .1 .0)) _ _ _ _ (q .query-lawful .ensures .answer) (q .query-lawful .ensures .words))
+returns-4 c = in-case _ _ _ _ _ _ _ _ (c .before .before .before .before .before .before .before .before .before .before .before .before .op4 .given .1) (c .before .before .before .before .query-lawful .ensures)
 
 returns-5 : tie.Need-returns-5
 returns-5 c =

@@ -1,11 +1,11 @@
--- `format::opening::copy_bytes` meets its contract: what is passed is copied. Assumes nothing.
+-- `state::copying::copy_bytes` meets its contract: what is passed is copied. Assumes nothing.
 use Prim.Native.Nat.{_-_, _≤_}
 use native.Mathlib.Omega.{arith}
 use mathlib.Core.Path.{refl}
 use lib.ListN.{length, getD}
 use Rattle.finite.proofs.Tables.{Upto, upto-start, upto-set, upto-copied}
-use Rattle.format.proofs.opening.copy_bytes.Statement.{statement}
-use Rattle.format.proofs.opening.copy_bytes.Tie as tie
+use Rattle.state.proofs.copying.copy_bytes.Statement.{statement}
+use Rattle.state.proofs.copying.copy_bytes.Tie as tie
 
 abbrev Inv-loop : tie.InvT-loop
 Inv-loop from to₀ i₀ to i = (i ≤ 512) × Upto 0 (length to₀) i (λ r. getD from r 0) (λ r. getD to₀ r 0) to

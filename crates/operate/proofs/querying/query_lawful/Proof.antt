@@ -1,0 +1,130 @@
+-- `operate::querying::query_lawful` meets its contract: the causes in their order, then the lists, "sent", or the reference. Assumes nothing.
+use native.Mathlib.Omega.{arith}
+use mathlib.Core.Path.{sym, _∙_}
+use mathlib.Core.List.{[]}
+use borrow.Author.Needs.{needs}
+use borrow.Author.Tests.{not-true, not-false}
+use Rattle.state.proofs.Arrays.{sized, held-sized}
+use Rattle.lawful.proofs.Asked.{sound-range, sound-backed, sound-marks, sound-tidy, sound-filling, sound-fillings}
+use Rattle.query.proofs.PlanLaws.{column-fits}
+use Rattle.operate.proofs.QueryLists.{sound-place}
+use Rattle.operate.proofs.QueryCases.{query-misfit, query-blank}
+use Rattle.operate.proofs.QuerySteps.{filling-byte, step-listed, step-sent, step-refers}
+use Rattle.operate.proofs.querying.query_lawful.Statement.{statement}
+use Rattle.operate.proofs.querying.query_lawful.Tie as tie
+
+operands-fit-requires : tie.Need-operands-fit-requires
+operands-fit-requires c κs = let s = c .before .before .before .before in sound-range _ (s .pre .0) (sized (s .args .design) _ (s .good .0))
+
+returns : tie.Need-returns
+returns c =
+    let s = c .before .before .before .before .before .before in
+    query-misfit _ (s .pre .0) (held-sized (s .args .held) _ (s .good .1 .1 .1 .1 .1 .1 .1 .1 .1 .0)) _ _ (sym (c .before .operands-fit .ensures) ∙ not-true _ (c .if1 .taken))
+
+is-blank-requires : tie.Need-is-blank-requires
+is-blank-requires c κs = search needs
+
+returns-2 : tie.Need-returns-2
+returns-2 c =
+    let s = c .before .before .before .before .before .before .before .before in
+    query-blank _ (s .pre .0) (held-sized (s .args .held) _ (s .good .1 .1 .1 .1 .1 .1 .1 .1 .1 .0)) _ _ (sym (c .before .before .before .operands-fit .ensures) ∙ not-false _ (c .before .before .if1 .left))
+    (sym (c .before .is-blank .ensures) ∙ c .if2 .taken)
+
+ground-requires : tie.Need-ground-requires
+ground-requires c κs =
+    let s = c .before .before .before .before .before .before .before .before .before .before in
+    let f = sym (c .before .before .before .before .before .operands-fit .ensures) ∙ not-false _ (c .before .before .before .before .if1 .left) in
+    let r = sound-range _ (s .pre .0) (sized (s .args .design) _ (s .good .0)) in (
+      (
+        r,
+        sound-marks _ (s .pre .0),
+        sound-tidy _ (s .pre .0) .few,
+        column-fits _ (s .args .q) r f,
+        sound-place _ (s .pre .0) (s .args .q) f,
+        sound-filling _ (s .pre .0) (held-sized (s .args .held) _ (s .good .1 .1 .1 .1 .1 .1 .1 .1 .1 .0)),
+      ),
+      (s .pre .1 .next-is, s .pre .1 .directory),
+    )
+
+list-fitting-requires : tie.Need-list-fitting-requires
+list-fitting-requires c κs =
+    let s = c .before .before .before .before .before .before .before .before .before .before .before .before .before .before .before .before .before .before in
+    let f = sym (c .before .before .before .before .before .before .before .before .before .before .before .before .before .operands-fit .ensures) ∙ not-false _ (c .before .before .before .before .before .before .before .before .before .before .before .before .if1 .left) in (
+      sound-range _ (s .pre .0) (sized (s .args .design) _ (s .good .0)),
+      sound-place _ (s .pre .0) (s .args .q) f,
+      f,
+      sound-backed _ (s .pre .0),
+      s .pre .1,
+      sound-marks _ (s .pre .0),
+    )
+
+same-length : tie.Need-same-length
+same-length c = search needs
+
+same-length-2 : tie.Need-same-length-2
+same-length-2 c = search needs
+
+returns-3 : tie.Need-returns-3
+returns-3 c =
+    let s = c .before .before .before .before .before .before .before .before .before .before .before .before .before .before .before .before .before .before .before .before .before in
+    step-listed _ (s .pre .0) _ (s .args .q) (sym (c .before .before .before .before .before .before .before .before .before .before .before .before .before .before .before .before .operands-fit .ensures) ∙ not-false _ (c .before .before .before .before .before .before .before .before .before .before .before .before .before .before .before .if1 .left)) (sym (c .before .before .before .before .before .before .before .before .before .before .before .before .before .before .is-blank .ensures) ∙ c .before .before .before .before .before .before .before .before .before .before .before .before .before .if2 .left) _
+    (c .before .before .before .before .before .before .before .before .before .before .ground .ensures) (held-sized (s .args .held) _ (s .good .1 .1 .1 .1 .1 .1 .1 .1 .1 .0)) (λ i. omega (arith, c .before .before .before .before .before .before .before .before .before .before .before .before .before .before .before .before .before .before .before .before .shared-slice-known .given i)) (c .before .before .before .before .before .before .before .before .before .if3 .taken) _ _
+    (c .before .before .list-fitting .ensures)
+
+filling-for-requires : tie.Need-filling-for-requires
+filling-for-requires c κs = sound-fillings _ (c .before .before .before .before .before .before .before .before .before .before .before .before .pre .0)
+
+cast-t39 : tie.Need-cast-t39
+cast-t39 c = omega (arith, filling-byte _ (c .before .before .before .before .before .before .before .before .before .before .before .before .before .before .pre .0) (c .before .before .before .before .before .before .before .before .before .before .before .before .before .before .args .q) _ (c .before .filling-for .ensures))
+
+takes-requires : tie.Need-takes-requires
+takes-requires c κs = (sound-fillings _ (c .before .before .before .before .before .before .before .before .before .before .before .before .before .before .pre .0), sound-tidy _ (c .before .before .before .before .before .before .before .before .before .before .before .before .before .before .pre .0) .few)
+
+same-length-3 : tie.Need-same-length-3
+same-length-3 c = search needs
+
+returns-4 : tie.Need-returns-4
+returns-4 c =
+    let s = c .before .before .before .before .before .before .before .before .before .before .before .before .before .before .before .before in
+    step-sent _ (s .pre .0) _ (s .args .q) (sym (c .before .before .before .before .before .before .before .before .before .before .before .operands-fit .ensures) ∙ not-false _ (c .before .before .before .before .before .before .before .before .before .before .if1 .left)) (sym (c .before .before .before .before .before .before .before .before .before .is-blank .ensures) ∙ c .before .before .before .before .before .before .before .before .if2 .left) _ (c .before .before .before .before .before .ground .ensures)
+    (c .before .before .before .before .if3 .left) _ (c .before .before .before .filling-for .ensures) (held-sized (s .args .held) _ (s .good .1 .1 .1 .1 .1 .1 .1 .1 .1 .0)) (sym (c .before .takes .ensures) ∙ not-true _ (c .if4 .taken))
+
+refer-and-list-requires : tie.Need-refer-and-list-requires
+refer-and-list-requires c κs =
+    let s = c .before .before .before .before .before .before .before .before .before .before .before .before .before .before .before .before .before .before .before .before .before .before in (
+      (s .pre .0, s .pre .1),
+      step-refers _ (s .pre .0) [] (s .args .q) (sym (c .before .before .before .before .before .before .before .before .before .before .before .before .before .before .before .before .before .operands-fit .ensures) ∙ not-false _ (c .before .before .before .before .before .before .before .before .before .before .before .before .before .before .before .before .if1 .left)) (sym (c .before .before .before .before .before .before .before .before .before .before .before .before .before .before .before .is-blank .ensures) ∙ c .before .before .before .before .before .before .before .before .before .before .before .before .before .before .if2 .left) _ (c .before .before .before .before .before .before .before .before .before .before .before .ground .ensures)
+          (c .before .before .before .before .before .before .before .before .before .before .if3 .left) _ (c .before .before .before .before .before .before .before .before .before .filling-for .ensures) (sym (c .before .before .before .before .before .before .before .takes .ensures) ∙ not-false _ (c .before .before .before .before .before .before .if4 .left)),
+    )
+
+same-length-4 : tie.Need-same-length-4
+same-length-4 c = search needs
+
+same-length-5 : tie.Need-same-length-5
+same-length-5 c = search needs
+
+returns-5 : tie.Need-returns-5
+returns-5 c = search needs
+
+pub query-lawful-spec : {M : Type 1} → statement M
+query-lawful-spec =
+    tie.close
+    (tie.spec
+    operands-fit-requires
+    returns
+    is-blank-requires
+    returns-2
+    ground-requires
+    list-fitting-requires
+    same-length
+    same-length-2
+    returns-3
+    filling-for-requires
+    cast-t39
+    takes-requires
+    same-length-3
+    returns-4
+    refer-and-list-requires
+    same-length-4
+    same-length-5
+    returns-5)

@@ -1,0 +1,196 @@
+// QUERY over a sound state. Where the probe of position 0 has a ground it is answered from the cached rows; else its value is referred first, if a
+// REFER would take it, and it is answered then (02, Req 02); else it is sent.
+ghost use mathlib.Core.Path.{_≡_};
+ghost use mathlib.Core.Bool.{true};
+ghost use lib.ListN.{length};
+ghost use Rattle.model.specs.Runs as Runs;
+ghost use Rattle.state.specs.Meaning.{answerOf, queryOf};
+ghost use Rattle.state.specs.Lent.{lent, sound, Performed};
+ghost use Rattle.catalog.specs.Catalog.{Catalogued};
+ghost use Rattle.operate.specs.Queries.{Referring};
+use cache::Outcome;
+use cache::filling_for;
+use cache::refer_lawful;
+use cache::takes;
+use probe::ground;
+use query::list_fitting;
+use query::operands_fit;
+use state::Answer;
+use state::Design;
+use state::Held;
+use state::HeldValue;
+use state::Query;
+use state::copy_bytes;
+use state::is_blank;
+use state::is_refusal;
+
+// Refers the query's pair v on a copy of the marks and lists from the copy, so that cause 11 finds nothing to undo; else the copy becomes the marks.
+// Two copies of the marks, one load, and the cost of the lists.
+fn refer_and_list(
+    design: Design,
+    cells: &[u32],
+    tables: &[u8],
+    next: &[u16; 4096],
+    first: &[u16; 8192],
+    keys: &[u32; 4096],
+    heads: &[u16; 4096],
+    starts: &[u16; 65],
+    marks: &mut [u8],
+    held: Held,
+    q: Query,
+    v: HeldValue,
+    words: &mut [u32],
+    weights: &mut [u64; 2560],
+    sums: &mut [u64; 2560],
+    froms: &mut [u16; 2560],
+    links: &mut [u16; 2560],
+) -> Outcome
+    requires { ⌜ (sound (lent design (now cells) (now tables) (now marks) held) ≡ true)
+        × Catalogued design (now cells) (now tables) (now next) (now first) (now keys) (now heads) (now starts) ⌝ }
+    requires { ⌜ Referring (lent design (now cells) (now tables) (now marks) held) q v ⌝ }
+    ensures { λ o. ⌜ Performed (lent design (now (cells .entry)) (now (tables .entry)) (now (marks .entry)) held) (now (words .entry))
+        (Runs.query (queryOf q) (length (now (words .entry)))) (answerOf (o .answer))
+        (lent design (now (cells .entry)) (now (tables .entry)) (now (marks .exit)) (o .held)) (now (words .exit)) ⌝ }
+{
+    let mut copy = [0u8; 512];
+    copy_bytes(&marks[..Design::ROWS], &mut copy);
+    let o = refer_lawful(
+        design,
+        cells,
+        tables,
+        next,
+        first,
+        keys,
+        heads,
+        starts,
+        &mut copy,
+        held,
+        v,
+    );
+    let answer = list_fitting(
+        design,
+        cells,
+        tables,
+        next,
+        first,
+        keys,
+        heads,
+        starts,
+        &copy,
+        q,
+        words,
+        weights,
+        sums,
+        froms,
+        links,
+    );
+    if is_refusal(answer) {
+        return Outcome { held, answer };
+    }
+    copy_bytes(&copy, marks);
+    let more = o.held;
+    Outcome {
+        held: more,
+        answer: answer,
+    }
+}
+
+// QUERY: causes 5 and 9; with a ground the lists, or cause 11; without one "sent", unless its value is taken, which costs a load before the lists. The
+// last four tables are working memory: whatever stands there before, and nothing is said of it after. The cost of the probe, of counting the lists and of
+// writing their words.
+pub(crate) fn query_lawful(
+    design: Design,
+    cells: &[u32],
+    tables: &[u8],
+    next: &[u16; 4096],
+    first: &[u16; 8192],
+    keys: &[u32; 4096],
+    heads: &[u16; 4096],
+    starts: &[u16; 65],
+    marks: &mut [u8],
+    held: Held,
+    q: Query,
+    words: &mut [u32],
+    weights: &mut [u64; 2560],
+    sums: &mut [u64; 2560],
+    froms: &mut [u16; 2560],
+    links: &mut [u16; 2560],
+) -> Outcome
+    requires { ⌜ (sound (lent design (now cells) (now tables) (now marks) held) ≡ true)
+        × Catalogued design (now cells) (now tables) (now next) (now first) (now keys) (now heads) (now starts) ⌝ }
+    ensures { λ o. ⌜ Performed (lent design (now (cells .entry)) (now (tables .entry)) (now (marks .entry)) held) (now (words .entry))
+        (Runs.query (queryOf q) (length (now (words .entry)))) (answerOf (o .answer))
+        (lent design (now (cells .entry)) (now (tables .entry)) (now (marks .exit)) (o .held)) (now (words .exit)) ⌝ }
+{
+    if !operands_fit(design, q) {
+        let answer = Answer::Refused(5);
+        return Outcome { held, answer };
+    }
+    if is_blank(q.value) {
+        let answer = Answer::Refused(9);
+        return Outcome { held, answer };
+    }
+    let k = q.column;
+    let g = ground(
+        design,
+        cells,
+        tables,
+        next,
+        keys,
+        heads,
+        starts,
+        marks,
+        held,
+        k,
+        q.value,
+    );
+    if g != 0 {
+        let answer = list_fitting(
+            design,
+            cells,
+            tables,
+            next,
+            first,
+            keys,
+            heads,
+            starts,
+            marks,
+            q,
+            words,
+            weights,
+            sums,
+            froms,
+            links,
+        );
+        return Outcome { held, answer };
+    }
+    let f = filling_for(design, k);
+    let value = q.value;
+    let v = HeldValue {
+        filling: f as u8,
+        value: value,
+    };
+    if !takes(design, held, v) {
+        let answer = Answer::Sent;
+        return Outcome { held, answer };
+    }
+    refer_and_list(
+        design,
+        cells,
+        tables,
+        next,
+        first,
+        keys,
+        heads,
+        starts,
+        marks,
+        held,
+        q,
+        v,
+        words,
+        weights,
+        sums,
+        froms,
+        links,
+    )
+}
