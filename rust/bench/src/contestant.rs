@@ -121,6 +121,8 @@ pub enum Answer {
     Even,
     /// The design is uneven, by constraints i and j.
     Uneven(usize, usize),
+    /// The sum of a cell over a query's lists.
+    Total(u64),
     /// A cause of refusal.
     Refused(u8),
     /// Given up after [`TIME_LIMIT`].

@@ -38,6 +38,7 @@ impl OpenDesk for Desk {
             }
             LimitAnswer::Even => Answer::Even,
             LimitAnswer::Uneven { i, j } => Answer::Uneven(usize::from(i), usize::from(j)),
+            LimitAnswer::Total(total) => Answer::Total(total),
             LimitAnswer::Refused(cause) => Answer::Refused(cause),
         }
     }

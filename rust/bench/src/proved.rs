@@ -264,6 +264,7 @@ impl OpenDesk for Lent {
             7 => Answer::Refused(number as u8),
             8 => Answer::Even,
             9 => Answer::Uneven(number as usize, numbers[1] as usize),
+            10 => Answer::Total(number),
             word => unreachable!("no answer has the word {word}"),
         }
     }

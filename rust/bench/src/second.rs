@@ -60,5 +60,6 @@ fn answered(answer: ReferenceAnswer) -> Answer {
         ReferenceAnswer::Lists(lists) => Answer::Lists(lists.concat()),
         ReferenceAnswer::Even => Answer::Even,
         ReferenceAnswer::Uneven { i, j } => Answer::Uneven(i, j),
+        ReferenceAnswer::Total(total) => Answer::Total(total),
     }
 }

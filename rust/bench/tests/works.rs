@@ -107,6 +107,8 @@ fn queries_have_all_lists_or_none() {
     for rows in SIZES {
         let lists = answers(&grown(rows, "819 lists of five: query"), 1);
         assert_eq!(lists.last().map(String::as_str), Some("answer 819"));
+        let total = answers(&grown(rows, "819 lists of five: total"), 1);
+        assert_eq!(total.last().map(String::as_str), Some("total 819"));
         let dead_ends = answers(&grown(rows, "dead ends: query"), 1);
         let loaded = format!("loaded {rows} 0");
         assert_eq!(dead_ends, [loaded.as_str(), "answer 0"]);
@@ -173,6 +175,9 @@ fn the_clinic_answers_its_queries_and_probes() {
     let queries = clinic("clinic: query with 4 joins", 10);
     let lists = |answer: &String| answer.starts_with("answer ") && answer != "answer 0";
     assert!(queries[10..].iter().all(lists), "{queries:?}");
+    let totals = clinic("clinic: total over 4 joins", 10);
+    let above_0 = |answer: &String| answer.starts_with("total ") && answer != "total 0";
+    assert!(totals[10..].iter().all(above_0), "{totals:?}");
     let fetches = clinic("clinic: query that loads its ward, and drop", 20);
     for both in fetches.chunks(2) {
         assert!(

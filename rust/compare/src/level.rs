@@ -1,6 +1,7 @@
 //! Levels of the desk: what it answered before a request of document 02.
 
 use notation::{split, Piece};
+use reference::design::LONGEST_SCRIPT;
 
 use crate::replay::Replay;
 
@@ -26,9 +27,10 @@ impl Level {
     }
 
     /// The script without what it must not use: a desk of this level and any
-    /// later one report the same on what is left.
+    /// later one report the same on what is left. One that is too long isn't read
+    /// by any, and stays as it is.
     pub fn script(self, script: Vec<u8>) -> Vec<u8> {
-        if self == Level::NOW {
+        if self == Level::NOW || script.len() > LONGEST_SCRIPT {
             return script;
         }
         let mut pieces = split(&script);
@@ -46,6 +48,7 @@ impl Level {
 fn request_of(piece: &Piece) -> u32 {
     match piece.bytes().first() {
         Some(0x14) => 1,
+        Some(0x15) => 3,
         _ => 0,
     }
 }
@@ -102,10 +105,21 @@ mod tests {
     }
 
     #[test]
+    fn totals_are_taken_out_wherever_they_stand() {
+        let total = "total 0.0 = 1 of 0 column 0\n";
+        let text = format!("table 1\n{total}end\n{total}probe 0.0 = 1\nbytes 0x15 0x00\n");
+        let script = assemble(&text).expect("a right text");
+        assert_eq!(Level::before(4).script(script.clone()), script);
+        let script = Level::before(3).script(script);
+        assert_eq!(disassemble(&script), "table 1\nend\nprobe 0.0 = 1\n");
+    }
+
+    #[test]
     fn refused_designs_and_the_last_level_stay_as_they_are() {
         for number in 0..500 {
             let script = generate::script(4, number);
             assert_eq!(Level::NOW.script(script.clone()), script);
+            let script = Level::before(3).script(script);
             if Replay::new(&script).is_none() {
                 let before = Level::before(2).script(script.clone());
                 assert_eq!(before, script);

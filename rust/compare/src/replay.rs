@@ -4,7 +4,7 @@
 use reference::design::Design;
 use reference::desk::{Answer, Desk};
 use reference::refusal::Cause;
-use reference::script::{read_command, Command};
+use reference::script::{read_command, Command, Query};
 use reference::ANSWER_WORDS;
 
 /// A script with an accepted design, up to some command behind END.
@@ -36,15 +36,16 @@ impl Replay<'_> {
         read.map(|(command, _)| command)
     }
 
+    /// What a command would answer in the next one's place.
+    pub fn try_out(&self, command: &Command) -> Result<Answer, Cause> {
+        self.desk.clone().perform(command)
+    }
+
     /// The ground of the value that the next command asks for, if it is a query
-    /// with right operands: nothing if it has none.
+    /// or a total with right operands: nothing if it has none.
     pub fn ground(&self) -> Option<u8> {
-        let Some(Command::Query(query)) = self.command() else {
-            return None;
-        };
-        let (column, value) = (query.column, query.value);
-        let probed = self.desk.clone().perform(&Command::Probe { column, value });
-        match probed {
+        let Query { column, value, .. } = query_of(&self.command()?)?;
+        match self.try_out(&Command::Probe { column, value }) {
             Ok(Answer::Ground(ground)) => Some(ground),
             _ => None,
         }
@@ -53,12 +54,14 @@ impl Replay<'_> {
     /// Whether the next command has no ground and refers its value first, be it
     /// that the reference is undone.
     pub fn fetches(&self) -> bool {
-        let Some(command @ Command::Query(_)) = self.command() else {
+        let Some(command @ (Command::Query(_) | Command::Total(_))) = self.command() else {
             return false;
         };
-        let answer = self.desk.clone().perform(&command);
-        let is_answered = matches!(answer, Ok(Answer::Lists(_)) | Err(Cause::AnswerTooLong));
-        is_answered && self.ground().is_none()
+        let is_right = match self.try_out(&command) {
+            Ok(answer) => answer != Answer::Sent,
+            Err(cause) => matches!(cause, Cause::AnswerTooLong | Cause::TotalTooLarge),
+        };
+        is_right && self.ground().is_none()
     }
 
     /// Passes over the next command.
@@ -73,5 +76,14 @@ impl Replay<'_> {
         let command = self.command()?;
         self.skip();
         Some(self.desk.perform(&command))
+    }
+}
+
+/// The query that a command has, if it is one or a total.
+pub fn query_of(command: &Command) -> Option<Query> {
+    match command {
+        Command::Query(query) => Some(*query),
+        Command::Total(total) => Some(total.query),
+        _ => None,
     }
 }

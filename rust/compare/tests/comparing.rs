@@ -44,14 +44,19 @@ fn a_right_desk_passes_and_everything_is_reached() {
 #[test]
 fn everything_of_a_level_is_reached_too() {
     let desk = altered(|report| report);
-    for request in [1, 2] {
+    for request in 1..=3 {
         let level = Level::before(request);
         let scripts = Scripts { level, ..SCRIPTS };
         let outcome = compare(&sides(&desk), scripts).expect("no failure");
         assert_eq!(outcome.tally.missing(level), [""; 0], "before {request}");
         let now = outcome.tally.missing(Level::NOW);
-        assert!(now.contains(&"query referred with lists"), "{now:?}");
-        assert_eq!(now.contains(&"even"), request == 1, "{now:?}");
+        for (name, since) in [
+            ("even", 1),
+            ("query referred with lists", 2),
+            ("refused 13", 3),
+        ] {
+            assert_eq!(now.contains(&name), since >= request, "{request}: {now:?}");
+        }
     }
 }
 
@@ -73,8 +78,12 @@ fn difference(alter: impl Fn(String) -> String + Sync) -> (Vec<u8>, String) {
 #[test]
 fn a_wrong_ground_is_found_and_made_small() {
     let (script, text) = difference(|report| report.replace("ground 2", "ground 1"));
-    assert!(text.contains("probe") && text.contains("refer"), "{text}");
-    assert!(text.contains("constraint"), "{text}");
+    assert!(
+        text.contains("probe") && text.contains("constraint"),
+        "{text}"
+    );
+    let loads = ["refer", "query", "total"];
+    assert!(loads.iter().any(|load| text.contains(load)), "{text}");
     assert!(script.len() < 400, "{text}");
 }
 

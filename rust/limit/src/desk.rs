@@ -39,6 +39,8 @@ pub enum Answer {
         /// The constraint that starts at another column of it.
         j: u8,
     },
+    /// The sum of a cell over a query's lists.
+    Total(u64),
     /// A cause of refusal.
     Refused(u8),
 }
@@ -118,6 +120,7 @@ impl Desk {
             }
             0x13 => self.listing.query(design, catalog, &mut self.cache, bytes),
             0x14 => self.evenness.of(design),
+            0x15 => self.listing.total(design, catalog, &mut self.cache, bytes),
             _ => Answer::Refused(3),
         };
         (answer, width)

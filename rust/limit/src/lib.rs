@@ -11,7 +11,7 @@
 //! - [`catalog`] has the groups and the links between them.
 //! - [`cache`] has the cached rows and loads values.
 //! - [`dropping`] drops them.
-//! - [`probe`], [`query`] and [`even`] answer.
+//! - [`probe`], [`query`], [`total`] and [`even`] answer.
 //! - [`desk`] carries out a script's commands.
 //! - [`mod@report`] prints.
 //!
@@ -29,6 +29,7 @@ pub mod even;
 pub mod probe;
 pub mod query;
 pub mod report;
+pub mod total;
 
 pub use desk::{Answer, Desk};
 pub use report::report;

@@ -41,7 +41,7 @@ pub fn write_report(script: &[u8], output: &mut impl Write) -> io::Result<()> {
     match Desk::open(script) {
         Err(refusal) => {
             text.extend_from_slice(b"refused ");
-            put_numbers(&mut text, &[usize::from(refusal.cause), refusal.place]);
+            put_numbers(&mut text, &[u64::from(refusal.cause), refusal.place as u64]);
         }
         Ok((mut desk, place)) => {
             let design = desk.design();
@@ -52,7 +52,7 @@ pub fn write_report(script: &[u8], output: &mut impl Write) -> io::Result<()> {
                 design.fillings,
                 design.rows,
             ];
-            put_numbers(&mut text, &counts);
+            put_numbers(&mut text, &counts.map(|count| count as u64));
             write_operations(&mut desk, script, place, &mut text, output)?;
         }
     }
@@ -73,7 +73,7 @@ fn write_operations(
         let (answer, width) = desk.step(&script[place..]);
         put_number(text, number);
         text.push(b' ');
-        put_answer(text, answer, place);
+        put_answer(text, answer, place as u64);
         if let Answer::Lists(count) = answer {
             // A QUERY's number of joins is its eighth byte.
             let positions = usize::from(script[place + 7]) + 1;
@@ -92,25 +92,26 @@ fn write_operations(
     Ok(())
 }
 
-fn put_answer(text: &mut Vec<u8>, answer: Answer, place: usize) {
-    let (word, numbers): (&[u8], &[usize]) = match answer {
-        Answer::Loaded { rows, rounds } => (b"loaded ", &[rows, rounds]),
+fn put_answer(text: &mut Vec<u8>, answer: Answer, place: u64) {
+    let (word, numbers): (&[u8], &[u64]) = match answer {
+        Answer::Loaded { rows, rounds } => (b"loaded ", &[rows as u64, rounds as u64]),
         Answer::Held => (b"held", &[]),
         Answer::NoCandidate => (b"no candidate", &[]),
-        Answer::Dropped(rows) => (b"dropped ", &[rows]),
-        Answer::Ground(ground) => (b"ground ", &[usize::from(ground)]),
+        Answer::Dropped(rows) => (b"dropped ", &[rows as u64]),
+        Answer::Ground(ground) => (b"ground ", &[u64::from(ground)]),
         Answer::Sent => (b"sent", &[]),
-        Answer::Lists(count) => (b"answer ", &[count]),
+        Answer::Lists(count) => (b"answer ", &[count as u64]),
         Answer::Even => (b"even", &[]),
-        Answer::Uneven { i, j } => (b"uneven ", &[usize::from(i), usize::from(j)]),
-        Answer::Refused(cause) => (b"refused ", &[usize::from(cause), place]),
+        Answer::Uneven { i, j } => (b"uneven ", &[u64::from(i), u64::from(j)]),
+        Answer::Total(total) => (b"total ", &[total]),
+        Answer::Refused(cause) => (b"refused ", &[u64::from(cause), place]),
     };
     text.extend_from_slice(word);
     put_numbers(text, numbers);
 }
 
 /// Puts numbers with blanks between them, and ends the line.
-fn put_numbers(text: &mut Vec<u8>, numbers: &[usize]) {
+fn put_numbers(text: &mut Vec<u8>, numbers: &[u64]) {
     for (place, &number) in numbers.iter().enumerate() {
         if place > 0 {
             text.push(b' ');
@@ -120,7 +121,7 @@ fn put_numbers(text: &mut Vec<u8>, numbers: &[usize]) {
     text.push(b'\n');
 }
 
-fn put_number(text: &mut Vec<u8>, mut number: usize) {
+fn put_number(text: &mut Vec<u8>, mut number: u64) {
     let mut digits = [0; 20];
     let mut start = digits.len();
     loop {
@@ -159,7 +160,7 @@ mod tests {
 
     #[test]
     fn numbers_are_decimal() {
-        for number in [0, 9, 10, 99, 100, 511, 65_536, usize::MAX] {
+        for number in [0, 9, 10, 99, 100, 511, 65_536, u64::MAX] {
             let mut text = Vec::new();
             put_number(&mut text, number);
             assert_eq!(text, number.to_string().into_bytes());

@@ -3,7 +3,7 @@
 use std::fmt;
 
 use crate::command::{
-    Column, Command, Constraint, Filling, Join, Pair, Probe, Query, Row, Table, CELLS, PAIRS,
+    Column, Command, Constraint, Filling, Join, Pair, Probe, Query, Row, Table, Total, CELLS, PAIRS,
 };
 use crate::token::{tokens, Token};
 
@@ -87,6 +87,7 @@ impl<'a> Operands<'a> {
             "probe" => Command::Probe(self.probe()?),
             "query" => Command::Query(self.query()?),
             "even" => Command::Even,
+            "total" => Command::Total(self.total()?),
             "bytes" => return self.raw_bytes(),
             other => return fault(name.column, format!("`{other}` is no command")),
         };
@@ -165,6 +166,19 @@ impl<'a> Operands<'a> {
             });
         }
         Ok(Query::new(column, value, &joins))
+    }
+
+    fn total(&mut self) -> Result<Total, Fault> {
+        let query = self.query()?;
+        self.expect("of")?;
+        let position = self.u8("a position")?;
+        self.expect("column")?;
+        let column = self.u8("a column's number")?;
+        Ok(Total {
+            query,
+            position,
+            column,
+        })
     }
 
     fn pair(&mut self) -> Result<Pair, Fault> {

@@ -4,7 +4,7 @@
 /// Cells in every ROW command.
 pub const CELLS: usize = 8;
 
-/// Pairs in every QUERY command.
+/// Pairs in every QUERY command, and in every total.
 pub const PAIRS: usize = 4;
 
 const TABLE: u8 = 0x01;
@@ -17,10 +17,11 @@ const DROP: u8 = 0x11;
 const PROBE: u8 = 0x12;
 const QUERY: u8 = 0x13;
 const EVEN: u8 = 0x14;
+const TOTAL: u8 = 0x15;
 
 /// The bytes that begin a command.
-pub const COMMAND_BYTES: [u8; 10] = [
-    TABLE, CONSTRAINT, FILLING, ROW, END, REFER, DROP, PROBE, QUERY, EVEN,
+pub const COMMAND_BYTES: [u8; 11] = [
+    TABLE, CONSTRAINT, FILLING, ROW, END, REFER, DROP, PROBE, QUERY, EVEN, TOTAL,
 ];
 
 /// A column of a table, both by number.
@@ -132,6 +133,17 @@ impl Query {
     }
 }
 
+/// The operands of a total: a query, and the cell of its lists that is added up.
+#[derive(Clone, Copy, Debug, PartialEq, Eq)]
+pub struct Total {
+    /// The query.
+    pub query: Query,
+    /// The position of the row that has the cell.
+    pub position: u8,
+    /// The cell's column in the table of that position.
+    pub column: u8,
+}
+
 /// A command with all its operands, whether the desk would take them or not.
 #[derive(Clone, Copy, Debug, PartialEq, Eq)]
 pub enum Command {
@@ -155,6 +167,8 @@ pub enum Command {
     Query(Query),
     /// Ask whether the design is even.
     Even,
+    /// The sum of a cell over a query's lists.
+    Total(Total),
 }
 
 impl Command {
@@ -177,13 +191,13 @@ impl Command {
             Command::Refer(pair) => writer.u8(REFER).pair(*pair),
             Command::Drop(pair) => writer.u8(DROP).pair(*pair),
             Command::Probe(probe) => writer.u8(PROBE).column(probe.column).u32(probe.value),
-            Command::Query(query) => writer
-                .u8(QUERY)
-                .column(query.column)
-                .u32(query.value)
-                .u8(query.joins)
-                .joins(&query.pairs),
+            Command::Query(query) => writer.u8(QUERY).query(query),
             Command::Even => writer.u8(EVEN),
+            Command::Total(total) => writer
+                .u8(TOTAL)
+                .query(&total.query)
+                .u8(total.position)
+                .u8(total.column),
         };
         writer.0
     }
@@ -218,13 +232,13 @@ impl Command {
                 column: reader.column()?,
                 value: reader.u32()?,
             }),
-            QUERY => Command::Query(Query {
-                column: reader.column()?,
-                value: reader.u32()?,
-                joins: reader.u8()?,
-                pairs: reader.joins()?,
-            }),
+            QUERY => Command::Query(reader.query()?),
             EVEN => Command::Even,
+            TOTAL => Command::Total(Total {
+                query: reader.query()?,
+                position: reader.u8()?,
+                column: reader.u8()?,
+            }),
             _ => return None,
         };
         Some((command, reader.0))
@@ -300,6 +314,13 @@ impl Writer {
         cells.iter().fold(self, |writer, &cell| writer.u32(cell))
     }
 
+    fn query(&mut self, query: &Query) -> &mut Writer {
+        self.column(query.column)
+            .u32(query.value)
+            .u8(query.joins)
+            .joins(&query.pairs)
+    }
+
     fn joins(&mut self, joins: &[Join; PAIRS]) -> &mut Writer {
         joins.iter().fold(self, |writer, join| {
             writer.u8(join.position).u8(join.constraint)
@@ -343,6 +364,15 @@ impl Reader<'_> {
             *cell = self.u32()?;
         }
         Some(cells)
+    }
+
+    fn query(&mut self) -> Option<Query> {
+        Some(Query {
+            column: self.column()?,
+            value: self.u32()?,
+            joins: self.u8()?,
+            pairs: self.joins()?,
+        })
     }
 
     fn joins(&mut self) -> Option<[Join; PAIRS]> {

@@ -3,7 +3,7 @@
 use std::fmt;
 
 use crate::command::{
-    split, Column, Command, Constraint, Filling, Join, Pair, Piece, Probe, Query, Row, Table,
+    split, Column, Command, Constraint, Filling, Join, Pair, Piece, Probe, Query, Row, Table, Total,
 };
 
 const BYTES_ON_A_LINE: usize = 16;
@@ -41,10 +41,21 @@ impl fmt::Display for Command {
             Command::Drop(Pair { filling, value }) => write!(out, "drop {filling} {value}"),
             Command::Probe(Probe { column, value }) => write!(out, "probe {column} = {value}"),
             Command::Query(query) => match query.plain_joins() {
-                Some(joins) => write_query(out, query, joins),
+                Some(joins) => write_query(out, "query", query, joins),
                 None => write_bytes(out, &self.bytes()),
             },
             Command::Even => write!(out, "even"),
+            Command::Total(Total {
+                query,
+                position,
+                column,
+            }) => match query.plain_joins() {
+                Some(joins) => {
+                    write_query(out, "total", query, joins)?;
+                    write!(out, " of {position} column {column}")
+                }
+                None => write_bytes(out, &self.bytes()),
+            },
         }
     }
 }
@@ -80,8 +91,14 @@ fn write_row(out: &mut fmt::Formatter<'_>, row: &Row) -> fmt::Result {
     Ok(())
 }
 
-fn write_query(out: &mut fmt::Formatter<'_>, query: &Query, joins: &[Join]) -> fmt::Result {
-    write!(out, "query {} = {}", query.column, query.value)?;
+/// A query behind a command's name.
+fn write_query(
+    out: &mut fmt::Formatter<'_>,
+    name: &str,
+    query: &Query,
+    joins: &[Join],
+) -> fmt::Result {
+    write!(out, "{name} {} = {}", query.column, query.value)?;
     for join in joins {
         write!(out, " join {} by {}", join.position, join.constraint)?;
     }

@@ -16,6 +16,8 @@
 //! query COLUMN = VALUE [join POSITION by CONSTRAINT ..]
 //!                                               query 0.1 = 3 join 0 by 0 join 1 by 1
 //! even                                          even
+//! total COLUMN = VALUE [join ..] of POSITION column NUMBER
+//!                                               total 0.1 = 3 join 0 by 0 of 1 column 2
 //! bytes BYTE ..                                 bytes 0xff 0x01
 //! ```
 //!
@@ -24,8 +26,9 @@
 //! and nothing else, so that scripts which the desk refuses can be written too.
 //!
 //! [`disassemble`] is defined for every byte string, and [`assemble`] turns its
-//! text into the same bytes again. What has no words (a QUERY with unused pairs
-//! that aren't 0, a command cut short, an unknown byte) becomes `bytes`.
+//! text into the same bytes again. What has no words (a QUERY or a total with
+//! unused pairs that aren't 0, a command cut short, an unknown byte) becomes
+//! `bytes`.
 
 #![forbid(unsafe_code)]
 
@@ -39,7 +42,7 @@ mod token;
 pub use assemble::{assemble, Error};
 pub use command::{
     encode, split, Column, Command, Constraint, Filling, Join, Pair, Piece, Probe, Query, Row,
-    Table, CELLS, COMMAND_BYTES, PAIRS,
+    Table, Total, CELLS, COMMAND_BYTES, PAIRS,
 };
 pub use design::Design;
 pub use disassemble::disassemble;

@@ -84,6 +84,23 @@ fn messages() {
         ),
         ("even 1", 6, "expected the end of the line, found `1`"),
         ("uneven", 1, "`uneven` is no command"),
+        (
+            "total 0.0 = 1",
+            14,
+            "expected `of`, found the end of the line",
+        ),
+        ("total 0.0 = 1 by 0", 15, "expected `of`, found `by`"),
+        ("total 0.0 = 1 of 1.2", 19, "expected `column`, found `.`"),
+        (
+            "total 0.0 = 1 of 0 column 256",
+            27,
+            "a column's number is at most 255, not 256",
+        ),
+        (
+            "total 0.0 = 1 of 0 column 1 join 0 by 0",
+            29,
+            "expected the end of the line, found `join`",
+        ),
         ("bytes", 6, "expected a byte, found the end of the line"),
         ("bytes 0x100", 7, "a byte is at most 255, not 0x100"),
         ("probe 0.0 = 1;", 14, "`;` has no meaning here"),

@@ -2,7 +2,7 @@
 
 use notation::{
     assemble, disassemble, encode, Column, Command, Constraint, Filling, Join, Pair, Probe, Query,
-    Row, Table,
+    Row, Table, Total,
 };
 
 fn assert_round_trip(script: &[u8]) {
@@ -45,6 +45,11 @@ fn one_of_each() -> Vec<Command> {
         Command::Probe(Probe { column, value: 2 }),
         Command::Query(Query::new(column, 2, &[join, join])),
         Command::Even,
+        Command::Total(Total {
+            query: Query::new(column, 2, &[join]),
+            position: 1,
+            column: 7,
+        }),
     ]
 }
 

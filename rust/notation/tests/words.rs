@@ -3,7 +3,7 @@
 use notation::{assemble, disassemble};
 
 /// A command in its canonical words, and its bytes.
-const COMMANDS: [(&str, &[u8]); 16] = [
+const COMMANDS: [(&str, &[u8]); 18] = [
     ("table 2", &[1, 2, 0]),
     ("table 200 unique 0 3 7", &[1, 200, 0b1000_1001]),
     ("constraint 0.1 -> 2.3", &[2, 0, 1, 2, 3]),
@@ -46,6 +46,14 @@ const COMMANDS: [(&str, &[u8]); 16] = [
         &[0x13, 0, 1, 3, 0, 0, 0, 4, 0, 0, 1, 2, 0, 0, 9, 8],
     ),
     ("even", &[0x14]),
+    (
+        "total 0.1 = 3 of 0 column 1",
+        &[0x15, 0, 1, 3, 0, 0, 0, 0, 0, 0, 0, 0, 0, 0, 0, 0, 0, 1],
+    ),
+    (
+        "total 0.1 = 3 join 0 by 0 join 1 by 2 join 0 by 0 join 9 by 8 of 4 column 7",
+        &[0x15, 0, 1, 3, 0, 0, 0, 4, 0, 0, 1, 2, 0, 0, 9, 8, 4, 7],
+    ),
     ("bytes 0xff 0x01", &[0xff, 0x01]),
 ];
 
@@ -79,6 +87,9 @@ fn queries_without_words_become_bytes() {
     for query in [five_joins, used_pair] {
         let text = disassemble(&[&query[..], &[5]].concat());
         assert!(text.starts_with("bytes 0x13 0x00 0x01 "), "{text}");
+        assert!(text.ends_with("\nend\n"), "{text}");
+        let text = disassemble(&[&[0x15], &query[1..], &[0, 0, 5]].concat());
+        assert!(text.starts_with("bytes 0x15 0x00 0x01 "), "{text}");
         assert!(text.ends_with("\nend\n"), "{text}");
     }
 }

@@ -180,7 +180,8 @@ impl Stage {
             | Command::Drop(_)
             | Command::Probe { .. }
             | Command::Query(_)
-            | Command::Even => None,
+            | Command::Even
+            | Command::Total(_) => None,
         }
     }
 }

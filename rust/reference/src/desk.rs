@@ -1,6 +1,6 @@
 //! The operations: loads, drops and probes, and how a question refers its value
-//! first (queries are in [`crate::query`], the report on even designs in
-//! [`crate::even`]).
+//! first (queries and totals are in [`crate::query`], the report on even designs
+//! in [`crate::even`]).
 
 use crate::design::Design;
 use crate::refusal::Cause;
@@ -51,6 +51,8 @@ pub enum Answer {
         /// The constraint that starts at another column of it.
         j: usize,
     },
+    /// The sum of a cell over a query's lists.
+    Total(u64),
 }
 
 impl Desk {
@@ -72,6 +74,7 @@ impl Desk {
             Command::Probe { column, value } => self.probe(*column, *value),
             Command::Query(query) => self.query(query),
             Command::Even => Ok(self.design.evenness()),
+            Command::Total(total) => self.total(total),
             _ => Err(Cause::OutOfOrder),
         }
     }

@@ -4,7 +4,8 @@
 //! It is kept as plain as the rules allow, shares no code with the proved part
 //! or with the script notation, and looks up rows by walking over all of them.
 //! Its one refinement is in [`query`]: lists are counted before they are
-//! written, so that no query takes exponential time.
+//! written, and a total without writing them, so that neither takes exponential
+//! time.
 
 #![forbid(unsafe_code)]
 

@@ -29,6 +29,8 @@ pub enum Cause {
     /// QUERY with a ground, or referred first, whose list needs more words than
     /// are lent.
     AnswerTooLong = 11,
+    /// A total above 2^64 - 1.
+    TotalTooLarge = 13,
 }
 
 impl Cause {

@@ -66,6 +66,7 @@ impl fmt::Display for Answer {
             Answer::Lists(lists) => write_lists(out, lists),
             Answer::Even => write!(out, "even"),
             Answer::Uneven { i, j } => write!(out, "uneven {i} {j}"),
+            Answer::Total(total) => write!(out, "total {total}"),
         }
     }
 }

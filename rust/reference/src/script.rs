@@ -81,6 +81,17 @@ pub struct Query {
     pub pairs: [Join; PAIRS],
 }
 
+/// The operands of a total: a query's, and which cell of its lists is added up.
+#[derive(Clone, Copy, Debug)]
+pub struct Total {
+    /// The query.
+    pub query: Query,
+    /// The position of the row that has the cell.
+    pub position: usize,
+    /// The cell's column.
+    pub column: usize,
+}
+
 /// A command with its operands as the bytes give them.
 #[derive(Clone, Copy, Debug)]
 pub enum Command {
@@ -114,6 +125,8 @@ pub enum Command {
     Query(Query),
     /// Ask whether the design is even.
     Even,
+    /// The sum of a cell over a query's lists.
+    Total(Total),
 }
 
 /// Reads the command that begins at `place`, and gives it with the place after
@@ -144,6 +157,11 @@ pub fn read_command(script: &[u8], place: usize) -> Result<(Command, usize), Cau
         },
         0x13 => Command::Query(reader.query()?),
         0x14 => Command::Even,
+        0x15 => Command::Total(Total {
+            query: reader.query()?,
+            position: reader.number()?,
+            column: reader.number()?,
+        }),
         _ => return Err(Cause::UnknownCommand),
     };
     Ok((command, reader.place))

@@ -6,8 +6,8 @@
 use std::sync::LazyLock;
 
 use compare::random::Random;
-use notation::{Column, Command, Constraint, Design, Filling, Join, Pair, Probe, Query, Table};
-use notation::{CELLS, PAIRS};
+use notation::{Column, Command, Constraint, Design, Filling, Join, Pair, Probe, Query};
+use notation::{Table, Total, CELLS, PAIRS};
 
 use super::candidate::{Candidate, Kind};
 use crate::work::{self, growing::sharing_a_bucket, MOST_ROWS};
@@ -145,7 +145,7 @@ pub fn repeated(random: &mut Random, kind: Kind, design: &Design) -> Vec<Command
 /// An operation of a kind, or a load and a drop.
 fn operation(random: &mut Random, kind: Kind, design: &Design) -> Vec<Command> {
     let kind = match kind {
-        Kind::Mixed => *random.pick(&[Kind::Drop, Kind::Probe, Kind::Query]),
+        Kind::Mixed => *random.pick(&[Kind::Drop, Kind::Probe, Kind::Query, Kind::Total]),
         kind => kind,
     };
     match kind {
@@ -156,6 +156,7 @@ fn operation(random: &mut Random, kind: Kind, design: &Design) -> Vec<Command> {
         }
         Kind::Probe => vec![Command::Probe(probe(random, design))],
         Kind::Query => vec![Command::Query(query(random, design))],
+        Kind::Total => vec![Command::Total(total(random, design))],
     }
 }
 
@@ -219,6 +220,17 @@ fn query(random: &mut Random, design: &Design) -> Query {
         joins.push(join);
     }
     Query::new(column, value, &joins)
+}
+
+/// The total of any cell over a query; its table may not have that column.
+fn total(random: &mut Random, design: &Design) -> Total {
+    let query = query(random, design);
+    let columns = design.tables.iter().map(|table| table.columns);
+    Total {
+        query,
+        position: random.below(usize::from(query.joins) + 1) as u8,
+        column: random.below(columns.max().map_or(1, usize::from)) as u8,
+    }
 }
 
 /// A value of the column, one that shares a bucket, or any.

@@ -15,17 +15,20 @@ pub enum Kind {
     Probe,
     /// QUERYs.
     Query,
+    /// Totals.
+    Total,
     /// All of them.
     Mixed,
 }
 
 impl Kind {
     /// All kinds.
-    pub const ALL: [Kind; 5] = [
+    pub const ALL: [Kind; 6] = [
         Kind::Refer,
         Kind::Drop,
         Kind::Probe,
         Kind::Query,
+        Kind::Total,
         Kind::Mixed,
     ];
 
@@ -36,6 +39,7 @@ impl Kind {
             Kind::Drop => "drop",
             Kind::Probe => "probe",
             Kind::Query => "query",
+            Kind::Total => "total",
             Kind::Mixed => "mixed",
         }
     }
@@ -47,6 +51,7 @@ impl Kind {
             Command::Drop(_) => matches!(self, Kind::Drop | Kind::Mixed),
             Command::Probe(_) => matches!(self, Kind::Probe | Kind::Mixed),
             Command::Query(_) => matches!(self, Kind::Query | Kind::Mixed),
+            Command::Total(_) => matches!(self, Kind::Total | Kind::Mixed),
             _ => false,
         }
     }

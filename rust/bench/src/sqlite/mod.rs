@@ -1,11 +1,11 @@
 //! SQLite in memory as a contestant: loads and drops are recursive common table
-//! expressions, probes and queries are single statements, and every column has
-//! an index. Statements are prepared when a design is opened, and those of queries
-//! off the clock.
+//! expressions, probes, queries and totals are single statements, and every column
+//! has an index. Statements are prepared when a design is opened, and those of
+//! queries and totals off the clock.
 //!
 //! It does what the works need and no more: operands aren't checked, held values
-//! aren't counted and neither are rounds. Where that makes a difference, it is
-//! in SQLite's favour.
+//! aren't counted and neither are rounds, and no total is too large. Where that
+//! makes a difference, it is in SQLite's favour.
 
 mod database;
 mod ffi;
@@ -14,7 +14,7 @@ mod sql;
 use std::collections::HashMap;
 use std::hint::black_box;
 
-use notation::{Column, Command, Design, Join, Pair, Probe, Query};
+use notation::{Column, Command, Design, Join, Pair, Probe, Query, Total};
 use reference::ANSWER_WORDS;
 
 use crate::contestant::{
@@ -53,8 +53,9 @@ struct Desk {
     loads: Vec<Statement>,
     unload: Statement,
     probes: HashMap<Column, Statement>,
-    /// By everything about a query but its value.
-    queries: HashMap<(Column, [Join; 4], u8), Statement>,
+    queries: HashMap<Shape, Statement>,
+    /// By that, and the position and column of the cell.
+    totals: HashMap<(Shape, u8, u8), Statement>,
     database: Database,
 }
 
@@ -76,12 +77,18 @@ fn insert_rows(database: &Database, design: &Design) {
 
 impl OpenDesk for Desk {
     fn prepare(&mut self, operations: &Operations) {
+        let (design, database) = (&self.design, &self.database);
         for operation in &operations.list {
-            if let Command::Query(query) = operation.command {
-                let (design, database) = (&self.design, &self.database);
-                self.queries
-                    .entry(shape(&query))
-                    .or_insert_with(|| database.prepare(&sql::query(design, &query)));
+            match operation.command {
+                Command::Query(query) => {
+                    let queries = self.queries.entry(shape(&query));
+                    queries.or_insert_with(|| database.prepare(&sql::query(design, &query)));
+                }
+                Command::Total(total) => {
+                    let totals = self.totals.entry(total_shape(&total));
+                    totals.or_insert_with(|| database.prepare(&sql::total(design, &total)));
+                }
+                _ => {}
             }
         }
     }
@@ -114,6 +121,7 @@ impl Desk {
                 .map(|column| (column, database.prepare(&sql::probe(design, column))))
                 .collect(),
             queries: HashMap::new(),
+            totals: HashMap::new(),
             design: design.clone(),
             database,
         }
@@ -125,6 +133,7 @@ impl Desk {
             Command::Drop(pair) => self.drop(pair),
             Command::Probe(probe) => self.probe(probe),
             Command::Query(query) => self.query(&query),
+            Command::Total(total) => self.total(&total),
             command => unreachable!("no work has {command}"),
         }
     }
@@ -166,29 +175,51 @@ impl Desk {
     }
 
     fn query(&mut self, query: &Query) -> Result<Answer, OutOfTime> {
-        let Query { column, value, .. } = *query;
-        let mut fetched = None;
-        if self.probe(Probe { column, value })? == Answer::Sent {
-            fetched = self.pair_to_refer(column, value);
-            match fetched {
-                None => return Ok(Answer::Sent),
-                Some(pair) => self.refer(pair)?,
-            };
+        let ground = self.fetch(query)?;
+        if ground == Ground::None {
+            return Ok(Answer::Sent);
         }
         let statement = self.queries.get_mut(&shape(query));
         let statement = statement.expect("a statement that has been prepared");
         let mut words = Vec::new();
-        statement.run(&[value.into()], |row| {
+        statement.run(&[query.value.into()], |row| {
             words.extend(row.iter().map(|&number| number as usize));
             words.len() <= ANSWER_WORDS
         })?;
         if words.len() <= ANSWER_WORDS {
             return Ok(Answer::Lists(words));
         }
-        if let Some(pair) = fetched {
+        if let Ground::Fetched(pair) = ground {
             self.drop(pair)?;
         }
         Ok(Answer::Refused(11))
+    }
+
+    fn total(&mut self, total: &Total) -> Result<Answer, OutOfTime> {
+        if self.fetch(&total.query)? == Ground::None {
+            return Ok(Answer::Sent);
+        }
+        let statement = self.totals.get_mut(&total_shape(total));
+        let statement = statement.expect("a statement that has been prepared");
+        let mut sum = 0;
+        statement.run(&[total.query.value.into()], |row| {
+            sum = row[0] as u64;
+            false
+        })?;
+        Ok(Answer::Total(sum))
+    }
+
+    /// Sees to it that a query's value has a ground, if it can have one.
+    fn fetch(&mut self, query: &Query) -> Result<Ground, OutOfTime> {
+        let Query { column, value, .. } = *query;
+        if self.probe(Probe { column, value })? != Answer::Sent {
+            return Ok(Ground::Standing);
+        }
+        let Some(pair) = self.pair_to_refer(column, value) else {
+            return Ok(Ground::None);
+        };
+        self.refer(pair)?;
+        Ok(Ground::Fetched(pair))
     }
 
     /// What a query without a ground refers first.
@@ -203,6 +234,24 @@ impl Desk {
     }
 }
 
-fn shape(query: &Query) -> (Column, [Join; 4], u8) {
+/// What a query's value has for a ground.
+#[derive(PartialEq, Eq)]
+enum Ground {
+    /// None: the query has to be sent.
+    None,
+    /// One from before.
+    Standing,
+    /// The pair that was referred for the query.
+    Fetched(Pair),
+}
+
+/// Everything about a query but its value.
+type Shape = (Column, [Join; 4], u8);
+
+fn shape(query: &Query) -> Shape {
     (query.column, query.pairs, query.joins)
+}
+
+fn total_shape(total: &Total) -> (Shape, u8, u8) {
+    (shape(&total.query), total.position, total.column)
 }

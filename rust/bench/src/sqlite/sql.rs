@@ -3,7 +3,7 @@
 //! which equals nothing. `held` has the held values and `cached` the numbers of
 //! the cached rows.
 
-use notation::{Column, Constraint, Design, Filling, Query, Table};
+use notation::{Column, Constraint, Design, Filling, Query, Table, Total};
 
 /// The statements that make a design's tables.
 pub fn tables(design: &Design) -> Vec<String> {
@@ -132,6 +132,27 @@ fn cached_rows(Column { table, column }: Column) -> String {
 /// where there is a ground, the cached rows give the same lists, and SQLite is
 /// spared looking at them.
 pub fn query(design: &Design, query: &Query) -> String {
+    let positions = 0..=query.joins;
+    let rows: Vec<String> = positions.map(|p| format!("p{p}.row")).collect();
+    let rows = rows.join(", ");
+    let lists = lists(design, query);
+    format!("SELECT {rows} FROM {lists} ORDER BY {rows}")
+}
+
+/// Gives the sum of a cell over a query's lists, in the same way. Over no lists,
+/// and over blanks alone, SQL's sum is NULL.
+pub fn total(design: &Design, total: &Total) -> String {
+    let Total {
+        query,
+        position,
+        column,
+    } = total;
+    let lists = lists(design, query);
+    format!("SELECT IFNULL(SUM(p{position}.c{column}), 0) FROM {lists}")
+}
+
+/// The lists of a query: position p of them is `p0`, `p1`, ...
+fn lists(design: &Design, query: &Query) -> String {
     let Column { table, column } = query.column;
     let mut from = format!("t{table} AS p0");
     let joins = query.plain_joins().unwrap_or(&[]);
@@ -142,7 +163,5 @@ pub fn query(design: &Design, query: &Query) -> String {
             target.table, target.column, join.position, source.column
         );
     }
-    let rows: Vec<String> = (0..=joins.len()).map(|p| format!("p{p}.row")).collect();
-    let rows = rows.join(", ");
-    format!("SELECT {rows} FROM {from} WHERE p0.c{column} = ?1 ORDER BY {rows}")
+    format!("{from} WHERE p0.c{column} = ?1")
 }

@@ -1,10 +1,10 @@
 //! Everyday works on one design: a clinic with as many links between its tables
 //! as one may expect.
 
-use notation::{Command, Design};
+use notation::{Command, Design, Query};
 
 use super::{
-    column, constraint, drop, filling, join, load_and_drop, probe, query, refer, table, Work,
+    column, constraint, drop, filling, join, load_and_drop, probe, refer, table, total, Work,
 };
 
 const WARDS: u32 = 10;
@@ -31,6 +31,7 @@ pub fn works() -> Vec<Work> {
             vec![],
             &fetches(),
         ),
+        work("clinic: total over 4 joins", all_wards(), &totals()),
         work(
             "clinic: probe",
             (1..=WARDS / 2).map(|ward| refer(0, ward)).collect(),
@@ -101,19 +102,25 @@ fn clinic() -> Design {
 
 /// For each ward: its subjects, or these with their recordings, the epochs and
 /// technicians of these, and the epochs' events.
-fn queries(joined: bool) -> Vec<Command> {
+fn wards(joined: bool) -> impl Iterator<Item = Query> {
     let joins = [join(0, 0), join(1, 1), join(1, 3), join(2, 2)];
-    let joins = if joined { &joins[..] } else { &[] };
-    (1..=WARDS)
-        .map(|ward| query(column(0, 1), ward, joins))
-        .collect()
+    let count = if joined { joins.len() } else { 0 };
+    (1..=WARDS).map(move |ward| Query::new(column(0, 1), ward, &joins[..count]))
+}
+
+fn queries(joined: bool) -> Vec<Command> {
+    wards(joined).map(Command::Query).collect()
 }
 
 /// For each ward: the query with joins while it isn't held, and its drop.
 fn fetches() -> Vec<Command> {
-    let drops = (1..=WARDS).map(|ward| drop(0, ward));
-    let both = queries(true).into_iter().zip(drops);
-    both.flat_map(|(query, drop)| [query, drop]).collect()
+    let visit = |query: Query| [Command::Query(query), drop(0, query.value)];
+    wards(true).flat_map(visit).collect()
+}
+
+/// For each ward: the kinds of its events added up.
+fn totals() -> Vec<Command> {
+    wards(true).map(|query| total(query, 4, 1)).collect()
 }
 
 /// Probes of columns 0 and 1 of all tables; a third of the values are small.

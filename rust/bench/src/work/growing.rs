@@ -1,10 +1,10 @@
 //! Works that can be made for a number of rows, from 64 to 512, so that their
 //! growth can be seen.
 
-use notation::Design;
+use notation::{Command, Design, Query};
 
 use super::{
-    column, constraint, drop, filling, join, load_and_drop, probe, query, refer, table, Work,
+    column, constraint, drop, filling, join, load_and_drop, probe, query, refer, table, total, Work,
 };
 
 const MOST_HELD: u32 = 64;
@@ -18,6 +18,7 @@ pub fn works(rows: usize) -> Vec<Work> {
         many_constraints(rows),
         drops(rows),
         lists(rows),
+        total_of_lists(rows),
         dead_ends(rows),
         crowd(rows),
         crowd_beside_a_value(rows),
@@ -128,9 +129,9 @@ fn drops(rows: usize) -> Work {
     Work::repeating("64 values: loads, then drops", design, vec![], &operations)
 }
 
-/// A query with 819 lists of five, the most that 4,096 words can take, among
-/// other cached rows.
-fn lists(rows: usize) -> Work {
+/// Five tables among whose rows a query of four joins has 819 lists of five, the
+/// most that 4,096 words can take; and other rows.
+fn five_tables(rows: usize) -> (Design, Query) {
     const SIZES: [usize; 5] = [3, 3, 7, 13, 1];
     let mut design = Design {
         tables: vec![table(1, 0); SIZES.len()],
@@ -150,11 +151,28 @@ fn lists(rows: usize) -> Work {
         design.constraints.push(link);
     }
     let joins = [0, 1, 2, 3].map(|constraint| join(0, constraint));
+    (design, Query::new(column(0, 0), 1, &joins))
+}
+
+/// The query with the other rows cached too.
+fn lists(rows: usize) -> Work {
+    let (design, query) = five_tables(rows);
     Work::repeating(
         "819 lists of five: query",
         design,
         vec![refer(0, 1), refer(0, 2)],
-        &[query(column(0, 0), 1, &joins)],
+        &[Command::Query(query)],
+    )
+}
+
+/// The total of a cell over the same lists.
+fn total_of_lists(rows: usize) -> Work {
+    let (design, query) = five_tables(rows);
+    Work::repeating(
+        "819 lists of five: total",
+        design,
+        vec![refer(0, 1), refer(0, 2)],
+        &[total(query, 3, 0)],
     )
 }
 

@@ -16,7 +16,7 @@ pub mod opening;
 pub mod unreached;
 
 use notation::{
-    encode, Column, Command, Constraint, Design, Filling, Join, Pair, Probe, Query, Table,
+    encode, Column, Command, Constraint, Design, Filling, Join, Pair, Probe, Query, Table, Total,
 };
 
 /// The longest script, in bytes.
@@ -117,6 +117,15 @@ fn probe(column: Column, value: u32) -> Command {
 
 fn query(column: Column, value: u32, joins: &[Join]) -> Command {
     Command::Query(Query::new(column, value, joins))
+}
+
+/// The total of the cell at a position and a column over a query's lists.
+fn total(query: Query, position: u8, column: u8) -> Command {
+    Command::Total(Total {
+        query,
+        position,
+        column,
+    })
 }
 
 fn join(position: u8, constraint: u8) -> Join {

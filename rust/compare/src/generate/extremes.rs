@@ -46,7 +46,8 @@ pub fn words_around_the_limit(random: &mut Random) -> Vec<u8> {
     };
     let query = Query::new(asked, key, &[join]);
     let draft = Draft { design, values };
-    let commands = [draft.design.commands(), around(random, query)].concat();
+    let operations = around(random, query, Command::Query(query));
+    let commands = [draft.design.commands(), operations].concat();
     with_operations(random, &draft, commands, 5)
 }
 

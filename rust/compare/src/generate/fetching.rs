@@ -1,6 +1,6 @@
-//! Queries that refer their value first, and what may follow them.
+//! Queries and totals that refer their value first, and what may follow them.
 
-use notation::{encode, Command, Pair, Probe, Query};
+use notation::{encode, Command, Pair, Probe, Query, Total};
 
 use super::design::{Draft, Shape};
 use super::extremes::every_value;
@@ -8,7 +8,8 @@ use super::operations::Operator;
 use super::with_operations;
 use crate::random::Random;
 
-/// Queries of values that may not be held, each with operations on its value.
+/// Queries and totals of values that may not be held, each with operations on its
+/// value.
 pub fn visits(random: &mut Random) -> Vec<u8> {
     let shape = if random.percent(50) {
         Shape::SPARSE
@@ -28,9 +29,9 @@ pub fn visits(random: &mut Random) -> Vec<u8> {
     encode(&commands)
 }
 
-/// 62 to 65 different values held, by loads or by queries, or nearly all of them,
-/// and then a query of another that is a candidate: it takes the last place, or
-/// is sent until one is dropped.
+/// 62 to 65 different values held, by loads, queries or totals, or nearly all of
+/// them, and then a query or total of another that is a candidate: it takes the
+/// last place, or is sent until one is dropped.
 pub fn last_place(random: &mut Random) -> Vec<u8> {
     let shape = Shape {
         tables: 1..=2,
@@ -41,16 +42,26 @@ pub fn last_place(random: &mut Random) -> Vec<u8> {
     let mut draft = Draft::random(random, &shape);
     let column = draft.design.fillings[0].column;
     draft.design.fillings[0] = every_value(column);
-    let query = |value| Command::Query(Query::new(column, value, &[]));
+    let ask = |random: &mut Random, value| {
+        let query = Query::new(column, value, &[]);
+        if random.percent(50) {
+            return Command::Query(query);
+        }
+        Command::Total(Total {
+            query,
+            position: 0,
+            column: column.column,
+        })
+    };
     let mut values: Vec<u32> = (0..66).map(|place| draft.values.get(place)).collect();
     random.shuffle(&mut values);
     let (held, others) = values.split_at(random.within(62..=65));
     let pair = |value| Pair { filling: 0, value };
-    let by_queries = random.below(101);
+    let asked = random.below(101);
     let mut commands = draft.design.commands();
     for &value in held {
-        commands.push(if random.percent(by_queries) {
-            query(value)
+        commands.push(if random.percent(asked) {
+            ask(random, value)
         } else {
             Command::Refer(pair(value))
         });
@@ -64,35 +75,31 @@ pub fn last_place(random: &mut Random) -> Vec<u8> {
                 value: other,
             }),
             2 | 3 => Command::Drop(pair(one)),
-            4 => query(one),
-            _ => query(other),
+            4 => ask(random, one),
+            _ => ask(random, other),
         });
     }
     with_operations(random, &draft, commands, 5)
 }
 
-/// What may stand around a query that needs about as many words as are lent: a
-/// load before it in half of the cases, and behind it operations that show
-/// whether its value is held.
-pub fn around(random: &mut Random, query: Query) -> Vec<Command> {
-    let pair = Pair {
-        filling: 0,
-        value: query.value,
-    };
+/// What may stand around a query or total that may be refused for its answer: a
+/// load before it in half of the cases, and behind it operations that show whether
+/// its value is held.
+pub fn around(random: &mut Random, query: Query, question: Command) -> Vec<Command> {
+    let Query { column, value, .. } = query;
+    let pair = Pair { filling: 0, value };
     let mut commands = Vec::new();
     if random.percent(50) {
         commands.push(Command::Refer(pair));
     }
-    commands.push(Command::Query(query));
+    commands.push(question);
     for _ in 0..random.below(5) {
-        commands.push(match random.below(5) {
-            0 | 1 => Command::Probe(Probe {
-                column: query.column,
-                value: query.value,
-            }),
+        commands.push(match random.below(6) {
+            0 | 1 => Command::Probe(Probe { column, value }),
             2 => Command::Refer(pair),
             3 => Command::Drop(pair),
-            _ => Command::Query(query),
+            4 => Command::Query(query),
+            _ => question,
         });
     }
     commands
@@ -115,14 +122,15 @@ mod tests {
 
     #[test]
     fn visits_answer_hold_and_drop() {
-        let answers = [" answer ", " held\n", " dropped ", " sent\n"];
+        let answers = [" answer ", " total ", " held\n", " dropped ", " sent\n"];
         let counts = reports_with(visits, &answers);
         assert!(counts.iter().all(|&count| count > 60), "{counts:?}");
     }
 
     #[test]
     fn the_last_place_is_taken_or_missing() {
-        let counts = reports_with(last_place, &[" answer ", " sent\n", " refused 8 "]);
+        let answers = [" answer ", " total ", " sent\n", " refused 8 "];
+        let counts = reports_with(last_place, &answers);
         assert!(counts.iter().all(|&count| count > 60), "{counts:?}");
     }
 }

@@ -118,7 +118,8 @@ pub fn answer_words(random: &mut Random) -> Vec<u8> {
         design: star(sizes),
         values: Values::new(1, false),
     };
-    let commands = [draft.design.commands(), around(random, query)].concat();
+    let operations = around(random, query, Command::Query(query));
+    let commands = [draft.design.commands(), operations].concat();
     with_operations(random, &draft, commands, 5)
 }
 

@@ -9,6 +9,7 @@ mod fetching;
 mod limits;
 mod operations;
 mod spoil;
+mod totals;
 
 use notation::{encode, Command};
 
@@ -20,7 +21,7 @@ use spoil::spoil;
 /// A way to make a script, with its share among all scripts.
 type Kind = (usize, fn(&mut Random) -> Vec<u8>);
 
-const KINDS: [Kind; 21] = [
+const KINDS: [Kind; 24] = [
     (40, |random| ordinary(random, &Shape::SPARSE)),
     (25, |random| ordinary(random, &Shape::DENSE)),
     (15, |random| worked(random, Draft::chain)),
@@ -30,18 +31,21 @@ const KINDS: [Kind; 21] = [
     (20, damage::noise),
     (20, limits::design_counts),
     (10, limits::held_values),
-    (8, limits::answer_words),
+    (14, limits::answer_words),
     (4, limits::rows),
-    (2, limits::script_length),
-    (5, extremes::words_around_the_limit),
+    (3, limits::script_length),
+    (10, extremes::words_around_the_limit),
     (4, extremes::many_rounds),
     (4, extremes::all_rows),
-    (2, extremes::many_commands),
+    (3, extremes::many_commands),
     (12, even::cycles),
-    (4, even::two_rings),
+    (6, even::two_rings),
     (6, even::most_rounds),
     (20, fetching::visits),
-    (8, fetching::last_place),
+    (10, fetching::last_place),
+    (8, totals::largest),
+    (6, totals::crowd),
+    (4, totals::beside_a_group),
 ];
 
 /// The script with the given number among those of a seed.
@@ -123,6 +127,6 @@ mod tests {
     #[test]
     fn most_scripts_are_small() {
         let small = (0..2_000).filter(|&number| script(1, number).len() < 4_096);
-        assert!(small.count() > 1_800);
+        assert!(small.count() > 1_700);
     }
 }

@@ -1,7 +1,7 @@
 //! Random operations on a design. Most name something that is there; some are
 //! spoilt on purpose.
 
-use notation::{Column, Command, Design, Join, Pair, Probe, Query, Row, PAIRS};
+use notation::{Column, Command, Design, Join, Pair, Probe, Query, Row, Total, PAIRS};
 
 use super::design::{Draft, Values};
 use super::spoil::spoil;
@@ -34,14 +34,14 @@ impl<'a> Operator<'a> {
         if random.percent(MISPLACED) {
             return *random.pick(&self.design.commands());
         }
-        let operation = match random.below(21) {
+        let operation = match random.below(24) {
             0..=6 => Command::Refer(self.refer(random)),
             7..=10 => Command::Drop(self.drop(random)),
             11..=14 => Command::Probe(self.probe(random)),
             15 => Command::Even,
             _ => {
                 let probe = self.probe(random);
-                Command::Query(self.query(random, probe))
+                self.question(random, probe)
             }
         };
         if random.percent(SPOILT) {
@@ -51,24 +51,34 @@ impl<'a> Operator<'a> {
         }
     }
 
-    /// A query of a value that may not be held, in a filling column, and then
-    /// operations on the same value, or on another now and then.
+    /// A query or a total of a value that may not be held, in a filling column,
+    /// and then operations on the same value, or on another now and then.
     pub fn visit(&mut self, random: &mut Random) -> Vec<Command> {
         let pair = self.pair(random);
         let Some(probe) = self.probe_of(pair) else {
             return vec![self.operation(random)];
         };
-        let mut commands = vec![Command::Query(self.query(random, probe))];
+        let mut commands = vec![self.question(random, probe)];
         for _ in 0..random.below(5) {
             commands.push(match random.below(9) {
                 0 | 1 => Command::Probe(probe),
                 2 | 3 => Command::Refer(pair),
                 4 | 5 => Command::Drop(pair),
-                6 | 7 => Command::Query(self.query(random, probe)),
+                6 | 7 => self.question(random, probe),
                 _ => self.operation(random),
             });
         }
         commands
+    }
+
+    /// A query of a column and a value, or a total over it.
+    fn question(&mut self, random: &mut Random, probe: Probe) -> Command {
+        let query = self.query(random, probe);
+        if random.percent(60) {
+            Command::Query(query)
+        } else {
+            Command::Total(self.total(random, query))
+        }
     }
 
     /// A pair to refer to, remembered from now on.
@@ -163,6 +173,24 @@ impl<'a> Operator<'a> {
             tables.push(constraint.target.table);
         }
         Query::new(column, value, &joins)
+    }
+
+    /// The total of any cell that the lists of a query have.
+    fn total(&self, random: &mut Random, query: Query) -> Total {
+        let position = random.below(usize::from(query.joins) + 1);
+        let table = match position.checked_sub(1) {
+            None => query.column.table,
+            Some(join) => {
+                let constraint = usize::from(query.pairs[join].constraint);
+                self.design.constraints[constraint].target.table
+            }
+        };
+        let columns = self.design.tables[usize::from(table)].columns;
+        Total {
+            query,
+            position: position as u8,
+            column: random.below(columns.into()) as u8,
+        }
     }
 
     /// The joins that may follow positions of these tables.

@@ -2,7 +2,8 @@
 //! may be right as well.
 
 use notation::{
-    Column, Command, Constraint, Design, Filling, Pair, Probe, Query, Row, Table, CELLS, PAIRS,
+    Column, Command, Constraint, Design, Filling, Pair, Probe, Query, Row, Table, Total, CELLS,
+    PAIRS,
 };
 
 use crate::random::Random;
@@ -21,6 +22,7 @@ pub fn spoil(random: &mut Random, design: &Design, command: Command) -> Command 
         Command::Drop(pair) => Command::Drop(spoil_pair(random, design, pair)),
         Command::Probe(probe) => Command::Probe(spoil_probe(random, design, probe)),
         Command::Query(query) => Command::Query(spoil_query(random, design, query)),
+        Command::Total(total) => Command::Total(spoil_total(random, design, total)),
     }
 }
 
@@ -95,6 +97,22 @@ fn spoil_query(random: &mut Random, design: &Design, mut query: Query) -> Query 
         _ => query.pairs[pair].constraint = random.below(PAIRS) as u8,
     }
     query
+}
+
+fn spoil_total(random: &mut Random, design: &Design, mut total: Total) -> Total {
+    match random.below(7) {
+        0 => total.position = total.query.joins + 1,
+        1 => total.position = random.byte(),
+        2 | 3 => total.column = random.below(CELLS + 1) as u8,
+        4 => total.column = random.byte(),
+        5 => total.query = spoil_query(random, design, total.query),
+        _ => {
+            // The position is looked at before the value.
+            total.query.value = 0;
+            total.position = total.query.joins + 1;
+        }
+    }
+    total
 }
 
 fn spoil_column(random: &mut Random, design: &Design, mut column: Column) -> Column {

@@ -53,6 +53,8 @@ impl Answer<'_> {
                 Ordering::Less => "uneven with i < j".into(),
                 Ordering::Greater => "uneven with i > j".into(),
             },
+            ["total", "0"] => "total of 0".into(),
+            ["total", _] => "total above 0".into(),
             ["refused", cause, _] => format!("refused {cause}"),
             ["loaded", ..] => "loaded".into(),
             ["dropped", ..] => "dropped".into(),

@@ -1,17 +1,17 @@
-//! What came of queries that have no ground, or refer their value first, and of
-//! operations on such a value afterwards.
+//! What came of queries and totals that have no ground, or refer their value
+//! first, and of operations on such a value afterwards.
 
 use reference::design::Design;
 use reference::desk::Answer;
 use reference::refusal::Cause;
-use reference::script::{Column, Command, Pair};
+use reference::script::{Column, Command, Pair, Total};
 
-use crate::replay::Replay;
+use crate::replay::{query_of, Replay};
 
 const MOST_HELD: usize = 64;
 
-/// The outcomes of a script's queries, in its order. A script whose design is
-/// refused has none.
+/// The outcomes of a script's queries and totals, in its order. A script whose
+/// design is refused has none.
 pub fn outcomes(script: &[u8]) -> Vec<&'static str> {
     let design = Design::read(script).map(|(design, _)| design);
     let (Ok(design), Some(replay)) = (design, Replay::new(script)) else {
@@ -25,6 +25,9 @@ pub fn outcomes(script: &[u8]) -> Vec<&'static str> {
     };
     let mut outcomes = Vec::new();
     while let Some(command) = watch.replay.command() {
+        if let Command::Total(total) = &command {
+            outcomes.extend(watch.total_outcome(total));
+        }
         outcomes.extend(watch.outcome(command));
     }
     outcomes
@@ -34,7 +37,7 @@ pub fn outcomes(script: &[u8]) -> Vec<&'static str> {
 struct Watch<'a> {
     design: Design,
     replay: Replay<'a>,
-    /// The pairs held, and whether a query referred them.
+    /// The pairs held, and whether a query or total referred them.
     held: Vec<(Pair, bool)>,
     /// The pairs whose reference was undone last, and which aren't held.
     undone: Vec<Pair>,
@@ -45,26 +48,42 @@ impl Watch<'_> {
     fn outcome(&mut self, command: Command) -> Option<&'static str> {
         let (ground, fetches) = (self.replay.ground(), self.replay.fetches());
         let answer = self.replay.perform()?;
+        if let Some(query) = query_of(&command) {
+            let pair = self.pair(query.column, query.value);
+            let is_total = matches!(command, Command::Total(_));
+            return match (&answer, pair) {
+                (_, Some(pair)) if fetches => Some(self.fetch(pair, &answer)),
+                (Ok(Answer::Sent), pair) => Some(self.sent(pair, is_total)),
+                (Ok(_), Some(pair)) if matches!(ground, Some(2 | 3)) => {
+                    self.is_candidate(pair).then_some(match is_total {
+                        false => "query of a candidate by ground 2 or 3",
+                        true => "total of a candidate by ground 2 or 3",
+                    })
+                }
+                _ => None,
+            };
+        }
         match (command, answer) {
             (Command::Refer(pair), Ok(answer)) => self.refer(pair, &answer),
             (Command::Drop(pair), Ok(_)) => {
                 let place = self.held.iter().position(|(held, _)| *held == pair)?;
-                let (_, by_query) = self.held.remove(place);
-                by_query.then_some("drop of what a query referred")
+                let (_, asked) = self.held.remove(place);
+                asked.then_some("drop of what a query or total referred")
             }
-            (Command::Query(query), answer) => {
-                let pair = self.pair(query.column, query.value);
-                if let Some(pair) = pair.filter(|_| fetches) {
-                    return Some(self.fetch(pair, &answer));
-                }
-                match answer {
-                    Ok(Answer::Sent) => Some(self.sent(pair)),
-                    Ok(_) if matches!(ground, Some(2 | 3)) => {
-                        let candidate = pair.filter(|pair| self.is_candidate(*pair));
-                        candidate.map(|_| "query of a candidate by ground 2 or 3")
-                    }
-                    _ => None,
-                }
+            _ => None,
+        }
+    }
+
+    /// What a total, which is the next command, shows beside the query with its
+    /// operands.
+    fn total_outcome(&self, total: &Total) -> Option<&'static str> {
+        let listed = self.replay.try_out(&Command::Query(total.query));
+        match (self.replay.try_out(&Command::Total(*total)), listed) {
+            (Ok(_), Err(Cause::AnswerTooLong)) => {
+                Some("total of lists that are too long for a query")
+            }
+            (Err(Cause::WrongOperand), listed) if listed != Err(Cause::WrongOperand) => {
+                Some("total refused 5 for its position or column")
             }
             _ => None,
         }
@@ -78,32 +97,42 @@ impl Watch<'_> {
                 self.undone.retain(|other| *other != pair);
                 undone.then_some("load behind an undone reference")
             }
-            Answer::Held if self.held.contains(&(pair, true)) => Some("held since a query"),
+            Answer::Held if self.held.contains(&(pair, true)) => {
+                Some("held since a query or total")
+            }
             _ => None,
         }
     }
 
-    /// What came of a query that referred the pair first.
+    /// What came of a query or total that referred the pair first.
     fn fetch(&mut self, pair: Pair, answer: &Result<Answer, Cause>) -> &'static str {
         self.undone.retain(|other| *other != pair);
-        let Ok(Answer::Lists(lists)) = answer else {
+        let Ok(answer) = answer else {
             self.undone.push(pair);
-            return "query refused 11, its reference undone";
+            return match answer {
+                Err(Cause::TotalTooLarge) => "total refused 13, its reference undone",
+                _ => "query refused 11, its reference undone",
+            };
         };
         self.held.push((pair, true));
-        match (lists.is_empty(), self.held.len()) {
+        match (answer, self.held.len()) {
+            (Answer::Total(_), MOST_HELD) => "total referred at 63 held values",
+            (Answer::Total(_), _) => "total referred",
             (_, MOST_HELD) => "query referred at 63 held values",
-            (true, _) => "query referred without lists",
-            (false, _) => "query referred with lists",
+            (Answer::Lists(lists), _) if lists.is_empty() => "query referred without lists",
+            _ => "query referred with lists",
         }
     }
 
-    /// Why a query was sent, of which this is the pair to refer.
-    fn sent(&self, pair: Option<Pair>) -> &'static str {
-        match pair {
-            None => "query sent for no filling",
-            Some(pair) if !self.is_candidate(pair) => "query sent for no candidate",
-            Some(_) => "query sent at 64 held values",
+    /// Why a query or total was sent, of which this is the pair to refer.
+    fn sent(&self, pair: Option<Pair>, is_total: bool) -> &'static str {
+        match (pair, is_total) {
+            (None, false) => "query sent for no filling",
+            (None, true) => "total sent for no filling",
+            (Some(pair), false) if !self.is_candidate(pair) => "query sent for no candidate",
+            (Some(pair), true) if !self.is_candidate(pair) => "total sent for no candidate",
+            (Some(_), false) => "query sent at 64 held values",
+            (Some(_), true) => "total sent at 64 held values",
         }
     }
 
@@ -140,12 +169,48 @@ mod tests {
             refer 0 1\nrefer 0 1\nquery 0.0 = 1\nquery 0.1 = 7\nquery 1.0 = 1\ndrop 0 1\n";
         let expected = [
             "query referred with lists",
-            "held since a query",
-            "drop of what a query referred",
+            "held since a query or total",
+            "drop of what a query or total referred",
             "query referred without lists",
             "query of a candidate by ground 2 or 3",
         ];
         assert_eq!(outcomes_of(operations), expected);
+    }
+
+    #[test]
+    fn totals_are_told_apart() {
+        let total = |value, cell| format!("total 0.0 = {value} join 0 by 0 of {cell}\n");
+        let operations = [
+            total(1, "1 column 1"),
+            total(1, "1 column 0"),
+            "drop 0 1\n".into(),
+            total(91, "0 column 0"),
+            "total 1.0 = 1 of 0 column 0\n".into(),
+        ];
+        let expected = [
+            "total refused 5 for its position or column",
+            "total referred",
+            "drop of what a query or total referred",
+            "total sent for no candidate",
+            "total sent for no filling",
+        ];
+        assert_eq!(outcomes_of(&operations.concat()), expected);
+    }
+
+    #[test]
+    fn totals_of_too_many_lists_and_above_the_largest() {
+        let rows = "row 0 1 4294967295\n".repeat(512);
+        let joins = " join 0 by 0 join 1 by 0 join 2 by 0 join 3 by 0 of 0 column ";
+        let text = format!(
+            "table 2\nconstraint 0.0 -> 0.0\nfilling 0.0 1..9\n{rows}end\n\
+             total 0.0 = 1{joins}1\nrefer 0 1\ntotal 0.0 = 1{joins}0\n"
+        );
+        let expected = [
+            "total refused 13, its reference undone",
+            "load behind an undone reference",
+            "total of lists that are too long for a query",
+        ];
+        assert_eq!(outcomes(&assemble(&text).expect("a right text")), expected);
     }
 
     #[test]

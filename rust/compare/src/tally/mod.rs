@@ -4,7 +4,7 @@
 //! - `names` has what is counted.
 //! - `answer` takes a report apart.
 //! - `links` tells how a design's tables are linked.
-//! - `fetching` tells what came of queries that refer.
+//! - `fetching` tells what came of queries and totals that refer.
 
 mod answer;
 mod fetching;
@@ -83,7 +83,11 @@ impl Tally {
         if answers.iter().any(Answer::is_too_long) {
             self.count_few_words_too_many(script, &answers);
         }
-        if pieces.iter().any(|piece| kind(piece) == "query") {
+        if pieces
+            .iter()
+            .map(kind)
+            .any(|kind| kind == "query" || kind == "total")
+        {
             for outcome in fetching::outcomes(script) {
                 self.count(outcome.into(), 1);
             }
@@ -127,6 +131,9 @@ impl Tally {
     }
 
     fn count_answer_extremes(&mut self, answer: &Answer) {
+        if answer.text == format!("total {}", u64::MAX) {
+            self.count("total of 2^64 - 1".into(), 1);
+        }
         if let ["loaded", rows, rounds] = answer.words()[..] {
             if rows == "512" {
                 self.count("loaded 512 rows".into(), 1);

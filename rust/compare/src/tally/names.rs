@@ -11,7 +11,7 @@ use notation::{Command, Piece};
 /// 3. Causes 7 and 12 are about lent memory, which no script can spoil. No
 /// answer needs 4,097 words: that has no divisor from 2 to 5, and 512 rows make
 /// no more than 512 lists of one.
-pub const OUTCOMES: [(u32, &str); 56] = [
+pub const OUTCOMES: [(u32, &str); 69] = [
     (0, "design accepted"),
     (0, "design refused 1"),
     (0, "design refused 2"),
@@ -39,9 +39,20 @@ pub const OUTCOMES: [(u32, &str); 56] = [
     (2, "query referred without lists"),
     (2, "query referred at 63 held values"),
     (2, "query refused 11, its reference undone"),
-    (2, "held since a query"),
-    (2, "drop of what a query referred"),
+    (2, "held since a query or total"),
+    (2, "drop of what a query or total referred"),
     (2, "load behind an undone reference"),
+    (3, "total above 0"),
+    (3, "total of 0"),
+    (3, "total of lists that are too long for a query"),
+    (3, "total of a candidate by ground 2 or 3"),
+    (3, "total sent for no filling"),
+    (3, "total sent for no candidate"),
+    (3, "total sent at 64 held values"),
+    (3, "total referred"),
+    (3, "total referred at 63 held values"),
+    (3, "total refused 13, its reference undone"),
+    (3, "total refused 5 for its position or column"),
     (1, "even"),
     (1, "even with a cycle"),
     (1, "uneven with i = j"),
@@ -56,6 +67,7 @@ pub const OUTCOMES: [(u32, &str); 56] = [
     (0, "refused 9"),
     (0, "refused 10"),
     (0, "refused 11"),
+    (3, "refused 13"),
     (0, "over 10,000 commands"),
     (0, "loaded in over 255 rounds"),
     (0, "loaded 512 rows"),
@@ -63,6 +75,7 @@ pub const OUTCOMES: [(u32, &str); 56] = [
     (0, "answer of 4,095 words"),
     (0, "answer of 4,096 words"),
     (0, "refused 11 for 4,098 words"),
+    (3, "total of 2^64 - 1"),
     (0, "2^32 - 1 in a row"),
     (0, "2^32 - 1 loaded with rows"),
     (0, "2^32 - 1 dropped with rows"),
@@ -71,7 +84,7 @@ pub const OUTCOMES: [(u32, &str); 56] = [
 ];
 
 /// The kinds of commands, and last what can't be read as one.
-pub const COMMANDS: [&str; 11] = [
+pub const COMMANDS: [&str; 12] = [
     "table",
     "constraint",
     "filling",
@@ -82,6 +95,7 @@ pub const COMMANDS: [&str; 11] = [
     "probe",
     "query",
     "even",
+    "total",
     "no command",
 ];
 
@@ -101,5 +115,6 @@ pub fn kind(piece: &Piece) -> &'static str {
         Command::Probe(_) => "probe",
         Command::Query(_) => "query",
         Command::Even => "even",
+        Command::Total(_) => "total",
     }
 }

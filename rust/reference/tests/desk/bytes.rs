@@ -64,9 +64,19 @@ pub fn even() -> Vec<u8> {
     vec![0x14]
 }
 
+/// The total of the cell at a position and a column.
+pub fn total(column: Column, value: u32, joins: &[(u8, u8)], cell: (u8, u8)) -> Vec<u8> {
+    total_of(&query(column, value, joins), cell)
+}
+
+/// The total with the operands of a query, right or wrong.
+pub fn total_of(query: &[u8], cell: (u8, u8)) -> Vec<u8> {
+    [&[0x15], &query[1..], &[cell.0, cell.1]].concat()
+}
+
 /// One of each command, with its name, in the order of document 01's table, and
 /// then what document 02 adds.
-pub fn one_of_each() -> [(&'static str, Vec<u8>); 10] {
+pub fn one_of_each() -> [(&'static str, Vec<u8>); 11] {
     [
         ("table", table(1, 0)),
         ("constraint", constraint((0, 0), (0, 0))),
@@ -78,6 +88,7 @@ pub fn one_of_each() -> [(&'static str, Vec<u8>); 10] {
         ("probe", probe((0, 0), 1)),
         ("query", query((0, 0), 1, &[])),
         ("even", even()),
+        ("total", total((0, 0), 1, &[], (0, 0))),
     ]
 }
 

@@ -12,3 +12,4 @@ mod operation_refusals;
 mod queries;
 mod random;
 mod rounds;
+mod totals;
