@@ -1,5 +1,5 @@
 -- The lists that a step answers with have as many words as its QUERY has positions, each, and together no more than are lent. Assumes nothing.
-use Prim.Native.Nat.{ℕ, suc, _+_, _-_, _*_, _≤_, min}
+use Prim.Native.Nat.{ℕ, suc, _+_, _-_, _*_, _^_, _≤_, min}
 use native.Mathlib.Omega.{arith}
 use mathlib.Core.Path.{_≡_, refl, sym, ap, subst, _∙_}
 use mathlib.Core.Bool.{Bool, true, false, not, cond, and-eq-true-iff}
@@ -14,10 +14,10 @@ use Rattle.model.specs.Database.{Database}
 use Rattle.model.specs.Probe
 use Rattle.model.specs.Holding.{Pair, holds, hasRoom, heldIn}
 use Rattle.model.specs.Even.{lowestUneven}
-use Rattle.model.specs.Runs.{Question, probe, evenness, refer, drop, marked, Cache}
+use Rattle.model.specs.Runs.{Question, probe, evenness, asLists, asTotal, refer, drop, outputFits, withinLimit, marked, Cache}
 use Rattle.model.specs.Query as Q
-use Rattle.model.specs.Query.{joinsOf, operandsFit, wordsOf, fullLists, mostJoins}
-use Rattle.model.specs.Answers.{Answer, held, noCandidate, ground, sent, lists, even, uneven, evenAnswer, shown, hasLists, unless, orAnswer, questionAnswer, isAnswered, queryAnswer, answer}
+use Rattle.model.specs.Query.{joinsOf, operandsFit, wordsOf, fullLists, fullTotal, mostJoins}
+use Rattle.model.specs.Answers.{Answer, held, noCandidate, ground, sent, lists, even, uneven, evenAnswer, shown, hasLists, unless, orAnswer, questionAnswer, isAnswered, fullAnswer, queryAnswer, answer}
 use Rattle.model.proofs.ListLaws.{fitting-words}
 use Rattle.state.specs.declared.design.Table as State-table
 use Rattle.state.specs.declared.design.Constraint as State-constraint
@@ -29,7 +29,7 @@ use Rattle.state.specs.Lent.{State, scheme, database, cache, longEnough, lawful
 use Rattle.format.specs.declared.command.Command.{Command}
 use Rattle.format.specs.declared.command.Command.the-variants.{Table, Constraint, Filling, Row, End, Operate, Unknown, Short}
 use Rattle.format.specs.Bytes.{byteAt}
-use Rattle.format.specs.Commands.{columnAt, valueAt, heldValueAt, queryAt, operationAt, designCommandAt, operandsAt, commandAt, widthOf}
+use Rattle.format.specs.Commands.{columnAt, valueAt, heldValueAt, queryAt, totalAt, operationAt, designCommandAt, operandsAt, commandAt, widthOf}
 use Rattle.script.specs.Step.{Stepped, operated, carried, stepAt}
 use Rattle.script.proofs.StepLaws.{step-by}
 use Rattle.desk.specs.Printed.{listsIn, positionsAt}
@@ -97,14 +97,22 @@ module _ (p room : ℕ) where
           one-more : (j : ℕ) → suc j ≡ j + 1
           one-more j = omega arith
 
-      query-within : Within (queryAnswer S D c room q)
-      unfolding queryAnswer hasLists shown
+      query-within : Within (queryAnswer S D c q (asLists room))
+      unfolding queryAnswer outputFits withinLimit fullAnswer hasLists shown
       query-within =
           let n = length (wordsOf (fullLists S D q)) in
           unless-within (not (operandsFit S q)) 5 _ (λ fit. unless-within (isBlank (q .value)) 9 _ (λ _.
           or-within (not (isAnswered S D c q)) sent _ (λ h. clash h refl)
           (unless-within (not (leb n room)) 11 _ (λ l _.
           all-within (not-false (operandsFit S q) fit) (leb-true n room (not-false (leb n room) l))))))
+
+    -- a total has no lists
+    total-within : (q : Q.Query) (x y : ℕ) → Within (queryAnswer S D c q (asTotal x y))
+    unfolding queryAnswer withinLimit fullAnswer hasLists shown
+    total-within q x y =
+        unless-within (not (outputFits S q (asTotal x y))) 5 _ (λ _. unless-within (isBlank (q .value)) 9 _ (λ _.
+        or-within (not (isAnswered S D c q)) sent _ (λ h. clash h refl)
+        (unless-within (not (ltb (fullTotal S D q x y) (2 ^ 64))) 13 _ (λ _ h. clash h refl))))
 
 -- ---- a step
 
@@ -118,22 +126,24 @@ module _ (s : State) (words script : List ℕ) (i : ℕ) where
   -- the operation at place i, whose byte is b
   operation-within : (b : ℕ) → Here (answerAt s (operationOf (operationAt b script i) (length words)))
   unfolding answerAt answer operationAt
-  operation-within b = go (eqb b 0x10) (eqb b 0x11) (eqb b 0x12) (eqb b 0x14)
+  operation-within b = go (eqb b 0x10) (eqb b 0x11) (eqb b 0x12) (eqb b 0x14) (eqb b 0x15)
     where
-      op : Bool → Bool → Bool → Bool → Operation
-      op x y z v =
+      op : Bool → Bool → Bool → Bool → Bool → Operation
+      op x y z v t =
           cond x (O.Refer (heldValueAt script i))
           (cond y (O.Drop (heldValueAt script i))
           (cond z (O.Probe (columnAt script (i + 1)) (valueAt script (i + 3)))
           (cond v O.Evenness
-          (O.Query (queryAt script i)))))
+          (cond t (O.Total (totalAt script i))
+          (O.Query (queryAt script i))))))
 
-      go : (x y z v : Bool) → Here (answerAt s (operationOf (op x y z v) (length words)))
-      go true y z v = guarded-within _ (refer-within _ _ (scheme s) (database s) (cache s) _)
-      go false true z v = guarded-within _ (drop-within _ _ (scheme s) (database s) (cache s) _)
-      go false false true v = guarded-within _ (question-within _ _ (scheme s) (database s) (cache s) _)
-      go false false false true = guarded-within _ (question-within _ _ (scheme s) (database s) (cache s) _)
-      go false false false false = guarded-within _ (query-within _ _ (scheme s) (database s) (cache s) _ refl refl)
+      go : (x y z v t : Bool) → Here (answerAt s (operationOf (op x y z v t) (length words)))
+      go true y z v t = guarded-within _ (refer-within _ _ (scheme s) (database s) (cache s) _)
+      go false true z v t = guarded-within _ (drop-within _ _ (scheme s) (database s) (cache s) _)
+      go false false true v t = guarded-within _ (question-within _ _ (scheme s) (database s) (cache s) _)
+      go false false false true t = guarded-within _ (question-within _ _ (scheme s) (database s) (cache s) _)
+      go false false false false true = guarded-within _ (total-within _ _ (scheme s) (database s) (cache s) _ _ _)
+      go false false false false false = guarded-within _ (query-within _ _ (scheme s) (database s) (cache s) _ refl refl)
 
   -- the command at place i
   command-within : (j : ℕ) → Here (carried s words script i j (commandAt script i) .answer)

@@ -1,6 +1,6 @@
 -- The laws of `collect`. Assumes nothing.
-use Prim.Native.Nat.{ℕ, zero, suc, _+_, _*_, _<_}
-use native.Mathlib.Nat.{not-suc-le-zero}
+use Prim.Native.Nat.{ℕ, zero, suc, _+_, _*_, _≤_, _<_}
+use native.Mathlib.Nat.{not-suc-le-zero, suc-mul}
 use native.Mathlib.Numerals.{add-one}
 use native.Mathlib.Omega.{arith}
 use mathlib.Core.Path.{_≡_, refl, sym, ap, ap₂, _∙_}
@@ -75,6 +75,18 @@ module _ {A : Type 0} (f : ℕ → Bool) (g : ℕ → List A) where
 
     pub collect-miss : f r ≡ false → xs ≡ collect (r + 1) f g
     collect-miss e = h ∙ sym (collect-suc r ∙ ap (λ (b : Bool). collect r f g ++ cond b (g r) []) e ∙ append-nil (collect r f g))
+
+-- ---- how much is collected
+
+-- no number brings in more than m
+pub collect-most : {A : Type 0} (n m : ℕ) (p : ℕ → Bool) (f : ℕ → List A) → ((i : ℕ) → length (f i) ≤ m) → length (collect n p f) ≤ n * m
+unfolding collect
+collect-most zero m p f h = omega arith
+collect-most (suc n) m p f h = go (p n) (collect-most n m p f h)
+  where
+    go : (b : Bool) → length (collect n p f) ≤ n * m → length (collect n p f ++ cond b (f n) []) ≤ suc n * m
+    go true k = omega (arith, length-append (collect n p f) (f n), h n, suc-mul n m)
+    go false k = omega (arith, ap length (append-nil (collect n p f)), suc-mul n m)
 
 -- ---- pieces of one length w
 

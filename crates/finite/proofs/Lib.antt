@@ -1,6 +1,6 @@
 -- Bools: tests and their facts. Search, Counting, Tables, Collecting: the laws of any and all, count, tab, collect. Skipping: loops that pass over
 -- numbers at which nothing happens. From: the numbers from i on. Writing: into a lent buffer. Stores: what stands where after it.
--- Sameness: lists with a test of sameness. First: the least number that passes.
+-- Sameness: lists with a test of sameness. First: the least number that passes. Sums: over the elements of a list.
 pub mod Bools
 pub mod Search
 pub mod Counting
@@ -12,3 +12,4 @@ pub mod Writing
 pub mod Stores
 pub mod Sameness
 pub mod First
+pub mod Sums

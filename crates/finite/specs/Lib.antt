@@ -1,3 +1,4 @@
 pub mod Finite
 pub mod Writing
 pub mod Sameness
+pub mod Sums

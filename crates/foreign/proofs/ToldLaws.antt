@@ -5,7 +5,7 @@ use native.Mathlib.Omega.{arith}
 use mathlib.Core.Path.{_≡_, refl, sym, ap, ap₂, _∙_}
 use mathlib.Core.List.{List, [], _∷_}
 use lib.ListN.{take}
-use Rattle.model.specs.Answers.{Answer, loaded, held, noCandidate, dropped, ground, sent, lists, refused, even, uneven, shown}
+use Rattle.model.specs.Answers.{Answer, loaded, held, noCandidate, dropped, ground, sent, lists, refused, even, uneven, total, shown}
 use Rattle.foreign.specs.Told.{numbersIn, Told, answerIn}
 
 -- the reader reads each answer back
@@ -21,6 +21,7 @@ read-back (lists n) = refl
 read-back (refused n) = refl
 read-back even = refl
 read-back (uneven i j) = refl
+read-back (total n) = refl
 
 module _ (a : Answer) (n : ℕ) (ns : List ℕ) (t : Told a n ns) where
   -- THEOREM: what is told is the answer that a caller reads off it ..

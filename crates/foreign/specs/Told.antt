@@ -6,7 +6,7 @@ use mathlib.Core.Bool.{cond}
 use mathlib.Core.List.{List, [], _∷_}
 use lib.Dec.{eqb}
 use lib.ListN.{getD}
-use Rattle.model.specs.Answers.{Answer, loaded, held, noCandidate, dropped, ground, sent, lists, refused, even, uneven, shown, listsWord}
+use Rattle.model.specs.Answers.{Answer, loaded, held, noCandidate, dropped, ground, sent, lists, refused, even, uneven, total, shown, listsWord}
 
 -- both words of the buffer, 0 where the answer has fewer numbers
 abbrev pub numbersIn : List ℕ → List ℕ
@@ -29,4 +29,5 @@ answerIn n ns =
     (cond (eqb n listsWord) (lists (getD ns 0 0))
     (cond (eqb n 8) even
     (cond (eqb n 9) (uneven (getD ns 0 0) (getD ns 1 0))
-    (refused (getD ns 0 0))))))))))
+    (cond (eqb n 10) (total (getD ns 0 0))
+    (refused (getD ns 0 0)))))))))))

@@ -16,10 +16,11 @@ use Rattle.state.specs.declared.design.Filling as State-filling
 use Rattle.state.specs.declared.design.Column.{Column}
 use Rattle.state.specs.declared.held.HeldValue.{HeldValue}
 use Rattle.state.specs.declared.operation.Query.{Query}
+use Rattle.state.specs.declared.operation.Total.{Total}
 use Rattle.state.specs.declared.operation.Operation.the-variants as O
 use Rattle.format.specs.declared.command.Command.the-variants.{Table, Constraint, Filling, Row, End, Operate, Unknown, Short}
 use Rattle.format.specs.Bytes.{byteAt, u32At}
-use Rattle.format.specs.Commands.{designWidth, operationWidth, widthOf, columnAt, valueAt, heldValueAt, queryAt, designCommandAt, operationAt, operandsAt, commandAt}
+use Rattle.format.specs.Commands.{designWidth, operationWidth, widthOf, columnAt, valueAt, heldValueAt, queryAt, totalAt, designCommandAt, operationAt, operandsAt, commandAt}
 
 -- ---- widths
 
@@ -44,16 +45,16 @@ module _ (b : ℕ) where
   unfolding designWidth
   design-width-none h₁ h₂ h₃ h₄ h₅ = rw (ne-eqb b 1 h₁, ne-eqb b 2 h₂, ne-eqb b 3 h₃, ne-eqb b 4 h₄, ne-eqb b 5 h₅)
 
-  pub operation-width-none : (b ≡ 16 → ⊥) → (b ≡ 17 → ⊥) → (b ≡ 18 → ⊥) → (b ≡ 19 → ⊥) → (b ≡ 20 → ⊥) → operationWidth b ≡ 0
+  pub operation-width-none : (b ≡ 16 → ⊥) → (b ≡ 17 → ⊥) → (b ≡ 18 → ⊥) → (b ≡ 19 → ⊥) → (b ≡ 20 → ⊥) → (b ≡ 21 → ⊥) → operationWidth b ≡ 0
   unfolding operationWidth
-  operation-width-none h₁ h₂ h₃ h₄ h₅ = rw (ne-eqb b 16 h₁, ne-eqb b 17 h₂, ne-eqb b 18 h₃, ne-eqb b 19 h₄, ne-eqb b 20 h₅)
+  operation-width-none h₁ h₂ h₃ h₄ h₅ h₆ = rw (ne-eqb b 16 h₁, ne-eqb b 17 h₂, ne-eqb b 18 h₃, ne-eqb b 19 h₄, ne-eqb b 20 h₅, ne-eqb b 21 h₆)
 
   -- what is left of the design's bytes is END's, and of the operations' QUERY's
   pub is-end : (designWidth b ≡ 0 → ⊥) → (b ≡ 1 → ⊥) → (b ≡ 2 → ⊥) → (b ≡ 3 → ⊥) → (b ≡ 4 → ⊥) → b ≡ 5
   is-end w h₁ h₂ h₃ h₄ = ⊎-elim (λ (e : b ≡ 5). e) (λ (n : b ≡ 5 → ⊥). absurd (w (design-width-none h₁ h₂ h₃ h₄ n))) (same-number b 5)
 
-  pub is-query : (operationWidth b ≡ 0 → ⊥) → (b ≡ 16 → ⊥) → (b ≡ 17 → ⊥) → (b ≡ 18 → ⊥) → (b ≡ 20 → ⊥) → b ≡ 19
-  is-query w h₁ h₂ h₃ h₅ = ⊎-elim (λ (e : b ≡ 19). e) (λ (n : b ≡ 19 → ⊥). absurd (w (operation-width-none h₁ h₂ h₃ n h₅))) (same-number b 19)
+  pub is-query : (operationWidth b ≡ 0 → ⊥) → (b ≡ 16 → ⊥) → (b ≡ 17 → ⊥) → (b ≡ 18 → ⊥) → (b ≡ 20 → ⊥) → (b ≡ 21 → ⊥) → b ≡ 19
+  is-query w h₁ h₂ h₃ h₅ h₆ = ⊎-elim (λ (e : b ≡ 19). e) (λ (n : b ≡ 19 → ⊥). absurd (w (operation-width-none h₁ h₂ h₃ n h₅ h₆))) (same-number b 19)
 
 -- a command takes at most 34 bytes
 pick : (x : Bool) (m n : ℕ) → m ≤ 34 → n ≤ 34 → cond x m n ≤ 34
@@ -70,7 +71,7 @@ operation-most : (b : ℕ) → operationWidth b ≤ 34
 unfolding operationWidth
 operation-most b =
     pick (eqb b 16) 6 _ (omega arith) (pick (eqb b 17) 6 _ (omega arith) (pick (eqb b 18) 7 _ (omega arith)
-    (pick (eqb b 19) 16 _ (omega arith) (pick (eqb b 20) 1 0 (omega arith) (omega arith)))))
+    (pick (eqb b 19) 16 _ (omega arith) (pick (eqb b 20) 1 _ (omega arith) (pick (eqb b 21) 18 0 (omega arith) (omega arith))))))
 
 pub width-most : (b : ℕ) → widthOf b ≤ 34
 unfolding widthOf
@@ -129,6 +130,10 @@ module _ (b : ℕ) (s : List ℕ) (i : ℕ) where
   pub operation-evenness : b ≡ 20 → O.Evenness ≡ operationAt b s i
   unfolding operationAt
   operation-evenness e = ap (λ (j : ℕ). operationAt j s i) (sym e)
+
+  pub operation-total : (t : Total) → t ≡ totalAt s i → b ≡ 21 → O.Total t ≡ operationAt b s i
+  unfolding operationAt
+  operation-total t p e = ap O.Total p ∙ ap (λ (j : ℕ). operationAt j s i) (sym e)
 
   pub operation-query : (q : Query) → q ≡ queryAt s i → b ≡ 19 → O.Query q ≡ operationAt b s i
   unfolding operationAt

@@ -10,6 +10,7 @@ use Rattle.state.specs.declared.design.Column.{Column}
 use Rattle.state.specs.declared.held.HeldValue.{HeldValue}
 use Rattle.state.specs.declared.operation.Join.{Join}
 use Rattle.state.specs.declared.operation.Query.{Query}
+use Rattle.state.specs.declared.operation.Total.{Total}
 use Rattle.state.specs.declared.operation.Operation.{Operation}
 use Rattle.state.specs.declared.operation.Operation.the-variants as O
 use Rattle.format.specs.declared.command.Command.{Command}
@@ -32,7 +33,8 @@ operationWidth b =
     (cond (eqb b 0x11) 6
     (cond (eqb b 0x12) 7
     (cond (eqb b 0x13) 16
-    (cond (eqb b 0x14) 1 0))))
+    (cond (eqb b 0x14) 1
+    (cond (eqb b 0x15) 18 0)))))
 
 unfoldable pub widthOf : ℕ → ℕ
 widthOf b = cond (ltb b 0x10) (designWidth b) (operationWidth b)
@@ -65,6 +67,10 @@ queryAt s i =
       fourth = joinAt s (i + 14);
     }
 
+-- the operands of the total at place i: "QUERY's operands, then a position u8 and a column u8" (02, Req 03)
+abbrev pub totalAt : List ℕ → ℕ → Total
+totalAt s i = record { query = queryAt s i; position = byteAt s (i + 16); column = byteAt s (i + 17) }
+
 -- cell c of the ROW at place i
 unfoldable pub rowCellAt : List ℕ → ℕ → ℕ → ℕ
 rowCellAt s i c = valueAt s (i + 2 + 4 * c) .number
@@ -85,7 +91,8 @@ operationAt b s i =
     (cond (eqb b 0x11) (O.Drop (heldValueAt s i))
     (cond (eqb b 0x12) (O.Probe (columnAt s (i + 1)) (valueAt s (i + 3)))
     (cond (eqb b 0x14) O.Evenness
-    (O.Query (queryAt s i)))))
+    (cond (eqb b 0x15) (O.Total (totalAt s i))
+    (O.Query (queryAt s i))))))
 
 unfoldable pub operandsAt : ℕ → List ℕ → ℕ → Command
 operandsAt b s i = cond (ltb b 0x10) (designCommandAt b s i) (Operate (operationAt b s i))

@@ -4,7 +4,7 @@ ghost use mathlib.Core.Path.{_≡_};
 ghost use Prim.Native.Nat.{_+_, _≤_, _<_};
 ghost use lib.ListN.{length};
 ghost use Rattle.format.specs.Bytes.{byteAt, u32At};
-ghost use Rattle.format.specs.Commands.{designWidth, operationWidth, widthOf, columnAt, valueAt, joinAt, heldValueAt, queryAt, designCommandAt, operationAt, commandAt, rowCellAt};
+ghost use Rattle.format.specs.Commands.{designWidth, operationWidth, widthOf, columnAt, valueAt, joinAt, heldValueAt, queryAt, totalAt, designCommandAt, operationAt, commandAt, rowCellAt};
 use crate::bytes::u32_at;
 use state::Cell;
 use state::Column;
@@ -15,6 +15,7 @@ use state::Join;
 use state::Operation;
 use state::Query;
 use state::Table;
+use state::Total;
 
 // A ROW's cells are read from the bytes by place (an enum holds no array).
 pub enum Command {
@@ -55,6 +56,7 @@ fn operation_width(b: u8) -> usize
         0x12 => 7,
         0x13 => 16,
         0x14 => 1,
+        0x15 => 18,
         _ => 0,
     }
 }
@@ -158,6 +160,18 @@ fn query_at(script: &[u8], i: usize) -> Query
     }
 }
 
+// The operands of a total: a QUERY's, then its position and its column.
+fn total_at(script: &[u8], i: usize) -> Total
+    requires { ⌜ i + 18 ≤ length (now script) ⌝ }
+    ensures { λ r. ⌜ r ≡ totalAt (now (script .entry)) i ⌝ }
+{
+    Total {
+        query: query_at(script, i),
+        position: script[i + 16],
+        column: script[i + 17],
+    }
+}
+
 // Cell c of the ROW at place `at`.
 pub(crate) fn row_cell(script: &[u8], at: usize, c: usize) -> u32
     requires { ⌜ (c < 8) × (at + 34 ≤ length (now script)) ⌝ }
@@ -196,6 +210,7 @@ fn operation_at(b: u8, script: &[u8], i: usize) -> Operation
         0x11 => Operation::Drop(held_value_at(script, i)),
         0x12 => Operation::Probe(column_at(script, i + 1), value_at(script, i + 3)),
         0x14 => Operation::Evenness,
+        0x15 => Operation::Total(total_at(script, i)),
         _ => Operation::Query(query_at(script, i)),
     }
 }

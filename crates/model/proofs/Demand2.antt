@@ -5,27 +5,23 @@ use Prim.Native.Nat.{ℕ}
 use native.Mathlib.Omega.{arith}
 use mathlib.Core.Path.{_≡_, refl, sym, ap, subst, _∙_}
 use mathlib.Core.Logic.{_↔_, _≢_, ⊎-elim}
-use mathlib.Core.Bool.{Bool, true, false, not, _||_}
+use mathlib.Core.Bool.{Bool, true, false, not, _||_, and-eq-true-iff}
 use borrow.Author.Tests.{eqb-true, eqb-false, eq-eqb, ltb-false}
-use lib.Dec.{eqb, leb, ltb}
-use lib.ListN.{length}
+use lib.Dec.{eqb, ltb}
 use Rattle.finite.proofs.Bools.{dec, both, clash}
 use Rattle.model.specs.Cell.{Cell, isBlank}
 use Rattle.model.specs.Scheme.{Column, Scheme, isColumn}
 use Rattle.model.specs.Database.{Database, Lawful}
 use Rattle.model.specs.Probe as Probe
 use Rattle.model.specs.Holding.{heldIn}
-use Rattle.model.specs.Runs.{probe, query, taken, pairFor, answerable, marked, Cache, cacheAfter}
-use Rattle.model.specs.Query.{Query, joinsOf, operandsFit, fitting, wordsOf, fullLists}
-use Rattle.model.specs.Answers.{Answer, sent, lists, ground, unless, orAnswer, groundOf, questionAnswer, queryGround, isAnswered, queryAnswer, queryWords, hasLists, shown, writtenWith}
-use Rattle.model.specs.Demand.{Groundless, Unrefused, FillingsApart, Unreferred, Demand2}
+use Rattle.model.specs.Runs.{probe, Output, asLists, asTotal, query, taken, pairFor, outputFits, withinLimit, answerable, marked, Cache, cacheAfter}
+use Rattle.model.specs.Query.{Query, joinsOf, operandsFit, positionFits, fitting, wordsOf, fullLists}
+use Rattle.model.specs.Answers.{Answer, sent, ground, unless, orAnswer, groundOf, questionAnswer, queryGround, isAnswered, fullAnswer, limitCause, queryAnswer, queryWords, hasLists, shown, writtenWith}
+use Rattle.model.specs.Demand.{Groundless, Unrefused, FillingsApart, Unreferred, fullWords, Demand2}
 use Rattle.model.proofs.ProbeLaws.{probe-sent}
 use Rattle.model.proofs.QueryLaws.{query-lists}
 use Rattle.model.proofs.RunLaws.{Sound, step-sound}
-use Rattle.model.proofs.Referring.{untaken, unreferred, ground-keeps, untaken-keeps, refers-pair, pair-ground}
-
-lists-not-sent : (a : Answer) (n : ℕ) → a ≡ lists n → a ≡ sent → ⊥
-lists-not-sent a n e f = let z : _≡_ {A = ℕ} 0 1 = cc in omega arith
+use Rattle.model.proofs.Referring.{untaken, unreferred, ground-keeps, untaken-keeps, refers-pair, pair-ground, full-answers}
 
 ground-not-sent : (a : Answer) (n : ℕ) → a ≡ ground n → a ≡ sent → ⊥
 ground-not-sent a n e f = let z : _≡_ {A = ℕ} 0 1 = cc in omega arith
@@ -63,37 +59,51 @@ module _ (S : Scheme) (D : Database) (c : Cache) (k : Column) (v : Cell) where
 
 -- ---- queries
 
--- the answer by its four tests
-module _ (n : ℕ) where
+-- the answer by its four tests, x being the one from the full tables
+module _ (cause : ℕ) (x : Answer) where
   abbrev byTests : Bool → Bool → Bool → Bool → Answer
-  byTests fit blank answered room = unless (not fit) 5 (unless blank 9 (orAnswer (not answered) sent (unless (not room) 11 (lists n))))
+  byTests fit blank answered within = unless (not fit) 5 (unless blank 9 (orAnswer (not answered) sent (unless (not within) cause x)))
 
-  -- unless it is refused, the operands fit, and it is sent or has its lists
-  data Tested (fit blank answered room : Bool) (a : Answer) : Type 0 where
-    sends : fit ≡ true → blank ≡ false → answered ≡ false → a ≡ sent → Tested fit blank answered room a
-    answers : fit ≡ true → blank ≡ false → answered ≡ true → room ≡ true → a ≡ lists n → Tested fit blank answered room a
+  -- unless it is refused, the operands fit, and it is sent or answered
+  data Tested (fit blank answered within : Bool) (a : Answer) : Type 0 where
+    sends : fit ≡ true → blank ≡ false → answered ≡ false → a ≡ sent → Tested fit blank answered within a
+    answers : fit ≡ true → blank ≡ false → answered ≡ true → within ≡ true → a ≡ x → Tested fit blank answered within a
 
-  tests : (fit blank answered room : Bool) → Unrefused (byTests fit blank answered room) → Tested fit blank answered room (byTests fit blank answered room)
+  tests : (fit blank answered within : Bool) → Unrefused (byTests fit blank answered within) →
+      Tested fit blank answered within (byTests fit blank answered within)
   tests false b g w u = absurd (u 5 refl)
   tests true true g w u = absurd (u 9 refl)
   tests true false false w u = sends refl refl refl refl
   tests true false true true u = answers refl refl refl refl refl
-  tests true false true false u = absurd (u 11 refl)
+  tests true false true false u = absurd (u cause refl)
 
-module _ {S : Scheme} {D : Database} (l : Lawful S D) (apart : FillingsApart S) (c : Cache) (s : Sound S D c) (room : ℕ) (q : Query)
-    (u : Unrefused (queryAnswer S D c room q)) where
+-- a query's operands fit, whatever it is asked for
+pub fits-operands : (S : Scheme) (q : Query) (out : Output) → outputFits S q out ≡ true → operandsFit S q ≡ true
+unfolding outputFits
+fits-operands S q (asLists room) f = f
+fits-operands S q (asTotal p c) f = and-eq-true-iff (operandsFit S q) (positionFits S q p c) .0 f .0
+
+-- the words that go with the answer from the full tables
+full-words : (S : Scheme) (D : Database) (q : Query) (out : Output) → writtenWith (fullAnswer S D q out) (wordsOf (fullLists S D q)) ≡ fullWords S D q out
+unfolding fullAnswer fullWords writtenWith hasLists shown
+full-words S D q (asLists room) = refl
+full-words S D q (asTotal p c) = refl
+
+module _ {S : Scheme} {D : Database} (l : Lawful S D) (apart : FillingsApart S) (c : Cache) (s : Sound S D c) (q : Query) (out : Output)
+    (u : Unrefused (queryAnswer S D c q out)) where
   abbrev after : Cache
-  after = cacheAfter S D c (query q room)
-
-  abbrev enough : Bool
-  enough = leb (length (wordsOf (fullLists S D q))) room
+  after = cacheAfter S D c (query q out)
 
   abbrev Parts : Type 0
-  Parts = Tested (length (fullLists S D q)) (operandsFit S q) (isBlank (q .value)) (isAnswered S D c q) enough (queryAnswer S D c room q)
+  Parts =
+      Tested (limitCause out) (fullAnswer S D q out) (outputFits S q out) (isBlank (q .value)) (isAnswered S D c q) (withinLimit S D q out) (queryAnswer S D c q out)
 
   parted : Parts
   unfolding queryAnswer
-  parted = tests (length (fullLists S D q)) (operandsFit S q) (isBlank (q .value)) (isAnswered S D c q) enough u
+  parted = tests (limitCause out) (fullAnswer S D q out) (outputFits S q out) (isBlank (q .value)) (isAnswered S D c q) (withinLimit S D q out) u
+
+  full-not-sent : (a : Answer) → a ≡ fullAnswer S D q out → a ≡ sent → ⊥
+  full-not-sent a e f = full-answers S D q out .0 (sym e ∙ f)
 
   -- ---- one that is sent
 
@@ -110,71 +120,72 @@ module _ {S : Scheme} {D : Database} (l : Lawful S D) (apart : FillingsApart S) 
   -- ---- one that is answered
 
   -- it has a ground afterwards
-  answered-ground : operandsFit S q ≡ true → isBlank (q .value) ≡ false → isAnswered S D c q ≡ true → enough ≡ true → queryGround S D after q ≢ 0
+  answered-ground : outputFits S q out ≡ true → isBlank (q .value) ≡ false → isAnswered S D c q ≡ true → withinLimit S D q out ≡ true →
+      queryGround S D after q ≢ 0
   unfolding isAnswered answerable
   answered-ground f b y w =
       ⊎-elim
       (λ (g : eqb (queryGround S D c q) 0 ≡ true).
       let t : taken S (c .held) (pairFor S q) ≡ true = ap (λ (x : Bool). not x || taken S (c .held) (pairFor S q)) (sym g) ∙ y in
       let o = pair-ground S D c q t b in
-      λ z. let k = ap (λ (e : Cache). queryGround S D e q) (refers-pair S D c q room (both f (both (ap not b) w)) (eqb-true _ 0 g) t) in omega (arith, o, k, z))
+      λ z. let k = ap (λ (e : Cache). queryGround S D e q) (refers-pair S D c q out (both f (both (ap not b) w)) (eqb-true _ 0 g) t) in omega (arith, o, k, z))
       (λ (g : eqb (queryGround S D c q) 0 ≡ false).
-      λ z. eqb-false _ 0 g (sym (ap (λ (e : Cache). queryGround S D e q) (ground-keeps S D c q room (eqb-false _ 0 g))) ∙ z))
+      λ z. eqb-false _ 0 g (sym (ap (λ (e : Cache). queryGround S D e q) (ground-keeps S D c q out (eqb-false _ 0 g))) ∙ z))
       (dec (eqb (queryGround S D c q) 0))
 
-  listed : queryAnswer S D c room q ≢ sent → queryAnswer S D c room q ≡ lists (length (fullLists S D q))
-  listed n = go parted
+  given : queryAnswer S D c q out ≢ sent → queryAnswer S D c q out ≡ fullAnswer S D q out
+  given n = go parted
     where
-      go : Parts → queryAnswer S D c room q ≡ lists (length (fullLists S D q))
+      go : Parts → queryAnswer S D c q out ≡ fullAnswer S D q out
       go (sends f b a e) = absurd (n e)
       go (answers f b a w e) = e
 
   -- ---- the two together
 
-  no-ground : queryAnswer S D c room q ≡ sent → Groundless S D c (q .column) (q .value) × (taken S (c .held) (pairFor S q) ≡ false)
+  no-ground : queryAnswer S D c q out ≡ sent → Groundless S D c (q .column) (q .value) × (taken S (c .held) (pairFor S q) ≡ false)
   unfolding queryGround
   no-ground e = go parted
     where
       go : Parts → Groundless S D c (q .column) (q .value) × (taken S (c .held) (pairFor S q) ≡ false)
       go (sends f b a e′) = (none-found S D c (q .column) (q .value) (unanswered a .0), unanswered a .1)
-      go (answers f b a w e′) = absurd (lists-not-sent _ _ e′ e)
+      go (answers f b a w e′) = absurd (full-not-sent _ e′ e)
 
-  no-ground-after : queryAnswer S D c room q ≡ sent → Groundless S D after (q .column) (q .value)
+  no-ground-after : queryAnswer S D c q out ≡ sent → Groundless S D after (q .column) (q .value)
   no-ground-after e =
-      subst (λ (d : Cache). Groundless S D d (q .column) (q .value)) (sym (untaken-keeps S D c q room (no-ground e .1))) (no-ground e .0)
+      subst (λ (d : Cache). Groundless S D d (q .column) (q .value)) (sym (untaken-keeps S D c q out (no-ground e .1))) (no-ground e .0)
 
-  sent-without : queryGround S D after q ≡ 0 → queryAnswer S D c room q ≡ sent
+  sent-without : queryGround S D after q ≡ 0 → queryAnswer S D c q out ≡ sent
   sent-without z = go parted
     where
-      go : Parts → queryAnswer S D c room q ≡ sent
+      go : Parts → queryAnswer S D c q out ≡ sent
       go (sends f b a e) = e
       go (answers f b a w e) = absurd (answered-ground f b a w z)
 
-  sent-unreferred : Groundless S D c (q .column) (q .value) → Unreferred S (c .held) (q .column) (q .value) → queryAnswer S D c room q ≡ sent
+  sent-unreferred : Groundless S D c (q .column) (q .value) → Unreferred S (c .held) (q .column) (q .value) → queryAnswer S D c q out ≡ sent
   unfolding queryGround isAnswered
   sent-unreferred g r = go parted
     where
-      go : Parts → queryAnswer S D c room q ≡ sent
+      go : Parts → queryAnswer S D c q out ≡ sent
       go (sends f b a e) = e
       go (answers f b a w e) =
           let z = found-none S D c (q .column) (q .value) g in
           absurd (unreferred S (c .held) q apart r (ap (λ (x : Bool). not x || taken S (c .held) (pairFor S q)) (sym (eq-eqb _ 0 z)) ∙ a))
 
-  lists-cached : queryAnswer S D c room q ≢ sent → fullLists S D q ≡ fitting S D (marked (after .marks)) (q .column) (q .value) (joinsOf q)
+  lists-cached : queryAnswer S D c q out ≢ sent → fullLists S D q ≡ fitting S D (marked (after .marks)) (q .column) (q .value) (joinsOf q)
   lists-cached n = go parted
     where
       go : Parts → fullLists S D q ≡ fitting S D (marked (after .marks)) (q .column) (q .value) (joinsOf q)
       go (sends f b a e) = absurd (n e)
-      go (answers f b a w e) = sym (query-lists l after (step-sound c (query q room) s) q f (answered-ground f b a w))
+      go (answers f b a w e) = sym (query-lists l after (step-sound c (query q out) s) q (fits-operands S q out f) (answered-ground f b a w))
 
   -- THEOREM: demand 2, in every sound cache of a lawful database, of a query that isn't refused
-  pub demand2 : Demand2 S D c room q
-  unfolding queryGround queryWords writtenWith hasLists shown
+  pub demand2 : Demand2 S D c q out
+  unfolding queryGround queryWords
   demand2 =
       record {
         backend = (no-ground-after, λ g. sent-without (found-none S D after (q .column) (q .value) g));
         unreferred = (λ e. (no-ground e .0, untaken S (c .held) q (no-ground e .0 .held) (no-ground e .1)), λ p. sent-unreferred (p .0) (p .1));
-        count = listed;
-        words = λ n. ap (λ (a : Answer). writtenWith a (wordsOf (fullLists S D q))) (listed n);
+        answer = given;
+        words = λ n. ap (λ (a : Answer). writtenWith a (wordsOf (fullLists S D q))) (given n) ∙ full-words S D q out;
         cached = lists-cached;
       }

@@ -15,9 +15,9 @@ use Rattle.model.specs.Probe
 use Rattle.model.specs.Rounds.{leads, demands, start, reachedFrom, next, levels, reached, load, addedRows, laterRounds}
 use Rattle.finite.specs.Sameness.{listed, remove}
 use Rattle.model.specs.Holding.{samePair, one, pairsHold, pairsWant}
-use Rattle.model.specs.Runs.{probe, Operation, refer, drop, ask, query, taken, marks, marked, Cache, emptyCache, referLevels, reloadLevels, fillingFor, answerable, refers, cacheAfter, cacheFrom}
+use Rattle.model.specs.Runs.{probe, asLists, Operation, refer, drop, ask, query, taken, marks, marked, Cache, emptyCache, referLevels, reloadLevels, fillingFor, outputFits, withinLimit, answerable, refers, cacheAfter, cacheFrom}
 use Rattle.model.specs.Query.{Join, Query, joinsFit, unused, operandsFit, joinValue, extend, fitting, wordsOf, fullLists}
-use Rattle.model.specs.Answers.{Answer, loaded, dropped, ground, sent, lists, questionAnswer, queryGround, isAnswered, queryAnswer, shown, hasLists, writtenWith, queryWords, answer, written}
+use Rattle.model.specs.Answers.{Answer, loaded, dropped, ground, sent, lists, questionAnswer, queryGround, isAnswered, fullAnswer, queryAnswer, shown, hasLists, writtenWith, queryWords, answer, written}
 
 -- ---- what a case is, and when it passes
 
@@ -79,7 +79,7 @@ PROBE t c v = ask (probe (col t c) (numbered v))
 
 -- with 4,096 words lent
 abbrev QUERY : ℕ → ℕ → ℕ → ℕ → List Join → Operation
-QUERY t c v n js = query (record { column = col t c; value = numbered v; joins = n; pairs = js }) 4096
+QUERY t c v n js = query (record { column = col t c; value = numbered v; joins = n; pairs = js }) (asLists 4096)
 
 -- an operation on a design behind others, its answer and its words
 abbrev case : Design → List Operation → Operation → Answer → List ℕ → Case
@@ -189,6 +189,6 @@ unfolding gives cases a1 a2 a3 a4 a5 a6 a7 b1 b2 b3 b4 b5
     answer written questionAnswer cacheFrom cacheAfter emptyCache taken candidate listed samePair remove referLevels reloadLevels marks marked pairsHold one pairsWant
     load start levels next reachedFrom demands leads reached addedRows laterRounds
     Probe.probe Probe.demanded Probe.uniquelySeen Probe.seen has sameColumn isColumn isBlank equal
-    queryAnswer queryWords queryGround isAnswered fillingFor answerable refers fullLists writtenWith hasLists shown operandsFit joinsFit unused fitting extend joinValue wordsOf
+    queryAnswer queryWords queryGround isAnswered fullAnswer fillingFor outputFits withinLimit answerable refers fullLists writtenWith hasLists shown operandsFit joinsFit unused fitting extend joinValue wordsOf
     any count tab collect firstOf firstFrom
 all-pass = refl and refl and refl and refl and refl and refl and refl and refl and refl and refl and refl and refl and end

@@ -35,4 +35,4 @@ unfolding cacheAfter
 step-fresh S D c (refer p) f = cond-fresh (taken S (c .held) p) _ c (refer-fresh S D c p f) f
 step-fresh S D c (drop p) f = cond-fresh (holds (c .held) p) _ c (record { reloaded = refl }) f
 step-fresh S D c (ask q) f = f
-step-fresh S D c (query q room) f = cond-fresh (refers S D (c .held) (marked (c .marks)) q room) _ c (refer-fresh S D c (pairFor S q) f) f
+step-fresh S D c (query q out) f = cond-fresh (refers S D (c .held) (marked (c .marks)) q out) _ c (refer-fresh S D c (pairFor S q) f) f

@@ -20,7 +20,7 @@ use Rattle.model.specs.Holding.{Pair, samePair, Holding, holds, hasRoom,
 use Rattle.model.specs.Cache.{RowSet}
 use Rattle.model.specs.Probe as Probe
 use Rattle.model.specs.Query.{Query}
-use Rattle.model.specs.Runs.{Operation, refer, drop, ask, query, taken, cachedFor, pairFor, answerable, refers, heldAfter}
+use Rattle.model.specs.Runs.{Output, Operation, refer, drop, ask, query, taken, cachedFor, pairFor, answerable, refers, heldAfter}
 use Rattle.model.proofs.CellLaws.{equal-same, equal-full}
 
 -- what is read past a list's end
@@ -107,10 +107,10 @@ cond-fit true h g f e = f refl
 cond-fit false h g f e = e
 
 -- a query that refers has its pair taken
-refers-takes : (S : Scheme) (D : Database) (h : Holding) (X : RowSet) (q : Query) (room : ℕ) → refers S D h X q room ≡ true → taken S h (pairFor S q) ≡ true
+refers-takes : (S : Scheme) (D : Database) (h : Holding) (X : RowSet) (q : Query) (out : Output) → refers S D h X q out ≡ true → taken S h (pairFor S q) ≡ true
 unfolding refers
-refers-takes S D h X q room e =
-    let a = and-eq-true-iff (answerable S D q room) _ .0 e in
+refers-takes S D h X q out e =
+    let a = and-eq-true-iff (answerable S D q out) _ .0 e in
     and-eq-true-iff (eqb (Probe.probe S D (heldIn S h) X (q .column) (q .value)) 0) (taken S h (pairFor S q)) .0 (a .1) .1
 
 -- so what is held after an operation fits
@@ -119,8 +119,8 @@ unfolding heldAfter
 step-fit S D h (refer p) H = cond-fit (taken S h p) _ h (λ e. fit-more S (h .pairs) H p (taken-says S h p e)) H
 step-fit S D h (drop p) H = cond-fit (holds h p) _ h (λ e. fit-fewer S (h .pairs) H p) H
 step-fit S D h (ask q) H = H
-step-fit S D h (query q room) H =
-    cond-fit (refers S D h (cachedFor S D h) q room) _ h (λ e. fit-more S (h .pairs) H (pairFor S q) (taken-says S h (pairFor S q) (refers-takes S D h _ q room e))) H
+step-fit S D h (query q out) H =
+    cond-fit (refers S D h (cachedFor S D h) q out) _ h (λ e. fit-more S (h .pairs) H (pairFor S q) (taken-says S h (pairFor S q) (refers-takes S D h _ q out e))) H
 
 -- ---- a listed pair
 

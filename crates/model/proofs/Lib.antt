@@ -1,5 +1,6 @@
 -- CellLaws, DatabaseLaws, ProbeLaws: the tests say what they are named for. Closed, RoundsLaws, Loads: rounds reach the smallest row set.
--- Exact: the probe. Marks, HoldingLaws, RunLaws, Fresh, Demand3: runs. QueryLaws, ListLaws, Referring, Demand2: queries. Examples: the worked cases.
+-- Exact: the probe. Marks, HoldingLaws, RunLaws, Fresh, Demand3: runs. QueryLaws, ListLaws, TotalLaws, Referring, Demand2: queries. Examples: the worked
+-- cases.
 pub mod CellLaws
 pub mod DatabaseLaws
 pub mod ProbeLaws
@@ -19,5 +20,6 @@ pub mod Demand3
 pub mod QueryLaws
 pub mod ListLaws
 pub mod Referring
+pub mod TotalLaws
 pub mod Demand2
 pub mod Examples

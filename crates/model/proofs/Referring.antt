@@ -1,8 +1,8 @@
--- Queries that refer (02, Req 02): what a query leaves cached, case by case, and that its pair, once held, is a ground. Assumes nothing.
+-- Queries that refer (02, Req 02 and 03): what a query leaves cached, case by case, and that its pair, once held, is a ground. Assumes nothing.
 use Prim.Native.Nat.{ℕ, _≤_, _<_}
 use native.Mathlib.Omega.{arith}
 use mathlib.Core.Path.{_≡_, refl, sym, ap, _∙_}
-use mathlib.Core.Logic.{_⊎_, inl, inr, ⊎-elim}
+use mathlib.Core.Logic.{_≢_, _⊎_, inl, inr, ⊎-elim}
 use mathlib.Core.Bool.{Bool, true, false, not, cond, _&&_, _||_, and-false, and-eq-true-iff, or-true}
 use mathlib.Core.List.{List, [], _∷_}
 use borrow.Author.Tests.{eqb-true, eq-eqb, ne-eqb, ltb-true, ltb-false, not-true}
@@ -17,9 +17,9 @@ use Rattle.model.specs.Database.{Database}
 use Rattle.model.specs.Cache.{Held}
 use Rattle.model.specs.Probe as Probe
 use Rattle.model.specs.Holding.{Pair, samePair, Holding, holds, hasRoom, withPair, one, pairsHold, heldIn}
-use Rattle.model.specs.Query.{Query, operandsFit, wordsOf, fullLists}
-use Rattle.model.specs.Runs.{query, taken, fillingFor, pairFor, answerable, refers, marked, Cache, referred, cacheAfter}
-use Rattle.model.specs.Answers.{queryGround}
+use Rattle.model.specs.Query.{Query}
+use Rattle.model.specs.Runs.{Output, asLists, asTotal, query, taken, fillingFor, pairFor, outputFits, withinLimit, answerable, refers, marked, Cache, referred, cacheAfter}
+use Rattle.model.specs.Answers.{Answer, sent, refused, unless, orAnswer, queryGround, isAnswered, fullAnswer, limitCause, queryAnswer}
 use Rattle.model.specs.Demand.{FillingAt, FillingsApart, Unreferred, noFilling, noCandidate, full}
 use Rattle.model.proofs.CellLaws.{equal-self}
 use Rattle.model.proofs.RunLaws.{held-more}
@@ -105,33 +105,33 @@ module _ (S : Scheme) (h : Holding) (q : Query) where
 
 -- ---- what a query leaves
 
-module _ (S : Scheme) (D : Database) (c : Cache) (q : Query) (room : ℕ) where
+module _ (S : Scheme) (D : Database) (c : Cache) (q : Query) (out : Output) where
   abbrev refersHere : Bool
-  refersHere = refers S D (c .held) (marked (c .marks)) q room
+  refersHere = refers S D (c .held) (marked (c .marks)) q out
 
-  kept : refersHere ≡ false → cacheAfter S D c (query q room) ≡ c
+  kept : refersHere ≡ false → cacheAfter S D c (query q out) ≡ c
   unfolding cacheAfter
   kept e = cond-false refersHere _ c e
 
   -- one that is refused leaves the cache as it was
-  pub refused-keeps : answerable S D q room ≡ false → cacheAfter S D c (query q room) ≡ c
+  pub refused-keeps : answerable S D q out ≡ false → cacheAfter S D c (query q out) ≡ c
   unfolding refers
   refused-keeps e = kept (rw e)
 
   -- so does one with a ground
-  pub ground-keeps : (queryGround S D c q ≡ 0 → ⊥) → cacheAfter S D c (query q room) ≡ c
+  pub ground-keeps : (queryGround S D c q ≡ 0 → ⊥) → cacheAfter S D c (query q out) ≡ c
   unfolding refers queryGround
-  ground-keeps g = kept (rw (ne-eqb (queryGround S D c q) 0 g) (and-false (answerable S D q room)))
+  ground-keeps g = kept (rw (ne-eqb (queryGround S D c q) 0 g) (and-false (answerable S D q out)))
 
   -- so does one whose pair is not taken
-  pub untaken-keeps : taken S (c .held) (pairFor S q) ≡ false → cacheAfter S D c (query q room) ≡ c
+  pub untaken-keeps : taken S (c .held) (pairFor S q) ≡ false → cacheAfter S D c (query q out) ≡ c
   unfolding refers
   untaken-keeps e =
-      kept (rw (e, and-false (eqb (Probe.probe S D (heldIn S (c .held)) (marked (c .marks)) (q .column) (q .value)) 0)) (and-false (answerable S D q room)))
+      kept (rw (e, and-false (eqb (Probe.probe S D (heldIn S (c .held)) (marked (c .marks)) (q .column) (q .value)) 0)) (and-false (answerable S D q out)))
 
   -- any other refers its pair
-  pub refers-pair : answerable S D q room ≡ true → queryGround S D c q ≡ 0 → taken S (c .held) (pairFor S q) ≡ true →
-      cacheAfter S D c (query q room) ≡ referred S D c (pairFor S q)
+  pub refers-pair : answerable S D q out ≡ true → queryGround S D c q ≡ 0 → taken S (c .held) (pairFor S q) ≡ true →
+      cacheAfter S D c (query q out) ≡ referred S D c (pairFor S q)
   unfolding cacheAfter refers queryGround
   refers-pair a g t = cond-true refersHere _ c (both a (both (eq-eqb (queryGround S D c q) 0 g) t))
 
@@ -145,3 +145,30 @@ pair-ground S D c q t n = rw (held ∙ or-true (heldIn S (c .held) (q .column) (
     held =
         ap (λ (H : Held). H (q .column) (q .value)) (held-more S (c .held) (pairFor S q)) ∙
         ap (λ (b : Bool). heldIn S (c .held) (q .column) (q .value) || b) (both (takes S (c .held) q t .filling .column) (equal-self (q .value) n))
+
+-- ---- one that is refused
+
+-- lists, and a total, are neither "sent" nor a refusal
+pub full-answers : (S : Scheme) (D : Database) (q : Query) (out : Output) → (fullAnswer S D q out ≢ sent) × ((n : ℕ) → fullAnswer S D q out ≢ refused n)
+unfolding fullAnswer
+full-answers S D q (asLists room) = (λ e. let z : _≡_ {A = ℕ} 0 1 = cc in omega arith, λ n e. let z : _≡_ {A = ℕ} 0 1 = cc in omega arith)
+full-answers S D q (asTotal p c) = (λ e. let z : _≡_ {A = ℕ} 0 1 = cc in omega arith, λ n e. let z : _≡_ {A = ℕ} 0 1 = cc in omega arith)
+
+sent-unrefused : (n : ℕ) → _≢_ {A = Answer} sent (refused n)
+sent-unrefused n e = let z : _≡_ {A = ℕ} 0 1 = cc in omega arith
+
+-- it leaves the cache as it was: with 11 and with 13 the reference is undone
+pub query-refused-keeps : (S : Scheme) (D : Database) (c : Cache) (q : Query) (out : Output) (n : ℕ) → queryAnswer S D c q out ≡ refused n →
+    cacheAfter S D c (query q out) ≡ c
+unfolding queryAnswer answerable
+query-refused-keeps S D c q out n h =
+    go (outputFits S q out) (isBlank (q .value)) (isAnswered S D c q) (withinLimit S D q out) refl refl refl refl h
+  where
+    go : (f b y w : Bool) → outputFits S q out ≡ f → isBlank (q .value) ≡ b → isAnswered S D c q ≡ y → withinLimit S D q out ≡ w →
+        unless (not f) 5 (unless b 9 (orAnswer (not y) sent (unless (not w) (limitCause out) (fullAnswer S D q out)))) ≡ refused n →
+        cacheAfter S D c (query q out) ≡ c
+    go false b y w f₁ b₁ y₁ w₁ k = refused-keeps S D c q out (rw f₁)
+    go true true y w f₁ b₁ y₁ w₁ k = refused-keeps S D c q out (rw (f₁, b₁))
+    go true false y false f₁ b₁ y₁ w₁ k = refused-keeps S D c q out (rw (f₁, b₁, w₁))
+    go true false false true f₁ b₁ y₁ w₁ k = absurd (sent-unrefused n k)
+    go true false true true f₁ b₁ y₁ w₁ k = absurd (full-answers S D q out .1 n k)

@@ -68,8 +68,8 @@ unfolding cacheAfter
 step-sound {S} c (refer p) m = cond-sound (taken S (c .held) p) _ c (marks-smallest (refer-smallest c p m)) m
 step-sound {S} {D} c (drop p) m = cond-sound (holds (c .held) p) _ c (marks-smallest (held-smallest S D (withoutPair (c .held) p))) m
 step-sound c (ask q) m = m
-step-sound {S} {D} c (query q room) m =
-    cond-sound (refers S D (c .held) (marked (c .marks)) q room) _ c (marks-smallest (refer-smallest c (pairFor S q) m)) m
+step-sound {S} {D} c (query q out) m =
+    cond-sound (refers S D (c .held) (marked (c .marks)) q out) _ c (marks-smallest (refer-smallest c (pairFor S q) m)) m
 
 -- so does a run
 pub run-sound : {S : Scheme} {D : Database} (c : Cache) (os : List Operation) → Sound S D c → Sound S D (cacheFrom S D c os)
@@ -99,9 +99,9 @@ unfolding cacheAfter heldAfter
 step-held {S} c (refer p) m = held-cond (taken S (c .held) p) _ c
 step-held c (drop p) m = held-cond (holds (c .held) p) _ c
 step-held c (ask q) m = refl
-step-held {S} {D} c (query q room) m =
-    held-cond (refers S D (c .held) (marked (c .marks)) q room) _ c ∙
-    ap (λ (X : RowSet). cond (refers S D (c .held) X q room) (withPair (c .held) (pairFor S q)) (c .held)) (fun-ext (sound-reloaded c m))
+step-held {S} {D} c (query q out) m =
+    held-cond (refers S D (c .held) (marked (c .marks)) q out) _ c ∙
+    ap (λ (X : RowSet). cond (refers S D (c .held) X q out) (withPair (c .held) (pairFor S q)) (c .held)) (fun-ext (sound-reloaded c m))
 
 -- so is what a run leaves held
 pub run-held : {S : Scheme} {D : Database} (c : Cache) (os : List Operation) → Sound S D c → cacheFrom S D c os .held ≡ heldFrom S D (c .held) os

@@ -1,5 +1,5 @@
 -- What the operations answer, and the causes of refusal that an operation itself can have: 5, 9, then 10, 8 or 11 (01, "What the operations do"
--- and "Causes of refusal"). Assumes nothing.
+-- and "Causes of refusal"), and 13 (02, Req 03). Assumes nothing.
 use Prim.Native.Nat.{ℕ}
 use mathlib.Core.Bool.{Bool, true, false, not, cond, _&&_, _||_}
 use mathlib.Core.List.{List, [], _∷_}
@@ -13,10 +13,11 @@ use Rattle.model.specs.Probe
 use Rattle.model.specs.Rounds.{addedRows, laterRounds, reached}
 use Rattle.model.specs.Even.{unevenFrom, lowestUneven}
 use Rattle.model.specs.Holding.{holds, hasRoom, withoutPair, heldIn}
-use Rattle.model.specs.Runs.{Question, probe, evenness, Operation, refer, drop, ask, query, taken, pairFor, marked, Cache, referLevels, reloadLevels}
-use Rattle.model.specs.Query.{Query, operandsFit, wordsOf, fullLists}
+use Rattle.model.specs.Runs.{Question, probe, evenness, Output, asLists, asTotal, Operation, refer, drop, ask, query, taken, pairFor, outputFits, withinLimit, marked, Cache, referLevels, reloadLevels}
+use Rattle.model.specs.Query.{Query, wordsOf, fullLists, fullTotal}
 
--- `loaded` rows rounds, `held`, `no candidate`, `dropped` rows, `ground` g, `sent`, `answer` lists, `refused` number; `even`, `uneven` i j (02, Req 01)
+-- `loaded` rows rounds, `held`, `no candidate`, `dropped` rows, `ground` g, `sent`, `answer` lists, `refused` number; `even`, `uneven` i j (02, Req 01);
+-- `total` n (02, Req 03)
 pub data Answer : Type 0 where
   loaded : ℕ → ℕ → Answer
   held noCandidate : Answer
@@ -27,6 +28,7 @@ pub data Answer : Type 0 where
   refused : ℕ → Answer
   even : Answer
   uneven : ℕ → ℕ → Answer
+  total : ℕ → Answer
 
 -- an answer as the report shows it: its word, by number, and the numbers behind it. Whatever depends on what an answer is goes through this
 pub record Shown : Type 0 where
@@ -50,6 +52,7 @@ shown (lists n) = record { word = listsWord; numbers = n ∷ [] }
 shown (refused n) = record { word = refusedWord; numbers = n ∷ [] }
 shown even = record { word = 8; numbers = [] }
 shown (uneven i j) = record { word = 9; numbers = i ∷ j ∷ [] }
+shown (total n) = record { word = 10; numbers = n ∷ [] }
 
 -- the answer has lists; the answer is a refusal
 unfoldable pub hasLists : Answer → Bool
@@ -93,21 +96,30 @@ queryGround S D c q = Probe.probe S D (heldIn S (c .held)) (marked (c .marks)) (
 unfoldable pub isAnswered : Scheme → Database → Cache → Query → Bool
 isAnswered S D c q = not (eqb (queryGround S D c q) 0) || taken S (c .held) (pairFor S q)
 
--- the answer where `room` words are lent
-unfoldable pub queryAnswer : Scheme → Database → Cache → ℕ → Query → Answer
-queryAnswer S D c room q =
-    unless (not (operandsFit S q)) 5
+-- the answer from the full tables
+unfoldable pub fullAnswer : Scheme → Database → Query → Output → Answer
+fullAnswer S D q (asLists room) = lists (length (fullLists S D q))
+fullAnswer S D q (asTotal p c) = total (fullTotal S D q p c)
+
+-- the cause where that passes its limit
+abbrev pub limitCause : Output → ℕ
+limitCause (asLists room) = 11
+limitCause (asTotal p c) = 13
+
+unfoldable pub queryAnswer : Scheme → Database → Cache → Query → Output → Answer
+queryAnswer S D c q out =
+    unless (not (outputFits S q out)) 5
     (unless (isBlank (q .value)) 9
     (orAnswer (not (isAnswered S D c q)) sent
-    (unless (not (leb (length (wordsOf (fullLists S D q))) room)) 11
-    (lists (length (fullLists S D q))))))
+    (unless (not (withinLimit S D q out)) (limitCause out)
+    (fullAnswer S D q out))))
 
 -- the words that are written with an answer: ws with lists, and none with any other
 unfoldable pub writtenWith : Answer → List ℕ → List ℕ
 writtenWith a ws = cond (hasLists a) ws []
 
-unfoldable pub queryWords : Scheme → Database → Cache → ℕ → Query → List ℕ
-queryWords S D c room q = writtenWith (queryAnswer S D c room q) (wordsOf (fullLists S D q))
+unfoldable pub queryWords : Scheme → Database → Cache → Query → Output → List ℕ
+queryWords S D c q out = writtenWith (queryAnswer S D c q out) (wordsOf (fullLists S D q))
 
 -- ---- all of them
 
@@ -125,11 +137,11 @@ answer S D c (drop p) =
     (unless (not (holds (c .held) p)) 10
     (let L = reloadLevels S D (withoutPair (c .held) p) in dropped (count (D .size) (λ r. marked (c .marks) r && not (reached L r))))))
 answer S D c (ask q) = questionAnswer S D c q
-answer S D c (query q room) = queryAnswer S D c room q
+answer S D c (query q out) = queryAnswer S D c q out
 
 -- the words that an operation writes
 unfoldable pub written : Scheme → Database → Cache → Operation → List ℕ
 written S D c (refer p) = []
 written S D c (drop p) = []
 written S D c (ask q) = []
-written S D c (query q room) = queryWords S D c room q
+written S D c (query q out) = queryWords S D c q out

@@ -1,5 +1,5 @@
 -- A cell's value (01, "Tables, links and held values": "A cell is a u32 ..."). Only this file and its laws (`proofs/CellLaws.antt`) look inside
--- `Cell`; everything else asks whether a cell is blank, whether two are equal, and whether one fits. Assumes nothing.
+-- `Cell`; everything else asks whether a cell is blank, whether two are equal, whether one fits, and what one adds to a total. Assumes nothing.
 use Prim.Native.Nat.{ℕ, _<_, _^_}
 use mathlib.Core.Bool.{Bool, not, _&&_}
 use lib.Dec.{eqb}
@@ -21,6 +21,10 @@ blank = numbered 0
 
 unfoldable pub isBlank : Cell → Bool
 isBlank a = eqb (a .number) 0
+
+-- what a cell adds to a total (02, Req 03: "blanks as 0"): its number
+unfoldable pub amount : Cell → ℕ
+amount a = a .number
 
 -- "a blank equals nothing, not even another blank. Two other cells are equal if their numbers are"
 unfoldable pub equal : Cell → Cell → Bool

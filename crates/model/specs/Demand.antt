@@ -3,16 +3,16 @@ use Prim.Native.Nat.{ℕ, _<_}
 use mathlib.Core.Path.{_≡_}
 use mathlib.Core.Logic.{_↔_, _≢_}
 use mathlib.Core.Bool.{true, false}
-use lib.ListN.{length}
+use mathlib.Core.List.{List, []}
 use Rattle.model.specs.Cell.{Cell, Fits, isBlank}
 use Rattle.model.specs.Scheme.{Column, sameColumn, candidate, Scheme, ColumnOf}
 use Rattle.model.specs.Database.{Database}
 use Rattle.model.specs.Cache.{RowSet, Complete, Smallest, Alike}
 use Rattle.model.specs.Probe.{demanded, uniquelySeen, probe}
 use Rattle.model.specs.Holding.{Holding, hasRoom, heldIn}
-use Rattle.model.specs.Runs.{query, marked, Cache, cacheAfter}
+use Rattle.model.specs.Runs.{Output, asLists, asTotal, query, marked, Cache, cacheAfter}
 use Rattle.model.specs.Query.{Query, joinsOf, fitting, wordsOf, fullLists}
-use Rattle.model.specs.Answers.{Answer, sent, lists, refused, queryAnswer, queryWords}
+use Rattle.model.specs.Answers.{Answer, sent, refused, fullAnswer, queryAnswer, queryWords}
 
 -- the probing rule finds no ground for v in column k: none of the three applies
 pub record Groundless (S : Scheme) (D : Database) (c : Cache) (k : Column) (v : Cell) : Type 0 where
@@ -38,18 +38,23 @@ pub data Unreferred (S : Scheme) (h : Holding) (k : Column) (v : Cell) : Type 0 
   noCandidate : (f : ℕ) → FillingAt S k f → candidate (S .filling f) v ≡ false → Unreferred S h k v
   full : hasRoom h ≡ false → Unreferred S h k v
 
--- DEMAND 2, of the query q, where `room` words are lent and c is the cache before it. "Demand 2, its probe as well as its match with the full tables, is
--- judged on the cache after the reference" (02, Req 02).
-pub record Demand2 (S : Scheme) (D : Database) (c : Cache) (room : ℕ) (q : Query) : Type 0 where
+-- the words from the full tables: those of the lists, none with a total
+unfoldable pub fullWords : Scheme → Database → Query → Output → List ℕ
+fullWords S D q (asLists room) = wordsOf (fullLists S D q)
+fullWords S D q (asTotal p c) = []
+
+-- DEMAND 2, of the query q, where c is the cache before it. "Demand 2, its probe as well as its match with the full tables, is judged on the cache after
+-- the reference" (02, Req 02); a total's sum "is the one over the full tables" (02, Req 03), and adds up the same lists.
+pub record Demand2 (S : Scheme) (D : Database) (c : Cache) (q : Query) (out : Output) : Type 0 where
   -- it goes to the backend if and only if the probing rule finds no ground
-  pub backend : (queryAnswer S D c room q ≡ sent) ↔ Groundless S D (cacheAfter S D c (query q room)) (q .column) (q .value)
+  pub backend : (queryAnswer S D c q out ≡ sent) ↔ Groundless S D (cacheAfter S D c (query q out)) (q .column) (q .value)
   -- "It is "sent" exactly if it has no ground and one of these is so": it had none before, and is not referred
-  pub unreferred : (queryAnswer S D c room q ≡ sent) ↔ (Groundless S D c (q .column) (q .value) × Unreferred S (c .held) (q .column) (q .value))
-  -- else its list equals the list from the full tables, in order, and is the list of cached rows
-  pub count : queryAnswer S D c room q ≢ sent → queryAnswer S D c room q ≡ lists (length (fullLists S D q))
-  pub words : queryAnswer S D c room q ≢ sent → queryWords S D c room q ≡ wordsOf (fullLists S D q)
-  pub cached : queryAnswer S D c room q ≢ sent →
-      fullLists S D q ≡ fitting S D (marked (cacheAfter S D c (query q room) .marks)) (q .column) (q .value) (joinsOf q)
+  pub unreferred : (queryAnswer S D c q out ≡ sent) ↔ (Groundless S D c (q .column) (q .value) × Unreferred S (c .held) (q .column) (q .value))
+  -- else its answer and its words are those from the full tables, and the lists of the full tables are those of the cached rows, in order
+  pub answer : queryAnswer S D c q out ≢ sent → queryAnswer S D c q out ≡ fullAnswer S D q out
+  pub words : queryAnswer S D c q out ≢ sent → queryWords S D c q out ≡ fullWords S D q out
+  pub cached : queryAnswer S D c q out ≢ sent →
+      fullLists S D q ≡ fitting S D (marked (cacheAfter S D c (query q out) .marks)) (q .column) (q .value) (joinsOf q)
 
 -- the cached rows are the smallest row set for the held values; and for each column of the design and each value other than blank, a probe says
 -- yes exactly when the value is complete in every lawful database, of any number of rows, from which the same rows would have been cached

@@ -1,6 +1,6 @@
 -- Operations and runs: what a list of operations leaves held, found from the scheme, the rows, the operands and the words lent alone, and what it leaves
 -- cached (01, "Runs"; 02, Req 02). Assumes nothing.
-use Prim.Native.Nat.{ℕ}
+use Prim.Native.Nat.{ℕ, _^_}
 use mathlib.Core.Bool.{Bool, false, not, cond, _&&_}
 use mathlib.Core.List.{List, [], _∷_}
 use lib.Dec.{eqb, leb, ltb}
@@ -13,7 +13,7 @@ use Rattle.model.specs.Cache.{RowSet}
 use Rattle.model.specs.Probe
 use Rattle.model.specs.Rounds.{reached, load}
 use Rattle.model.specs.Holding.{Pair, Holding, nothingHeld, holds, hasRoom, withPair, withoutPair, heldIn, wanted}
-use Rattle.model.specs.Query.{Query, operandsFit, wordsOf, fullLists}
+use Rattle.model.specs.Query.{Query, operandsFit, positionFits, wordsOf, fullLists, fullTotal}
 
 -- a question, which changes nothing
 pub data Question : Type 0 where
@@ -21,12 +21,17 @@ pub data Question : Type 0 where
   -- whether the design is even
   evenness : Question
 
--- REFER, DROP, a question, and QUERY with how many answer words are lent
+-- what a query is asked for: its lists, with how many answer words are lent, or the total of a position's column (02, Req 03)
+pub data Output : Type 0 where
+  asLists : ℕ → Output
+  asTotal : ℕ → ℕ → Output
+
+-- REFER, DROP, a question, and QUERY
 pub data Operation : Type 0 where
   refer : Pair → Operation
   drop : Pair → Operation
   ask : Question → Operation
-  query : Query → ℕ → Operation
+  query : Query → Output → Operation
 
 -- "REFER: if the filling exists, the value is a candidate, the pair isn't listed and fewer than 64 are, the pair goes to the end"
 unfoldable pub taken : Scheme → Holding → Pair → Bool
@@ -43,7 +48,7 @@ reloadLevels S D h = load S D (λ _. false) (wanted S D h)
 abbrev pub cachedFor : Scheme → Database → Holding → RowSet
 cachedFor S D h = reached (reloadLevels S D h)
 
--- ---- queries that refer (02, Req 02)
+-- ---- queries that refer (02, Req 02 and 03)
 
 -- the filling of a column, of which a lawful design has one at the most; the number of fillings if there is none
 unfoldable pub fillingFor : Scheme → Column → ℕ
@@ -53,14 +58,24 @@ fillingFor S k = first (S .fillings) (λ f. sameColumn (S .filling f .column) k)
 abbrev pub pairFor : Scheme → Query → Pair
 pairFor S q = record { filling = fillingFor S (q .column); value = q .value }
 
--- neither 5 nor 9 nor 11 refuses the query, with `room` words lent
-unfoldable pub answerable : Scheme → Database → Query → ℕ → Bool
-answerable S D q room = operandsFit S q && (not (isBlank (q .value)) && leb (length (wordsOf (fullLists S D q))) room)
+-- every operand names something, or is unused and 0 (cause 5)
+unfoldable pub outputFits : Scheme → Query → Output → Bool
+outputFits S q (asLists room) = operandsFit S q
+outputFits S q (asTotal p c) = operandsFit S q && positionFits S q p c
+
+-- the lists have no more words than are lent (cause 11); the total is not "above 2 to the power 64 less 1" (cause 13)
+unfoldable pub withinLimit : Scheme → Database → Query → Output → Bool
+withinLimit S D q (asLists room) = leb (length (wordsOf (fullLists S D q))) room
+withinLimit S D q (asTotal p c) = ltb (fullTotal S D q p c) (2 ^ 64)
+
+-- neither 5 nor 9 nor 11 nor 13 refuses the query
+unfoldable pub answerable : Scheme → Database → Query → Output → Bool
+answerable S D q out = outputFits S q out && (not (isBlank (q .value)) && withinLimit S D q out)
 
 -- "A QUERY without a ground whose column is a filling column and whose value is a candidate is now referred first": with h held and the rows X cached it
--- has no ground and its pair is taken, and it isn't refused ("With 11 the reference is undone")
-unfoldable pub refers : Scheme → Database → Holding → RowSet → Query → ℕ → Bool
-refers S D h X q room = answerable S D q room && (eqb (Probe.probe S D (heldIn S h) X (q .column) (q .value)) 0 && taken S h (pairFor S q))
+-- has no ground and its pair is taken, and it isn't refused ("With 11 the reference is undone"). A total "refers as Req 02's query does"
+unfoldable pub refers : Scheme → Database → Holding → RowSet → Query → Output → Bool
+refers S D h X q out = answerable S D q out && (eqb (Probe.probe S D (heldIn S h) X (q .column) (q .value)) 0 && taken S h (pairFor S q))
 
 -- ---- what is held
 
@@ -69,7 +84,7 @@ unfoldable pub heldAfter : Scheme → Database → Holding → Operation → Hol
 heldAfter S D h (refer p) = cond (taken S h p) (withPair h p) h
 heldAfter S D h (drop p) = cond (holds h p) (withoutPair h p) h
 heldAfter S D h (ask q) = h
-heldAfter S D h (query q room) = cond (refers S D h (cachedFor S D h) q room) (withPair h (pairFor S q)) h
+heldAfter S D h (query q out) = cond (refers S D h (cachedFor S D h) q out) (withPair h (pairFor S q)) h
 
 -- after a run
 unfoldable pub heldFrom : Scheme → Database → Holding → List Operation → Holding
@@ -105,7 +120,7 @@ unfoldable pub cacheAfter : Scheme → Database → Cache → Operation → Cach
 cacheAfter S D c (refer p) = cond (taken S (c .held) p) (referred S D c p) c
 cacheAfter S D c (drop p) = cond (holds (c .held) p) (reloaded S D (withoutPair (c .held) p)) c
 cacheAfter S D c (ask q) = c
-cacheAfter S D c (query q room) = cond (refers S D (c .held) (marked (c .marks)) q room) (referred S D c (pairFor S q)) c
+cacheAfter S D c (query q out) = cond (refers S D (c .held) (marked (c .marks)) q out) (referred S D c (pairFor S q)) c
 
 unfoldable pub cacheFrom : Scheme → Database → Cache → List Operation → Cache
 cacheFrom S D c [] = c

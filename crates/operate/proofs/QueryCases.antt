@@ -1,46 +1,61 @@
--- The cases of a query on a sound state: causes 5 and 9, the lists where there is a ground, "sent", and the reference with cause 11 or the lists
--- (02, Req 02). Assumes nothing.
+-- The cases of a query on a sound state: causes 5 and 9, the answer where there is a ground, "sent", and the reference with cause 11 or 13 or the answer
+-- (02, Req 02 and 03). Assumes nothing.
 use Prim.Native.Nat.{ℕ}
 use native.Mathlib.Omega.{arith}
 use mathlib.Core.Path.{_≡_, refl, sym, ap, _∙_}
 use mathlib.Core.Bool.{Bool, true, false, not, _||_}
 use mathlib.Core.List.{List, [], _++_}
 use borrow.Author.Tests.{eq-eqb, ne-eqb, not-true, not-false}
-use lib.Dec.{eqb, leb}
+use lib.Dec.{eqb}
 use lib.ListN.{length, drop as past}
 use lib.Seq.{sets}
 use Rattle.finite.proofs.Bools.{both}
 use Rattle.model.specs.Cell.{isBlank}
-use Rattle.model.specs.Query.{Query, operandsFit, wordsOf, fullLists}
-use Rattle.model.specs.Runs.{Operation, query, taken, pairFor, answerable, Cache, referred, cacheAfter}
-use Rattle.model.specs.Answers.{Answer, refused, sent, lists, unless, queryGround, isAnswered, queryAnswer, queryWords, hasLists, isRefusal, shown, writtenWith, answer, written}
+use Rattle.model.specs.Scheme.{Scheme}
+use Rattle.model.specs.Database.{Database}
+use Rattle.model.specs.Query.{Query, wordsOf, fullLists, fullTotal, totalOver}
+use Rattle.model.specs.Runs.{Output, asLists, asTotal, Operation, query, taken, pairFor, outputFits, withinLimit, answerable, Cache, referred, cacheAfter}
+use Rattle.model.specs.Answers.{Answer, refused, sent, unless, queryGround, isAnswered, fullAnswer, limitCause, queryAnswer, queryWords, hasLists, isRefusal, shown, writtenWith, answer, written}
 use Rattle.model.proofs.Referring.{refused-keeps, ground-keeps, untaken-keeps, refers-pair}
 use Rattle.state.specs.declared.held.Held.{Held}
 use Rattle.state.specs.Meaning.{heldOf}
 use Rattle.state.specs.Lent.{State, lent, scheme, database, cache, sound, answerAt, wordsAt, Performed}
 use Rattle.lawful.proofs.SoundState.{after, answer-at, held-after, marks-after, words-at, unchanged}
-use Rattle.query.specs.Lists.{listedAnswer, Listed}
+use Rattle.query.specs.Lists.{listedAnswer}
+use Rattle.operate.specs.Queries.{drawn, Drawn}
 
--- lists are refused exactly if they have more words than are lent
-listed-refused : (ls : List (List ℕ)) (room : ℕ) → isRefusal (listedAnswer ls room) ≡ not (leb (length (wordsOf ls)) room)
-unfolding listedAnswer isRefusal shown
-listed-refused ls room = go (leb (length (wordsOf ls)) room)
+-- what the lists of the full tables give is the answer from the full tables, within its limit
+drawn-full : (S : Scheme) (D : Database) (q : Query) (out : Output) →
+    drawn D (fullLists S D q) out ≡ unless (not (withinLimit S D q out)) (limitCause out) (fullAnswer S D q out)
+unfolding drawn listedAnswer withinLimit fullAnswer fullTotal fullLists totalOver
+drawn-full S D q (asLists room) = refl
+drawn-full S D q (asTotal p c) = refl
+
+full-unrefused : (S : Scheme) (D : Database) (q : Query) (out : Output) → isRefusal (fullAnswer S D q out) ≡ false
+unfolding fullAnswer isRefusal shown
+full-unrefused S D q (asLists room) = ne-eqb 6 7 (λ z. omega arith)
+full-unrefused S D q (asTotal p c) = ne-eqb 10 7 (λ z. omega arith)
+
+-- it is refused exactly if it passes the limit
+drawn-refused : (S : Scheme) (D : Database) (q : Query) (out : Output) → isRefusal (drawn D (fullLists S D q) out) ≡ not (withinLimit S D q out)
+unfolding isRefusal shown
+drawn-refused S D q out = ap isRefusal (drawn-full S D q out) ∙ go (withinLimit S D q out)
   where
-    go : (b : Bool) → isRefusal (unless (not b) 11 (lists (length ls))) ≡ not b
-    go true = ne-eqb 6 7 (λ z. omega arith)
+    go : (b : Bool) → isRefusal (unless (not b) (limitCause out) (fullAnswer S D q out)) ≡ not b
+    go true = full-unrefused S D q out
     go false = eq-eqb 7 7 refl
 
 -- a record of held values has 64 places, as its type says
-module _ (s : State) (e : sound s ≡ true) (places : length (s .held .values) ≡ 64) (w : List ℕ) (q : Query) where
+module _ (s : State) (e : sound s ≡ true) (places : length (s .held .values) ≡ 64) (w : List ℕ) (q : Query) (out : Output) where
   abbrev op : Operation
-  op = query q (length w)
+  op = query q out
 
   -- the words that lists would have
   abbrev listWords : List ℕ
   listWords = wordsOf (fullLists (scheme s) (database s) q)
 
   abbrev answers : Answer → Type 0
-  answers a = a ≡ queryAnswer (scheme s) (database s) (cache s) (length w) q
+  answers a = a ≡ queryAnswer (scheme s) (database s) (cache s) q out
 
   -- the model's answer, with the words that go with it
   module _ (a : Answer) (h : answers a) (w′ : List ℕ) (k : w′ ≡ sets w 0 (writtenWith a listWords)) where
@@ -78,16 +93,16 @@ module _ (s : State) (e : sound s ≡ true) (places : length (s .held .values) �
 
   -- ---- cause 5
 
-  pub query-misfit : operandsFit (scheme s) q ≡ false → Performed s w op (refused 5) s w
+  pub query-misfit : outputFits (scheme s) q out ≡ false → Performed s w op (refused 5) s w
   unfolding queryAnswer answerable writtenWith hasLists shown
-  query-misfit f = silent (refused 5) (rw f) (refused-keeps (scheme s) (database s) (cache s) q (length w) (rw f)) (λ ws. refl)
+  query-misfit f = silent (refused 5) (rw f) (refused-keeps (scheme s) (database s) (cache s) q out (rw f)) (λ ws. refl)
 
-  module _ (f : operandsFit (scheme s) q ≡ true) where
+  module _ (f : outputFits (scheme s) q out ≡ true) where
     -- ---- cause 9
 
     pub query-blank : isBlank (q .value) ≡ true → Performed s w op (refused 9) s w
     unfolding queryAnswer answerable writtenWith hasLists shown
-    query-blank b = silent (refused 9) (rw (f, b)) (refused-keeps (scheme s) (database s) (cache s) q (length w) (rw (f, b))) (λ ws. refl)
+    query-blank b = silent (refused 9) (rw (f, b)) (refused-keeps (scheme s) (database s) (cache s) q out (rw (f, b))) (λ ws. refl)
 
     module _ (b : isBlank (q .value) ≡ false) where
       abbrev G : ℕ
@@ -96,48 +111,45 @@ module _ (s : State) (e : sound s ≡ true) (places : length (s .held .values) �
       abbrev T : Bool
       T = taken (scheme s) (cache s .held) (pairFor (scheme s) q)
 
-      -- the lists of the full tables, of a query that is answered
-      listed-answer : isAnswered (scheme s) (database s) (cache s) q ≡ true → (a : Answer) → a ≡ listedAnswer (fullLists (scheme s) (database s) q) (length w) → answers a
-      unfolding queryAnswer listedAnswer
-      listed-answer y a h = h ∙ rw (f, b, y)
+      -- what the lists of the full tables give, of a query that is answered
+      drawn-answer : isAnswered (scheme s) (database s) (cache s) q ≡ true → (a : Answer) → a ≡ drawn (database s) (fullLists (scheme s) (database s) q) out →
+          answers a
+      unfolding queryAnswer
+      drawn-answer y a h = h ∙ drawn-full (scheme s) (database s) q out ∙ rw (f, b, y)
 
-      -- they have room
-      enough : (a : Answer) → a ≡ listedAnswer (fullLists (scheme s) (database s) q) (length w) → isRefusal a ≡ not (leb (length listWords) (length w))
-      enough a h = ap isRefusal h ∙ listed-refused (fullLists (scheme s) (database s) q) (length w)
+      within : (a : Answer) → a ≡ drawn (database s) (fullLists (scheme s) (database s) q) out → isRefusal a ≡ not (withinLimit (scheme s) (database s) q out)
+      within a h = ap isRefusal h ∙ drawn-refused (scheme s) (database s) q out
 
       -- ---- a ground
 
-      pub query-ground : (G ≡ 0 → ⊥) → (w′ : List ℕ) (a : Answer) → Listed (fullLists (scheme s) (database s) q) w w′ a → Performed s w op a s w′
+      pub query-ground : (G ≡ 0 → ⊥) → (w′ : List ℕ) (a : Answer) → Drawn (database s) (fullLists (scheme s) (database s) q) out w w′ a → Performed s w op a s w′
       unfolding isAnswered
       query-ground g w′ a l =
-          stays a (listed-answer (ap (λ (x : Bool). not x || T) (ne-eqb G 0 g)) a (l .answer)) w′
-          (l .words ∙ ap (λ (x : Answer). sets w 0 (writtenWith x listWords)) (sym (l .answer)))
-          (ground-keeps (scheme s) (database s) (cache s) q (length w) g)
+          stays a (drawn-answer (ap (λ (x : Bool). not x || T) (ne-eqb G 0 g)) a (l .answer)) w′
+          (l .words)
+          (ground-keeps (scheme s) (database s) (cache s) q out g)
 
       module _ (g : G ≡ 0) where
         -- ---- none, and the pair is not taken
 
         pub query-sent : T ≡ false → Performed s w op sent s w
         unfolding queryAnswer isAnswered writtenWith hasLists shown
-        query-sent t = silent sent (rw (f, b, eq-eqb G 0 g, t)) (untaken-keeps (scheme s) (database s) (cache s) q (length w) t) (λ ws. refl)
+        query-sent t = silent sent (rw (f, b, eq-eqb G 0 g, t)) (untaken-keeps (scheme s) (database s) (cache s) q out t) (λ ws. refl)
 
         -- ---- none, and it is referred
 
-        module _ (t : T ≡ true) (w′ : List ℕ) (a : Answer) (l : Listed (fullLists (scheme s) (database s) q) w w′ a) where
+        module _ (t : T ≡ true) (w′ : List ℕ) (a : Answer) (l : Drawn (database s) (fullLists (scheme s) (database s) q) out w w′ a) where
           yes-answered : isAnswered (scheme s) (database s) (cache s) q ≡ true
           unfolding isAnswered
           yes-answered = rw (eq-eqb G 0 g, t)
 
-          words-listed : w′ ≡ sets w 0 (writtenWith a listWords)
-          words-listed = l .words ∙ ap (λ (x : Answer). sets w 0 (writtenWith x listWords)) (sym (l .answer))
-
-          -- with cause 11 everything stays
-          pub query-too-long : isRefusal a ≡ true → Performed s w op a s w′
+          -- with 11 or 13 everything stays
+          pub query-past-limit : isRefusal a ≡ true → Performed s w op a s w′
           unfolding answerable
-          query-too-long r =
-              let k : leb (length listWords) (length w) ≡ false = not-true _ (sym (enough a (l .answer)) ∙ r) in
-              stays a (listed-answer yes-answered a (l .answer)) w′ words-listed
-              (refused-keeps (scheme s) (database s) (cache s) q (length w) (rw (f, b, k)))
+          query-past-limit r =
+              let k : withinLimit (scheme s) (database s) q out ≡ false = not-true _ (sym (within a (l .answer)) ∙ r) in
+              stays a (drawn-answer yes-answered a (l .answer)) w′ (l .words)
+              (refused-keeps (scheme s) (database s) (cache s) q out (rw (f, b, k)))
 
           pub query-referred : isRefusal a ≡ false → (m : List ℕ) (h : Held) →
               h ≡ heldOf (referred (scheme s) (database s) (cache s) (pairFor (scheme s) q) .held) →
@@ -145,6 +157,6 @@ module _ (s : State) (e : sound s ≡ true) (places : length (s .held .values) �
               Performed s w op a (lent (s .design) (s .cells) (s .tables) m h) w′
           unfolding answerable
           query-referred r m h p k =
-              let n : leb (length listWords) (length w) ≡ true = not-false _ (sym (enough a (l .answer)) ∙ r) in
-              moves a (listed-answer yes-answered a (l .answer)) w′ words-listed (referred (scheme s) (database s) (cache s) (pairFor (scheme s) q))
-              (refers-pair (scheme s) (database s) (cache s) q (length w) (both f (both (ap not b) n)) g t) m h p k
+              let n : withinLimit (scheme s) (database s) q out ≡ true = not-false _ (sym (within a (l .answer)) ∙ r) in
+              moves a (drawn-answer yes-answered a (l .answer)) w′ (l .words) (referred (scheme s) (database s) (cache s) (pairFor (scheme s) q))
+              (refers-pair (scheme s) (database s) (cache s) q out (both f (both (ap not b) n)) g t) m h p k

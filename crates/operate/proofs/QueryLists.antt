@@ -7,7 +7,7 @@ use mathlib.Core.List.{List}
 use lib.ListN.{take}
 use Rattle.model.specs.Probe.{probe}
 use Rattle.model.specs.Holding.{heldIn}
-use Rattle.model.specs.Runs.{marked}
+use Rattle.model.specs.Runs.{Output, marked}
 use Rattle.model.specs.Query.{operandsFit, fullLists}
 use Rattle.model.specs.Answers.{Answer, queryGround}
 use Rattle.model.proofs.QueryLaws.{query-lists}
@@ -17,10 +17,10 @@ use Rattle.state.specs.Lent.{State, scheme, database, cache, longEnough, lawful
 use Rattle.lawful.proofs.Asked.{sound-column}
 use Rattle.lawful.proofs.LawfulState.{lawful-says}
 use Rattle.lawful.proofs.RowsLaws.{Stored}
-use Rattle.query.specs.Lists.{Listed}
 use Rattle.query.proofs.OperandLaws.{fits-column}
 use Rattle.query.proofs.MarkedRows.{markedLists, lists-front}
 use Rattle.query.proofs.PlanLaws.{four-pairs}
+use Rattle.operate.specs.Queries.{Drawn}
 
 -- the probe of position 0, as it is found
 abbrev pub groundAt : State → Query → ℕ
@@ -36,9 +36,10 @@ module _ (s : State) (h : sound s ≡ true) (q : Query) (fit : operandsFit (sche
   sound-place = sound-column s h (q .column) (fits-column (scheme s) (queryOf q) fit (four-pairs q))
 
   -- where the probe has a ground, the lists of marked rows are those of the full tables
-  pub sound-lists : Stored (s .cells) → (queryGround (scheme s) (database s) (cache s) (queryOf q) ≡ 0 → ⊥) → (w w′ : List ℕ) (a : Answer) →
-      Listed (markedLists (s .design) (s .cells) (s .tables) (s .marks) q) w w′ a → Listed (fullLists (scheme s) (database s) (queryOf q)) w w′ a
-  sound-lists u g w w′ a =
+  pub sound-lists : Stored (s .cells) → (queryGround (scheme s) (database s) (cache s) (queryOf q) ≡ 0 → ⊥) → (out : Output) (w w′ : List ℕ) (a : Answer) →
+      Drawn (database s) (markedLists (s .design) (s .cells) (s .tables) (s .marks) q) out w w′ a →
+      Drawn (database s) (fullLists (scheme s) (database s) (queryOf q)) out w w′ a
+  sound-lists u g out w w′ a =
       let l = lawful-says s u (and-eq-true-iff (longEnough s) (lawful s) .0 h .1) in
-      subst (λ (ls : List (List ℕ)). Listed ls w w′ a)
+      subst (λ (ls : List (List ℕ)). Drawn (database s) ls out w w′ a)
       (lists-front (s .design) (s .cells) (s .tables) (s .marks) q ∙ query-lists (l .rows .database) (cache s) (l .smallest) (queryOf q) fit g)

@@ -7,18 +7,17 @@ use mathlib.Core.List.{List}
 use lib.ListN.{length}
 use Rattle.model.specs.Cell.{isBlank}
 use Rattle.model.specs.Holding.{Pair}
-use Rattle.model.specs.Query.{operandsFit}
-use Rattle.model.specs.Runs.{query, taken, fillingFor, pairFor}
+use Rattle.model.specs.Runs.{Output, query, taken, fillingFor, pairFor, outputFits}
 use Rattle.model.specs.Answers.{Answer, sent, queryGround}
 use Rattle.model.proofs.Referring.{filling-few}
+use Rattle.model.proofs.Demand2.{fits-operands}
 use Rattle.state.specs.declared.operation.Query.{Query}
 use Rattle.state.specs.Meaning.{cellOf, columnOf, holdingOf, queryOf, schemeOf}
 use Rattle.state.specs.Lent.{State, scheme, database, cache, sound, Performed}
 use Rattle.lawful.proofs.RowsLaws.{Stored}
 use Rattle.lawful.proofs.Asked.{sound-fillings}
-use Rattle.query.specs.Lists.{Listed}
 use Rattle.query.proofs.MarkedRows.{markedLists}
-use Rattle.operate.specs.Queries.{Referring}
+use Rattle.operate.specs.Queries.{Drawn, Referring}
 use Rattle.operate.proofs.QueryLists.{groundAt, ground-of, sound-lists}
 use Rattle.operate.proofs.QueryCases.{query-ground, query-sent}
 
@@ -28,15 +27,15 @@ unfolding schemeOf
 filling-byte s e q f h = omega (arith, h, filling-few (scheme s) (columnOf (q .column)), sound-fillings s e)
 
 -- g is the ground that is found
-module _ (s : State) (e : sound s ≡ true) (w : List ℕ) (q : Query) (fit : operandsFit (scheme s) (queryOf q) ≡ true)
+module _ (s : State) (e : sound s ≡ true) (w : List ℕ) (q : Query) (out : Output) (fit : outputFits (scheme s) (queryOf q) out ≡ true)
     (full : isBlank (cellOf (q .value)) ≡ false) (g : ℕ) (found : g ≡ groundAt s q) where
   is-ground : g ≡ queryGround (scheme s) (database s) (cache s) (queryOf q)
   is-ground = found ∙ ground-of s q
 
-  pub step-listed : length (s .held .values) ≡ 64 → Stored (s .cells) → (g ≡ 0 → ⊥) → (w′ : List ℕ) (a : Answer) →
-      Listed (markedLists (s .design) (s .cells) (s .tables) (s .marks) q) w w′ a → Performed s w (query (queryOf q) (length w)) a s w′
-  step-listed places u n w′ a l =
-      query-ground s e places w (queryOf q) fit full (λ z. n (is-ground ∙ z)) w′ a (sound-lists s e q fit u (λ z. n (is-ground ∙ z)) w w′ a l)
+  pub step-drawn : length (s .held .values) ≡ 64 → Stored (s .cells) → (g ≡ 0 → ⊥) → (w′ : List ℕ) (a : Answer) →
+      Drawn (database s) (markedLists (s .design) (s .cells) (s .tables) (s .marks) q) out w w′ a → Performed s w (query (queryOf q) out) a s w′
+  step-drawn places u n w′ a l =
+      query-ground s e places w (queryOf q) out fit full (λ z. n (is-ground ∙ z)) w′ a (sound-lists s e q (fits-operands (scheme s) (queryOf q) out fit) u (λ z. n (is-ground ∙ z)) out w w′ a l)
 
   -- f is the filling of the column
   module _ (z : g ≡ 0) (f : ℕ) (filling : f ≡ fillingFor (scheme s) (columnOf (q .column))) where
@@ -46,9 +45,9 @@ module _ (s : State) (e : sound s ≡ true) (w : List ℕ) (q : Query) (fit : op
     is-pair : pair ≡ pairFor (scheme s) (queryOf q)
     is-pair = ap (λ (n : ℕ). record { filling = n; value = cellOf (q .value) }) filling
 
-    pub step-sent : length (s .held .values) ≡ 64 → taken (scheme s) (holdingOf (s .held)) pair ≡ false → Performed s w (query (queryOf q) (length w)) sent s w
+    pub step-sent : length (s .held .values) ≡ 64 → taken (scheme s) (holdingOf (s .held)) pair ≡ false → Performed s w (query (queryOf q) out) sent s w
     step-sent places t =
-        query-sent s e places w (queryOf q) fit full (sym is-ground ∙ z) (ap (taken (scheme s) (holdingOf (s .held))) (sym is-pair) ∙ t)
+        query-sent s e places w (queryOf q) out fit full (sym is-ground ∙ z) (ap (taken (scheme s) (holdingOf (s .held))) (sym is-pair) ∙ t)
 
-    pub step-refers : taken (scheme s) (holdingOf (s .held)) pair ≡ true → Referring s q (record { filling = f; value = q .value })
+    pub step-refers : taken (scheme s) (holdingOf (s .held)) pair ≡ true → Referring s q out (record { filling = f; value = q .value })
     step-refers t = record { fit = fit; full = full; groundless = sym is-ground ∙ z; pair = is-pair; taken = t }

@@ -7,20 +7,20 @@ use mathlib.Core.List.{List, [], _++_}
 use lib.ListN.{length, take, drop as past}
 use Rattle.model.specs.Holding.{Pair}
 use Rattle.model.specs.Query.{fullLists}
-use Rattle.model.specs.Runs.{query, refer, taken, pairFor, referred}
+use Rattle.model.specs.Runs.{Output, query, refer, taken, pairFor, referred}
 use Rattle.model.specs.Answers.{Answer, isRefusal}
 use Rattle.model.proofs.Marks.{length-marks}
+use Rattle.model.proofs.Demand2.{fits-operands}
 use Rattle.state.specs.declared.held.HeldValue.{HeldValue}
 use Rattle.state.specs.declared.held.Held.{Held}
 use Rattle.state.specs.declared.operation.Query.{Query}
 use Rattle.state.specs.Meaning.{databaseOf, pairOf, queryOf}
 use Rattle.state.specs.Lent.{State, lent, scheme, database, cache, sound, Answered, Performed}
 use Rattle.lawful.proofs.RowsLaws.{Stored}
-use Rattle.query.specs.Lists.{Listed}
 use Rattle.query.proofs.MarkedRows.{markedLists}
-use Rattle.operate.specs.Queries.{Referring}
+use Rattle.operate.specs.Queries.{Drawn, Referring}
 use Rattle.operate.proofs.ReferredCopy.{copy-of, copied, copy-sound, copy-held, copy-marks, referred-lists}
-use Rattle.operate.proofs.QueryCases.{query-too-long, query-referred}
+use Rattle.operate.proofs.QueryCases.{query-past-limit, query-referred}
 
 -- c is the copy of the first 512 marks, with nothing behind them
 module _ (s : State) (e : sound s ≡ true) (x c : List ℕ) (none : x ≡ []) (copy : c ≡ take 512 (s .marks) ++ x) where
@@ -28,7 +28,7 @@ module _ (s : State) (e : sound s ≡ true) (x c : List ℕ) (none : x ≡ []) (
   pub copied-sound : sound (lent (s .design) (s .cells) (s .tables) c (s .held)) ≡ true
   copied-sound = subst (λ (m : List ℕ). sound (lent (s .design) (s .cells) (s .tables) m (s .held)) ≡ true) (sym (copy-of (s .marks) x none c copy)) (copy-sound s e)
 
-  module _ (u : Stored (s .cells)) (q : Query) (v : HeldValue) (r : Referring s q v) (b : Answer) (m : List ℕ) (h : Held)
+  module _ (u : Stored (s .cells)) (q : Query) (v : HeldValue) (out : Output) (r : Referring s q out v) (b : Answer) (m : List ℕ) (h : Held)
       (refers : Answered (lent (s .design) (s .cells) (s .tables) c (s .held)) (refer (pairOf v)) b (lent (s .design) (s .cells) (s .tables) m h)) where
     abbrev pair : Pair
     pair = pairFor (scheme s) (queryOf q)
@@ -50,19 +50,19 @@ module _ (s : State) (e : sound s ≡ true) (x c : List ℕ) (none : x ≡ []) (
     unfolding databaseOf
     marks-long = ap length marks-are ∙ length-marks (database s) _
 
-    module _ (w w′ : List ℕ) (a : Answer) (lists : Listed (markedLists (s .design) (s .cells) (s .tables) m q) w w′ a) where
-      all-lists : Listed (fullLists (scheme s) (database s) (queryOf q)) w w′ a
+    module _ (w w′ : List ℕ) (a : Answer) (lists : Drawn (database s) (markedLists (s .design) (s .cells) (s .tables) m q) out w w′ a) where
+      all-lists : Drawn (database s) (fullLists (scheme s) (database s) (queryOf q)) out w w′ a
       all-lists =
-          subst (λ (ls : List (List ℕ)). Listed ls w w′ a)
-          (ap (λ (x : List ℕ). markedLists (s .design) (s .cells) (s .tables) x q) marks-are ∙ referred-lists s e u (queryOf q) (r .fit) (r .full) takes)
+          subst (λ (ls : List (List ℕ)). Drawn (database s) ls out w w′ a)
+          (ap (λ (x : List ℕ). markedLists (s .design) (s .cells) (s .tables) x q) marks-are ∙ referred-lists s e u (queryOf q) (fits-operands (scheme s) (queryOf q) out (r .fit)) (r .full) takes)
           lists
 
       -- a record of held values has 64 places, as its type says
-      pub left-alone : length (s .held .values) ≡ 64 → isRefusal a ≡ true → Performed s w (query (queryOf q) (length w)) a s w′
-      left-alone places f = query-too-long s e places w (queryOf q) (r .fit) (r .full) (r .groundless) takes w′ a all-lists f
+      pub left-alone : length (s .held .values) ≡ 64 → isRefusal a ≡ true → Performed s w (query (queryOf q) out) a s w′
+      left-alone places f = query-past-limit s e places w (queryOf q) out (r .fit) (r .full) (r .groundless) takes w′ a all-lists f
 
       pub taken-over : length (s .held .values) ≡ 64 → isRefusal a ≡ false → (n : List ℕ) → n ≡ m ++ past 512 (s .marks) →
-          Performed s w (query (queryOf q) (length w)) a (lent (s .design) (s .cells) (s .tables) n h) w′
+          Performed s w (query (queryOf q) out) a (lent (s .design) (s .cells) (s .tables) n h) w′
       taken-over places f n k =
-          query-referred s e places w (queryOf q) (r .fit) (r .full) (r .groundless) takes w′ a all-lists f n h
+          query-referred s e places w (queryOf q) out (r .fit) (r .full) (r .groundless) takes w′ a all-lists f n h
           (copy-held s e pair takes b m h on-copy) (k ∙ ap (λ (x : List ℕ). x ++ past 512 (s .marks)) marks-are)

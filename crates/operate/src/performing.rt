@@ -5,6 +5,7 @@ ghost use lib.ListN.{length};
 ghost use Rattle.state.specs.Meaning.{answerOf, operationOf};
 ghost use Rattle.state.specs.Lent.{lent, sound, Performed};
 ghost use Rattle.catalog.specs.Catalog.{Catalogued};
+use crate::output::Output;
 use crate::querying::query_lawful;
 use cache::Outcome;
 use cache::cause;
@@ -18,8 +19,9 @@ use state::Held;
 use state::Operation;
 
 // The operation on a state known sound, with the catalog of its rows: no test for causes 7 and 12. The last four arrays are working memory, whatever
-// stands in them. REFER costs one load, DROP one reload, PROBE a look for the value for each constraint that ends at the column, and QUERY the probe
-// of its first position, a load if that has no ground and its value is taken, the counting of its lists and the writing of their words.
+// stands in them. REFER costs one load, DROP one reload, PROBE a look for the value for each constraint that ends at the column, QUERY the probe of
+// its first position, a load if that has no ground and its value is taken, the counting of its lists and the writing of their words, and a total the same
+// with two sums by weights in place of the lists.
 pub fn perform_lawful(
     op: Operation,
     design: Design,
@@ -99,6 +101,7 @@ pub fn perform_lawful(
             marks,
             held,
             q,
+            Output::Lists,
             words,
             weights,
             sums,
@@ -108,6 +111,29 @@ pub fn perform_lawful(
         Operation::Evenness => {
             let answer = evenness(design);
             Outcome { held, answer }
+        }
+        Operation::Total(t) => {
+            let q = t.query;
+            let output = Output::Total(t.position, t.column);
+            query_lawful(
+                design,
+                cells,
+                tables,
+                next,
+                first,
+                keys,
+                heads,
+                starts,
+                marks,
+                held,
+                q,
+                output,
+                words,
+                weights,
+                sums,
+                froms,
+                links,
+            )
         }
     }
 }

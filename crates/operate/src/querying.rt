@@ -1,5 +1,5 @@
-// QUERY over a sound state. Where the probe of position 0 has a ground it is answered from the cached rows; else its value is referred first, if a
-// REFER would take it, and it is answered then (02, Req 02); else it is sent.
+// QUERY over a sound state, for its lists or for a total. Where the probe of position 0 has a ground it is answered from the cached rows; else its value is
+// referred first, if a REFER would take it, and it is answered then (02, Req 02 and 03); else it is sent.
 ghost use mathlib.Core.Path.{_≡_};
 ghost use mathlib.Core.Bool.{true};
 ghost use lib.ListN.{length};
@@ -7,14 +7,15 @@ ghost use Rattle.model.specs.Runs as Runs;
 ghost use Rattle.state.specs.Meaning.{answerOf, queryOf};
 ghost use Rattle.state.specs.Lent.{lent, sound, Performed};
 ghost use Rattle.catalog.specs.Catalog.{Catalogued};
-ghost use Rattle.operate.specs.Queries.{Referring};
+ghost use Rattle.operate.specs.Queries.{outputOf, Referring};
+use crate::output::Output;
+use crate::output::draw;
+use crate::output::output_fits;
 use cache::Outcome;
 use cache::filling_for;
 use cache::refer_lawful;
 use cache::takes;
 use probe::ground;
-use query::list_fitting;
-use query::operands_fit;
 use state::Answer;
 use state::Design;
 use state::Held;
@@ -24,9 +25,9 @@ use state::copy_bytes;
 use state::is_blank;
 use state::is_refusal;
 
-// Refers the query's pair v on a copy of the marks and lists from the copy, so that cause 11 finds nothing to undo; else the copy becomes the marks.
-// Two copies of the marks, one load, and the cost of the lists.
-fn refer_and_list(
+// Refers the query's pair v on a copy of the marks and draws the answer from the copy, so that causes 11 and 13 find nothing to undo; else the copy
+// becomes the marks. Two copies of the marks, one load, and the cost of the lists or the total.
+fn refer_and_draw(
     design: Design,
     cells: &[u32],
     tables: &[u8],
@@ -38,6 +39,7 @@ fn refer_and_list(
     marks: &mut [u8],
     held: Held,
     q: Query,
+    output: Output,
     v: HeldValue,
     words: &mut [u32],
     weights: &mut [u64; 2560],
@@ -47,9 +49,9 @@ fn refer_and_list(
 ) -> Outcome
     requires { ⌜ (sound (lent design (now cells) (now tables) (now marks) held) ≡ true)
         × Catalogued design (now cells) (now tables) (now next) (now first) (now keys) (now heads) (now starts) ⌝ }
-    requires { ⌜ Referring (lent design (now cells) (now tables) (now marks) held) q v ⌝ }
+    requires { ⌜ Referring (lent design (now cells) (now tables) (now marks) held) q (outputOf output (length (now words))) v ⌝ }
     ensures { λ o. ⌜ Performed (lent design (now (cells .entry)) (now (tables .entry)) (now (marks .entry)) held) (now (words .entry))
-        (Runs.query (queryOf q) (length (now (words .entry)))) (answerOf (o .answer))
+        (Runs.query (queryOf q) (outputOf output (length (now (words .entry))))) (answerOf (o .answer))
         (lent design (now (cells .entry)) (now (tables .entry)) (now (marks .exit)) (o .held)) (now (words .exit)) ⌝ }
 {
     let mut copy = [0u8; 512];
@@ -67,7 +69,7 @@ fn refer_and_list(
         held,
         v,
     );
-    let answer = list_fitting(
+    let answer = draw(
         design,
         cells,
         tables,
@@ -78,26 +80,27 @@ fn refer_and_list(
         starts,
         &copy,
         q,
+        output,
         words,
         weights,
         sums,
         froms,
         links,
     );
+    let more = o.held;
     if is_refusal(answer) {
         return Outcome { held, answer };
     }
     copy_bytes(&copy, marks);
-    let more = o.held;
     Outcome {
         held: more,
         answer: answer,
     }
 }
 
-// QUERY: causes 5 and 9; with a ground the lists, or cause 11; without one "sent", unless its value is taken, which costs a load before the lists. The
-// last four tables are working memory: whatever stands there before, and nothing is said of it after. The cost of the probe, of counting the lists and of
-// writing their words.
+// QUERY: causes 5 and 9; with a ground the lists or the total, or cause 11 or 13; without one "sent", unless its value is taken, which costs a load before.
+// The last four tables are working memory: whatever stands there before, and nothing is said of it after. The cost of the probe, and of counting the lists
+// and writing their words, or of the total.
 pub(crate) fn query_lawful(
     design: Design,
     cells: &[u32],
@@ -110,6 +113,7 @@ pub(crate) fn query_lawful(
     marks: &mut [u8],
     held: Held,
     q: Query,
+    output: Output,
     words: &mut [u32],
     weights: &mut [u64; 2560],
     sums: &mut [u64; 2560],
@@ -119,10 +123,10 @@ pub(crate) fn query_lawful(
     requires { ⌜ (sound (lent design (now cells) (now tables) (now marks) held) ≡ true)
         × Catalogued design (now cells) (now tables) (now next) (now first) (now keys) (now heads) (now starts) ⌝ }
     ensures { λ o. ⌜ Performed (lent design (now (cells .entry)) (now (tables .entry)) (now (marks .entry)) held) (now (words .entry))
-        (Runs.query (queryOf q) (length (now (words .entry)))) (answerOf (o .answer))
+        (Runs.query (queryOf q) (outputOf output (length (now (words .entry))))) (answerOf (o .answer))
         (lent design (now (cells .entry)) (now (tables .entry)) (now (marks .exit)) (o .held)) (now (words .exit)) ⌝ }
 {
-    if !operands_fit(design, q) {
+    if !output_fits(design, q, output) {
         let answer = Answer::Refused(5);
         return Outcome { held, answer };
     }
@@ -145,7 +149,7 @@ pub(crate) fn query_lawful(
         q.value,
     );
     if g != 0 {
-        let answer = list_fitting(
+        let answer = draw(
             design,
             cells,
             tables,
@@ -156,6 +160,7 @@ pub(crate) fn query_lawful(
             starts,
             marks,
             q,
+            output,
             words,
             weights,
             sums,
@@ -174,7 +179,7 @@ pub(crate) fn query_lawful(
         let answer = Answer::Sent;
         return Outcome { held, answer };
     }
-    refer_and_list(
+    refer_and_draw(
         design,
         cells,
         tables,
@@ -186,6 +191,7 @@ pub(crate) fn query_lawful(
         marks,
         held,
         q,
+        output,
         v,
         words,
         weights,

@@ -1,7 +1,8 @@
 -- SumLaws, Hops, Chains, CapLaws: lists of rows, counted and pruned by weights, over any tests. WeightLaws, PartLaws, Weighing: the tables that
 -- elimination leaves. Stages, EntryLaws, MemoLaws, FindLaws, WayLaws, Turns, Visited, Found: their entries one at a time, kept where a walk comes.
--- Writing, ListLaws, Walking: what the lister writes from them. OperandLaws, OperandTests, PlanLaws, Bridge, Planned, Answering: from a query's
--- operands to its lists and their count. MarkedRows, ListTheorems: what is listed.
+-- Writing, ListLaws, Walking: what the lister writes from them. OperandLaws, OperandTests, PositionLaws, PlanLaws, Bridge, Planned, Answering, Totals: from a query's
+-- operands to its lists, their count and their totals. MarkedRows, ListTheorems, TotalTheorems: what is
+-- listed and added up.
 pub mod SumLaws
 pub mod Hops
 pub mod Chains
@@ -18,13 +19,16 @@ pub mod Bridge
 pub mod PlanLaws
 pub mod Answering
 pub mod OperandTests
+pub mod PositionLaws
 pub mod MarkedRows
 pub mod ListTheorems
+pub mod TotalTheorems
 pub mod Visited
 pub mod Stages
 pub mod MemoLaws
 pub mod EntryLaws
 pub mod FindLaws
 pub mod Found
+pub mod Totals
 pub mod WayLaws
 pub mod Turns

@@ -12,7 +12,7 @@ use Rattle.finite.proofs.Writing.{reach}
 use Rattle.state.specs.declared.design.Design.{Design}
 use Rattle.state.specs.declared.answer.Shown.{Shown}
 use Rattle.state.specs.Meaning.{shownOf}
-use Rattle.model.specs.Answers.{Answer, loaded, held, noCandidate, dropped, ground, sent, lists, refused, even, uneven, shown, isRefusal}
+use Rattle.model.specs.Answers.{Answer, loaded, held, noCandidate, dropped, ground, sent, lists, refused, even, uneven, total, shown, isRefusal}
 use Rattle.report.specs.Report.{newline, decimal, spaced, wordText, numbersText, answerText, commandLine, designLine, refusalLine, listLine, listLines}
 use Rattle.report.proofs.Decimals.{decimal-short, decimal-short-32}
 use Rattle.report.proofs.Answers.{refusal-line}
@@ -31,7 +31,8 @@ word-short (suc (suc (suc (suc (suc (suc zero)))))) = omega arith
 word-short (suc (suc (suc (suc (suc (suc (suc zero))))))) = omega arith
 word-short (suc (suc (suc (suc (suc (suc (suc (suc zero)))))))) = omega arith
 word-short (suc (suc (suc (suc (suc (suc (suc (suc (suc zero))))))))) = omega arith
-word-short (suc (suc (suc (suc (suc (suc (suc (suc (suc (suc w)))))))))) = omega arith
+word-short (suc (suc (suc (suc (suc (suc (suc (suc (suc (suc zero)))))))))) = omega arith
+word-short (suc (suc (suc (suc (suc (suc (suc (suc (suc (suc (suc w))))))))))) = omega arith
 
 numbers-within : (ns : List ℕ) → length (numbersText ns) ≤ 21 * length ns
 unfolding numbersText
@@ -54,6 +55,7 @@ few-numbers (lists n) = omega arith
 few-numbers (refused n) = omega arith
 few-numbers even = omega arith
 few-numbers (uneven i j) = omega arith
+few-numbers (total n) = omega arith
 
 answer-short : (a : Answer) (place : ℕ) → length (answerText a place) ≤ 75
 unfolding answerText

@@ -31,7 +31,7 @@ decimal n = decimalBy 20 n
 abbrev pub spaced : ℕ → List ℕ
 spaced n = space ∷ decimal n
 
--- "loaded", "held", "no candidate", "dropped", "ground", "sent", "answer", "refused", "even", "uneven", "design"
+-- "loaded", "held", "no candidate", "dropped", "ground", "sent", "answer", "refused", "even", "uneven", "total", "design"
 abbrev pub loaded-word : List ℕ
 loaded-word = 108 ∷ 111 ∷ 97 ∷ 100 ∷ 101 ∷ 100 ∷ []
 
@@ -62,12 +62,15 @@ even-word = 101 ∷ 118 ∷ 101 ∷ 110 ∷ []
 abbrev pub uneven-word : List ℕ
 uneven-word = 117 ∷ 110 ∷ 101 ∷ 118 ∷ 101 ∷ 110 ∷ []
 
+abbrev pub total-word : List ℕ
+total-word = 116 ∷ 111 ∷ 116 ∷ 97 ∷ 108 ∷ []
+
 abbrev pub design-word : List ℕ
 design-word = 100 ∷ 101 ∷ 115 ∷ 105 ∷ 103 ∷ 110 ∷ []
 
 -- the words of the answers, in the order of their numbers (`shown`)
 abbrev pub answer-words : List (List ℕ)
-answer-words = loaded-word ∷ held-word ∷ no-candidate-words ∷ dropped-word ∷ ground-word ∷ sent-word ∷ answer-word ∷ refused-word ∷ even-word ∷ uneven-word ∷ []
+answer-words = loaded-word ∷ held-word ∷ no-candidate-words ∷ dropped-word ∷ ground-word ∷ sent-word ∷ answer-word ∷ refused-word ∷ even-word ∷ uneven-word ∷ total-word ∷ []
 
 unfoldable pub wordText : ℕ → List ℕ
 wordText w = getD answer-words w []

@@ -32,6 +32,7 @@ fn put_word(out: &mut [u8], at: usize, word: u8) -> usize
         7 => put_bytes(out, at, b"refused", 7),
         8 => put_bytes(out, at, b"even", 4),
         9 => put_bytes(out, at, b"uneven", 6),
+        10 => put_bytes(out, at, b"total", 5),
         _ => at,
     }
 }

@@ -7,7 +7,7 @@ use mathlib.Core.Logic.{_↔_}
 use Rattle.model.specs.Cell.{Cell}
 use Rattle.model.specs.Scheme.{Column}
 use Rattle.model.specs.Database.{Lawful}
-use Rattle.model.specs.Runs.{ask, probe, query}
+use Rattle.model.specs.Runs.{ask, probe, Output, query}
 use Rattle.model.specs.Query.{Query}
 use Rattle.model.specs.Answers.{Answer, sent, questionAnswer, queryAnswer, answer}
 use Rattle.model.specs.Demand.{Groundless, Unrefused, FillingsApart, Demand2}
@@ -29,15 +29,15 @@ module _ (s : State) (e : sound s ≡ true) where
       at : answerAt s (ask (probe k v)) ≡ questionAnswer (scheme s) (database s) (cache s) (probe k v)
       at = answer-at s e (ask (probe k v))
 
-  -- THEOREM: `operate::perform` of a QUERY, and a QUERY of a script: what is answered is the model's answer, and demand 2 holds of it. The cells are u32
+  -- THEOREM: `operate::perform` of a QUERY or a total, and one of a script: what is answered is the model's answer, and demand 2 holds of it. The cells are u32
   -- numbers.
-  pub queried-exactly : Stored (s .cells) → (room : ℕ) (q : Query) → Unrefused (answerAt s (query q room)) →
-      (answerAt s (query q room) ≡ queryAnswer (scheme s) (database s) (cache s) room q) × Demand2 (scheme s) (database s) (cache s) room q
+  pub queried-exactly : Stored (s .cells) → (q : Query) (out : Output) → Unrefused (answerAt s (query q out)) →
+      (answerAt s (query q out) ≡ queryAnswer (scheme s) (database s) (cache s) q out) × Demand2 (scheme s) (database s) (cache s) q out
   unfolding answer
-  queried-exactly u room q n = (at, demand2 lawful apart (cache s) (sound-smallest s e) room q (subst Unrefused at n))
+  queried-exactly u q out n = (at, demand2 lawful apart (cache s) (sound-smallest s e) q out (subst Unrefused at n))
     where
-      at : answerAt s (query q room) ≡ queryAnswer (scheme s) (database s) (cache s) room q
-      at = answer-at s e (query q room)
+      at : answerAt s (query q out) ≡ queryAnswer (scheme s) (database s) (cache s) q out
+      at = answer-at s e (query q out)
 
       lawful : Lawful (scheme s) (database s)
       lawful = lawful-database (s .design) (s .cells) (s .tables) (parts s e .rows) u

@@ -2,22 +2,21 @@
 use Prim.Native.Nat.{ℕ}
 use native.Mathlib.Omega.{arith}
 use mathlib.Core.Path.{_≡_, refl, sym, ap, _∙_}
-use mathlib.Core.Bool.{Bool, true, false, not, and-eq-true-iff}
+use mathlib.Core.Bool.{true, false, not, and-eq-true-iff}
 use mathlib.Core.List.{List, []}
 use mathlib.Core.Logic.{⊎-elim}
 use borrow.Author.Tests.{ltb-true, lt-ltb, not-true}
-use lib.Dec.{leb, ltb}
+use lib.Dec.{ltb}
 use lib.ListN.{length}
 use lib.Seq.{sets}
 use Rattle.finite.proofs.Bools.{dec, cond-false}
-use Rattle.model.specs.Cell.{isBlank}
 use Rattle.model.specs.Scheme.{candidate}
 use Rattle.model.specs.Holding.{Pair, Holding, holds, hasRoom}
-use Rattle.model.specs.Query.{Query, operandsFit, wordsOf, fullLists}
-use Rattle.model.specs.Runs.{Operation, refer, drop, ask, query, taken, answerable, cacheAfter}
-use Rattle.model.specs.Answers.{Answer, sent, lists, refused, shown, hasLists, unless, orAnswer, isAnswered, queryAnswer, answer, writtenWith, queryWords, written}
+use Rattle.model.specs.Query.{wordsOf, fullLists}
+use Rattle.model.specs.Runs.{Operation, refer, drop, ask, query, taken, cacheAfter}
+use Rattle.model.specs.Answers.{Answer, refused, shown, hasLists, answer, writtenWith, queryWords, written}
 use Rattle.model.proofs.HoldingLaws.{listed-fits, listed-full}
-use Rattle.model.proofs.Referring as Referring
+use Rattle.model.proofs.Referring.{query-refused-keeps}
 use Rattle.state.specs.Meaning.{schemeOf, holdingOf}
 use Rattle.state.specs.Lent.{State, scheme, database, cache, sound, answerAt, stateAfter, wordsAt}
 use Rattle.lawful.proofs.DesignLaws.{low-full}
@@ -57,35 +56,13 @@ module _ (s : State) (e : sound s ≡ true) (n : ℕ) where
       (λ (t : holds held p ≡ false). cond-false (holds held p) _ (cache s) t)
       (dec (holds held p))
 
-  model-keeps : (q : Query) (room : ℕ) → answerable (scheme s) (database s) q room ≡ false →
-      cacheAfter (scheme s) (database s) (cache s) (query q room) ≡ cache s
-  model-keeps q room f = Referring.refused-keeps (scheme s) (database s) (cache s) q room f
-
-  -- a QUERY that is referred is answered
-  query-keeps : (q : Query) (room : ℕ) → answer (scheme s) (database s) (cache s) (query q room) ≡ refused n →
-      cacheAfter (scheme s) (database s) (cache s) (query q room) ≡ cache s
-  unfolding answer queryAnswer answerable
-  query-keeps q room h =
-      go (operandsFit (scheme s) q) (isBlank (q .value)) (isAnswered (scheme s) (database s) (cache s) q)
-      (leb (length (wordsOf (fullLists (scheme s) (database s) q))) room) refl refl refl refl h
-    where
-      go : (f b y w : Bool) → operandsFit (scheme s) q ≡ f → isBlank (q .value) ≡ b → isAnswered (scheme s) (database s) (cache s) q ≡ y →
-          leb (length (wordsOf (fullLists (scheme s) (database s) q))) room ≡ w →
-          unless (not f) 5 (unless b 9 (orAnswer (not y) sent (unless (not w) 11 (lists (length (fullLists (scheme s) (database s) q)))))) ≡ refused n →
-          cacheAfter (scheme s) (database s) (cache s) (query q room) ≡ cache s
-      go false b y w f₁ b₁ y₁ w₁ k = model-keeps q room (rw f₁)
-      go true true y w f₁ b₁ y₁ w₁ k = model-keeps q room (rw (f₁, b₁))
-      go true false y false f₁ b₁ y₁ w₁ k = model-keeps q room (rw (f₁, b₁, w₁))
-      go true false false true f₁ b₁ y₁ w₁ k = absurd (let z : _≡_ {A = ℕ} 0 1 = cc in omega arith)
-      go true false true true f₁ b₁ y₁ w₁ k = absurd (let z : _≡_ {A = ℕ} 0 1 = cc in omega arith)
-
   refused-keeps : (o : Operation) → answer (scheme s) (database s) (cache s) o ≡ refused n →
       cacheAfter (scheme s) (database s) (cache s) o ≡ cache s
-  unfolding cacheAfter
+  unfolding cacheAfter answer
   refused-keeps (refer p) h = refer-keeps p h
   refused-keeps (drop p) h = drop-keeps p h
   refused-keeps (ask q) h = refl
-  refused-keeps (query q room) h = query-keeps q room h
+  refused-keeps (query q out) h = query-refused-keeps (scheme s) (database s) (cache s) q out n h
 
   -- no words go with a refusal
   refused-wordless : (o : Operation) → answer (scheme s) (database s) (cache s) o ≡ refused n → written (scheme s) (database s) (cache s) o ≡ []
@@ -93,7 +70,7 @@ module _ (s : State) (e : sound s ≡ true) (n : ℕ) where
   refused-wordless (refer p) h = refl
   refused-wordless (drop p) h = refl
   refused-wordless (ask q) h = refl
-  refused-wordless (query q room) h = ap (λ (a : Answer). writtenWith a (wordsOf (fullLists (scheme s) (database s) q))) h
+  refused-wordless (query q out) h = ap (λ (a : Answer). writtenWith a (wordsOf (fullLists (scheme s) (database s) q))) h
 
   -- a record of held values has 64 places, as its type says
   module _ (places : length (s .held .values) ≡ 64) (o : Operation) (h : answerAt s o ≡ refused n) where

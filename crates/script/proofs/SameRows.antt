@@ -1,9 +1,9 @@
 -- Two databases with the same rows under the same numbers: what is lawful, complete or smallest in one is so in the other, and a run holds the same.
 -- Lent buffers give the same rows, whatever lies past the sizes that a design has. Assumes nothing.
-use Prim.Native.Nat.{ℕ, _+_, _*_, _≤_, _<_}
+use Prim.Native.Nat.{ℕ, _+_, _*_, _^_, _≤_, _<_}
 use native.Mathlib.Omega.{arith}
 use mathlib.Core.Path.{_≡_, refl, sym, ap, ap₂, subst, fun-ext, _∙_}
-use mathlib.Core.Bool.{Bool, true, false, not, cond, _&&_}
+use mathlib.Core.Bool.{Bool, true, false, not, cond, _&&_, and-eq-true-iff}
 use mathlib.Core.List.{List, [], _∷_, _++_}
 use borrow.Author.Tests.{ltb-true}
 use lib.Dec.{eqb, leb, ltb}
@@ -14,11 +14,12 @@ use Rattle.model.specs.Database.{Database, Has, Lawful}
 use Rattle.model.specs.Cache.{RowSet, Inside, Held, Complete, Holds, Meets, Smallest, Alike}
 use Rattle.model.specs.Probe.{probe}
 use Rattle.model.specs.Holding.{Holding, withPair, heldIn}
-use Rattle.model.specs.Query.{Query, joinsOf, operandsFit, fitting, wordsOf, fullLists}
-use Rattle.model.specs.Runs.{Operation, refer, drop, ask, query, taken, cachedFor, pairFor, answerable, refers, heldAfter, heldFrom}
+use Rattle.model.specs.Query.{Query, joinsOf, operandsFit, fitting, wordsOf, fullLists, totalOver, fullTotal, positionFits}
+use Rattle.model.specs.Runs.{Output, asLists, asTotal, Operation, refer, drop, ask, query, taken, cachedFor, pairFor, outputFits, withinLimit, answerable, refers, heldAfter, heldFrom}
 use Rattle.model.proofs.Loads.{one-smallest}
 use Rattle.model.proofs.RunLaws.{held-smallest}
 use Rattle.model.proofs.QueryLaws.{SameOn, operands-joins, fitting-reads, probe-reads}
+use Rattle.model.proofs.TotalLaws.{total-reads, position-within}
 use Rattle.state.specs.Meaning.{databaseOf}
 
 pub record SameRows (D E : Database) : Type 0 where
@@ -113,26 +114,38 @@ module _ (S : Scheme) {D E : Database} (w : SameRows D E) where
       fitting-reads S (same-on (D .live) (λ r x. x)) (q .column) (q .value) (joinsOf q) (operands-joins S q f) ∙
       ap (λ (X : RowSet). fitting S E X (q .column) (q .value) (joinsOf q)) (fun-ext (w .live))
 
-  answerable-same : (q : Query) (room : ℕ) → answerable S D q room ≡ answerable S E q room
+  -- and the same totals, of a position that it has
+  total-same : (q : Query) (p c : ℕ) → operandsFit S q ≡ true → positionFits S q p c ≡ true → fullTotal S D q p c ≡ fullTotal S E q p c
+  unfolding fullTotal
+  total-same q p c f h =
+      total-reads S (same-on (D .live) (λ r x. x)) (q .column) (q .value) (joinsOf q) (operands-joins S q f) p c (position-within S q p c h) ∙
+      ap (λ (X : RowSet). totalOver S E X (q .column) (q .value) (joinsOf q) p c) (fun-ext (w .live))
+
+  within-same : (q : Query) (out : Output) → outputFits S q out ≡ true → withinLimit S D q out ≡ withinLimit S E q out
+  unfolding withinLimit outputFits
+  within-same q (asLists room) f = ap (λ (ls : List (List ℕ)). leb (length (wordsOf ls)) room) (lists-same q f)
+  within-same q (asTotal p c) f =
+      let h = and-eq-true-iff (operandsFit S q) (positionFits S q p c) .0 f in ap (λ (n : ℕ). ltb n (2 ^ 64)) (total-same q p c (h .0) (h .1))
+
+  answerable-same : (q : Query) (out : Output) → answerable S D q out ≡ answerable S E q out
   unfolding answerable
-  answerable-same q room = go (operandsFit S q) refl
+  answerable-same q out = go (outputFits S q out) refl
     where
-      go : (b : Bool) → operandsFit S q ≡ b →
-          b && (not (isBlank (q .value)) && leb (length (wordsOf (fullLists S D q))) room) ≡ b && (not (isBlank (q .value)) && leb (length (wordsOf (fullLists S E q))) room)
-      go true f = ap (λ (ls : List (List ℕ)). not (isBlank (q .value)) && leb (length (wordsOf ls)) room) (lists-same q f)
+      go : (b : Bool) → outputFits S q out ≡ b → b && (not (isBlank (q .value)) && withinLimit S D q out) ≡ b && (not (isBlank (q .value)) && withinLimit S E q out)
+      go true f = ap (λ (x : Bool). not (isBlank (q .value)) && x) (within-same q out f)
       go false f = refl
 
-  refers-same : (h : Holding) (q : Query) (room : ℕ) → refers S D h (cachedFor S D h) q room ≡ refers S E h (cachedFor S E h) q room
+  refers-same : (h : Holding) (q : Query) (out : Output) → refers S D h (cachedFor S D h) q out ≡ refers S E h (cachedFor S E h) q out
   unfolding refers
-  refers-same h q room =
-      ap₂ (λ (a : Bool) (g : ℕ). a && (eqb g 0 && taken S h (pairFor S q))) (answerable-same q room) (ground-same h q)
+  refers-same h q out =
+      ap₂ (λ (a : Bool) (g : ℕ). a && (eqb g 0 && taken S h (pairFor S q))) (answerable-same q out) (ground-same h q)
 
   after-same : (h : Holding) (o : Operation) → heldAfter S D h o ≡ heldAfter S E h o
   unfolding heldAfter
   after-same h (refer p) = refl
   after-same h (drop p) = refl
   after-same h (ask q) = refl
-  after-same h (query q room) = ap (λ (b : Bool). cond b (withPair h (pairFor S q)) h) (refers-same h q room)
+  after-same h (query q out) = ap (λ (b : Bool). cond b (withPair h (pairFor S q)) h) (refers-same h q out)
 
   pub held-same : (h : Holding) (os : List Operation) → heldFrom S D h os ≡ heldFrom S E h os
   unfolding heldFrom

@@ -130,8 +130,9 @@ abbrev pub operationOf : Operation → ℕ → Runs.Operation
 operationOf (O.Refer v) room = Runs.refer (pairOf v)
 operationOf (O.Drop v) room = Runs.drop (pairOf v)
 operationOf (O.Probe k v) room = Runs.ask (Runs.probe (columnOf k) (cellOf v))
-operationOf (O.Query q) room = Runs.query (queryOf q) room
+operationOf (O.Query q) room = Runs.query (queryOf q) (Runs.asLists room)
 operationOf O.Evenness room = Runs.ask Runs.evenness
+operationOf (O.Total t) room = Runs.query (queryOf (t .query)) (Runs.asTotal (t .position) (t .column))
 
 -- ---- answers: document 01's word, number and values for each case
 
@@ -146,6 +147,7 @@ answerOf (A.Lists n) = Answers.lists n
 answerOf (A.Refused n) = Answers.refused n
 answerOf A.Even = Answers.even
 answerOf (A.Uneven i j) = Answers.uneven i j
+answerOf (A.Total n) = Answers.total n
 
 -- a word with its numbers
 abbrev pub shownOf : Shown → Answers.Shown

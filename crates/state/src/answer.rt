@@ -20,6 +20,8 @@ pub enum Answer {
     Even,
     // the two constraints that make a design uneven
     Uneven(u8, u8),
+    // the sum of a cell over all lists
+    Total(u64),
 }
 
 // An answer as the report shows it: its word, by number, how many numbers stand behind it, and these, 0 where there are fewer.
@@ -57,6 +59,7 @@ pub fn show(answer: Answer) -> Shown
         Answer::Refused(cause) => words(7, 1, cause as u64, 0),
         Answer::Even => words(8, 0, 0, 0),
         Answer::Uneven(i, j) => words(9, 2, i as u64, j as u64),
+        Answer::Total(n) => words(10, 1, n, 0),
     }
 }
 

@@ -1,8 +1,9 @@
-// A value, as a cell has it, and the only ways to read one: a cell of a lent row, whether it is blank, and whether two are equal. Constant time.
+// A value, as a cell has it, and the only ways to read one: a cell of a lent row, whether it is blank, whether two are equal, and what it adds to
+// a total. Constant time.
 ghost use Prim.Native.Nat.{_≤_, _<_};
 ghost use mathlib.Core.Path.{_≡_};
 ghost use lib.ListN.{length};
-ghost use Rattle.model.specs.Cell.{equal, isBlank};
+ghost use Rattle.model.specs.Cell.{amount, equal, isBlank};
 ghost use Rattle.state.specs.Meaning.{cellAt, cellOf};
 
 pub struct Cell {
@@ -34,4 +35,11 @@ pub fn same_cell(a: Cell, b: Cell) -> bool
         return false;
     }
     a.number == b.number
+}
+
+// What the cell adds to a total.
+pub fn amount_of(a: Cell) -> u32
+    ensures { λ n. ⌜ n ≡ amount (cellOf a) ⌝ }
+{
+    a.number
 }

@@ -20,6 +20,13 @@ pub struct Query {
     pub fourth: Join,
 }
 
+// A total's operands: a query's, and the position and the column whose cells are added up.
+pub struct Total {
+    pub query: Query,
+    pub position: u8,
+    pub column: u8,
+}
+
 pub enum Operation {
     Refer(HeldValue),
     Drop(HeldValue),
@@ -27,4 +34,5 @@ pub enum Operation {
     Query(Query),
     // whether the design is even
     Evenness,
+    Total(Total),
 }

@@ -3,7 +3,7 @@ use native.Mathlib.Omega.{arith}
 use mathlib.Core.Path.{ap}
 use borrow.Author.Needs.{needs}
 use Rattle.format.specs.Commands.{operationWidth}
-use Rattle.format.proofs.CommandLaws.{operation-refer, operation-drop, operation-probe, operation-evenness, operation-query, is-query}
+use Rattle.format.proofs.CommandLaws.{operation-refer, operation-drop, operation-probe, operation-evenness, operation-total, operation-query, is-query}
 use Rattle.format.proofs.command.operation_at.Statement.{statement}
 use Rattle.format.proofs.command.operation_at.Tie as tie
 
@@ -29,9 +29,15 @@ value-at-requires : tie.Need-value-at-requires
 unfolding operationWidth
 value-at-requires c κs = omega (arith, ap operationWidth (c .before .match .keys3))
 
+total-at-requires : tie.Need-total-at-requires
+unfolding operationWidth
+total-at-requires c κs = omega (arith, ap operationWidth (c .match .keys5))
+
 query-at-requires : tie.Need-query-at-requires
 unfolding operationWidth
-query-at-requires c κs = omega (arith, ap operationWidth (is-query _ (c .before .before .pre .0) (c .match .rest .0 .0 .0 .1) (c .match .rest .0 .0 .1) (c .match .rest .0 .1) (c .match .rest .1)))
+query-at-requires c κs =
+    let r = c .match .rest in
+    omega (arith, ap operationWidth (is-query _ (c .before .before .pre .0) (r .0 .0 .0 .0 .1) (r .0 .0 .0 .1) (r .0 .0 .1) (r .0 .1) (r .1)))
 
 returns : tie.Need-returns
 returns c = operation-refer _ _ _ _ (c .held-value-at .ensures) (c .before .match .keys1)
@@ -46,9 +52,12 @@ returns-4 : tie.Need-returns-4
 returns-4 c = operation-evenness _ _ _ (c .match .keys4)
 
 returns-5 : tie.Need-returns-5
-returns-5 c =
+returns-5 c = operation-total _ _ _ _ (c .total-at .ensures) (c .before .match .keys5)
+
+returns-6 : tie.Need-returns-6
+returns-6 c =
     let r = c .before .match .rest in
-    operation-query _ _ _ _ (c .query-at .ensures) (is-query _ (c .before .before .before .pre .0) (r .0 .0 .0 .1) (r .0 .0 .1) (r .0 .1) (r .1))
+    operation-query _ _ _ _ (c .query-at .ensures) (is-query _ (c .before .before .before .pre .0) (r .0 .0 .0 .0 .1) (r .0 .0 .0 .1) (r .0 .0 .1) (r .0 .1) (r .1))
 
 pub operation-at-spec : {M : Type 1} → statement M
 operation-at-spec =
@@ -60,9 +69,11 @@ operation-at-spec =
     column-at-requires
     add-value-at
     value-at-requires
+    total-at-requires
     query-at-requires
     returns
     returns-2
     returns-3
     returns-4
-    returns-5)
+    returns-5
+    returns-6)

@@ -37,6 +37,12 @@ evenness-requires : tie.Need-evenness-requires
 evenness-requires c κs =
     let b = c .before .before .before .before .before .before in sound-range _ (b .pre .0) (sized (b .args .design) _ (b .good .1 .0))
 
+enum-known-op-5 : tie.Need-enum-known-op-5
+enum-known-op-5 c = search needs
+
+query-lawful-requires-2 : tie.Need-query-lawful-requires-2
+query-lawful-requires-2 c κs = search needs
+
 same-length : tie.Need-same-length
 same-length c = search needs
 
@@ -72,6 +78,15 @@ returns-5 c =
     in-case _ _ _ _ _ _ _ _ (c .before .enum-told .given .1)
     (ask-performs _ (b .pre .0) _ (held-sized (b .args .held) _ (b .good .1 .1 .1 .1 .1 .1 .1 .1 .1 .1 .0)) _ _ (even-answers _ (b .pre .0) _ (c .evenness .ensures)))
 
+same-length-6 : tie.Need-same-length-6
+same-length-6 c = search needs
+
+same-length-7 : tie.Need-same-length-7
+same-length-7 c = search needs
+
+returns-6 : tie.Need-returns-6
+returns-6 c = in-case _ _ _ _ _ _ _ _ (c .before .before .before .before .before .before .before .before .before .before .before .before .before .op5 .given .1) (c .before .before .before .before .query-lawful2 .ensures)
+
 pub perform-lawful-spec : {M : Type 1} → statement M
 perform-lawful-spec =
     tie.close
@@ -86,6 +101,8 @@ perform-lawful-spec =
     query-lawful-requires
     enum-told
     evenness-requires
+    enum-known-op-5
+    query-lawful-requires-2
     same-length
     returns
     same-length-2
@@ -95,4 +112,7 @@ perform-lawful-spec =
     same-length-4
     same-length-5
     returns-4
-    returns-5)
+    returns-5
+    same-length-6
+    same-length-7
+    returns-6)

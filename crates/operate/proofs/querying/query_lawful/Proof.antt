@@ -1,25 +1,27 @@
--- `operate::querying::query_lawful` meets its contract: the causes in their order, then the lists, "sent", or the reference. Assumes nothing.
+-- `operate::querying::query_lawful` meets its contract: the causes in their order, then the answer, "sent", or the reference. Assumes nothing.
 use native.Mathlib.Omega.{arith}
 use mathlib.Core.Path.{sym, _∙_}
 use mathlib.Core.List.{[]}
 use borrow.Author.Needs.{needs}
 use borrow.Author.Tests.{not-true, not-false}
+use Rattle.model.proofs.Demand2.{fits-operands}
 use Rattle.state.proofs.Arrays.{sized, held-sized}
 use Rattle.lawful.proofs.Asked.{sound-range, sound-backed, sound-marks, sound-tidy, sound-filling, sound-fillings}
+use Rattle.lawful.proofs.SoundState.{parts}
 use Rattle.query.proofs.PlanLaws.{column-fits}
 use Rattle.operate.proofs.QueryLists.{sound-place}
 use Rattle.operate.proofs.QueryCases.{query-misfit, query-blank}
-use Rattle.operate.proofs.QuerySteps.{filling-byte, step-listed, step-sent, step-refers}
+use Rattle.operate.proofs.QuerySteps.{filling-byte, step-drawn, step-sent, step-refers}
 use Rattle.operate.proofs.querying.query_lawful.Statement.{statement}
 use Rattle.operate.proofs.querying.query_lawful.Tie as tie
 
-operands-fit-requires : tie.Need-operands-fit-requires
-operands-fit-requires c κs = let s = c .before .before .before .before in sound-range _ (s .pre .0) (sized (s .args .design) _ (s .good .0))
+output-fits-requires : tie.Need-output-fits-requires
+output-fits-requires c κs = let s = c .before .before .before .before in sound-range _ (s .pre .0) (sized (s .args .design) _ (s .good .0))
 
 returns : tie.Need-returns
 returns c =
     let s = c .before .before .before .before .before .before in
-    query-misfit _ (s .pre .0) (held-sized (s .args .held) _ (s .good .1 .1 .1 .1 .1 .1 .1 .1 .1 .0)) _ _ (sym (c .before .operands-fit .ensures) ∙ not-true _ (c .if1 .taken))
+    query-misfit _ (s .pre .0) (held-sized (s .args .held) _ (s .good .1 .1 .1 .1 .1 .1 .1 .1 .1 .0)) _ _ _ (sym (c .before .output-fits .ensures _) ∙ not-true _ (c .if1 .taken))
 
 is-blank-requires : tie.Need-is-blank-requires
 is-blank-requires c κs = search needs
@@ -27,13 +29,12 @@ is-blank-requires c κs = search needs
 returns-2 : tie.Need-returns-2
 returns-2 c =
     let s = c .before .before .before .before .before .before .before .before in
-    query-blank _ (s .pre .0) (held-sized (s .args .held) _ (s .good .1 .1 .1 .1 .1 .1 .1 .1 .1 .0)) _ _ (sym (c .before .before .before .operands-fit .ensures) ∙ not-false _ (c .before .before .if1 .left))
-    (sym (c .before .is-blank .ensures) ∙ c .if2 .taken)
+    query-blank _ (s .pre .0) (held-sized (s .args .held) _ (s .good .1 .1 .1 .1 .1 .1 .1 .1 .1 .0)) _ _ _ (sym (c .before .before .before .output-fits .ensures _) ∙ not-false _ (c .before .before .if1 .left)) (sym (c .before .is-blank .ensures) ∙ c .if2 .taken)
 
 ground-requires : tie.Need-ground-requires
 ground-requires c κs =
     let s = c .before .before .before .before .before .before .before .before .before .before in
-    let f = sym (c .before .before .before .before .before .operands-fit .ensures) ∙ not-false _ (c .before .before .before .before .if1 .left) in
+    let f = fits-operands _ _ _ (sym (c .before .before .before .before .before .output-fits .ensures 0) ∙ not-false _ (c .before .before .before .before .if1 .left)) in
     let r = sound-range _ (s .pre .0) (sized (s .args .design) _ (s .good .0)) in (
       (
         r,
@@ -46,16 +47,18 @@ ground-requires c κs =
       (s .pre .1 .next-is, s .pre .1 .directory),
     )
 
-list-fitting-requires : tie.Need-list-fitting-requires
-list-fitting-requires c κs =
+draw-requires : tie.Need-draw-requires
+draw-requires c κs =
     let s = c .before .before .before .before .before .before .before .before .before .before .before .before .before .before .before .before .before .before in
-    let f = sym (c .before .before .before .before .before .before .before .before .before .before .before .before .before .operands-fit .ensures) ∙ not-false _ (c .before .before .before .before .before .before .before .before .before .before .before .before .if1 .left) in (
-      sound-range _ (s .pre .0) (sized (s .args .design) _ (s .good .0)),
-      sound-place _ (s .pre .0) (s .args .q) f,
-      f,
-      sound-backed _ (s .pre .0),
-      s .pre .1,
-      sound-marks _ (s .pre .0),
+    let f = sym (c .before .before .before .before .before .before .before .before .before .before .before .before .before .output-fits .ensures _) ∙ not-false _ (c .before .before .before .before .before .before .before .before .before .before .before .before .if1 .left) in (
+      (
+        sound-range _ (s .pre .0) (sized (s .args .design) _ (s .good .0)),
+        sound-place _ (s .pre .0) (s .args .q) (fits-operands _ _ _ (sym (c .before .before .before .before .before .before .before .before .before .before .before .before .before .output-fits .ensures 0) ∙ not-false _ (c .before .before .before .before .before .before .before .before .before .before .before .before .if1 .left))),
+        sound-backed _ (s .pre .0),
+        s .pre .1,
+        sound-marks _ (s .pre .0),
+      ),
+      (parts _ (s .pre .0) .design, f),
     )
 
 same-length : tie.Need-same-length
@@ -67,15 +70,14 @@ same-length-2 c = search needs
 returns-3 : tie.Need-returns-3
 returns-3 c =
     let s = c .before .before .before .before .before .before .before .before .before .before .before .before .before .before .before .before .before .before .before .before .before in
-    step-listed _ (s .pre .0) _ (s .args .q) (sym (c .before .before .before .before .before .before .before .before .before .before .before .before .before .before .before .before .operands-fit .ensures) ∙ not-false _ (c .before .before .before .before .before .before .before .before .before .before .before .before .before .before .before .if1 .left)) (sym (c .before .before .before .before .before .before .before .before .before .before .before .before .before .before .is-blank .ensures) ∙ c .before .before .before .before .before .before .before .before .before .before .before .before .before .if2 .left) _
-    (c .before .before .before .before .before .before .before .before .before .before .ground .ensures) (held-sized (s .args .held) _ (s .good .1 .1 .1 .1 .1 .1 .1 .1 .1 .0)) (λ i. omega (arith, c .before .before .before .before .before .before .before .before .before .before .before .before .before .before .before .before .before .before .before .before .shared-slice-known .given i)) (c .before .before .before .before .before .before .before .before .before .if3 .taken) _ _
-    (c .before .before .list-fitting .ensures)
+    step-drawn _ (s .pre .0) _ (s .args .q) _ (sym (c .before .before .before .before .before .before .before .before .before .before .before .before .before .before .before .before .output-fits .ensures _) ∙ not-false _ (c .before .before .before .before .before .before .before .before .before .before .before .before .before .before .before .if1 .left)) (sym (c .before .before .before .before .before .before .before .before .before .before .before .before .before .before .is-blank .ensures) ∙ c .before .before .before .before .before .before .before .before .before .before .before .before .before .if2 .left) _
+    (c .before .before .before .before .before .before .before .before .before .before .ground .ensures) (held-sized (s .args .held) _ (s .good .1 .1 .1 .1 .1 .1 .1 .1 .1 .0)) (λ i. omega (arith, c .before .before .before .before .before .before .before .before .before .before .before .before .before .before .before .before .before .before .before .before .shared-slice-known .given i)) (c .before .before .before .before .before .before .before .before .before .if3 .taken) _ _ (c .before .before .draw .ensures)
 
 filling-for-requires : tie.Need-filling-for-requires
 filling-for-requires c κs = sound-fillings _ (c .before .before .before .before .before .before .before .before .before .before .before .before .pre .0)
 
-cast-t39 : tie.Need-cast-t39
-cast-t39 c = omega (arith, filling-byte _ (c .before .before .before .before .before .before .before .before .before .before .before .before .before .before .pre .0) (c .before .before .before .before .before .before .before .before .before .before .before .before .before .before .args .q) _ (c .before .filling-for .ensures))
+cast-t40 : tie.Need-cast-t40
+cast-t40 c = omega (arith, filling-byte _ (c .before .before .before .before .before .before .before .before .before .before .before .before .before .before .pre .0) (c .before .before .before .before .before .before .before .before .before .before .before .before .before .before .args .q) _ (c .before .filling-for .ensures))
 
 takes-requires : tie.Need-takes-requires
 takes-requires c κs = (sound-fillings _ (c .before .before .before .before .before .before .before .before .before .before .before .before .before .before .pre .0), sound-tidy _ (c .before .before .before .before .before .before .before .before .before .before .before .before .before .before .pre .0) .few)
@@ -86,14 +88,14 @@ same-length-3 c = search needs
 returns-4 : tie.Need-returns-4
 returns-4 c =
     let s = c .before .before .before .before .before .before .before .before .before .before .before .before .before .before .before .before in
-    step-sent _ (s .pre .0) _ (s .args .q) (sym (c .before .before .before .before .before .before .before .before .before .before .before .operands-fit .ensures) ∙ not-false _ (c .before .before .before .before .before .before .before .before .before .before .if1 .left)) (sym (c .before .before .before .before .before .before .before .before .before .is-blank .ensures) ∙ c .before .before .before .before .before .before .before .before .if2 .left) _ (c .before .before .before .before .before .ground .ensures)
+    step-sent _ (s .pre .0) _ (s .args .q) _ (sym (c .before .before .before .before .before .before .before .before .before .before .before .output-fits .ensures _) ∙ not-false _ (c .before .before .before .before .before .before .before .before .before .before .if1 .left)) (sym (c .before .before .before .before .before .before .before .before .before .is-blank .ensures) ∙ c .before .before .before .before .before .before .before .before .if2 .left) _ (c .before .before .before .before .before .ground .ensures)
     (c .before .before .before .before .if3 .left) _ (c .before .before .before .filling-for .ensures) (held-sized (s .args .held) _ (s .good .1 .1 .1 .1 .1 .1 .1 .1 .1 .0)) (sym (c .before .takes .ensures) ∙ not-true _ (c .if4 .taken))
 
-refer-and-list-requires : tie.Need-refer-and-list-requires
-refer-and-list-requires c κs =
+refer-and-draw-requires : tie.Need-refer-and-draw-requires
+refer-and-draw-requires c κs =
     let s = c .before .before .before .before .before .before .before .before .before .before .before .before .before .before .before .before .before .before .before .before .before .before in (
       (s .pre .0, s .pre .1),
-      step-refers _ (s .pre .0) [] (s .args .q) (sym (c .before .before .before .before .before .before .before .before .before .before .before .before .before .before .before .before .before .operands-fit .ensures) ∙ not-false _ (c .before .before .before .before .before .before .before .before .before .before .before .before .before .before .before .before .if1 .left)) (sym (c .before .before .before .before .before .before .before .before .before .before .before .before .before .before .before .is-blank .ensures) ∙ c .before .before .before .before .before .before .before .before .before .before .before .before .before .before .if2 .left) _ (c .before .before .before .before .before .before .before .before .before .before .before .ground .ensures)
+      step-refers _ (s .pre .0) [] (s .args .q) _ (sym (c .before .before .before .before .before .before .before .before .before .before .before .before .before .before .before .before .before .output-fits .ensures _) ∙ not-false _ (c .before .before .before .before .before .before .before .before .before .before .before .before .before .before .before .before .if1 .left)) (sym (c .before .before .before .before .before .before .before .before .before .before .before .before .before .before .before .is-blank .ensures) ∙ c .before .before .before .before .before .before .before .before .before .before .before .before .before .before .if2 .left) _ (c .before .before .before .before .before .before .before .before .before .before .before .ground .ensures)
           (c .before .before .before .before .before .before .before .before .before .before .if3 .left) _ (c .before .before .before .before .before .before .before .before .before .filling-for .ensures) (sym (c .before .before .before .before .before .before .before .takes .ensures) ∙ not-false _ (c .before .before .before .before .before .before .if4 .left)),
     )
 
@@ -110,21 +112,21 @@ pub query-lawful-spec : {M : Type 1} → statement M
 query-lawful-spec =
     tie.close
     (tie.spec
-    operands-fit-requires
+    output-fits-requires
     returns
     is-blank-requires
     returns-2
     ground-requires
-    list-fitting-requires
+    draw-requires
     same-length
     same-length-2
     returns-3
     filling-for-requires
-    cast-t39
+    cast-t40
     takes-requires
     same-length-3
     returns-4
-    refer-and-list-requires
+    refer-and-draw-requires
     same-length-4
     same-length-5
     returns-5)

@@ -65,6 +65,12 @@ slice-aggregate-put-bytes-10 c = search needs
 put-bytes-requires-10 : tie.Need-put-bytes-requires-10
 put-bytes-requires-10 c κs = search needs
 
+slice-aggregate-put-bytes-11 : tie.Need-slice-aggregate-put-bytes-11
+slice-aggregate-put-bytes-11 c = search needs
+
+put-bytes-requires-11 : tie.Need-put-bytes-requires-11
+put-bytes-requires-11 c κs = search needs
+
 same-length : tie.Need-same-length
 same-length c = search needs
 
@@ -135,11 +141,18 @@ returns-10 : tie.Need-returns-10
 unfolding wordText
 returns-10 c = in-word (c .before .before .before .before .before .match .keys10) (c .before .before .put-bytes10 .ensures)
 
+same-length-11 : tie.Need-same-length-11
+same-length-11 c = search needs
+
 returns-11 : tie.Need-returns-11
-returns-11 c =
+unfolding wordText
+returns-11 c = in-word (c .before .before .before .before .before .match .keys11) (c .before .before .put-bytes11 .ensures)
+
+returns-12 : tie.Need-returns-12
+returns-12 c =
     let r = c .match .rest in
-    let q = r .0 .0 .0 .0 .0 in
-    no-word _ _ _ (past-words _ (q .0 .0 .0 .0 .1) (q .0 .0 .0 .1) (q .0 .0 .1) (q .0 .1) (q .1) (r .0 .0 .0 .0 .1) (r .0 .0 .0 .1) (r .0 .0 .1) (r .0 .1) (r .1))
+    let q = r .0 .0 .0 .0 .0 .0 in
+    no-word _ _ _ (past-words _ (q .0 .0 .0 .0 .1) (q .0 .0 .0 .1) (q .0 .0 .1) (q .0 .1) (q .1) (r .0 .0 .0 .0 .0 .1) (r .0 .0 .0 .0 .1) (r .0 .0 .0 .1) (r .0 .0 .1) (r .0 .1) (r .1))
 
 pub put-word-spec : {M : Type 1} → statement M
 put-word-spec =
@@ -165,6 +178,8 @@ put-word-spec =
     put-bytes-requires-9
     slice-aggregate-put-bytes-10
     put-bytes-requires-10
+    slice-aggregate-put-bytes-11
+    put-bytes-requires-11
     same-length
     returns
     same-length-2
@@ -185,4 +200,6 @@ put-word-spec =
     returns-9
     same-length-10
     returns-10
-    returns-11)
+    same-length-11
+    returns-11
+    returns-12)

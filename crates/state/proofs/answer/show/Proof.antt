@@ -78,6 +78,12 @@ cast-words-4 c = search needs
 words-requires-10 : tie.Need-words-requires-10
 words-requires-10 c κs = search needs
 
+enum-known-answer-7 : tie.Need-enum-known-answer-7
+enum-known-answer-7 c = search needs
+
+words-requires-11 : tie.Need-words-requires-11
+words-requires-11 c κs = search needs
+
 returns : tie.Need-returns
 unfolding shown
 returns c = shows-case (c .words .ensures) (c .before .before .answer .given .1) refl
@@ -118,6 +124,10 @@ returns-10 : tie.Need-returns-10
 unfolding shown
 returns-10 c = shows-case (c .words10 .ensures) (c .before .before .answer6 .given .1) refl
 
+returns-11 : tie.Need-returns-11
+unfolding shown
+returns-11 c = shows-case (c .words11 .ensures) (c .before .before .answer7 .given .1) refl
+
 pub show-spec : {M : Type 1} → statement M
 show-spec =
     tie.close
@@ -146,6 +156,8 @@ show-spec =
     cast-words-3
     cast-words-4
     words-requires-10
+    enum-known-answer-7
+    words-requires-11
     returns
     returns-2
     returns-3
@@ -155,4 +167,5 @@ show-spec =
     returns-7
     returns-8
     returns-9
-    returns-10)
+    returns-10
+    returns-11)

@@ -1,0 +1,105 @@
+// What a query is asked for, whether its operands fit that, and what it draws from marked rows: their lists, or a total over these.
+ghost use mathlib.Core.Path.{_≡_};
+ghost use mathlib.Core.Bool.{true};
+ghost use Prim.Native.Nat.{ℕ, _≤_, _<_};
+ghost use lib.ListN.{length};
+ghost use Rattle.model.specs.Query.{fitting, joinsOf};
+ghost use Rattle.model.specs.Runs.{marked, outputFits};
+ghost use Rattle.state.specs.Design.{Backed, InRange};
+ghost use Rattle.state.specs.Lawful.{lawfulDesign};
+ghost use Rattle.state.specs.Meaning.{answerOf, cellOf, columnOf, databaseOf, queryOf, schemeOf};
+ghost use Rattle.catalog.specs.Catalog.{Catalogued};
+ghost use Rattle.operate.specs.Queries.{outputOf, Drawn};
+use query::list_fitting;
+use query::operands_fit;
+use query::position_fits;
+use query::total_fitting;
+use state::Answer;
+use state::Design;
+use state::Query;
+
+// Its lists, or the total of a position and a column.
+pub enum Output {
+    Lists,
+    Total(u8, u8),
+}
+
+// Whether every operand names something, or is unused and 0. Joins.
+pub(crate) fn output_fits(d: Design, q: Query, output: Output) -> bool
+    requires { ⌜ InRange d ⌝ }
+    ensures { λ b. ⌜ ((room : ℕ) → b ≡ outputFits (schemeOf d) (queryOf q) (outputOf output room)) ⌝ }
+{
+    if !operands_fit(d, q) {
+        return false;
+    }
+    match output {
+        Output::Lists => true,
+        Output::Total(position, column) => position_fits(d, q, position, column),
+    }
+}
+
+// What the query draws from marked rows, whatever stands in the others: the cost of `list_fitting`, or of `total_fitting`.
+pub(crate) fn draw(
+    d: Design,
+    cells: &[u32],
+    tables: &[u8],
+    next: &[u16; 4096],
+    first: &[u16; 8192],
+    keys: &[u32; 4096],
+    heads: &[u16; 4096],
+    starts: &[u16; 65],
+    marks: &[u8],
+    q: Query,
+    output: Output,
+    words: &mut [u32],
+    weights: &mut [u64; 2560],
+    sums: &mut [u64; 2560],
+    froms: &mut [u16; 2560],
+    links: &mut [u16; 2560],
+) -> Answer
+    requires { ⌜ InRange d × (q .column .place < 8) × Backed (now cells) (now tables)
+        × Catalogued d (now cells) (now tables) (now next) (now first) (now keys) (now heads) (now starts) × (512 ≤ length (now marks)) ⌝ }
+    requires { ⌜ (lawfulDesign d ≡ true) × (outputFits (schemeOf d) (queryOf q) (outputOf output (length (now words))) ≡ true) ⌝ }
+    ensures { λ a. ⌜ Drawn (databaseOf (d .rows) (now (cells .entry)) (now (tables .entry)))
+        (fitting (schemeOf d) (databaseOf (d .rows) (now (cells .entry)) (now (tables .entry))) (marked (now (marks .entry)))
+        (columnOf (q .column)) (cellOf (q .value)) (joinsOf (queryOf q)))
+        (outputOf output (length (now (words .entry)))) (now (words .entry)) (now (words .exit)) (answerOf a) ⌝ }
+{
+    match output {
+        Output::Lists => list_fitting(
+            d,
+            cells,
+            tables,
+            next,
+            first,
+            keys,
+            heads,
+            starts,
+            marks,
+            q,
+            words,
+            weights,
+            sums,
+            froms,
+            links,
+        ),
+        Output::Total(position, column) => total_fitting(
+            d,
+            cells,
+            tables,
+            next,
+            first,
+            keys,
+            heads,
+            starts,
+            marks,
+            q,
+            position,
+            column,
+            weights,
+            sums,
+            froms,
+            links,
+        ),
+    }
+}
