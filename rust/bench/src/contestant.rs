@@ -111,8 +111,8 @@ pub enum Answer {
     NoCandidate,
     /// Rows that went.
     Dropped(usize),
-    /// A probe's ground.
-    Ground(u8),
+    /// A probe's ground, and the cached rows that have the value.
+    Ground(u8, usize),
     /// The backend has to be asked.
     Sent,
     /// The words of a query's lists.

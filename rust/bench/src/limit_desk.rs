@@ -28,7 +28,7 @@ impl OpenDesk for Desk {
             LimitAnswer::Held => Answer::Held,
             LimitAnswer::NoCandidate => Answer::NoCandidate,
             LimitAnswer::Dropped(rows) => Answer::Dropped(rows),
-            LimitAnswer::Ground(ground) => Answer::Ground(ground),
+            LimitAnswer::Ground { ground, rows } => Answer::Ground(ground, rows),
             LimitAnswer::Sent => Answer::Sent,
             LimitAnswer::Lists(lists) => {
                 // A QUERY's number of joins is its eighth byte.

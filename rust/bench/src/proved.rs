@@ -253,7 +253,7 @@ impl OpenDesk for Lent {
             1 => Answer::Held,
             2 => Answer::NoCandidate,
             3 => Answer::Dropped(number as usize),
-            4 => Answer::Ground(number as u8),
+            4 => Answer::Ground(number as u8, numbers[1] as usize),
             5 => Answer::Sent,
             6 => {
                 // A QUERY's number of joins is its eighth byte.

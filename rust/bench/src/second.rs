@@ -55,7 +55,7 @@ fn answered(answer: ReferenceAnswer) -> Answer {
         ReferenceAnswer::Held => Answer::Held,
         ReferenceAnswer::NoCandidate => Answer::NoCandidate,
         ReferenceAnswer::Dropped { rows } => Answer::Dropped(rows),
-        ReferenceAnswer::Ground(ground) => Answer::Ground(ground),
+        ReferenceAnswer::Ground { ground, rows } => Answer::Ground(ground, rows),
         ReferenceAnswer::Sent => Answer::Sent,
         ReferenceAnswer::Lists(lists) => Answer::Lists(lists.concat()),
         ReferenceAnswer::Even => Answer::Even,

@@ -186,8 +186,9 @@ fn the_clinic_answers_its_queries_and_probes() {
         );
     }
     let probes = clinic("clinic: probe", 200);
-    for kind in ["ground 1", "ground 2", "ground 3", "sent"] {
-        assert!(probes.iter().any(|answer| answer == kind), "no {kind}");
+    for kind in ["ground 1 ", "ground 2 ", "ground 3 1", "sent"] {
+        let answered = probes.iter().any(|answer| answer.starts_with(kind));
+        assert!(answered, "no {kind}");
     }
     let held = clinic("clinic: load of a ward held already", 9);
     assert!(held[1..].iter().all(|answer| answer == "held"));

@@ -3,6 +3,7 @@
 use notation::{split, Piece};
 use reference::design::LONGEST_SCRIPT;
 
+use crate::desk::Reply;
 use crate::replay::Replay;
 
 /// The requests that scripts may use.
@@ -27,7 +28,7 @@ impl Level {
     }
 
     /// The script without what it must not use: a desk of this level and any
-    /// later one report the same on what is left. One that is too long isn't read
+    /// later one answer the same on what is left. One that is too long isn't read
     /// by any, and stays as it is.
     pub fn script(self, script: Vec<u8>) -> Vec<u8> {
         if self == Level::NOW || script.len() > LONGEST_SCRIPT {
@@ -40,6 +41,15 @@ impl Level {
             script
         } else {
             without_fetching(&script)
+        }
+    }
+
+    /// A reply as a desk of this level gives it: before request 4 there are no
+    /// rows behind a ground.
+    pub fn reply(self, reply: Reply) -> Reply {
+        match reply {
+            Reply::Report(report) if !self.has(4) => Reply::Report(without_rows(&report)),
+            reply => reply,
         }
     }
 }
@@ -70,6 +80,19 @@ fn without_fetching(script: &[u8]) -> Vec<u8> {
     }
     kept.extend(&script[replay.place()..]);
     kept
+}
+
+/// The report without the number of rows behind each ground.
+fn without_rows(report: &[u8]) -> Vec<u8> {
+    let cut = |line: &[u8]| {
+        let words: Vec<&[u8]> = line.split(|&byte| byte == b' ').collect();
+        match words[..] {
+            [number, b"ground", ground, _] => [number, b"ground", ground].join(&b' '),
+            _ => line.to_vec(),
+        }
+    };
+    let lines: Vec<Vec<u8>> = report.split(|&byte| byte == b'\n').map(cut).collect();
+    lines.join(&b'\n')
 }
 
 #[cfg(test)]
@@ -112,6 +135,17 @@ mod tests {
         assert_eq!(Level::before(4).script(script.clone()), script);
         let script = Level::before(3).script(script);
         assert_eq!(disassemble(&script), "table 1\nend\nprobe 0.0 = 1\n");
+    }
+
+    #[test]
+    fn rows_behind_a_ground_are_taken_out_of_replies() {
+        let report = |text: &str| Reply::Report(text.into());
+        let now = report("design 1 0 1 2\n0 ground 1 2\n1 answer 1\n0 1 2 3\n2 ground 2 0\n");
+        let before = report("design 1 0 1 2\n0 ground 1\n1 answer 1\n0 1 2 3\n2 ground 2\n");
+        assert_eq!(Level::before(5).reply(now.clone()), now);
+        assert_eq!(Level::before(4).reply(now), before);
+        assert_eq!(Level::before(4).reply(before.clone()), before);
+        assert_eq!(Level::before(4).reply(Reply::Failed(1)), Reply::Failed(1));
     }
 
     #[test]

@@ -2,7 +2,8 @@
 //! program, on generated scripts, byte by byte of the reports.
 //!
 //! - [`generate`] makes the scripts from a seed, each from its own number.
-//! - [`level`] takes out of them what a request of document 02 has changed.
+//! - [`level`] takes out of them, and of replies, what a request of document 02
+//!   has changed.
 //! - [`desk`] runs the desk program as a child process.
 //! - [`run`] puts the two side by side and stops at the first difference.
 //! - [`examples`] are scripts with their reports, which the desk is held to too.

@@ -13,8 +13,8 @@
 //! after the first are taken from the clock; they are printed, so that a failure
 //! can be repeated. `--scripts` is for each seed. With `--examples`, both have to
 //! give the reports of the examples there too. With `--before`, what a request of
-//! document 02 and those after it have changed is taken out of the scripts, so
-//! that OTHER may be a desk from before that request.
+//! document 02 and those after it have changed is taken out of the scripts and of
+//! the replies, so that OTHER may be a desk from before that request.
 
 use std::env;
 use std::ffi::OsString;
@@ -106,28 +106,35 @@ fn seeds(options: &Options) -> Vec<u64> {
 
 /// Compares, prints what came of it, and tells whether all was well.
 fn run(options: &Options) -> Result<bool, String> {
+    let level = options.level;
     let name = options.desk.display().to_string();
     let desk = Side {
         name: &name,
-        desk: &program(&options.desk),
+        desk: &program(&options.desk, level),
     };
     let Some(path) = &options.against else {
-        return run_both(options, &[desk, SECOND_IMPLEMENTATION]);
+        let second = |script: &[u8]| Ok(level.reply(SECOND_IMPLEMENTATION.reply(script)?));
+        let second = Side {
+            desk: &second,
+            ..SECOND_IMPLEMENTATION
+        };
+        return run_both(options, &[desk, second]);
     };
     let name = path.display().to_string();
     let other = Side {
         name: &name,
-        desk: &program(path),
+        desk: &program(path, level),
     };
     run_both(options, &[desk, other])
 }
 
-fn program(path: &Path) -> impl Fn(&[u8]) -> io::Result<Reply> + Sync {
+/// A desk program, with its replies as they are at a level.
+fn program(path: &Path, level: Level) -> impl Fn(&[u8]) -> io::Result<Reply> + Sync {
     let program = Program {
         path: path.into(),
         time_limit: TIME_LIMIT,
     };
-    move |script| program.reply(script)
+    move |script| Ok(level.reply(program.reply(script)?))
 }
 
 fn run_both(options: &Options, sides: &Sides) -> Result<bool, String> {

@@ -46,7 +46,7 @@ impl Replay<'_> {
     pub fn ground(&self) -> Option<u8> {
         let Query { column, value, .. } = query_of(&self.command()?)?;
         match self.try_out(&Command::Probe { column, value }) {
-            Ok(Answer::Ground(ground)) => Some(ground),
+            Ok(Answer::Ground { ground, .. }) => Some(ground),
             _ => None,
         }
     }

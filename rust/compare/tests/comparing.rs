@@ -44,7 +44,7 @@ fn a_right_desk_passes_and_everything_is_reached() {
 #[test]
 fn everything_of_a_level_is_reached_too() {
     let desk = altered(|report| report);
-    for request in 1..=3 {
+    for request in 1..=4 {
         let level = Level::before(request);
         let scripts = Scripts { level, ..SCRIPTS };
         let outcome = compare(&sides(&desk), scripts).expect("no failure");

@@ -33,13 +33,18 @@ fn write_shell_programs() {
             reference_desk().display()
         );
         let one_byte = format!(
-            "'{}' | sed '0,/ ground 2$/s// ground 3/'",
+            "'{}' | sed '0,/ ground 2 /s// ground 3 /'",
+            reference_desk().display()
+        );
+        let without_rows = format!(
+            "'{}' | sed 's/\\( ground [1-3]\\) [0-9]*$/\\1/'",
             reference_desk().display()
         );
         let careless = format!("'{}' 2>/dev/null", reference_desk().display());
         for (name, body) in [
             ("wrong", wrong.as_str()),
             ("one-byte", one_byte.as_str()),
+            ("without-rows", without_rows.as_str()),
             ("hasty", "echo refused 4 0"),
             ("echoing", "cat"),
             ("dying", "kill -6 $$"),
@@ -144,6 +149,18 @@ fn scripts_from_before_a_request() {
     assert!(text.contains(" 0  query referred with lists\n"), "{text}");
 }
 
+/// A desk that prints no rows behind a ground, as one from before request 04.
+#[test]
+fn a_desk_from_before_a_request() {
+    let old = shell_program("without-rows");
+    let more = [Path::new("--before"), Path::new("4")];
+    let (output, text) = run_against(&old, &reference_desk(), &more);
+    assert!(output.status.success(), "{text}");
+    let (output, text) = run_against(&old, &reference_desk(), &[]);
+    assert_eq!(output.status.code(), Some(1), "{text}");
+    assert!(text.contains("probe"), "{text}");
+}
+
 #[test]
 fn one_other_byte_in_what_a_desk_is_held_to() {
     let (output, text) = run_against(&shell_program("one-byte"), &reference_desk(), &[]);
@@ -151,9 +168,9 @@ fn one_other_byte_in_what_a_desk_is_held_to() {
     assert!(text.contains(" of seed 1 differs\nscript, "), "{text}");
     let (_, small) = text.split_once("made small\n").expect("a small one");
     let (_, reports) = small.split_once("/reference-desk:\n").expect("reports");
-    let (report, rest) = reports.split_once("ground 2\n").expect("a ground");
+    let (report, rest) = reports.split_once("ground 2 ").expect("a ground");
     let (_, other) = rest.split_once("/one-byte:\n").expect("two reports");
-    assert!(other.starts_with(&format!("{report}ground 3\n")), "{text}");
+    assert!(other.starts_with(&format!("{report}ground 3 ")), "{text}");
 }
 
 #[test]

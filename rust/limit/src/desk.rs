@@ -24,8 +24,13 @@ pub enum Answer {
     NoCandidate,
     /// Rows that went.
     Dropped(usize),
-    /// A probe's ground.
-    Ground(u8),
+    /// A probe's yes.
+    Ground {
+        /// Its ground.
+        ground: u8,
+        /// The cached rows that have the value in the column.
+        rows: usize,
+    },
     /// The backend has to be asked.
     Sent,
     /// The number of a query's lists.

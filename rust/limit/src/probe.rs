@@ -1,4 +1,5 @@
-//! Probes: the lowest ground on which a value is known to be complete.
+//! Probes: the lowest ground on which a value is known to be complete, and how
+//! many cached rows have it.
 
 use crate::cache::Cache;
 use crate::catalog::{Catalog, NO_FILLING};
@@ -16,7 +17,11 @@ impl Cache {
         }
         match self.ground(design, catalog, column, value) {
             0 => Answer::Sent,
-            ground => Answer::Ground(ground),
+            // With a ground all rows that have the value are cached.
+            ground => Answer::Ground {
+                ground,
+                rows: catalog.members(column, value).len(),
+            },
         }
     }
 

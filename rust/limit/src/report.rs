@@ -98,7 +98,7 @@ fn put_answer(text: &mut Vec<u8>, answer: Answer, place: u64) {
         Answer::Held => (b"held", &[]),
         Answer::NoCandidate => (b"no candidate", &[]),
         Answer::Dropped(rows) => (b"dropped ", &[rows as u64]),
-        Answer::Ground(ground) => (b"ground ", &[u64::from(ground)]),
+        Answer::Ground { ground, rows } => (b"ground ", &[u64::from(ground), rows as u64]),
         Answer::Sent => (b"sent", &[]),
         Answer::Lists(count) => (b"answer ", &[count as u64]),
         Answer::Even => (b"even", &[]),

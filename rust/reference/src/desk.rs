@@ -36,8 +36,13 @@ pub enum Answer {
         /// Rows that went.
         rows: usize,
     },
-    /// A probe's yes, with its ground.
-    Ground(u8),
+    /// A probe's yes.
+    Ground {
+        /// Its ground.
+        ground: u8,
+        /// The cached rows that have the value in the column.
+        rows: usize,
+    },
     /// The backend has to be asked.
     Sent,
     /// A query's lists of row numbers.
@@ -110,9 +115,7 @@ impl Desk {
     fn probe(&self, column: Column, value: u32) -> Result<Answer, Cause> {
         Cause::WrongOperand.unless(self.design.has(column))?;
         Cause::ValueZero.unless(value != 0)?;
-        Ok(self
-            .ground(column, value)
-            .map_or(Answer::Sent, Answer::Ground))
+        Ok(self.search(column, value))
     }
 
     /// Answers a question about a value of a column, which has been checked. If
@@ -125,7 +128,7 @@ impl Desk {
         value: u32,
         answer: impl Fn(&Desk) -> Result<Answer, Cause>,
     ) -> Result<Answer, Cause> {
-        if self.ground(column, value).is_some() {
+        if self.search(column, value) != Answer::Sent {
             return answer(self);
         }
         let Some(pair) = self.pair_to_refer(column, value) else {
@@ -195,18 +198,20 @@ impl Desk {
             .collect()
     }
 
-    /// The lowest ground on which the value is known to be complete in the
-    /// column.
-    pub(crate) fn ground(&self, column: Column, value: u32) -> Option<u8> {
-        if self.is_held(column, value) {
-            Some(1)
+    /// Searches the cached rows: a yes by the lowest ground on which the value is
+    /// known to be complete in the column, or "sent".
+    fn search(&self, column: Column, value: u32) -> Answer {
+        let ground = if self.is_held(column, value) {
+            1
         } else if self.is_demanded_value(column, value) {
-            Some(2)
+            2
         } else if self.design.is_unique(column) && self.is_cached(column, value) {
-            Some(3)
+            3
         } else {
-            None
-        }
+            return Answer::Sent;
+        };
+        let rows = self.cached_rows_with(column, value);
+        Answer::Ground { ground, rows }
     }
 
     fn is_held(&self, column: Column, value: u32) -> bool {
@@ -222,7 +227,13 @@ impl Desk {
     }
 
     fn is_cached(&self, column: Column, value: u32) -> bool {
-        (0..self.cached.len()).any(|row| self.cached[row] && self.design.equals(row, column, value))
+        self.cached_rows_with(column, value) > 0
+    }
+
+    /// How many cached rows have the value in the column.
+    fn cached_rows_with(&self, column: Column, value: u32) -> usize {
+        let has_value = |row: &usize| self.cached[*row] && self.design.equals(*row, column, value);
+        (0..self.cached.len()).filter(has_value).count()
     }
 }
 

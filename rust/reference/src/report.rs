@@ -61,7 +61,7 @@ impl fmt::Display for Answer {
             Answer::Held => write!(out, "held"),
             Answer::NoCandidate => write!(out, "no candidate"),
             Answer::Dropped { rows } => write!(out, "dropped {rows}"),
-            Answer::Ground(ground) => write!(out, "ground {ground}"),
+            Answer::Ground { ground, rows } => write!(out, "ground {ground} {rows}"),
             Answer::Sent => write!(out, "sent"),
             Answer::Lists(lists) => write_lists(out, lists),
             Answer::Even => write!(out, "even"),

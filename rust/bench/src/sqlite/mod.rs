@@ -1,11 +1,12 @@
 //! SQLite in memory as a contestant: loads and drops are recursive common table
 //! expressions, probes, queries and totals are single statements, and every column
 //! has an index. Statements are prepared when a design is opened, and those of
-//! queries and totals off the clock.
+//! probes, queries and totals off the clock.
 //!
 //! It does what the works need and no more: operands aren't checked, held values
-//! aren't counted and neither are rounds, and no total is too large. Where that
-//! makes a difference, it is in SQLite's favour.
+//! aren't counted and neither are rounds, no total is too large, and queries and
+//! totals don't count the rows behind their ground. Where that makes a difference,
+//! it is in SQLite's favour.
 
 mod database;
 mod ffi;
@@ -52,6 +53,8 @@ struct Desk {
     /// For each filling.
     loads: Vec<Statement>,
     unload: Statement,
+    /// For each column.
+    grounds: HashMap<Column, Statement>,
     probes: HashMap<Column, Statement>,
     queries: HashMap<Shape, Statement>,
     /// By that, and the position and column of the cell.
@@ -80,6 +83,10 @@ impl OpenDesk for Desk {
         let (design, database) = (&self.design, &self.database);
         for operation in &operations.list {
             match operation.command {
+                Command::Probe(Probe { column, .. }) => {
+                    let probes = self.probes.entry(column);
+                    probes.or_insert_with(|| database.prepare(&sql::probe(design, column)));
+                }
                 Command::Query(query) => {
                     let queries = self.queries.entry(shape(&query));
                     queries.or_insert_with(|| database.prepare(&sql::query(design, &query)));
@@ -109,7 +116,7 @@ impl OpenDesk for Desk {
 impl Desk {
     fn new(design: &Design, database: Database) -> Desk {
         let loads = design.fillings.iter();
-        let probes = design.columns().into_iter();
+        let columns = design.columns().into_iter();
         Desk {
             hold: database.prepare(sql::HOLD),
             release: database.prepare(sql::RELEASE),
@@ -117,9 +124,10 @@ impl Desk {
                 .map(|filling| database.prepare(&sql::load(design, filling)))
                 .collect(),
             unload: database.prepare(&sql::unload(design)),
-            probes: probes
-                .map(|column| (column, database.prepare(&sql::probe(design, column))))
+            grounds: columns
+                .map(|column| (column, database.prepare(&sql::ground(design, column))))
                 .collect(),
+            probes: HashMap::new(),
             queries: HashMap::new(),
             totals: HashMap::new(),
             design: design.clone(),
@@ -161,17 +169,28 @@ impl Desk {
     }
 
     fn probe(&mut self, probe: Probe) -> Result<Answer, OutOfTime> {
-        let mut ground = 0;
         let statement = self.probes.get_mut(&probe.column);
-        let statement = statement.expect("a statement for every column");
+        let statement = statement.expect("a statement that has been prepared");
+        let mut answer = Answer::Sent;
         statement.run(&[probe.value.into()], |row| {
-            ground = row[0] as u8;
+            if row[0] > 0 {
+                answer = Answer::Ground(row[0] as u8, row[1] as usize);
+            }
             false
         })?;
-        Ok(match ground {
-            0 => Answer::Sent,
-            ground => Answer::Ground(ground),
-        })
+        Ok(answer)
+    }
+
+    /// Whether a value has a ground in a column.
+    fn has_ground(&mut self, column: Column, value: u32) -> Result<bool, OutOfTime> {
+        let statement = self.grounds.get_mut(&column);
+        let statement = statement.expect("a statement for every column");
+        let mut ground = 0;
+        statement.run(&[value.into()], |row| {
+            ground = row[0];
+            false
+        })?;
+        Ok(ground > 0)
     }
 
     fn query(&mut self, query: &Query) -> Result<Answer, OutOfTime> {
@@ -212,7 +231,7 @@ impl Desk {
     /// Sees to it that a query's value has a ground, if it can have one.
     fn fetch(&mut self, query: &Query) -> Result<Ground, OutOfTime> {
         let Query { column, value, .. } = *query;
-        if self.probe(Probe { column, value })? != Answer::Sent {
+        if self.has_ground(column, value)? {
             return Ok(Ground::Standing);
         }
         let Some(pair) = self.pair_to_refer(column, value) else {

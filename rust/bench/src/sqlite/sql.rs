@@ -98,8 +98,16 @@ fn demanded(design: &Design, start: &str, condition: &str) -> String {
     format!("WITH RECURSIVE demanded (row) AS ({start}{steps}) SELECT row FROM demanded")
 }
 
-/// Gives a column's ground for the value `?1`, or 0 if there is none.
+/// Gives a column's ground for the value `?1`, or 0 if there is none; and how many
+/// cached rows have the value there, if there is a ground.
 pub fn probe(design: &Design, column: Column) -> String {
+    let ground = ground(design, column);
+    let rows = format!("SELECT COUNT(*) FROM {}", cached_rows(column));
+    format!("SELECT ground, CASE WHEN ground THEN ({rows}) END FROM ({ground})")
+}
+
+/// Gives a column's ground for the value `?1`, or 0 if there is none.
+pub fn ground(design: &Design, column: Column) -> String {
     let held = (0..)
         .zip(&design.fillings)
         .filter(|(_, filling)| filling.column == column)
@@ -116,7 +124,7 @@ pub fn probe(design: &Design, column: Column) -> String {
     let cases: String = held.chain(demanded).chain(unique).collect();
     // The last case is true, as no value is 0. It stands there because SQL asks
     // for at least one.
-    format!("SELECT CASE{cases} WHEN ?1 THEN 0 END")
+    format!("SELECT CASE{cases} WHEN ?1 THEN 0 END AS ground")
 }
 
 fn case(ground: u8, rows: &str) -> String {

@@ -1,7 +1,9 @@
 //! Scripts that go to the extremes of what a command can give: rounds, rows,
 //! words, and commands.
 
-use notation::{encode, Column, Command, Constraint, Design, Filling, Join, Pair, Query, Table};
+use notation::{
+    encode, Column, Command, Constraint, Design, Filling, Join, Pair, Probe, Query, Table,
+};
 
 use super::design::{Draft, Shape, Values};
 use super::fetching::around;
@@ -75,7 +77,11 @@ pub fn all_rows(random: &mut Random) -> Vec<u8> {
         fillings: vec![every_value(here)],
         rows: Vec::new(),
     };
-    let first = random.within(1..=512);
+    let first = if random.percent(40) {
+        512
+    } else {
+        random.within(1..=512)
+    };
     for number in 0..512 {
         design.add_row(u8::from(number >= first), &[values.get(0)]);
     }
@@ -113,13 +119,15 @@ pub fn many_commands(random: &mut Random) -> Vec<u8> {
     }
 }
 
-/// The design with a load and drop of its first value, and some operations.
+/// The design with a load, a probe and a drop of its first value, and some
+/// operations.
 fn loaded(random: &mut Random, mut draft: Draft) -> Vec<u8> {
     let column = draft.design.fillings[0].column;
     draft.design.fillings[0] = every_value(column);
     let value = draft.values.get(0);
+    let probe = Command::Probe(Probe { column, value });
     let drop = Command::Drop(Pair { filling: 0, value });
-    let commands = [draft.design.commands(), vec![refer(value), drop]].concat();
+    let commands = [draft.design.commands(), vec![refer(value), probe, drop]].concat();
     with_operations(random, &draft, commands, 5)
 }
 

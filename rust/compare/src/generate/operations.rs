@@ -114,11 +114,13 @@ impl<'a> Operator<'a> {
         }
     }
 
-    /// A column and a value: referred to before, found in a row, or any.
+    /// A column and a value: referred to before, found in a row, demanded by one,
+    /// or any.
     fn probe(&self, random: &mut Random) -> Probe {
-        let found = match random.below(10) {
+        let found = match random.below(12) {
             0..=3 => self.referred_probe(random),
-            4..=6 => self.row_probe(random),
+            4..=7 => self.row_probe(random),
+            8 | 9 => self.demanded_probe(random),
             _ => None,
         };
         found.unwrap_or_else(|| Probe {
@@ -150,6 +152,18 @@ impl<'a> Operator<'a> {
                 column: column as u8,
             },
             value: cells[column],
+        })
+    }
+
+    /// Where a constraint ends, with a value that a row has where it starts.
+    fn demanded_probe(&self, random: &mut Random) -> Option<Probe> {
+        let constraint = random.pick_any(&self.design.constraints)?;
+        let Column { table, column } = constraint.source;
+        let row = random.pick_any(&self.design.rows)?;
+        let value = row.cells[usize::from(column)];
+        (row.table == table && value != 0).then_some(Probe {
+            column: constraint.target,
+            value,
         })
     }
 

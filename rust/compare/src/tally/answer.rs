@@ -56,6 +56,7 @@ impl Answer<'_> {
             ["total", "0"] => "total of 0".into(),
             ["total", _] => "total above 0".into(),
             ["refused", cause, _] => format!("refused {cause}"),
+            ["ground", ground, ..] => format!("ground {ground}"),
             ["loaded", ..] => "loaded".into(),
             ["dropped", ..] => "dropped".into(),
             _ => self.text.into(),

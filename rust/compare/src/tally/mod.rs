@@ -131,21 +131,40 @@ impl Tally {
     }
 
     fn count_answer_extremes(&mut self, answer: &Answer) {
-        if answer.text == format!("total {}", u64::MAX) {
-            self.count("total of 2^64 - 1".into(), 1);
-        }
-        if let ["loaded", rows, rounds] = answer.words()[..] {
-            if rows == "512" {
-                self.count("loaded 512 rows".into(), 1);
+        match answer.words()[..] {
+            ["loaded", rows, rounds] => {
+                if rows == "512" {
+                    self.count("loaded 512 rows".into(), 1);
+                }
+                if number(rounds) > Some(255) {
+                    self.count("loaded in over 255 rounds".into(), 1);
+                }
             }
-            if rounds.parse().is_ok_and(|rounds: usize| rounds > 255) {
-                self.count("loaded in over 255 rounds".into(), 1);
+            ["ground", ground, rows] => self.count_rows(ground, rows),
+            ["total", total] if total == u64::MAX.to_string() => {
+                self.count("total of 2^64 - 1".into(), 1);
             }
+            _ => {}
         }
         match answer.list_words {
             4_095 => self.count("answer of 4,095 words".into(), 1),
             4_096 => self.count("answer of 4,096 words".into(), 1),
             _ => {}
+        }
+    }
+
+    /// Counts the rows behind a ground. By ground 3 there is always one.
+    fn count_rows(&mut self, ground: &str, rows: &str) {
+        match (ground, rows) {
+            ("1" | "2", "0") => self.count(format!("ground {ground} without rows"), 1),
+            ("1" | "2", _) => self.count(format!("ground {ground} with rows"), 1),
+            _ => {}
+        }
+        if number(rows) > Some(255) {
+            self.count("ground of over 255 rows".into(), 1);
+        }
+        if rows == "512" {
+            self.count("ground of 512 rows".into(), 1);
         }
     }
 
@@ -258,7 +277,7 @@ fn top_value_outcome(piece: &Piece, answer: &Answer) -> Option<&'static str> {
         (Command::Drop(pair), ["dropped", rows]) if *rows != "0" => {
             (pair.value, "2^32 - 1 dropped with rows")
         }
-        (Command::Probe(probe), ["ground", _]) => (probe.value, "2^32 - 1 probed with a ground"),
+        (Command::Probe(probe), ["ground", ..]) => (probe.value, "2^32 - 1 probed with a ground"),
         (Command::Query(query), ["answer", lists]) if *lists != "0" => {
             (query.value, "2^32 - 1 queried with lists")
         }

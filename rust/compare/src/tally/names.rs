@@ -11,7 +11,7 @@ use notation::{Command, Piece};
 /// 3. Causes 7 and 12 are about lent memory, which no script can spoil. No
 /// answer needs 4,097 words: that has no divisor from 2 to 5, and 512 rows make
 /// no more than 512 lists of one.
-pub const OUTCOMES: [(u32, &str); 69] = [
+pub const OUTCOMES: [(u32, &str); 75] = [
     (0, "design accepted"),
     (0, "design refused 1"),
     (0, "design refused 2"),
@@ -28,6 +28,10 @@ pub const OUTCOMES: [(u32, &str); 69] = [
     (0, "ground 1"),
     (0, "ground 2"),
     (0, "ground 3"),
+    (4, "ground 1 without rows"),
+    (4, "ground 2 without rows"),
+    (4, "ground 1 with rows"),
+    (4, "ground 2 with rows"),
     (0, "sent"),
     (0, "answer without lists"),
     (0, "answer with lists"),
@@ -75,6 +79,8 @@ pub const OUTCOMES: [(u32, &str); 69] = [
     (0, "answer of 4,095 words"),
     (0, "answer of 4,096 words"),
     (0, "refused 11 for 4,098 words"),
+    (4, "ground of over 255 rows"),
+    (4, "ground of 512 rows"),
     (3, "total of 2^64 - 1"),
     (0, "2^32 - 1 in a row"),
     (0, "2^32 - 1 loaded with rows"),

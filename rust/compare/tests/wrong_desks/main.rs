@@ -1,6 +1,7 @@
 //! Desks that are right but for one thing: the comparison has to find it.
 
 mod fetching;
+mod grounds;
 mod performing;
 mod totals;
 

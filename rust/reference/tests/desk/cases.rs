@@ -19,7 +19,7 @@ fn case_a() {
     let expected = "\
 design 3 2 1 8
 0 loaded 5 2
-1 ground 2
+1 ground 2 0
 2 sent
 3 answer 2
 0 3 5
@@ -40,9 +40,9 @@ fn after_the_load_of_case_a() {
     let expected = "\
 design 3 2 1 8
 0 loaded 5 2
-1 ground 3
+1 ground 3 1
 2 answer 0
-3 ground 1
+3 ground 1 2
 ";
     assert_eq!(report(&script), expected);
 }
@@ -51,8 +51,8 @@ design 3 2 1 8
 fn the_answer_of_case_a_needs_six_words() {
     let script = script_a(&[refer(0, 3), query_a4(), probe((0, 1), 3)]);
     let place = DESIGN_A_LENGTH + 6;
-    let refused = format!("design 3 2 1 8\n0 loaded 5 2\n1 refused 11 {place}\n2 ground 1\n");
-    let answered = "design 3 2 1 8\n0 loaded 5 2\n1 answer 2\n0 3 5\n0 3 6\n2 ground 1\n";
+    let refused = format!("design 3 2 1 8\n0 loaded 5 2\n1 refused 11 {place}\n2 ground 1 2\n");
+    let answered = "design 3 2 1 8\n0 loaded 5 2\n1 answer 2\n0 3 5\n0 3 6\n2 ground 1 2\n";
     assert_eq!(report_lending(&script, 5), refused);
     assert_eq!(report_lending(&script, 6), answered);
 }
@@ -100,7 +100,7 @@ fn a_value_that_no_row_has_is_held() {
     let expected = "\
 design 3 2 1 8
 0 loaded 0 0
-1 ground 1
+1 ground 1 0
 2 answer 0
 3 held
 4 dropped 0
@@ -155,7 +155,7 @@ design 2 1 2 3
 2 loaded 0 0
 3 dropped 1
 4 dropped 1
-5 ground 1
+5 ground 1 1
 6 dropped 1
 ";
     assert_eq!(report(&script), expected);

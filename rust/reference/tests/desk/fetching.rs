@@ -33,7 +33,7 @@ fn review_without_load() {
         "0 answer 2",
         "0 3 5",
         "0 3 6",
-        "1 ground 1",
+        "1 ground 1 2",
         "2 held",
         "3 dropped 5",
         "4 sent",
@@ -51,7 +51,7 @@ fn sent_without_a_filling_or_a_candidate_and_held_without_a_row() {
     ]);
     assert_eq!(
         lines(&script),
-        ["0 sent", "1 sent", "2 answer 0", "3 ground 1"]
+        ["0 sent", "1 sent", "2 answer 0", "3 ground 1 0"]
     );
 }
 
@@ -69,7 +69,7 @@ fn a_reference_is_undone_if_the_answer_is_too_long() {
         "1 sent",
         "2 answer 1",
         "2 4 7",
-        "3 ground 1",
+        "3 ground 1 1",
         "4 refused 10 349",
     ];
     assert_eq!(lines_lending(&script, 5), expected);
@@ -92,7 +92,7 @@ fn an_undone_reference_leaves_the_rest_of_the_cache() {
         "2 4 7",
         "1 refused 11 319",
         "2 sent",
-        "3 ground 3",
+        "3 ground 3 1",
         "4 loaded 5 2",
         "5 dropped 3",
     ];
@@ -188,7 +188,7 @@ fn neither_does_one_with_ground_3() {
         "0",
         "1 answer 1",
         "0",
-        "2 ground 3",
+        "2 ground 3 1",
         &refused,
         "4 dropped 1",
     ];

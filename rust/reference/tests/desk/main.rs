@@ -7,6 +7,7 @@ mod design_refusals;
 mod even;
 mod fetching;
 mod generated;
+mod grounds;
 mod limits;
 mod operation_refusals;
 mod queries;

@@ -115,12 +115,12 @@ fn a_total_refers_its_value_as_a_query_does() {
     .concat();
     let expected = [
         "0 total 15",
-        "1 ground 1",
+        "1 ground 1 2",
         "2 held",
         "3 dropped 5",
         "4 sent",
         "5 total 0",
-        "6 ground 1",
+        "6 ground 1 0",
     ];
     assert_eq!(lines(&script), expected);
 }
@@ -206,7 +206,7 @@ fn the_largest_total() {
         probe((0, 0), 1),
     ]
     .concat();
-    let expected = ["0 total 18446744073709551615", "1 ground 1"];
+    let expected = ["0 total 18446744073709551615", "1 ground 1 2"];
     assert_eq!(lines(&script), expected);
 }
 
@@ -231,7 +231,7 @@ fn one_more_is_refused_and_its_reference_undone() {
         "1 sent",
         "2 loaded 260 1",
         &refused,
-        "4 ground 1",
+        "4 ground 1 3",
         &total,
     ];
     assert_eq!(lines(&script), expected);
