@@ -143,6 +143,7 @@ module _ (S : Scheme) (D : Database) (c : Cache) (k : Column) (v : Cell) where
     unfolding answer questionAnswer
     probe-blank b = go _ 5 _ (ap not f) (stop _ 9 _ b)
 
-    pub probe-full : isBlank v ≡ false → groundOf (Probe.probe S D (heldIn S (c .held)) (marked (c .marks)) k v) ≡ answer S D c (ask (probe k v))
+    pub probe-full : isBlank v ≡ false → groundOf (Probe.probe S D (heldIn S (c .held)) (marked (c .marks)) k v) (Probe.cachedRows D (marked (c .marks)) k v) ≡
+        answer S D c (ask (probe k v))
     unfolding answer questionAnswer
     probe-full b = go _ 5 _ (ap not f) (go _ 9 _ b refl)

@@ -14,6 +14,7 @@ use Rattle.model.specs.Probe as Probe
 use Rattle.model.specs.Answers.{ground, sent, refused, orAnswer, groundOf}
 use Rattle.state.specs.Meaning.{holdingOf}
 use Rattle.state.specs.Lent.{State, scheme, database, cache, sound, answerAt}
+use Rattle.model.proofs.CountedRows.{rows-behind-yes}
 use Rattle.lawful.proofs.SoundState.{answer-at}
 use Rattle.cache.proofs.Answering.{probe-nowhere, probe-blank, probe-full}
 
@@ -25,13 +26,18 @@ module _ (s : State) (e : sound s ≡ true) (k : Column) (v : Cell) where
     pub probe-9 : isBlank v ≡ true → refused 9 ≡ answerAt s (ask (probe k v))
     probe-9 b = probe-blank (scheme s) (database s) (cache s) k v f b ∙ sym (answer-at s e _)
 
-    module _ (b : isBlank v ≡ false) (g : ℕ) (p : g ≡ Probe.probe (scheme s) (database s) (heldIn (scheme s) (holdingOf (s .held))) (marked (take 512
-        (s .marks))) k v) where
-      grounded : groundOf g ≡ answerAt s (ask (probe k v))
-      grounded = ap groundOf p ∙ probe-full (scheme s) (database s) (cache s) k v f b ∙ sym (answer-at s e _)
+    module _ (b : isBlank v ≡ false) (g n : ℕ) (p : g ≡ Probe.probe (scheme s) (database s) (heldIn (scheme s) (holdingOf (s .held))) (marked (take 512
+        (s .marks))) k v) (r : n ≡ Probe.rowsBehind g (database s) (marked (take 512 (s .marks))) k v) where
+      abbrev rows : ℕ
+      rows = Probe.cachedRows (database s) (marked (take 512 (s .marks))) k v
+
+      grounded : groundOf g rows ≡ answerAt s (ask (probe k v))
+      grounded = ap (λ (x : ℕ). groundOf x rows) p ∙ probe-full (scheme s) (database s) (cache s) k v f b ∙ sym (answer-at s e _)
 
       pub probe-sent : g ≡ 0 → sent ≡ answerAt s (ask (probe k v))
-      probe-sent z = sym (ap (λ (t : Bool). orAnswer t (ground g) sent) (le-ltb 0 g (omega arith))) ∙ grounded
+      probe-sent z = sym (ap (λ (t : Bool). orAnswer t (ground g rows) sent) (le-ltb 0 g (omega arith))) ∙ grounded
 
-      pub probe-ground : (g ≡ 0 → ⊥) → ground g ≡ answerAt s (ask (probe k v))
-      probe-ground n = sym (ap (λ (t : Bool). orAnswer t (ground g) sent) (lt-ltb 0 g (pos-of-ne-zero n))) ∙ grounded
+      pub probe-ground : (g ≡ 0 → ⊥) → ground g n ≡ answerAt s (ask (probe k v))
+      probe-ground m =
+          ap (ground g) (r ∙ sym (rows-behind-yes (database s) (marked (take 512 (s .marks))) k v g m)) ∙
+          sym (ap (λ (t : Bool). orAnswer t (ground g rows) sent) (lt-ltb 0 g (pos-of-ne-zero m))) ∙ grounded

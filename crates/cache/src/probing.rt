@@ -6,7 +6,7 @@ ghost use Rattle.state.specs.Meaning.{answerOf, cellOf, columnOf, databaseOf};
 ghost use Rattle.state.specs.Lent.{lent, sound, answerAt};
 ghost use Rattle.catalog.specs.Catalog.{nexts, Directory};
 use lawful::is_column;
-use probe::ground;
+use probe::search;
 use state::Answer;
 use state::Cell;
 use state::Column;
@@ -15,7 +15,7 @@ use state::Held;
 use state::is_blank;
 
 // A yes is the lowest ground. Held values, and a look for the value for each constraint that ends at the column and once more if it
-// is unique.
+// is unique; with a yes a step for each row that has the value, too.
 pub fn probe_lawful(
     design: Design,
     cells: &[u32],
@@ -41,7 +41,7 @@ pub fn probe_lawful(
     if is_blank(v) {
         return Answer::Refused(9);
     }
-    let g = ground(
+    let found = search(
         design,
         cells,
         tables,
@@ -54,8 +54,8 @@ pub fn probe_lawful(
         k,
         v,
     );
-    if g == 0 {
+    if found.ground == 0 {
         return Answer::Sent;
     }
-    Answer::Ground(g)
+    Answer::Ground(found.ground, found.rows)
 }

@@ -76,7 +76,7 @@ module _ (p room : ℕ) where
     unfolding questionAnswer evenAnswer hasLists shown
     question-within (probe k v) =
         let g = Probe.probe S D (heldIn S (c .held)) (marked (c .marks)) k v in
-        unless-within (not (isColumn S k)) 5 _ (λ _. unless-within (isBlank v) 9 _ (λ _. or-within (ltb 0 g) (ground g) sent (λ h. clash h refl) (λ h. clash h refl)))
+        unless-within (not (isColumn S k)) 5 _ (λ _. unless-within (isBlank v) 9 _ (λ _. or-within (ltb 0 g) (ground g (Probe.cachedRows D (marked (c .marks)) k v)) sent (λ h. clash h refl) (λ h. clash h refl)))
     question-within evenness = or-within (ltb (lowestUneven S) (S .constraints)) (uneven _ _) even (λ h. clash h refl) (λ h. clash h refl)
 
     module _ (q : Q.Query) (four : length (q .pairs) ≡ 4) (positions : q .joins + 1 ≡ p) where

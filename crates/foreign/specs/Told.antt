@@ -24,7 +24,7 @@ answerIn n ns =
     (cond (eqb n 1) held
     (cond (eqb n 2) noCandidate
     (cond (eqb n 3) (dropped (getD ns 0 0))
-    (cond (eqb n 4) (ground (getD ns 0 0))
+    (cond (eqb n 4) (ground (getD ns 0 0) (getD ns 1 0))
     (cond (eqb n 5) sent
     (cond (eqb n listsWord) (lists (getD ns 0 0))
     (cond (eqb n 8) even

@@ -23,17 +23,17 @@ use Rattle.model.proofs.QueryLaws.{query-lists}
 use Rattle.model.proofs.RunLaws.{Sound, step-sound}
 use Rattle.model.proofs.Referring.{untaken, unreferred, ground-keeps, untaken-keeps, refers-pair, pair-ground, full-answers}
 
-ground-not-sent : (a : Answer) (n : ℕ) → a ≡ ground n → a ≡ sent → ⊥
-ground-not-sent a n e f = let z : _≡_ {A = ℕ} 0 1 = cc in omega arith
+ground-not-sent : (a : Answer) (g n : ℕ) → a ≡ ground g n → a ≡ sent → ⊥
+ground-not-sent a g n e f = let z : _≡_ {A = ℕ} 0 1 = cc in omega arith
 
 -- ---- no ground is ground 0
 
-ground-of-sent : (n : ℕ) → groundOf n ≡ sent → n ≡ 0
-ground-of-sent n e =
-    ⊎-elim (λ t. absurd (ground-not-sent (groundOf n) n (ap (λ (b : Bool). orAnswer b (ground n) sent) t) e)) (λ t. omega (arith, ltb-false 0 n t)) (dec (ltb 0 n))
+ground-of-sent : (g n : ℕ) → groundOf g n ≡ sent → g ≡ 0
+ground-of-sent g n e =
+    ⊎-elim (λ t. absurd (ground-not-sent (groundOf g n) g n (ap (λ (b : Bool). orAnswer b (ground g n) sent) t) e)) (λ t. omega (arith, ltb-false 0 g t)) (dec (ltb 0 g))
 
-ground-of-none : (n : ℕ) → n ≡ 0 → groundOf n ≡ sent
-ground-of-none n e = ap groundOf e
+ground-of-none : (g n : ℕ) → g ≡ 0 → groundOf g n ≡ sent
+ground-of-none g n e = ap (λ (x : ℕ). groundOf x n) e
 
 module _ (S : Scheme) (D : Database) (c : Cache) (k : Column) (v : Cell) where
   abbrev found : ℕ
@@ -49,13 +49,13 @@ module _ (S : Scheme) (D : Database) (c : Cache) (k : Column) (v : Cell) where
   -- THEOREM: a probe that isn't refused is sent exactly if no ground applies
   pub probe-sent-exactly : Unrefused (questionAnswer S D c (probe k v)) → (questionAnswer S D c (probe k v) ≡ sent) ↔ Groundless S D c k v
   unfolding questionAnswer
-  probe-sent-exactly = go (isColumn S k) (isBlank v) found none-found found-none
+  probe-sent-exactly = go (isColumn S k) (isBlank v) found (Probe.cachedRows D (marked (c .marks)) k v) none-found found-none
     where
-      go : (a b : Bool) (n : ℕ) → (n ≡ 0 → Groundless S D c k v) → (Groundless S D c k v → n ≡ 0) →
-          Unrefused (unless (not a) 5 (unless b 9 (groundOf n))) → (unless (not a) 5 (unless b 9 (groundOf n)) ≡ sent) ↔ Groundless S D c k v
-      go false b n f g u = absurd (u 5 refl)
-      go true true n f g u = absurd (u 9 refl)
-      go true false n f g u = (λ e. f (ground-of-sent n e), λ h. ground-of-none n (g h))
+      go : (a b : Bool) (n m : ℕ) → (n ≡ 0 → Groundless S D c k v) → (Groundless S D c k v → n ≡ 0) →
+          Unrefused (unless (not a) 5 (unless b 9 (groundOf n m))) → (unless (not a) 5 (unless b 9 (groundOf n m)) ≡ sent) ↔ Groundless S D c k v
+      go false b n m f g u = absurd (u 5 refl)
+      go true true n m f g u = absurd (u 9 refl)
+      go true false n m f g u = (λ e. f (ground-of-sent n m e), λ h. ground-of-none n m (g h))
 
 -- ---- queries
 

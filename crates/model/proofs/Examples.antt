@@ -129,7 +129,7 @@ a1 : Case
 a1 = case A [] (REFER 0 3) (loaded 5 2) []
 
 a2 : Case
-a2 = case A (REFER 0 3 ∷ []) (PROBE 1 1 8) (ground 2) []
+a2 = case A (REFER 0 3 ∷ []) (PROBE 1 1 8) (ground 2 0) []
 
 a3 : Case
 a3 = case A (REFER 0 3 ∷ PROBE 1 1 8 ∷ []) (PROBE 1 1 9) sent []
@@ -141,7 +141,7 @@ a5 : Case
 a5 = case A (REFER 0 3 ∷ PROBE 1 1 8 ∷ PROBE 1 1 9 ∷ []) (DROP 0 3) (dropped 5) []
 
 a6 : Case
-a6 = case A (REFER 0 3 ∷ []) (PROBE 1 0 20) (ground 3) []
+a6 = case A (REFER 0 3 ∷ []) (PROBE 1 0 20) (ground 3 1) []
 
 a7 : Case
 a7 = case A (REFER 0 3 ∷ []) (QUERY 1 1 8 0 (join 0 0 ∷ join 0 0 ∷ join 0 0 ∷ join 0 0 ∷ [])) (lists 0) []
@@ -188,7 +188,7 @@ pub all-pass : AllPass cases
 unfolding gives cases a1 a2 a3 a4 a5 a6 a7 b1 b2 b3 b4 b5
     answer written questionAnswer cacheFrom cacheAfter emptyCache taken candidate listed samePair remove referLevels reloadLevels marks marked pairsHold one pairsWant
     load start levels next reachedFrom demands leads reached addedRows laterRounds
-    Probe.probe Probe.demanded Probe.uniquelySeen Probe.seen has sameColumn isColumn isBlank equal
+    Probe.probe Probe.cachedRows Probe.demanded Probe.uniquelySeen Probe.seen has sameColumn isColumn isBlank equal
     queryAnswer queryWords queryGround isAnswered fullAnswer fillingFor outputFits withinLimit answerable refers fullLists writtenWith hasLists shown operandsFit joinsFit unused fitting extend joinValue wordsOf
     any count tab collect firstOf firstFrom
 all-pass = refl and refl and refl and refl and refl and refl and refl and refl and refl and refl and refl and refl and end

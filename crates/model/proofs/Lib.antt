@@ -1,5 +1,5 @@
 -- CellLaws, DatabaseLaws, ProbeLaws: the tests say what they are named for. Closed, RoundsLaws, Loads: rounds reach the smallest row set.
--- Exact: the probe. Marks, HoldingLaws, RunLaws, Fresh, Demand3: runs. QueryLaws, ListLaws, TotalLaws, Referring, Demand2: queries. Examples: the worked
+-- Exact: the probe. Marks, HoldingLaws, RunLaws, Fresh, Demand3: runs. QueryLaws, ListLaws, TotalLaws, Referring, Demand2, CountedRows: queries. Examples: the worked
 -- cases.
 pub mod CellLaws
 pub mod DatabaseLaws
@@ -22,4 +22,5 @@ pub mod ListLaws
 pub mod Referring
 pub mod TotalLaws
 pub mod Demand2
+pub mod CountedRows
 pub mod Examples

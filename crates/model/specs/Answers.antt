@@ -1,6 +1,7 @@
 -- What the operations answer, and the causes of refusal that an operation itself can have: 5, 9, then 10, 8 or 11 (01, "What the operations do"
 -- and "Causes of refusal"), and 13 (02, Req 03). Assumes nothing.
 use Prim.Native.Nat.{ℕ}
+use mathlib.Core.Path.{_≡_}
 use mathlib.Core.Bool.{Bool, true, false, not, cond, _&&_, _||_}
 use mathlib.Core.List.{List, [], _∷_}
 use lib.Dec.{eqb, leb, ltb}
@@ -16,13 +17,13 @@ use Rattle.model.specs.Holding.{holds, hasRoom, withoutPair, heldIn}
 use Rattle.model.specs.Runs.{Question, probe, evenness, Output, asLists, asTotal, Operation, refer, drop, ask, query, taken, pairFor, outputFits, withinLimit, marked, Cache, referLevels, reloadLevels}
 use Rattle.model.specs.Query.{Query, wordsOf, fullLists, fullTotal}
 
--- `loaded` rows rounds, `held`, `no candidate`, `dropped` rows, `ground` g, `sent`, `answer` lists, `refused` number; `even`, `uneven` i j (02, Req 01);
+-- `loaded` rows rounds, `held`, `no candidate`, `dropped` rows, `ground` g rows, `sent`, `answer` lists, `refused` number; `even`, `uneven` i j (02, Req 01);
 -- `total` n (02, Req 03)
 pub data Answer : Type 0 where
   loaded : ℕ → ℕ → Answer
   held noCandidate : Answer
   dropped : ℕ → Answer
-  ground : ℕ → Answer
+  ground : ℕ → ℕ → Answer
   sent : Answer
   lists : ℕ → Answer
   refused : ℕ → Answer
@@ -46,7 +47,7 @@ shown (loaded rows rounds) = record { word = 0; numbers = rows ∷ rounds ∷ []
 shown held = record { word = 1; numbers = [] }
 shown noCandidate = record { word = 2; numbers = [] }
 shown (dropped rows) = record { word = 3; numbers = rows ∷ [] }
-shown (ground g) = record { word = 4; numbers = g ∷ [] }
+shown (ground g rows) = record { word = 4; numbers = g ∷ rows ∷ [] }
 shown sent = record { word = 5; numbers = [] }
 shown (lists n) = record { word = listsWord; numbers = n ∷ [] }
 shown (refused n) = record { word = refusedWord; numbers = n ∷ [] }
@@ -70,9 +71,13 @@ abbrev pub orAnswer : Bool → Answer → Answer → Answer
 orAnswer true a b = a
 orAnswer false a b = b
 
--- "a yes; if none does, sent"
-abbrev pub groundOf : ℕ → Answer
-groundOf n = orAnswer (ltb 0 n) (ground n) sent
+-- "a yes; if none does, sent". A yes carries "how many cached rows of the probed table have the value in the probed column" (02, Req 04)
+abbrev pub groundOf : ℕ → ℕ → Answer
+groundOf g rows = orAnswer (ltb 0 g) (ground g rows) sent
+
+-- the answer is a yes
+abbrev pub Yes : Answer → Type 0
+Yes a = (g : ℕ) × (rows : ℕ) × (a ≡ ground g rows)
 
 -- "`even`, or `uneven` with the lowest i and then the lowest j"
 unfoldable pub evenAnswer : Scheme → Answer
@@ -83,7 +88,7 @@ unfoldable pub questionAnswer : Scheme → Database → Cache → Question → A
 questionAnswer S D c (probe k v) =
     unless (not (isColumn S k)) 5
     (unless (isBlank v) 9
-    (groundOf (Probe.probe S D (heldIn S (c .held)) (marked (c .marks)) k v)))
+    (groundOf (Probe.probe S D (heldIn S (c .held)) (marked (c .marks)) k v) (Probe.cachedRows D (marked (c .marks)) k v)))
 questionAnswer S D c evenness = evenAnswer S
 
 -- ---- queries

@@ -1,7 +1,9 @@
--- The probe and its three grounds (01, "PROBE: ground 1 if ..."; 003, section on probing). Assumes nothing.
+-- The probe and its three grounds (01, "PROBE: ground 1 if ..."; 003, section on probing), and how many cached rows stand behind a yes (02, Req 04).
+-- Assumes nothing.
 use Prim.Native.Nat.{ℕ}
-use mathlib.Core.Bool.{Bool, true, false, _&&_}
-use Rattle.finite.specs.Finite.{any}
+use mathlib.Core.Bool.{Bool, true, false, cond, _&&_}
+use lib.Dec.{eqb}
+use Rattle.finite.specs.Finite.{any, count}
 use Rattle.model.specs.Cell.{Cell}
 use Rattle.model.specs.Scheme.{Column, sameColumn, Scheme}
 use Rattle.model.specs.Database.{Database, has}
@@ -29,3 +31,11 @@ lowest false false false = 0
 -- the probe's answer: a ground, or 0 for "sent". Ground 1: v is held in column k
 unfoldable pub probe : Scheme → Database → Held → RowSet → Column → Cell → ℕ
 probe S D H X k v = lowest (H k v) (demanded S D X k v) (uniquelySeen S D X k v)
+
+-- how many cached rows of k's table have v in column k (02, Req 04)
+unfoldable pub cachedRows : Database → RowSet → Column → Cell → ℕ
+cachedRows D X k v = count (D .size) (λ r. X r && has D k v r)
+
+-- "Every yes .. shall carry how many cached rows of the probed table have the value in the probed column"; a "sent" carries none
+unfoldable pub rowsBehind : ℕ → Database → RowSet → Column → Cell → ℕ
+rowsBehind g D X k v = cond (eqb g 0) 0 (cachedRows D X k v)

@@ -15,7 +15,7 @@ use cache::Outcome;
 use cache::filling_for;
 use cache::refer_lawful;
 use cache::takes;
-use probe::ground;
+use probe::search;
 use state::Answer;
 use state::Design;
 use state::Held;
@@ -135,7 +135,7 @@ pub(crate) fn query_lawful(
         return Outcome { held, answer };
     }
     let k = q.column;
-    let g = ground(
+    let found = search(
         design,
         cells,
         tables,
@@ -148,6 +148,7 @@ pub(crate) fn query_lawful(
         k,
         q.value,
     );
+    let g = found.ground;
     if g != 0 {
         let answer = draw(
             design,

@@ -1,4 +1,4 @@
--- The grounds as searches below a count, and over row sets that have the same rows. Assumes nothing.
+-- The grounds as searches below a count, and they and the count of cached rows over row sets that have the same rows. Assumes nothing.
 use Prim.Native.Nat.{ℕ, zero, suc, _<_}
 use mathlib.Core.Path.{_≡_, refl, sym, ap, ap₂, _∙_}
 use mathlib.Core.Bool.{Bool, true, false, _&&_, _||_}
@@ -9,11 +9,12 @@ use lib.Seq.{getD-take}
 use Rattle.finite.specs.Finite.{any, tab}
 use Rattle.finite.proofs.Bools.{and-right}
 use Rattle.finite.proofs.Search.{any-same, any-front}
+use Rattle.finite.proofs.Counting.{count-same}
 use Rattle.model.specs.Cell.{Cell, equal}
 use Rattle.model.specs.Scheme.{Column, Scheme, sameColumn}
 use Rattle.model.specs.Database.{Database, has}
 use Rattle.model.specs.Cache.{RowSet, Held}
-use Rattle.model.specs.Probe.{seen, demanded, uniquelySeen, lowest, probe}
+use Rattle.model.specs.Probe.{seen, demanded, uniquelySeen, lowest, probe, cachedRows}
 use Rattle.model.specs.Holding.{Pair, one, pairsHold}
 use Rattle.model.specs.Runs.{marked}
 use Rattle.state.specs.Meaning.{databaseOf}
@@ -44,20 +45,26 @@ module _ (j k : Column) (w v : Cell) where
       go true b h = sym h
       go false b h = refl
 
--- ---- grounds 2 and 3 look at the row set below the database's size alone
+-- ---- grounds 2 and 3, and the count of cached rows, look at the row set below the database's size alone
 
-module _ (S : Scheme) (D : Database) (X Y : RowSet) (h : (r : ℕ) → r < D .size → X r ≡ Y r) (v : Cell) where
+module _ (D : Database) (X Y : RowSet) (h : (r : ℕ) → r < D .size → X r ≡ Y r) (v : Cell) where
   pub seen-same : (k : Column) → seen D X k v ≡ seen D Y k v
   unfolding seen
   seen-same k = any-same (D .size) _ _ (λ r l. ap (λ (b : Bool). b && has D k v r) (h r l))
 
-  demanded-same : (k : Column) → demanded S D X k v ≡ demanded S D Y k v
-  unfolding demanded
-  demanded-same k = any-same (S .constraints) _ _ (λ i l. ap (λ (b : Bool). sameColumn (S .constraint i .target) k && b) (seen-same (S .constraint i .source)))
+  pub rows-same : (k : Column) → cachedRows D X k v ≡ cachedRows D Y k v
+  unfolding cachedRows
+  rows-same k = count-same (D .size) _ _ (λ r l. ap (λ (b : Bool). b && has D k v r) (h r l))
 
-  pub probe-same : (H : Held) (k : Column) → probe S D H X k v ≡ probe S D H Y k v
-  unfolding probe uniquelySeen
-  probe-same H k = ap₂ (λ (a b : Bool). lowest (H k v) a (S .unique k && b)) (demanded-same k) (seen-same k)
+  module _ (S : Scheme) where
+    demanded-same : (k : Column) → demanded S D X k v ≡ demanded S D Y k v
+    unfolding demanded
+    demanded-same k =
+        any-same (S .constraints) _ _ (λ i l. ap (λ (b : Bool). sameColumn (S .constraint i .target) k && b) (seen-same (S .constraint i .source)))
+
+    pub probe-same : (H : Held) (k : Column) → probe S D H X k v ≡ probe S D H Y k v
+    unfolding probe uniquelySeen
+    probe-same H k = ap₂ (λ (a b : Bool). lowest (H k v) a (S .unique k && b)) (demanded-same k) (seen-same k)
 
 -- the marks of the numbers below n, whatever stands past them
 pub marked-front : (m : List ℕ) (n r : ℕ) → r < n → marked m r ≡ marked (take n m) r
@@ -69,7 +76,14 @@ pub probe-front : (S : Scheme) (rows : ℕ) (cells tables m : List ℕ) (H : Hel
     probe S (databaseOf rows cells tables) H (marked m) k v ≡ probe S (databaseOf rows cells tables) H (marked (take 512 m)) k v
 unfolding databaseOf
 probe-front S rows cells tables m H k v =
-    probe-same S (databaseOf rows cells tables) (marked m) (marked (take 512 m)) (λ r l. marked-front m 512 r l) v H k
+    probe-same (databaseOf rows cells tables) (marked m) (marked (take 512 m)) (λ r l. marked-front m 512 r l) v S H k
+
+-- ... and so does a count
+pub rows-front : (rows : ℕ) (cells tables m : List ℕ) (k : Column) (v : Cell) →
+    cachedRows (databaseOf rows cells tables) (marked m) k v ≡ cachedRows (databaseOf rows cells tables) (marked (take 512 m)) k v
+unfolding databaseOf
+rows-front rows cells tables m k v =
+    rows-same (databaseOf rows cells tables) (marked m) (marked (take 512 m)) (λ r l. marked-front m 512 r l) v k
 
 -- ---- the lowest ground
 

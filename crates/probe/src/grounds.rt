@@ -143,7 +143,7 @@ fn is_uniquely_seen(
 
 // The lowest ground that says the value is complete in the column, 0 if none does. Held values, and a look for the value for each
 // constraint that ends at the column and once more if it is unique.
-pub fn ground(
+pub(crate) fn ground(
     d: Design,
     cells: &[u32],
     tables: &[u8],

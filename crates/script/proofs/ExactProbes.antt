@@ -17,7 +17,7 @@ use Rattle.model.specs.Cache.{RowSet, Held, Complete, Alike}
 use Rattle.model.specs.Probe as Probe
 use Rattle.model.specs.Holding.{Holding, nothingHeld, heldIn}
 use Rattle.model.specs.Runs.{Operation, ask, probe, heldFrom, marked}
-use Rattle.model.specs.Answers.{Answer, refused, ground, sent, orAnswer, groundOf, answer}
+use Rattle.model.specs.Answers.{Answer, refused, ground, sent, orAnswer, groundOf, Yes, answer}
 use Rattle.model.proofs.Exact.{exact}
 use Rattle.model.proofs.HoldingLaws.{HoldingFits, step-fit}
 use Rattle.state.specs.declared.design.Design.{Design}
@@ -33,10 +33,10 @@ use Rattle.script.proofs.SameRows.{SameRows, same-back, smallest-same, 
 use Rattle.script.proofs.JustRead.{none-fit, Begun}
 
 -- a probe's answer is a yes exactly if it has a ground
-ground-says : (n : ℕ) → ((g : ℕ) × (groundOf n ≡ ground g)) ↔ (n ≢ 0)
-ground-says n = (
-  λ y z. let e : sent ≡ ground (y .0) = ap groundOf (sym z) ∙ y .1 in let f : _≡_ {A = ℕ} 0 1 = cc in omega arith,
-  λ h. (n, ap (λ (b : Bool). orAnswer b (ground n) sent) (lt-ltb 0 n (pos-of-ne-zero h))),
+ground-says : (n m : ℕ) → Yes (groundOf n m) ↔ (n ≢ 0)
+ground-says n m = (
+  λ y z. let e : sent ≡ ground (y .0) (y .1) = ap (λ (x : ℕ). groundOf x m) (sym z) ∙ y .2 in let f : _≡_ {A = ℕ} 0 1 = cc in omega arith,
+  λ h. (n, m, ap (λ (b : Bool). orAnswer b (ground n m) sent) (lt-ltb 0 n (pos-of-ne-zero h))),
 )
 
 -- what a run holds fits the scheme
@@ -72,10 +72,10 @@ module _ (b : Buffers) (p : Draft) (i : ℕ) (w : Begun b p i) (os : List Operat
 
     -- a probe of a column of the design for a value other than blank
     module _ (c : ColumnOf S k) (f : Fits v) (full : isBlank v ≡ false) where
-      answer-is : answerAt e (ask (probe k v)) ≡ groundOf (Probe.probe S D H X k v)
+      answer-is : answerAt e (ask (probe k v)) ≡ groundOf (Probe.probe S D H X k v) (Probe.cachedRows D X k v)
       answer-is =
           answered ∙ sym (probe-full S D (cache e) k v (column-if c) full) ∙
-          ap (λ (h : Holding). groundOf (Probe.probe S D (heldIn S h) X k v)) holding-is
+          ap (λ (h : Holding). groundOf (Probe.probe S D (heldIn S h) X k v) (Probe.cachedRows D X k v)) holding-is
 
       probe-exact : (Probe.probe S D H X k v ≢ 0) ↔ CompleteInAll p (heldWith p os) X k v
       probe-exact = (
@@ -86,10 +86,10 @@ module _ (b : Buffers) (p : Draft) (i : ℕ) (w : Begun b p i) (os : List Operat
           here : (Probe.probe S D H X k v ≢ 0) ↔ ((E : Database) → Alike S D H X E → Complete E X k v)
           here = exact (lawful-same same (w .lawful)) (smallest-same same (called .demand3 .smallest)) c v f full
 
-      pub answer-exact : (x : Answer) → x ≡ answerAt e (ask (probe k v)) → ((g : ℕ) × (x ≡ ground g)) ↔ CompleteInAll p (heldWith p os) X k v
+      pub answer-exact : (x : Answer) → x ≡ answerAt e (ask (probe k v)) → Yes x ↔ CompleteInAll p (heldWith p os) X k v
       answer-exact x h = (
-        λ y. probe-exact .0 (ground-says _ .0 (y .0, sym (h ∙ answer-is) ∙ y .1)),
-        λ all. let y = ground-says _ .1 (probe-exact .1 all) in (y .0, h ∙ answer-is ∙ y .1),
+        λ y. probe-exact .0 (ground-says _ _ .0 (y .0, y .1, sym (h ∙ answer-is) ∙ y .2)),
+        λ all. let y = ground-says _ _ .1 (probe-exact .1 all) in (y .0, y .1, h ∙ answer-is ∙ y .2),
       )
 
     -- a probe that is not refused is such a one
@@ -106,5 +106,5 @@ module _ (b : Buffers) (p : Draft) (i : ℕ) (w : Begun b p i) (os : List Operat
           (λ (q : isBlank v ≡ false). q)
           (dec (isBlank v))
 
-      pub unrefused-exact : Fits v → ((g : ℕ) × (x ≡ ground g)) ↔ CompleteInAll p (heldWith p os) X k v
+      pub unrefused-exact : Fits v → Yes x ↔ CompleteInAll p (heldWith p os) X k v
       unrefused-exact f = answer-exact (column-says S k on-column) f on-full x h

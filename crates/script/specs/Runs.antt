@@ -13,7 +13,7 @@ use Rattle.model.specs.Database.{Database}
 use Rattle.model.specs.Cache.{RowSet, Complete, Alike}
 use Rattle.model.specs.Holding.{Holding, nothingHeld, heldIn}
 use Rattle.model.specs.Runs.{Operation, ask, probe, heldFrom, marks, marked}
-use Rattle.model.specs.Answers.{Answer, refused, ground}
+use Rattle.model.specs.Answers.{Answer, refused, Yes}
 use Rattle.model.specs.Demand.{Demand3}
 use Rattle.state.specs.declared.cell.Cell as State-cell
 use Rattle.state.specs.declared.design.Column as State-column
@@ -152,7 +152,7 @@ pub record ProbesExact (p : Draft) (i : ℕ) (b : Buffers) (os : List Operation)
   pub exact : (earlier later : List Operation) (k : Column) (v : Cell) → os ≡ earlier ++ (ask (probe k v) ∷ later) → Fits v →
       (e : State) → e ≡ stateAfterAll (justRead (accepted p i) b) earlier → (x : Answer) → x ≡ answerAt e (ask (probe k v)) →
       ((n : ℕ) → x ≢ refused n) →
-      ((g : ℕ) × (x ≡ ground g)) ↔ CompleteInAll p (heldWith p earlier) (marked (take 512 (e .marks))) k v
+      Yes x ↔ CompleteInAll p (heldWith p earlier) (marked (take 512 (e .marks))) k v
 
 -- The same for the steps of a script: e is the state behind the first n commands that stand behind the END of the design p, at place i, and the next
 -- step is asked for any place j where a PROBE stands.
@@ -160,7 +160,7 @@ pub record StepsExact (script : List ℕ) (p : Draft) (i : ℕ) (b : Buffers) : 
   pub exact : (n j : ℕ) (words : List ℕ) (k : State-column.Column) (v : State-cell.Cell) → commandAt script j ≡ Operate (Probe k v) → Fits (cellOf v) →
       (e : State) → e ≡ leftFrom n script (justRead (accepted p i) b) (b .words) i .state → (x : Answer) → x ≡ stepAt e words script j .answer →
       ((m : ℕ) → x ≢ refused m) →
-      ((g : ℕ) × (x ≡ ground g)) ↔
+      Yes x ↔
       CompleteInAll p (heldWith p (operationsFrom n script (length (b .words)) i)) (marked (take 512 (e .marks))) (columnOf k) (cellOf v)
 
 -- ---- what a whole run gives
@@ -191,5 +191,5 @@ pub record ProbedAfter (script : List ℕ) (b a : Buffers) (r : Run) (k : Column
       x ≡ answerAt (lent (p .design) (a .cells) (a .tables) (a .marks) (r .held)) (ask (probe k v))
   -- DEMAND 3, of the answer itself: a yes exactly when the value is complete in every lawful database from which the same rows would have been cached
   pub exact : (p : Draft) (i : ℕ) → readingOf script b ≡ accepted p i → ColumnOf (schemeOf (p .design)) k → isBlank v ≡ false →
-      ((g : ℕ) × (x ≡ ground g)) ↔
+      Yes x ↔
       CompleteInAll p (heldBy script p (length (b .words)) i) (cachedBy a) k v

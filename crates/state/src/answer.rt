@@ -10,8 +10,8 @@ pub enum Answer {
     NoCandidate,
     // rows that went
     Dropped(usize),
-    // the lowest ground
-    Ground(u8),
+    // the lowest ground, and how many cached rows have the value
+    Ground(u8, usize),
     Sent,
     // how many lists were written
     Lists(usize),
@@ -53,7 +53,7 @@ pub fn show(answer: Answer) -> Shown
         Answer::Held => words(1, 0, 0, 0),
         Answer::NoCandidate => words(2, 0, 0, 0),
         Answer::Dropped(rows) => words(3, 1, rows as u64, 0),
-        Answer::Ground(g) => words(4, 1, g as u64, 0),
+        Answer::Ground(g, rows) => words(4, 2, g as u64, rows as u64),
         Answer::Sent => words(5, 0, 0, 0),
         Answer::Lists(n) => words(6, 1, n as u64, 0),
         Answer::Refused(cause) => words(7, 1, cause as u64, 0),

@@ -21,8 +21,8 @@ returns-2 : tie.Need-returns-2
 returns-2 c =
     probe-9 _ (c .before .before .before .before .before .before .before .pre .0) _ _ (sym (c .before .before .before .is-column .ensures) ∙ not-false _ (c .before .before .if1 .left)) (sym (c .before .is-blank .ensures) ∙ c .if2 .taken)
 
-ground-requires : tie.Need-ground-requires
-ground-requires c κs =
+search-requires : tie.Need-search-requires
+search-requires c κs =
     let s = c .before .before .before .before .before .before .before in
     let k = sym (c .before .before .before .is-column .ensures) ∙ not-false _ (c .before .before .if1 .left) in (
       (
@@ -38,16 +38,18 @@ ground-requires c κs =
 
 returns-3 : tie.Need-returns-3
 returns-3 c =
-    let p = c .before .before .before .before .before in
-    probe-sent _ (p .before .before .before .before .pre .0) _ _ (sym (p .is-column .ensures) ∙ not-false _ (c .before .before .before .before .if1 .left)) (sym (c .before .before .before .is-blank .ensures) ∙ c .before .before .if2 .left) _
-    (c .before .ground .ensures) (c .if3 .taken)
+    let a = c .before .before in
+    let p = a .before .before .before .before in
+    probe-sent _ (p .before .before .before .before .pre .0) _ _ (sym (p .is-column .ensures) ∙ not-false _ (a .before .before .before .if1 .left)) (sym (a .before .before .is-blank .ensures) ∙ a .before .if2 .left) _ _
+    (a .search .ensures .0) (a .search .ensures .1) (c .if3 .taken)
 
 returns-4 : tie.Need-returns-4
 returns-4 c =
-    let p = c .before .before .before .before .before in
-    probe-ground _ (p .before .before .before .before .pre .0) _ _ (sym (p .is-column .ensures) ∙ not-false _ (c .before .before .before .before .if1 .left)) (sym (c .before .before .before .is-blank .ensures) ∙ c .before .before .if2 .left) _
-    (c .before .ground .ensures) (c .if3 .left)
+    let a = c .before .before in
+    let p = a .before .before .before .before in
+    probe-ground _ (p .before .before .before .before .pre .0) _ _ (sym (p .is-column .ensures) ∙ not-false _ (a .before .before .before .if1 .left)) (sym (a .before .before .is-blank .ensures) ∙ a .before .if2 .left) _ _
+    (a .search .ensures .0) (a .search .ensures .1) (c .if3 .left)
 
 pub probe-lawful-spec : {M : Type 1} → statement M
 probe-lawful-spec =
-    tie.close (tie.spec is-column-requires returns is-blank-requires returns-2 ground-requires returns-3 returns-4)
+    tie.close (tie.spec is-column-requires returns is-blank-requires returns-2 search-requires returns-3 returns-4)

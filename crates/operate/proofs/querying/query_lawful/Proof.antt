@@ -31,8 +31,8 @@ returns-2 c =
     let s = c .before .before .before .before .before .before .before .before in
     query-blank _ (s .pre .0) (held-sized (s .args .held) _ (s .good .1 .1 .1 .1 .1 .1 .1 .1 .1 .0)) _ _ _ (sym (c .before .before .before .output-fits .ensures _) ∙ not-false _ (c .before .before .if1 .left)) (sym (c .before .is-blank .ensures) ∙ c .if2 .taken)
 
-ground-requires : tie.Need-ground-requires
-ground-requires c κs =
+search-requires : tie.Need-search-requires
+search-requires c κs =
     let s = c .before .before .before .before .before .before .before .before .before .before in
     let f = fits-operands _ _ _ (sym (c .before .before .before .before .before .output-fits .ensures 0) ∙ not-false _ (c .before .before .before .before .if1 .left)) in
     let r = sound-range _ (s .pre .0) (sized (s .args .design) _ (s .good .0)) in (
@@ -71,13 +71,13 @@ returns-3 : tie.Need-returns-3
 returns-3 c =
     let s = c .before .before .before .before .before .before .before .before .before .before .before .before .before .before .before .before .before .before .before .before .before in
     step-drawn _ (s .pre .0) _ (s .args .q) _ (sym (c .before .before .before .before .before .before .before .before .before .before .before .before .before .before .before .before .output-fits .ensures _) ∙ not-false _ (c .before .before .before .before .before .before .before .before .before .before .before .before .before .before .before .if1 .left)) (sym (c .before .before .before .before .before .before .before .before .before .before .before .before .before .before .is-blank .ensures) ∙ c .before .before .before .before .before .before .before .before .before .before .before .before .before .if2 .left) _
-    (c .before .before .before .before .before .before .before .before .before .before .ground .ensures) (held-sized (s .args .held) _ (s .good .1 .1 .1 .1 .1 .1 .1 .1 .1 .0)) (λ i. omega (arith, c .before .before .before .before .before .before .before .before .before .before .before .before .before .before .before .before .before .before .before .before .shared-slice-known .given i)) (c .before .before .before .before .before .before .before .before .before .if3 .taken) _ _ (c .before .before .draw .ensures)
+    (c .before .before .before .before .before .before .before .before .before .before .search .ensures .0) (held-sized (s .args .held) _ (s .good .1 .1 .1 .1 .1 .1 .1 .1 .1 .0)) (λ i. omega (arith, c .before .before .before .before .before .before .before .before .before .before .before .before .before .before .before .before .before .before .before .before .shared-slice-known .given i)) (c .before .before .before .before .before .before .before .before .before .if3 .taken) _ _ (c .before .before .draw .ensures)
 
 filling-for-requires : tie.Need-filling-for-requires
 filling-for-requires c κs = sound-fillings _ (c .before .before .before .before .before .before .before .before .before .before .before .before .pre .0)
 
-cast-t40 : tie.Need-cast-t40
-cast-t40 c = omega (arith, filling-byte _ (c .before .before .before .before .before .before .before .before .before .before .before .before .before .before .pre .0) (c .before .before .before .before .before .before .before .before .before .before .before .before .before .before .args .q) _ (c .before .filling-for .ensures))
+cast-t41 : tie.Need-cast-t41
+cast-t41 c = omega (arith, filling-byte _ (c .before .before .before .before .before .before .before .before .before .before .before .before .before .before .pre .0) (c .before .before .before .before .before .before .before .before .before .before .before .before .before .before .args .q) _ (c .before .filling-for .ensures))
 
 takes-requires : tie.Need-takes-requires
 takes-requires c κs = (sound-fillings _ (c .before .before .before .before .before .before .before .before .before .before .before .before .before .before .pre .0), sound-tidy _ (c .before .before .before .before .before .before .before .before .before .before .before .before .before .before .pre .0) .few)
@@ -88,14 +88,14 @@ same-length-3 c = search needs
 returns-4 : tie.Need-returns-4
 returns-4 c =
     let s = c .before .before .before .before .before .before .before .before .before .before .before .before .before .before .before .before in
-    step-sent _ (s .pre .0) _ (s .args .q) _ (sym (c .before .before .before .before .before .before .before .before .before .before .before .output-fits .ensures _) ∙ not-false _ (c .before .before .before .before .before .before .before .before .before .before .if1 .left)) (sym (c .before .before .before .before .before .before .before .before .before .is-blank .ensures) ∙ c .before .before .before .before .before .before .before .before .if2 .left) _ (c .before .before .before .before .before .ground .ensures)
+    step-sent _ (s .pre .0) _ (s .args .q) _ (sym (c .before .before .before .before .before .before .before .before .before .before .before .output-fits .ensures _) ∙ not-false _ (c .before .before .before .before .before .before .before .before .before .before .if1 .left)) (sym (c .before .before .before .before .before .before .before .before .before .is-blank .ensures) ∙ c .before .before .before .before .before .before .before .before .if2 .left) _ (c .before .before .before .before .before .search .ensures .0)
     (c .before .before .before .before .if3 .left) _ (c .before .before .before .filling-for .ensures) (held-sized (s .args .held) _ (s .good .1 .1 .1 .1 .1 .1 .1 .1 .1 .0)) (sym (c .before .takes .ensures) ∙ not-true _ (c .if4 .taken))
 
 refer-and-draw-requires : tie.Need-refer-and-draw-requires
 refer-and-draw-requires c κs =
     let s = c .before .before .before .before .before .before .before .before .before .before .before .before .before .before .before .before .before .before .before .before .before .before in (
       (s .pre .0, s .pre .1),
-      step-refers _ (s .pre .0) [] (s .args .q) _ (sym (c .before .before .before .before .before .before .before .before .before .before .before .before .before .before .before .before .before .output-fits .ensures _) ∙ not-false _ (c .before .before .before .before .before .before .before .before .before .before .before .before .before .before .before .before .if1 .left)) (sym (c .before .before .before .before .before .before .before .before .before .before .before .before .before .before .before .is-blank .ensures) ∙ c .before .before .before .before .before .before .before .before .before .before .before .before .before .before .if2 .left) _ (c .before .before .before .before .before .before .before .before .before .before .before .ground .ensures)
+      step-refers _ (s .pre .0) [] (s .args .q) _ (sym (c .before .before .before .before .before .before .before .before .before .before .before .before .before .before .before .before .before .output-fits .ensures _) ∙ not-false _ (c .before .before .before .before .before .before .before .before .before .before .before .before .before .before .before .before .if1 .left)) (sym (c .before .before .before .before .before .before .before .before .before .before .before .before .before .before .before .is-blank .ensures) ∙ c .before .before .before .before .before .before .before .before .before .before .before .before .before .before .if2 .left) _ (c .before .before .before .before .before .before .before .before .before .before .before .search .ensures .0)
           (c .before .before .before .before .before .before .before .before .before .before .if3 .left) _ (c .before .before .before .before .before .before .before .before .before .filling-for .ensures) (sym (c .before .before .before .before .before .before .before .takes .ensures) ∙ not-false _ (c .before .before .before .before .before .before .if4 .left)),
     )
 
@@ -116,13 +116,13 @@ query-lawful-spec =
     returns
     is-blank-requires
     returns-2
-    ground-requires
+    search-requires
     draw-requires
     same-length
     same-length-2
     returns-3
     filling-for-requires
-    cast-t40
+    cast-t41
     takes-requires
     same-length-3
     returns-4
