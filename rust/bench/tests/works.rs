@@ -103,12 +103,14 @@ fn drops_leave_nothing() {
 }
 
 #[test]
-fn queries_have_all_lists_or_none() {
+fn queries_and_totals_have_all_lists_or_none() {
     for rows in SIZES {
         let lists = answers(&grown(rows, "819 lists of five: query"), 1);
         assert_eq!(lists.last().map(String::as_str), Some("answer 819"));
         let total = answers(&grown(rows, "819 lists of five: total"), 1);
         assert_eq!(total.last().map(String::as_str), Some("total 819"));
+        let total = answers(&grown(rows, "lists of any five rows: total"), 1);
+        assert_eq!(total[1], format!("total {}", (rows as u64).pow(5)));
         let dead_ends = answers(&grown(rows, "dead ends: query"), 1);
         let loaded = format!("loaded {rows} 0");
         assert_eq!(dead_ends, [loaded.as_str(), "answer 0"]);

@@ -19,6 +19,7 @@ pub fn works(rows: usize) -> Vec<Work> {
         drops(rows),
         lists(rows),
         total_of_lists(rows),
+        total_of_any_five(rows),
         dead_ends(rows),
         crowd(rows),
         crowd_beside_a_value(rows),
@@ -173,6 +174,26 @@ fn total_of_lists(rows: usize) -> Work {
         design,
         vec![refer(0, 1), refer(0, 2)],
         &[total(query, 3, 0)],
+    )
+}
+
+/// The total over all lists of any five rows, of which 512 rows have 2^45.
+fn total_of_any_five(rows: usize) -> Work {
+    let mut design = Design {
+        tables: vec![table(1, 0)],
+        constraints: vec![constraint(column(0, 0), column(0, 0))],
+        fillings: vec![filling(column(0, 0))],
+        rows: Vec::new(),
+    };
+    for _ in 0..rows {
+        design.add_row(0, &[1]);
+    }
+    let joins = [join(0, 0), join(1, 0), join(2, 0), join(3, 0)];
+    Work::repeating(
+        "lists of any five rows: total",
+        design,
+        vec![refer(0, 1)],
+        &[total(Query::new(column(0, 0), 1, &joins), 0, 0)],
     )
 }
 

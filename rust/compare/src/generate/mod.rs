@@ -45,7 +45,7 @@ const KINDS: [Kind; 24] = [
     (10, fetching::last_place),
     (8, totals::largest),
     (6, totals::crowd),
-    (4, totals::beside_a_group),
+    (6, totals::beside_a_group),
 ];
 
 /// The script with the given number among those of a seed.

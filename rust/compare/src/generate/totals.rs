@@ -51,11 +51,17 @@ pub fn largest(random: &mut Random) -> Vec<u8> {
 }
 
 /// Rows with one value, each of which demands all of them: their number to the
-/// power of up to five lists, with any cells.
+/// power of up to five lists, with any cells; or 512 rows of the value 1, which
+/// have 2^45 lists of five.
 pub fn crowd(random: &mut Random) -> Vec<u8> {
-    let rows = *random.pick(&[1, 2, 7, 64, 200, 512]);
-    let values = Values::new(1, random.percent(50));
-    let [key, _] = [0, 1].map(|place| column(0, place));
+    let all = random.percent(30);
+    let rows = if all {
+        512
+    } else {
+        *random.pick(&[1, 2, 7, 64, 200, 512])
+    };
+    let values = Values::new(1, !all && random.percent(50));
+    let key = column(0, 0);
     let mut design = Design {
         tables: vec![table(2)],
         constraints: vec![constraint(key, key)],
@@ -65,24 +71,22 @@ pub fn crowd(random: &mut Random) -> Vec<u8> {
     for cell in any_cells(random, rows) {
         design.add_row(0, &[values.get(0), cell]);
     }
+    let count = if all { PAIRS } else { any_count(random) };
+    let joins = any_joins(random, count, |_| 0);
     let total = Total {
-        query: Query::new(key, values.get(0), &any_joins(random, |_| 0)),
-        position: 0,
-        column: random.below(2) as u8,
+        position: random.below(joins.len() + 1) as u8,
+        query: Query::new(key, values.get(0), &joins),
+        column: if all { 0 } else { random.below(2) as u8 },
     };
-    let position = random.below(usize::from(total.query.joins) + 1) as u8;
-    asked_for(
-        random,
-        Draft { design, values },
-        Total { position, ..total },
-    )
+    asked_for(random, Draft { design, values }, total)
 }
 
-/// A large group of table 1 that is cached by itself, and that a row of table 0
-/// leads to or not: if it doesn't, the total is 0, whatever the group comes to.
+/// A group of table 1 that is cached by itself, and that a row of table 0 leads to
+/// or not: if it doesn't, the total is 0, whatever the group comes to. In half of
+/// the cases that is more than 2^64 - 1.
 pub fn beside_a_group(random: &mut Random) -> Vec<u8> {
     let [asked, link] = [0, 1].map(|place| column(0, place));
-    let [target, _] = [0, 1].map(|place| column(1, place));
+    let target = column(1, 0);
     let values = Values::new(2, random.percent(50));
     let [key, group] = [0, 1].map(|place| values.get(place));
     let mut design = Design {
@@ -93,14 +97,22 @@ pub fn beside_a_group(random: &mut Random) -> Vec<u8> {
     };
     let leads = random.percent(30);
     design.add_row(0, &[key, if leads { group } else { 0 }]);
-    let rows = *random.pick(&[1, 20, 300]);
-    for cell in any_cells(random, rows) {
+    let (cells, joins, position) = if random.percent(50) {
+        let cells = vec![u32::MAX; random.within(257..=320)];
+        let joins = [(0, 0), (1, 1), (random.within(1..=2) as u8, 1), (1, 1)];
+        (cells, joins.map(join).to_vec(), random.within(1..=PAIRS))
+    } else {
+        let rows = *random.pick(&[1, 20, 300]);
+        let count = any_count(random);
+        let joins = any_joins(random, count, |position| u8::from(position > 0));
+        (any_cells(random, rows), joins, random.below(count + 1))
+    };
+    for cell in cells {
         design.add_row(1, &[group, cell]);
     }
-    let joins = any_joins(random, |position| u8::from(position > 0));
     let total = Total {
-        position: random.below(joins.len() + 1) as u8,
         query: Query::new(asked, key, &joins),
+        position: position as u8,
         column: 1,
     };
     let mut draft = Draft { design, values };
@@ -114,10 +126,14 @@ pub fn beside_a_group(random: &mut Random) -> Vec<u8> {
     with_operations(random, &draft, commands, 5)
 }
 
-/// One to four joins, each from any earlier position, by the constraint that leads
-/// from there.
-fn any_joins(random: &mut Random, constraint: impl Fn(usize) -> u8) -> Vec<Join> {
-    let count = *random.pick(&[1, 2, 3, PAIRS, PAIRS, PAIRS]);
+/// Four joins, or fewer.
+fn any_count(random: &mut Random) -> usize {
+    *random.pick(&[1, 2, 3, PAIRS, PAIRS, PAIRS])
+}
+
+/// So many joins, each from any earlier position, by the constraint that leads from
+/// there.
+fn any_joins(random: &mut Random, count: usize, constraint: impl Fn(usize) -> u8) -> Vec<Join> {
     let joins = (0..count).map(|earlier| {
         let position = random.below(earlier + 1);
         join((position as u8, constraint(position)))
@@ -215,7 +231,8 @@ mod tests {
     #[test]
     fn crowds_have_totals_of_all_sizes() {
         let totals = first_totals(crowd);
-        assert!(count(&totals, "refused 13") > 20, "{totals:?}");
+        assert!(count(&totals, "total 35184372088832") > 20, "{totals:?}");
+        assert!(count(&totals, "refused 13") > 10, "{totals:?}");
         assert!(count(&totals, "total 0") > 2, "{totals:?}");
         let long = totals.iter().filter(|total| total.len() > 20);
         assert!(long.count() > 20, "{totals:?}");
@@ -225,6 +242,6 @@ mod tests {
     fn what_no_list_reaches_adds_nothing() {
         let totals = first_totals(beside_a_group);
         assert!(count(&totals, "total 0") > 100, "{totals:?}");
-        assert!(count(&totals, "refused 13") > 2, "{totals:?}");
+        assert!(count(&totals, "refused 13") > 20, "{totals:?}");
     }
 }

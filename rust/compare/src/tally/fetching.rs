@@ -4,8 +4,9 @@
 use reference::design::Design;
 use reference::desk::Answer;
 use reference::refusal::Cause;
-use reference::script::{Column, Command, Pair, Total};
+use reference::script::{Column, Command, Pair};
 
+use super::totals;
 use crate::replay::{query_of, Replay};
 
 const MOST_HELD: usize = 64;
@@ -26,7 +27,7 @@ pub fn outcomes(script: &[u8]) -> Vec<&'static str> {
     let mut outcomes = Vec::new();
     while let Some(command) = watch.replay.command() {
         if let Command::Total(total) = &command {
-            outcomes.extend(watch.total_outcome(total));
+            outcomes.extend(totals::outcomes(&watch.design, &watch.replay, total));
         }
         outcomes.extend(watch.outcome(command));
     }
@@ -69,21 +70,6 @@ impl Watch<'_> {
                 let place = self.held.iter().position(|(held, _)| *held == pair)?;
                 let (_, asked) = self.held.remove(place);
                 asked.then_some("drop of what a query or total referred")
-            }
-            _ => None,
-        }
-    }
-
-    /// What a total, which is the next command, shows beside the query with its
-    /// operands.
-    fn total_outcome(&self, total: &Total) -> Option<&'static str> {
-        let listed = self.replay.try_out(&Command::Query(total.query));
-        match (self.replay.try_out(&Command::Total(*total)), listed) {
-            (Ok(_), Err(Cause::AnswerTooLong)) => {
-                Some("total of lists that are too long for a query")
-            }
-            (Err(Cause::WrongOperand), listed) if listed != Err(Cause::WrongOperand) => {
-                Some("total refused 5 for its position or column")
             }
             _ => None,
         }
@@ -181,14 +167,12 @@ mod tests {
     fn totals_are_told_apart() {
         let total = |value, cell| format!("total 0.0 = {value} join 0 by 0 of {cell}\n");
         let operations = [
-            total(1, "1 column 1"),
             total(1, "1 column 0"),
             "drop 0 1\n".into(),
             total(91, "0 column 0"),
             "total 1.0 = 1 of 0 column 0\n".into(),
         ];
         let expected = [
-            "total refused 5 for its position or column",
             "total referred",
             "drop of what a query or total referred",
             "total sent for no candidate",
@@ -198,17 +182,16 @@ mod tests {
     }
 
     #[test]
-    fn totals_of_too_many_lists_and_above_the_largest() {
+    fn totals_that_are_undone() {
         let rows = "row 0 1 4294967295\n".repeat(512);
-        let joins = " join 0 by 0 join 1 by 0 join 2 by 0 join 3 by 0 of 0 column ";
+        let joins = " join 0 by 0 join 1 by 0 join 2 by 0 join 3 by 0 of 0 column 1";
         let text = format!(
             "table 2\nconstraint 0.0 -> 0.0\nfilling 0.0 1..9\n{rows}end\n\
-             total 0.0 = 1{joins}1\nrefer 0 1\ntotal 0.0 = 1{joins}0\n"
+             total 0.0 = 1{joins}\nrefer 0 1\ntotal 0.0 = 1{joins}\n"
         );
         let expected = [
             "total refused 13, its reference undone",
             "load behind an undone reference",
-            "total of lists that are too long for a query",
         ];
         assert_eq!(outcomes(&assemble(&text).expect("a right text")), expected);
     }

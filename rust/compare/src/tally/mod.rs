@@ -5,11 +5,13 @@
 //! - `answer` takes a report apart.
 //! - `links` tells how a design's tables are linked.
 //! - `fetching` tells what came of queries and totals that refer.
+//! - `totals` tells what a total shows beside other questions.
 
 mod answer;
 mod fetching;
 mod links;
 mod names;
+mod totals;
 
 use std::collections::BTreeMap;
 use std::fmt;
@@ -141,9 +143,9 @@ impl Tally {
                 }
             }
             ["ground", ground, rows] => self.count_rows(ground, rows),
-            ["total", total] if total == u64::MAX.to_string() => {
-                self.count("total of 2^64 - 1".into(), 1);
-            }
+            ["total", "18446744073709551615"] => self.count("total of 2^64 - 1".into(), 1),
+            // Of a cell 1, as in the request.
+            ["total", "35184372088832"] => self.count("total over 2^45 lists".into(), 1),
             _ => {}
         }
         match answer.list_words {

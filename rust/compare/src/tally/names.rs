@@ -11,7 +11,7 @@ use notation::{Command, Piece};
 /// 3. Causes 7 and 12 are about lent memory, which no script can spoil. No
 /// answer needs 4,097 words: that has no divisor from 2 to 5, and 512 rows make
 /// no more than 512 lists of one.
-pub const OUTCOMES: [(u32, &str); 75] = [
+pub const OUTCOMES: [(u32, &str); 77] = [
     (0, "design accepted"),
     (0, "design refused 1"),
     (0, "design refused 2"),
@@ -82,6 +82,8 @@ pub const OUTCOMES: [(u32, &str); 75] = [
     (4, "ground of over 255 rows"),
     (4, "ground of 512 rows"),
     (3, "total of 2^64 - 1"),
+    (5, "total over 2^45 lists"),
+    (5, "total beside a group above 2^64 - 1"),
     (0, "2^32 - 1 in a row"),
     (0, "2^32 - 1 loaded with rows"),
     (0, "2^32 - 1 dropped with rows"),

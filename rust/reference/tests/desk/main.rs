@@ -8,6 +8,7 @@ mod even;
 mod fetching;
 mod generated;
 mod grounds;
+mod inward;
 mod limits;
 mod operation_refusals;
 mod queries;
