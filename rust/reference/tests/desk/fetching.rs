@@ -1,19 +1,8 @@
 //! Queries that refer their value first (document 02, Req 02).
 
 use crate::bytes::*;
-use reference::{report, report_lending, ANSWER_WORDS};
-
-/// The lines after the head, lists included, if so many words are lent.
-fn lines_lending(script: &[u8], words: usize) -> Vec<String> {
-    let report = report_lending(script, words);
-    let mut lines = report.lines().map(String::from);
-    assert!(lines.next().is_some_and(|head| head.starts_with("design ")));
-    lines.collect()
-}
-
-fn lines(script: &[u8]) -> Vec<String> {
-    lines_lending(script, ANSWER_WORDS)
-}
+use crate::lines::{lines, lines_lending};
+use reference::report;
 
 /// Subjects of a ward with their recordings and events, in case A's design.
 fn ward(value: u32) -> Vec<u8> {

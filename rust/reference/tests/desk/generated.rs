@@ -4,8 +4,8 @@
 use std::ops::Range;
 
 use crate::bytes::*;
+use crate::lines::lines;
 use crate::random::Random;
-use reference::report;
 
 const DESIGNS: u64 = 3_000;
 
@@ -144,14 +144,6 @@ fn loads(random: &mut Random, tables: usize) -> Vec<u8> {
         });
     }
     script
-}
-
-/// The lines of a report without its head.
-fn lines(script: &[u8]) -> Vec<String> {
-    let report = report(script);
-    let mut lines = report.lines().map(String::from);
-    assert!(lines.next().is_some_and(|head| head.starts_with("design ")));
-    lines.collect()
 }
 
 #[test]

@@ -4,17 +4,9 @@
 use std::time::{Duration, Instant};
 
 use crate::bytes::*;
-use reference::report;
+use crate::lines::lines;
 
 const LARGEST: u32 = u32::MAX;
-
-/// The lines after the head.
-fn lines(script: &[u8]) -> Vec<String> {
-    let report = report(script);
-    let mut lines = report.lines().map(String::from);
-    assert!(lines.next().is_some_and(|head| head.starts_with("design ")));
-    lines.collect()
-}
 
 #[test]
 fn any_five_of_512_rows() {

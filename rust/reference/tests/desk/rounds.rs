@@ -2,15 +2,7 @@
 //! (document 02, Req 01): designs in which one takes as many.
 
 use crate::bytes::*;
-use reference::report;
-
-/// The lines of a report without its head.
-fn lines(script: &[u8]) -> Vec<String> {
-    let report = report(script);
-    let mut lines = report.lines().map(String::from);
-    assert!(lines.next().is_some_and(|head| head.starts_with("design ")));
-    lines.collect()
-}
+use crate::lines::lines;
 
 #[test]
 fn one_table_takes_one_round() {

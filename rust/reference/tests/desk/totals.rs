@@ -1,18 +1,10 @@
 //! Totals (document 02, Req 03): the sum of a cell over all lists of a query.
 
 use crate::bytes::*;
+use crate::lines::lines;
 use crate::random::Random;
-use reference::report;
 
 const LARGEST: u32 = u32::MAX;
-
-/// The lines after the head, lists included.
-fn lines(script: &[u8]) -> Vec<String> {
-    let report = report(script);
-    let mut lines = report.lines().map(String::from);
-    assert!(lines.next().is_some_and(|head| head.starts_with("design ")));
-    lines.collect()
-}
 
 /// Subjects (number, ward) and their events (subject, seconds); wards 1 to 9 can
 /// be loaded.
