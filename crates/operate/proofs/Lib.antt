@@ -1,5 +1,5 @@
--- OutputLaws: what a query is asked for. QueryLists, ReferredCopy, QueryCases, Referred, QuerySteps: a query, with and without a reference. Performed: from each operation to any. EvenBound: how many rounds a REFER of
--- an even design takes.
+-- OutputLaws: what a query is asked for. QueryLists, ReferredCopy, QueryCases, Referred, QuerySteps: a query, with and without a reference. Performed:
+-- from each operation to any. EvenBound: how many rounds a REFER of an even design takes.
 pub mod OutputLaws
 pub mod QueryLists
 pub mod ReferredCopy

@@ -1,4 +1,4 @@
-// REFER, DROP, PROBE and QUERY: over a state known sound with the catalog of its rows, and for whatever is lent.
+// Every operation: over a state known sound with the catalog of its rows, and for whatever is lent.
 ghost use mathlib.Core.Path.{_≡_};
 ghost use mathlib.Core.Bool.{true};
 ghost use lib.ListN.{length};
