@@ -5,7 +5,7 @@ use mathlib.Core.Bool.{Bool, true, false, not, _&&_}
 use lib.Dec.{ltb}
 use Rattle.finite.proofs.Bools.{and-left, and-right, both, cond-true, cond-false}
 use Rattle.finite.specs.Finite.{count}
-use Rattle.model.specs.Cell.{Cell, isBlank}
+use Rattle.model.specs.Cell.{Cell, numberless}
 use Rattle.model.specs.Scheme.{Column, Scheme, isColumn, candidate}
 use Rattle.model.specs.Database.{Database}
 use Rattle.model.specs.Rounds.{reached, addedRows, laterRounds}
@@ -47,16 +47,16 @@ module _ (S : Scheme) (D : Database) (c : Cache) (p : Pair) where
   refer-nowhere h = record { answers = stop _ 5 _ (ap not h); cache = untaken (and-left _ _ h) }
 
   module _ (f : ltb (p .filling) (S .fillings) ≡ true) where
-    -- a blank value, which is no candidate
-    pub refer-blank : isBlank (p .value) ≡ true → candidate (S .filling (p .filling)) (p .value) ≡ false → Kept S D c (refer p) (refused 9)
+    -- a value without a number, which is no candidate
+    pub refer-numberless : numberless (p .value) ≡ true → candidate (S .filling (p .filling)) (p .value) ≡ false → Kept S D c (refer p) (refused 9)
     unfolding answer taken
-    refer-blank b n = record {
+    refer-numberless b n = record {
       answers = go _ 5 _ (ap not f) (stop _ 9 _ b);
       cache = untaken (and-right (ltb (p .filling) (S .fillings)) _ (and-left
           (candidate (S .filling (p .filling)) (p .value)) _ n));
     }
 
-    module _ (b : isBlank (p .value) ≡ false) where
+    module _ (b : numberless (p .value) ≡ false) where
       pub refer-none : candidate (S .filling (p .filling)) (p .value) ≡ false → Kept S D c (refer p) noCandidate
       unfolding answer taken
       refer-none n = record {
@@ -111,12 +111,12 @@ module _ (S : Scheme) (D : Database) (c : Cache) (p : Pair) where
   drop-nowhere h n = record { answers = stop _ 5 _ (ap not h); cache = unlisted n }
 
   module _ (f : ltb (p .filling) (S .fillings) ≡ true) where
-    -- a blank value, which is not held
-    pub drop-blank : isBlank (p .value) ≡ true → holds (c .held) p ≡ false → Kept S D c (drop p) (refused 9)
+    -- a value without a number, which is not held
+    pub drop-numberless : numberless (p .value) ≡ true → holds (c .held) p ≡ false → Kept S D c (drop p) (refused 9)
     unfolding answer
-    drop-blank b n = record { answers = go _ 5 _ (ap not f) (stop _ 9 _ b); cache = unlisted n }
+    drop-numberless b n = record { answers = go _ 5 _ (ap not f) (stop _ 9 _ b); cache = unlisted n }
 
-    module _ (b : isBlank (p .value) ≡ false) where
+    module _ (b : numberless (p .value) ≡ false) where
       pub drop-none : holds (c .held) p ≡ false → Kept S D c (drop p) (refused 10)
       unfolding answer
       drop-none n = record { answers = go _ 5 _ (ap not f) (go _ 9 _ b (stop _ 10 _ (ap not n))); cache = unlisted n }
@@ -139,11 +139,11 @@ module _ (S : Scheme) (D : Database) (c : Cache) (k : Column) (v : Cell) where
   probe-nowhere h = stop _ 5 _ (ap not h)
 
   module _ (f : isColumn S k ≡ true) where
-    pub probe-blank : isBlank v ≡ true → refused 9 ≡ answer S D c (ask (probe k v))
+    pub probe-numberless : numberless v ≡ true → refused 9 ≡ answer S D c (ask (probe k v))
     unfolding answer questionAnswer
-    probe-blank b = go _ 5 _ (ap not f) (stop _ 9 _ b)
+    probe-numberless b = go _ 5 _ (ap not f) (stop _ 9 _ b)
 
-    pub probe-full : isBlank v ≡ false → groundOf (Probe.probe S D (heldIn S (c .held)) (marked (c .marks)) k v) (Probe.cachedRows D (marked (c .marks)) k v) ≡
+    pub probe-full : numberless v ≡ false → groundOf (Probe.probe S D (heldIn S (c .held)) (marked (c .marks)) k v) (Probe.cachedRows D (marked (c .marks)) k v) ≡
         answer S D c (ask (probe k v))
     unfolding answer questionAnswer
     probe-full b = go _ 5 _ (ap not f) (go _ 9 _ b refl)

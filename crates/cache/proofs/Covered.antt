@@ -16,6 +16,7 @@ use Rattle.model.specs.Runs.{marked}
 use Rattle.model.proofs.Closed.{Closed, demands-Demand, constraints-closed}
 use Rattle.model.proofs.Fresh.{fresh-sound}
 use Rattle.model.proofs.RunLaws.{held-wants}
+use Rattle.state.specs.Cells.{Cells}
 use Rattle.state.specs.Meaning.{databaseOf, holdingOf}
 use Rattle.state.specs.Lent.{State, scheme, database, sound}
 use Rattle.lawful.proofs.SoundState.{parts, lawful-fresh}
@@ -45,7 +46,7 @@ unfolding Complete
 meets-wanted S D h X m r t = let q = held-wants S D h .wanted r t in m .values (q .column) (q .value) (q .held) r (q .has)
 
 -- the same of marks, whatever lies past those of the rows
-marks-cover : (S : Scheme) (rows : ℕ) (cells tables m : List ℕ) (p : Pair) (h : Holding) →
+marks-cover : (S : Scheme) (rows : ℕ) (cells : Cells) (tables m : List ℕ) (p : Pair) (h : Holding) →
     Meets S (databaseOf rows cells tables) (heldIn S h) (marked (take 512 m)) →
     Covers S (databaseOf rows cells tables) (wanted S (databaseOf rows cells tables) (withoutPair h p)) (marked m)
 unfolding databaseOf

@@ -15,6 +15,7 @@ use Rattle.model.specs.Scheme as Model
 use Rattle.model.specs.Database.{Database, Has, has}
 use Rattle.model.proofs.CellLaws.{blank-is, equal-full}
 use Rattle.model.proofs.DatabaseLaws.{has-Has, Has-has}
+use Rattle.state.specs.Cells.{Cells}
 use Rattle.state.specs.declared.design.Design.{Design}
 use Rattle.state.specs.Design.{tableAt}
 use Rattle.state.specs.Meaning.{bit, schemeOf, databaseOf}
@@ -27,7 +28,7 @@ use Rattle.finite.proofs.First.{first-from}
 use Rattle.catalog.proofs.CatalogLaws.{next-at, next-has}
 use Rattle.cache.specs.Distinct.{linkedAt, distinct}
 
-module _ (d : Design) (cells tables next : List ℕ) (n : next ≡ nexts (databaseOf (d .rows) cells tables)) where
+module _ (d : Design) (cells : Cells) (tables next : List ℕ) (n : next ≡ nexts (databaseOf (d .rows) cells tables)) where
   abbrev D : Database
   D = databaseOf (d .rows) cells tables
 

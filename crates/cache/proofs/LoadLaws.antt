@@ -19,6 +19,7 @@ use Rattle.model.specs.Rounds.{reached, load, addedRows, laterRounds}
 use Rattle.model.specs.Holding.{wanted}
 use Rattle.model.specs.Runs.{marks, marked, reloadLevels}
 use Rattle.model.proofs.RoundsLaws.{levels-length}
+use Rattle.state.specs.Cells.{Cells}
 use Rattle.state.specs.declared.cell.Cell.{Cell}
 use Rattle.state.specs.declared.design.Column.{Column}
 use Rattle.state.specs.declared.design.Design.{Design}
@@ -55,7 +56,7 @@ pub within-all : (S : Scheme) (D : Database) (seed : RowSet) → Within S D seed
 within-all S D seed =
     record { set = λ _. true; covers = record { closed = λ s r x y. refl; seeds = λ r e. refl }; few = count-le 512 (λ _. true) }
 
-module _ (d : Design) (cells tables : List ℕ) where
+module _ (d : Design) (cells : Cells) (tables : List ℕ) where
   -- ---- a load of one value more
 
   pub value-is : (m : List ℕ) (k : Column) (v : Cell) (K : List ℕ) →

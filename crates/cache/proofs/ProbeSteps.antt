@@ -6,7 +6,7 @@ use mathlib.Core.Path.{_≡_, sym, ap, _∙_}
 use mathlib.Core.Bool.{Bool, true, false}
 use borrow.Author.Tests.{lt-ltb, le-ltb}
 use lib.ListN.{take}
-use Rattle.model.specs.Cell.{Cell, isBlank}
+use Rattle.model.specs.Cell.{Cell, numberless}
 use Rattle.model.specs.Scheme.{Column, isColumn}
 use Rattle.model.specs.Holding.{heldIn}
 use Rattle.model.specs.Runs.{marked, ask, probe}
@@ -16,17 +16,17 @@ use Rattle.state.specs.Meaning.{holdingOf}
 use Rattle.state.specs.Lent.{State, scheme, database, cache, sound, answerAt}
 use Rattle.model.proofs.CountedRows.{rows-behind-yes}
 use Rattle.lawful.proofs.SoundState.{answer-at}
-use Rattle.cache.proofs.Answering.{probe-nowhere, probe-blank, probe-full}
+use Rattle.cache.proofs.Answering.{probe-nowhere, probe-numberless, probe-full}
 
 module _ (s : State) (e : sound s ≡ true) (k : Column) (v : Cell) where
   pub probe-5 : isColumn (scheme s) k ≡ false → refused 5 ≡ answerAt s (ask (probe k v))
   probe-5 h = probe-nowhere (scheme s) (database s) (cache s) k v h ∙ sym (answer-at s e _)
 
   module _ (f : isColumn (scheme s) k ≡ true) where
-    pub probe-9 : isBlank v ≡ true → refused 9 ≡ answerAt s (ask (probe k v))
-    probe-9 b = probe-blank (scheme s) (database s) (cache s) k v f b ∙ sym (answer-at s e _)
+    pub probe-9 : numberless v ≡ true → refused 9 ≡ answerAt s (ask (probe k v))
+    probe-9 b = probe-numberless (scheme s) (database s) (cache s) k v f b ∙ sym (answer-at s e _)
 
-    module _ (b : isBlank v ≡ false) (g n : ℕ) (p : g ≡ Probe.probe (scheme s) (database s) (heldIn (scheme s) (holdingOf (s .held))) (marked (take 512
+    module _ (b : numberless v ≡ false) (g n : ℕ) (p : g ≡ Probe.probe (scheme s) (database s) (heldIn (scheme s) (holdingOf (s .held))) (marked (take 512
         (s .marks))) k v) (r : n ≡ Probe.rowsBehind g (database s) (marked (take 512 (s .marks))) k v) where
       abbrev rows : ℕ
       rows = Probe.cachedRows (database s) (marked (take 512 (s .marks))) k v

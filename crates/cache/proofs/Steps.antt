@@ -11,14 +11,14 @@ use Rattle.finite.specs.Finite.{count}
 use Rattle.finite.proofs.Bools.{clash, refute}
 use Rattle.finite.proofs.Counting.{count-same}
 use Rattle.finite.proofs.Tables.{length-tab}
-use Rattle.model.specs.Cell.{isBlank}
+use Rattle.model.specs.Cell.{numberless}
 use Rattle.model.specs.Scheme.{candidate}
 use Rattle.model.specs.Rounds.{reached, addedRows, laterRounds}
 use Rattle.model.specs.Holding.{Holding, holds, hasRoom, withPair, withoutPair, wanted}
 use Rattle.model.specs.Runs.{Operation, refer, drop, marks, marked, Cache, referLevels, reloadLevels, reloaded}
 use Rattle.model.specs.Answers as Answers
 use Rattle.model.specs.Answers.{Answer, answer, loaded, dropped, refused}
-use Rattle.model.proofs.HoldingLaws.{HoldingFits, fit-fewer, listed-fits, listed-full}
+use Rattle.model.proofs.HoldingLaws.{HoldingFits, fit-fewer, listed-fits, listed-candidate}
 use Rattle.model.proofs.RoundsLaws.{load-same}
 use Rattle.state.specs.declared.held.HeldValue.{HeldValue}
 use Rattle.state.specs.declared.held.Held.{Held}
@@ -33,7 +33,7 @@ use Rattle.lawful.proofs.SoundState.{parts, after, answer-at, held-after, marks
 use Rattle.probe.proofs.GroundLaws.{marked-front}
 use Rattle.load.specs.Ended.{Covers}
 use Rattle.cache.specs.Loads.{rowsOf, valueLevels, heldLevels, settled, goneRows}
-use Rattle.cache.proofs.Answering.{Kept, refer-nowhere, refer-blank, refer-none, refer-held, refer-full, refer-loads, refer-leaves, drop-nowhere, drop-blank, drop-none, drop-drops, drop-leaves}
+use Rattle.cache.proofs.Answering.{Kept, refer-nowhere, refer-numberless, refer-none, refer-held, refer-full, refer-loads, refer-leaves, drop-nowhere, drop-numberless, drop-none, drop-drops, drop-leaves}
 use Rattle.cache.proofs.Covered.{sound-covers}
 use Rattle.cache.proofs.HeldRecord.{pairs-length}
 
@@ -59,13 +59,13 @@ module _ (s : State) (e : sound s ≡ true) where
     refer-5 h = stays l _ _ (refer-nowhere _ _ _ (pairOf v) (le-ltb (v .filling) (s .design .fillings) h))
 
     module _ (f : v .filling < s .design .fillings) where
-      pub refer-9 : isBlank (cellOf (v .value)) ≡ true → Answered s (refer (pairOf v)) (refused 9) s
+      pub refer-9 : numberless (cellOf (v .value)) ≡ true → Answered s (refer (pairOf v)) (refused 9) s
       unfolding schemeOf
       refer-9 b =
-          stays l _ _ (refer-blank _ _ _ (pairOf v) (exists v f) b
-          (refute _ (λ k. clash b (low-full (s .design) (parts s e .design) (v .filling) f (v .value .number) k))))
+          stays l _ _ (refer-numberless _ _ _ (pairOf v) (exists v f) b
+          (refute _ (λ k. clash b (low-full (s .design) (parts s e .design) (v .filling) f (cellOf (v .value)) k))))
 
-      module _ (b : isBlank (cellOf (v .value)) ≡ false) where
+      module _ (b : numberless (cellOf (v .value)) ≡ false) where
         pub refer-no-candidate : candidate (fillingOf (fillingAt (s .design) (v .filling))) (cellOf (v .value)) ≡ false →
             Answered s (refer (pairOf v)) Answers.noCandidate s
         unfolding schemeOf
@@ -125,11 +125,13 @@ module _ (s : State) (e : sound s ≡ true) where
         (refute _ (λ n. let g = listed-fits (scheme s) (pairsOf (s .held)) held-fits (pairOf v) n in omega arith)))
 
     module _ (f : v .filling < s .design .fillings) where
-      pub drop-9 : isBlank (cellOf (v .value)) ≡ true → Answered s (drop (pairOf v)) (refused 9) s
+      pub drop-9 : numberless (cellOf (v .value)) ≡ true → Answered s (drop (pairOf v)) (refused 9) s
       unfolding schemeOf
-      drop-9 b = stays l _ _ (drop-blank _ _ _ (pairOf v) (exists v f) b (refute _ (λ n. clash b (listed-full (pairsOf (s .held)) (pairOf v) n))))
+      drop-9 b =
+          stays l _ _ (drop-numberless _ _ _ (pairOf v) (exists v f) b
+          (refute _ (λ n. clash b (low-full (s .design) (parts s e .design) (v .filling) f (cellOf (v .value)) (listed-candidate (scheme s) (pairsOf (s .held)) held-fits (pairOf v) n)))))
 
-      module _ (b : isBlank (cellOf (v .value)) ≡ false) where
+      module _ (b : numberless (cellOf (v .value)) ≡ false) where
         pub drop-10 : holds (holdingOf (s .held)) (pairOf v) ≡ false → Answered s (drop (pairOf v)) (refused 10) s
         unfolding schemeOf
         drop-10 n = stays l _ _ (drop-none _ _ _ (pairOf v) (exists v f) b n)

@@ -15,7 +15,7 @@ use contract.Monad.{fact}
 use denote.RattleType.{RattleType}
 use denote.Memory.{lone, pointee}
 use denote.Array.{Array}
-use denote.Builtin.{u8, u16, u32, ArrayOf}
+use denote.Builtin.{u8, u16, u32, u64, ArrayOf}
 use denote.Ref.{RefT}
 use denote.Signature.{plain}
 use denote.Slice.{ShrSlice, MutSlice}
@@ -26,6 +26,7 @@ use denote.Triple.Walked.{Stays, stay-none, stay-none-slice, stay-none-ref, stay
 use denote.Exit.{yes}
 use Rattle.model.specs.Holding.{Pair}
 use Rattle.model.specs.Runs.{Operation}
+use Rattle.state.specs.Cells.{cellsIn}
 use Rattle.state.specs.declared.design.Design.{Design}
 use Rattle.state.specs.declared.answer.Answer.{Answer}
 use Rattle.state.specs.declared.held.HeldValue.{HeldValue}
@@ -56,7 +57,7 @@ abbrev pub Firsts : RattleType
 Firsts = Array u16 8192
 
 abbrev pub Keys : RattleType
-Keys = Array u32 4096
+Keys = Array u64 4096
 
 abbrev pub Starts : RattleType
 Starts = Array u16 65
@@ -69,87 +70,53 @@ arrayTy j R = tyRef (named j) imm (pointee (R .written))
 
 abbrev pub shape : Name → Fn
 shape k = record {
-  lifetimes = 9;
+  lifetimes = 10;
   outlives = [];
-  params = 11;
+  params = 12;
   locals = local N′.mir valueLocal ∷ local D′.mir valueLocal ∷ local (lone (ShrSlice (named 0) [] u32 .mir)) valueLocal ∷ local (lone (ShrSlice (named 1) [] u8
-      .mir)) valueLocal ∷ local (arrayTy 2 Links) valueLocal ∷ local (arrayTy 3 Firsts) valueLocal ∷ local (arrayTy 4 Keys) valueLocal ∷ local (arrayTy 5
-      Links) valueLocal ∷ local (arrayTy 6 Starts) valueLocal ∷ local (marksTy (named 7)) valueLocal
-      ∷ local (tyRef (named 8) mut (pointee (T.the-row .written))) valueLocal ∷ local U′.mir valueLocal ∷ local T′.mir valueLocal ∷ local O′.mir valueLocal ∷ local (tyRef erased mut (tyInt w8)) valueLocal ∷ local
+      .mir)) valueLocal ∷ local (lone (ShrSlice (named 2) [] u8
+      .mir)) valueLocal ∷ local (arrayTy 3 Links) valueLocal ∷ local (arrayTy 4 Firsts) valueLocal ∷ local (arrayTy 5 Keys) valueLocal ∷ local (arrayTy 6
+      Links) valueLocal ∷ local (arrayTy 7 Starts) valueLocal ∷ local (marksTy (named 8)) valueLocal
+      ∷ local (tyRef (named 9) mut (pointee (T.the-row .written))) valueLocal ∷ local U′.mir valueLocal ∷ local T′.mir valueLocal ∷ local O′.mir valueLocal ∷ local (tyRef erased mut (tyInt w8)) valueLocal ∷ local
       (marksTy erased) valueLocal ∷ [];
-  body = seq (assign (place 12 []) (rvOpd (copy (place 10 (deref T′.mir ∷ [])))))
-      (seq (assign (place 14 []) (addrOf (place 9 (field 0 ∷ deref (tyInt w8) ∷ []))))
-      (seq (assign (place 15 []) (aggregate (copy (place 14 []) ∷ copy (place 9 (field 1 ∷ [])) ∷ [])))
+  body = seq (assign (place 13 []) (rvOpd (copy (place 11 (deref T′.mir ∷ [])))))
+      (seq (assign (place 15 []) (addrOf (place 10 (field 0 ∷ deref (tyInt w8) ∷ []))))
+      (seq (assign (place 16 []) (aggregate (copy (place 15 []) ∷ copy (place 10 (field 1 ∷ [])) ∷ [])))
       (seq (call k (copy (place 1 []) ∷ copy (place 2 []) ∷ copy (place 3 []) ∷ copy (place 4 []) ∷ copy (place 5 []) ∷ copy (place 6 []) ∷ copy (place 7 []) ∷
-      copy (place 8 []) ∷ copy (place 15 []) ∷ copy (place 12 []) ∷ copy (place 11 []) ∷ []) (place 13 []))
-      (seq (assign (place 10 (deref T′.mir ∷ [])) (rvOpd (copy (place 13 (field 0 ∷ [])))))
-      (seq (assign (place 0 []) (rvOpd (copy (place 13 (field 1 ∷ []))))) return)))));
+      copy (place 8 []) ∷ copy (place 9 []) ∷ copy (place 16 []) ∷ copy (place 13 []) ∷ copy (place 12 []) ∷ []) (place 14 []))
+      (seq (assign (place 11 (deref T′.mir ∷ [])) (rvOpd (copy (place 14 (field 0 ∷ [])))))
+      (seq (assign (place 0 []) (rvOpd (copy (place 14 (field 1 ∷ []))))) return)))));
 }
 
 abbrev pub stayed : Stays (f.ended .signature .params) (f.ended .kept)
-stayed = (
-  stay-none (λ _. D.the-row) yes,
-  (
-    stay-none-slice (0 ∷ []) tt (plain (λ _. u32)) yes,
-    (
-      stay-none-slice (1 ∷ []) tt (plain (λ _. u8)) yes,
-      (
-        stay-none-ref (2 ∷ []) tt (ArrayOf (plain (λ _. u16)) (λ _. tt) 4096) yes,
-        (
-          stay-none-ref (3 ∷ []) tt (ArrayOf (plain (λ _. u16)) (λ _. tt) 8192) yes,
-          (
-            stay-none-ref (4 ∷ []) tt (ArrayOf (plain (λ _. u32)) (λ _. tt) 4096) yes,
-            (
-              stay-none-ref (5 ∷ []) tt (ArrayOf (plain (λ _. u16)) (λ _. tt) 4096) yes,
-              (
-                stay-none-ref (6 ∷ []) tt (ArrayOf (plain (λ _. u16)) (λ _. tt) 65) yes,
-                (
-                  gave-slice (7 ∷ []) tt (plain (λ _. u8)),
-                  (
-                    stay-ref (8 ∷ []) tt (plain (λ _.
-                        T.the-row)),
-                    (stay-none (λ _. U.the-row) yes, tt),
-                  ),
-                ),
-              ),
-            ),
-          ),
-        ),
-      ),
-    ),
-  ),
-)
+stayed = (stay-none (λ _. D.the-row) yes, (stay-none-slice (0 ∷ []) tt (plain (λ _. u32)) yes, (stay-none-slice (1 ∷ []) tt (plain (λ _. u8)) yes, (stay-none-slice (2 ∷ []) tt (plain (λ _. u8)) yes, (stay-none-ref (3 ∷ []) tt (ArrayOf (plain (λ _. u16)) (λ _. tt) 4096) yes, (stay-none-ref (4 ∷ []) tt (ArrayOf (plain (λ _. u16)) (λ _. tt) 8192) yes, (stay-none-ref (5 ∷ []) tt (ArrayOf (plain (λ _. u64)) (λ _. tt) 4096) yes, (stay-none-ref (6 ∷ []) tt (ArrayOf (plain (λ _. u16)) (λ _. tt) 4096) yes, (stay-none-ref (7 ∷ []) tt (ArrayOf (plain (λ _. u16)) (λ _. tt) 65) yes, (gave-slice (8 ∷ []) tt (plain (λ _. u8)), (stay-ref (9 ∷ []) tt (plain (λ _. T.the-row)), (stay-none (λ _. U.the-row) yes, tt))))))))))))
 
 -- the state that the arguments are
-abbrev pub st : Design → RefT (List ℕ) → RefT (List ℕ) → RefT (List ℕ) → Held → State
-st d c t x h = lent d (c .now) (t .now) (x .now) h
+abbrev pub st : Design → RefT (List ℕ) → RefT (List ℕ) → RefT (List ℕ) → RefT (List ℕ) → Held → State
+st d c i t x h = lent d (cellsIn (c .now) (i .now)) (t .now) (x .now) h
 
 -- what the functions ask: the state is sound, and the arrays are its rows' catalog
-abbrev pub Asks : Design → RefT (List ℕ) → RefT (List ℕ) → RefT (List ℕ) → RefT (List ℕ) → RefT (List ℕ) → RefT (List ℕ) → RefT (List ℕ) → RefT (List ℕ) →
+abbrev pub Asks : Design → RefT (List ℕ) → RefT (List ℕ) → RefT (List ℕ) → RefT (List ℕ) → RefT (List ℕ) → RefT (List ℕ) → RefT (List ℕ) → RefT (List ℕ) → RefT (List ℕ) →
     Held → Type 0
-Asks d c t nx fs ks es ss x h = (sound (st d c t x h) ≡ true) × Catalogued d (c .now) (t .now) (nx .now) (fs .now) (ks .now) (es .now) (ss .now)
+Asks d c i t nx fs ks es ss x h = (sound (st d c i t x h) ≡ true) × Catalogued d (cellsIn (c .now) (i .now)) (t .now) (nx .now) (fs .now) (ks .now) (es .now) (ss .now)
 
 -- what they say: the operation on the pair of v answers ω and leaves these marks and this record
-abbrev pub Says : Op → Design → RefT (List ℕ) → RefT (List ℕ) → RefT (List ℕ) → Held → HeldValue → Answer → List ℕ → Held → Type 0
-Says op d c t x h v ω zs h′ = Answered (st d c t x h) (op (pairOf v)) (answerOf ω) (lent d (c .now) (t .now) zs h′)
+abbrev pub Says : Op → Design → RefT (List ℕ) → RefT (List ℕ) → RefT (List ℕ) → RefT (List ℕ) → Held → HeldValue → Answer → List ℕ → Held → Type 0
+Says op d c i t x h v ω zs h′ = Answered (st d c i t x h) (op (pairOf v)) (answerOf ω) (lent d (cellsIn (c .now) (i .now)) (t .now) zs h′)
 
 module _ (op : Op) {M : Type 1} (𝓤 : URA M) where
   abbrev pub callee : Clauses 𝓤 g.ended
   callee κs a = record {
     ghost = Unit {0};
-    requires = λ _. fact 𝓤 (Asks (a .0) (a .1 .0) (a .1 .1 .0) (a .1 .1 .1 .0) (a .1 .1 .1 .1 .0) (a .1 .1 .1 .1 .1 .0) (a .1 .1 .1 .1 .1 .1 .0) (a .1 .1 .1 .1
-        .1 .1 .1 .0) (a .1 .1 .1 .1 .1 .1 .1 .1 .0) (a .1 .1 .1 .1 .1 .1 .1 .1 .1 .0));
-    ensures = λ _ r e. fact 𝓤 (Says op (a .0) (a .1 .0) (a .1 .1 .0) (a .1 .1 .1 .1 .1 .1 .1 .1 .0) (a .1 .1 .1 .1 .1 .1 .1 .1 .1 .0) (a .1 .1 .1 .1 .1 .1 .1 .1
-        .1 .1 .0) (r .answer) (e .1 .1 .1 .1 .1 .1 .1 .1 .0 .now) (r .held));
+    requires = λ _. fact 𝓤 (Asks (a .0) (a .1 .0) (a .1 .1 .0) (a .1 .1 .1 .0) (a .1 .1 .1 .1 .0) (a .1 .1 .1 .1 .1 .0) (a .1 .1 .1 .1 .1 .1 .0) (a .1 .1 .1 .1 .1 .1 .1 .0) (a .1 .1 .1 .1 .1 .1 .1 .1 .0) (a .1 .1 .1 .1 .1 .1 .1 .1 .1 .0) (a .1 .1 .1 .1 .1 .1 .1 .1 .1 .1 .0));
+    ensures = λ _ r e. fact 𝓤 (Says op (a .0) (a .1 .0) (a .1 .1 .0) (a .1 .1 .1 .0) (a .1 .1 .1 .1 .1 .1 .1 .1 .1 .0) (a .1 .1 .1 .1 .1 .1 .1 .1 .1 .1 .0) (a .1 .1 .1 .1 .1 .1 .1 .1 .1 .1 .1 .0) (r .answer) (e .1 .1 .1 .1 .1 .1 .1 .1 .1 .0 .now) (r .held));
   }
 
   abbrev pub wrapper : Clauses 𝓤 f.ended
   wrapper κs a = record {
     ghost = Unit {0};
-    requires = λ _. fact 𝓤 (Asks (a .0) (a .1 .0) (a .1 .1 .0) (a .1 .1 .1 .0) (a .1 .1 .1 .1 .0) (a .1 .1 .1 .1 .1 .0) (a .1 .1 .1 .1 .1 .1 .0) (a .1 .1 .1 .1
-        .1 .1 .1 .0) (a .1 .1 .1 .1 .1 .1 .1 .1 .0) (a .1 .1 .1 .1 .1 .1 .1 .1 .1 .0 .now));
-    ensures = λ _ r e. fact 𝓤 (Says op (a .0) (a .1 .0) (a .1 .1 .0) (a .1 .1 .1 .1 .1 .1 .1 .1 .0) (a .1 .1 .1 .1 .1 .1 .1 .1 .1 .0 .now) (a .1 .1 .1 .1 .1 .1
-        .1 .1 .1 .1 .0) r (e .1 .1 .1 .1 .1 .1 .1 .1 .0 .now) (e .1 .1 .1 .1 .1 .1 .1 .1 .1 .0 .now));
+    requires = λ _. fact 𝓤 (Asks (a .0) (a .1 .0) (a .1 .1 .0) (a .1 .1 .1 .0) (a .1 .1 .1 .1 .0) (a .1 .1 .1 .1 .1 .0) (a .1 .1 .1 .1 .1 .1 .0) (a .1 .1 .1 .1 .1 .1 .1 .0) (a .1 .1 .1 .1 .1 .1 .1 .1 .0) (a .1 .1 .1 .1 .1 .1 .1 .1 .1 .0) (a .1 .1 .1 .1 .1 .1 .1 .1 .1 .1 .0 .now));
+    ensures = λ _ r e. fact 𝓤 (Says op (a .0) (a .1 .0) (a .1 .1 .0) (a .1 .1 .1 .0) (a .1 .1 .1 .1 .1 .1 .1 .1 .1 .0) (a .1 .1 .1 .1 .1 .1 .1 .1 .1 .1 .0 .now) (a .1 .1 .1 .1 .1 .1 .1 .1 .1 .1 .1 .0) r (e .1 .1 .1 .1 .1 .1 .1 .1 .1 .0 .now) (e .1 .1 .1 .1 .1 .1 .1 .1 .1 .1 .0 .now));
   }
 
 abbrev pub G : (op : Op) {M : Type 1} (𝓤 : URA M) (H : Heap 𝓤) (A : Atoms 𝓤) → Contract 𝓤

@@ -2,6 +2,7 @@
 ghost use mathlib.Core.Bool.{true};
 ghost use mathlib.Core.Path.{_≡_};
 ghost use Rattle.model.specs.Runs as Runs;
+ghost use Rattle.state.specs.Cells.{cellsIn};
 ghost use Rattle.state.specs.Meaning.{pairOf, answerOf};
 ghost use Rattle.state.specs.Lent.{lent, sound, Answered};
 ghost use Rattle.catalog.specs.Catalog.{Catalogued};
@@ -16,26 +17,28 @@ use state::HeldValue;
 pub fn refer(
     design: Design,
     cells: &[u32],
+    issues: &[u8],
     tables: &[u8],
     next: &[u16; 4096],
     first: &[u16; 8192],
-    keys: &[u32; 4096],
+    keys: &[u64; 4096],
     heads: &[u16; 4096],
     starts: &[u16; 65],
     marks: &mut [u8],
     held: &mut Held,
     v: HeldValue,
 ) -> Answer
-    requires { ⌜ (sound (lent design (now cells) (now tables) (now marks) (now held)) ≡ true)
-        × Catalogued design (now cells) (now tables) (now next) (now first) (now keys) (now heads) (now starts) ⌝ }
-    ensures { λ a. ⌜ Answered (lent design (now (cells .entry)) (now (tables .entry)) (now (marks .entry)) (now (held .entry)))
+    requires { ⌜ (sound (lent design (cellsIn (now cells) (now issues)) (now tables) (now marks) (now held)) ≡ true)
+        × Catalogued design (cellsIn (now cells) (now issues)) (now tables) (now next) (now first) (now keys) (now heads) (now starts) ⌝ }
+    ensures { λ a. ⌜ Answered (lent design (cellsIn (now (cells .entry)) (now (issues .entry))) (now (tables .entry)) (now (marks .entry)) (now (held .entry)))
         (Runs.refer (pairOf v)) (answerOf a)
-        (lent design (now (cells .entry)) (now (tables .entry)) (now (marks .exit)) (now (held .exit))) ⌝ }
+        (lent design (cellsIn (now (cells .entry)) (now (issues .entry))) (now (tables .entry)) (now (marks .exit)) (now (held .exit))) ⌝ }
 {
     let h = *held;
     let o = refer_lawful(
         design,
         cells,
+        issues,
         tables,
         next,
         first,
@@ -54,26 +57,28 @@ pub fn refer(
 pub fn drop(
     design: Design,
     cells: &[u32],
+    issues: &[u8],
     tables: &[u8],
     next: &[u16; 4096],
     first: &[u16; 8192],
-    keys: &[u32; 4096],
+    keys: &[u64; 4096],
     heads: &[u16; 4096],
     starts: &[u16; 65],
     marks: &mut [u8],
     held: &mut Held,
     v: HeldValue,
 ) -> Answer
-    requires { ⌜ (sound (lent design (now cells) (now tables) (now marks) (now held)) ≡ true)
-        × Catalogued design (now cells) (now tables) (now next) (now first) (now keys) (now heads) (now starts) ⌝ }
-    ensures { λ a. ⌜ Answered (lent design (now (cells .entry)) (now (tables .entry)) (now (marks .entry)) (now (held .entry)))
+    requires { ⌜ (sound (lent design (cellsIn (now cells) (now issues)) (now tables) (now marks) (now held)) ≡ true)
+        × Catalogued design (cellsIn (now cells) (now issues)) (now tables) (now next) (now first) (now keys) (now heads) (now starts) ⌝ }
+    ensures { λ a. ⌜ Answered (lent design (cellsIn (now (cells .entry)) (now (issues .entry))) (now (tables .entry)) (now (marks .entry)) (now (held .entry)))
         (Runs.drop (pairOf v)) (answerOf a)
-        (lent design (now (cells .entry)) (now (tables .entry)) (now (marks .exit)) (now (held .exit))) ⌝ }
+        (lent design (cellsIn (now (cells .entry)) (now (issues .entry))) (now (tables .entry)) (now (marks .exit)) (now (held .exit))) ⌝ }
 {
     let h = *held;
     let o = drop_lawful(
         design,
         cells,
+        issues,
         tables,
         next,
         first,

@@ -6,6 +6,7 @@ ghost use Rattle.model.specs.Answers as Answers;
 ghost use Rattle.model.specs.Rounds.{addedRows, laterRounds};
 ghost use Rattle.model.specs.Holding.{wanted};
 ghost use Rattle.model.specs.Runs.{marked};
+ghost use Rattle.state.specs.Cells.{cellsIn};
 ghost use Rattle.state.specs.Design.{InRange};
 ghost use Rattle.state.specs.Held.{heldAt};
 ghost use Rattle.state.specs.Meaning.{answerOf, schemeOf, holdingOf};
@@ -27,10 +28,11 @@ use state::Held;
 pub(crate) fn mark_value(
     design: Design,
     cells: &[u32],
+    issues: &[u8],
     tables: &[u8],
     next: &[u16; 4096],
     first: &[u16; 8192],
-    keys: &[u32; 4096],
+    keys: &[u64; 4096],
     heads: &[u16; 4096],
     starts: &[u16; 65],
     marks: &mut [u8],
@@ -38,19 +40,20 @@ pub(crate) fn mark_value(
     value: Cell,
 ) -> Answer
     requires { ⌜ InRange design × (512 ≤ length (now marks)) × (column .table < 8) × (column .place < 8) ⌝ }
-    requires { ⌜ Catalogued design (now cells) (now tables) (now next) (now first) (now keys) (now heads) (now starts) ⌝ }
+    requires { ⌜ Catalogued design (cellsIn (now cells) (now issues)) (now tables) (now next) (now first) (now keys) (now heads) (now starts) ⌝ }
     ensures { λ a. ⌜ (answerOf a ≡ Answers.loaded
-        (addedRows (rowsOf design (now (cells .entry)) (now (tables .entry)))
-        (valueLevels design (now (cells .entry)) (now (tables .entry)) (now (marks .entry)) column value))
-        (laterRounds (rowsOf design (now (cells .entry)) (now (tables .entry)))
-        (valueLevels design (now (cells .entry)) (now (tables .entry)) (now (marks .entry)) column value)))
-        × (now (marks .exit) ≡ settled (rowsOf design (now (cells .entry)) (now (tables .entry)))
-        (valueLevels design (now (cells .entry)) (now (tables .entry)) (now (marks .entry)) column value) (now (marks .entry))) ⌝ }
+        (addedRows (rowsOf design (cellsIn (now (cells .entry)) (now (issues .entry))) (now (tables .entry)))
+        (valueLevels design (cellsIn (now (cells .entry)) (now (issues .entry))) (now (tables .entry)) (now (marks .entry)) column value))
+        (laterRounds (rowsOf design (cellsIn (now (cells .entry)) (now (issues .entry))) (now (tables .entry)))
+        (valueLevels design (cellsIn (now (cells .entry)) (now (issues .entry))) (now (tables .entry)) (now (marks .entry)) column value)))
+        × (now (marks .exit) ≡ settled (rowsOf design (cellsIn (now (cells .entry)) (now (issues .entry))) (now (tables .entry)))
+        (valueLevels design (cellsIn (now (cells .entry)) (now (issues .entry))) (now (tables .entry)) (now (marks .entry)) column value) (now (marks .entry))) ⌝ }
 {
     let mut levels = [0u16; 512];
     let grown = load_value(
         design,
         cells,
+        issues,
         tables,
         next,
         first,
@@ -72,29 +75,31 @@ pub(crate) fn mark_value(
 pub(crate) fn mark_held(
     design: Design,
     cells: &[u32],
+    issues: &[u8],
     tables: &[u8],
     next: &[u16; 4096],
     first: &[u16; 8192],
-    keys: &[u32; 4096],
+    keys: &[u64; 4096],
     heads: &[u16; 4096],
     starts: &[u16; 65],
     marks: &mut [u8],
     held: Held,
 ) -> Answer
     requires { ⌜ InRange design × (512 ≤ length (now marks)) × (held .count ≤ 64) × ((i : ℕ) → heldAt held i .filling < 8) ⌝ }
-    requires { ⌜ Catalogued design (now cells) (now tables) (now next) (now first) (now keys) (now heads) (now starts) ⌝ }
-    requires { ⌜ Covers (schemeOf design) (rowsOf design (now cells) (now tables))
-        (wanted (schemeOf design) (rowsOf design (now cells) (now tables)) (holdingOf held)) (marked (now marks)) ⌝ }
-    ensures { λ a. ⌜ (answerOf a ≡ Answers.dropped (goneRows (rowsOf design (now (cells .entry)) (now (tables .entry)))
-        (heldLevels design (now (cells .entry)) (now (tables .entry)) held) (now (marks .entry))))
-        × (now (marks .exit) ≡ settled (rowsOf design (now (cells .entry)) (now (tables .entry)))
-        (heldLevels design (now (cells .entry)) (now (tables .entry)) held) (now (marks .entry))) ⌝ }
+    requires { ⌜ Catalogued design (cellsIn (now cells) (now issues)) (now tables) (now next) (now first) (now keys) (now heads) (now starts) ⌝ }
+    requires { ⌜ Covers (schemeOf design) (rowsOf design (cellsIn (now cells) (now issues)) (now tables))
+        (wanted (schemeOf design) (rowsOf design (cellsIn (now cells) (now issues)) (now tables)) (holdingOf held)) (marked (now marks)) ⌝ }
+    ensures { λ a. ⌜ (answerOf a ≡ Answers.dropped (goneRows (rowsOf design (cellsIn (now (cells .entry)) (now (issues .entry))) (now (tables .entry)))
+        (heldLevels design (cellsIn (now (cells .entry)) (now (issues .entry))) (now (tables .entry)) held) (now (marks .entry))))
+        × (now (marks .exit) ≡ settled (rowsOf design (cellsIn (now (cells .entry)) (now (issues .entry))) (now (tables .entry)))
+        (heldLevels design (cellsIn (now (cells .entry)) (now (issues .entry))) (now (tables .entry)) held) (now (marks .entry))) ⌝ }
 {
     let cached = rows_marked(marks);
     let mut levels = [0u16; 512];
     let rows = load_held(
         design,
         cells,
+        issues,
         tables,
         next,
         first,

@@ -2,6 +2,7 @@
 ghost use mathlib.Core.Bool.{true};
 ghost use mathlib.Core.Path.{_≡_};
 ghost use Rattle.model.specs.Runs as Runs;
+ghost use Rattle.state.specs.Cells.{cellsIn};
 ghost use Rattle.state.specs.Meaning.{answerOf, cellOf, columnOf, databaseOf};
 ghost use Rattle.state.specs.Lent.{lent, sound, answerAt};
 ghost use Rattle.catalog.specs.Catalog.{nexts, Directory};
@@ -12,16 +13,17 @@ use state::Cell;
 use state::Column;
 use state::Design;
 use state::Held;
-use state::is_blank;
+use state::is_numberless;
 
 // A yes is the lowest ground. Held values, and a look for the value for each constraint that ends at the column and once more if it
 // is unique; with a yes a step for each row that has the value, too.
 pub fn probe_lawful(
     design: Design,
     cells: &[u32],
+    issues: &[u8],
     tables: &[u8],
     next: &[u16; 4096],
-    keys: &[u32; 4096],
+    keys: &[u64; 4096],
     heads: &[u16; 4096],
     starts: &[u16; 65],
     marks: &[u8],
@@ -29,21 +31,22 @@ pub fn probe_lawful(
     k: Column,
     v: Cell,
 ) -> Answer
-    requires { ⌜ sound (lent design (now cells) (now tables) (now marks) held) ≡ true ⌝ }
-    requires { ⌜ (now next ≡ nexts (databaseOf (design .rows) (now cells) (now tables)))
-        × Directory (databaseOf (design .rows) (now cells) (now tables)) (now keys) (now heads) (now starts) ⌝ }
-    ensures { λ a. ⌜ answerOf a ≡ answerAt (lent design (now (cells .entry)) (now (tables .entry)) (now (marks .entry)) held)
+    requires { ⌜ sound (lent design (cellsIn (now cells) (now issues)) (now tables) (now marks) held) ≡ true ⌝ }
+    requires { ⌜ (now next ≡ nexts (databaseOf (design .rows) (cellsIn (now cells) (now issues)) (now tables)))
+        × Directory (databaseOf (design .rows) (cellsIn (now cells) (now issues)) (now tables)) (now keys) (now heads) (now starts) ⌝ }
+    ensures { λ a. ⌜ answerOf a ≡ answerAt (lent design (cellsIn (now (cells .entry)) (now (issues .entry))) (now (tables .entry)) (now (marks .entry)) held)
         (Runs.ask (Runs.probe (columnOf k) (cellOf v))) ⌝ }
 {
     if !is_column(design, k) {
         return Answer::Refused(5);
     }
-    if is_blank(v) {
+    if is_numberless(v) {
         return Answer::Refused(9);
     }
     let found = search(
         design,
         cells,
+        issues,
         tables,
         next,
         keys,

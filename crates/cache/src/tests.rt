@@ -3,6 +3,7 @@ ghost use Prim.Native.Nat.{_≤_};
 ghost use mathlib.Core.Bool.{true};
 ghost use mathlib.Core.Path.{_≡_};
 ghost use lib.ListN.{length};
+ghost use Rattle.state.specs.Cells.{cellsIn};
 ghost use Rattle.state.specs.declared.design.Design.{Design};
 ghost use Rattle.state.specs.declared.held.Held.{Held};
 ghost use Rattle.state.specs.Design.{Backed};
@@ -19,10 +20,13 @@ use state::Design;
 use state::Held;
 
 // Whether the buffers have room for 512 rows. Constant time.
-fn is_long_enough(cells: &[u32], tables: &[u8], marks: &[u8]) -> bool
-    ensures { λ b. ⌜ ((d : Design) (h : Held) → b ≡ longEnough (lent d (now (cells .entry)) (now (tables .entry)) (now (marks .entry)) h)) ⌝ }
+fn is_long_enough(cells: &[u32], issues: &[u8], tables: &[u8], marks: &[u8]) -> bool
+    ensures { λ b. ⌜ ((d : Design) (h : Held) → b ≡ longEnough (lent d (cellsIn (now (cells .entry)) (now (issues .entry))) (now (tables .entry)) (now (marks .entry)) h)) ⌝ }
 {
     if cells.len() < Design::CELLS {
+        return false;
+    }
+    if issues.len() < Design::CELLS {
         return false;
     }
     if tables.len() < Design::ROWS {
@@ -36,30 +40,41 @@ fn is_long_enough(cells: &[u32], tables: &[u8], marks: &[u8]) -> bool
 fn is_lawful_catalog(
     design: Design,
     cells: &[u32],
+    issues: &[u8],
     tables: &[u8],
     next: &mut [u16; 4096],
     first: &mut [u16; 8192],
-    keys: &mut [u32; 4096],
+    keys: &mut [u64; 4096],
     heads: &mut [u16; 4096],
     starts: &mut [u16; 65],
     marks: &[u8],
     held: Held,
 ) -> bool
-    requires { ⌜ Backed (now cells) (now tables) × (512 ≤ length (now marks)) ⌝ }
-    ensures { λ b. ⌜ (b ≡ lawful (lent design (now (cells .entry)) (now (tables .entry)) (now (marks .entry)) held))
-        × (b ≡ true → Catalogued design (now (cells .entry)) (now (tables .entry)) (now (next .exit)) (now (first .exit)) (now (keys .exit))
+    requires { ⌜ Backed (cellsIn (now cells) (now issues)) (now tables) × (512 ≤ length (now marks)) ⌝ }
+    ensures { λ b. ⌜ (b ≡ lawful (lent design (cellsIn (now (cells .entry)) (now (issues .entry))) (now (tables .entry)) (now (marks .entry)) held))
+        × (b ≡ true → Catalogued design (cellsIn (now (cells .entry)) (now (issues .entry))) (now (tables .entry)) (now (next .exit)) (now (first .exit)) (now (keys .exit))
         (now (heads .exit)) (now (starts .exit))) ⌝ }
 {
     if !lawful_design(design) {
         return false;
     }
-    if !rows_stand(design, cells, tables) {
+    if !rows_stand(design, cells, issues, tables) {
         return false;
     }
     if !lawful_held(design, held) {
         return false;
     }
-    build(design, cells, tables, next, first, keys, heads, starts);
+    build(
+        design,
+        cells,
+        issues,
+        tables,
+        next,
+        first,
+        keys,
+        heads,
+        starts,
+    );
     if !is_distinct(design, tables, next) {
         return false;
     }
@@ -67,6 +82,7 @@ fn is_lawful_catalog(
     load_held(
         design,
         cells,
+        issues,
         tables,
         next,
         first,
@@ -85,25 +101,27 @@ fn is_lawful_catalog(
 pub fn cause(
     design: Design,
     cells: &[u32],
+    issues: &[u8],
     tables: &[u8],
     next: &mut [u16; 4096],
     first: &mut [u16; 8192],
-    keys: &mut [u32; 4096],
+    keys: &mut [u64; 4096],
     heads: &mut [u16; 4096],
     starts: &mut [u16; 65],
     marks: &[u8],
     held: Held,
 ) -> u8
-    ensures { λ c. ⌜ (c ≡ causeAt (lent design (now (cells .entry)) (now (tables .entry)) (now (marks .entry)) held))
-        × (c ≡ 0 → Catalogued design (now (cells .entry)) (now (tables .entry)) (now (next .exit)) (now (first .exit)) (now (keys .exit))
+    ensures { λ c. ⌜ (c ≡ causeAt (lent design (cellsIn (now (cells .entry)) (now (issues .entry))) (now (tables .entry)) (now (marks .entry)) held))
+        × (c ≡ 0 → Catalogued design (cellsIn (now (cells .entry)) (now (issues .entry))) (now (tables .entry)) (now (next .exit)) (now (first .exit)) (now (keys .exit))
         (now (heads .exit)) (now (starts .exit))) ⌝ }
 {
-    if !is_long_enough(cells, tables, marks) {
+    if !is_long_enough(cells, issues, tables, marks) {
         return 7;
     }
     if !is_lawful_catalog(
         design,
         cells,
+        issues,
         tables,
         next,
         first,

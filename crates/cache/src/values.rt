@@ -61,7 +61,10 @@ pub(crate) fn closed(held: Held, gap: usize) -> Held
     }
     values[Held::PLACES - 1] = HeldValue {
         filling: 0,
-        value: Cell { number: 0 },
+        value: Cell {
+            number: 0,
+            issue: 0,
+        },
     };
     Held {
         count: held.count - 1,

@@ -18,6 +18,7 @@ use Rattle.model.specs.Scheme.{Scheme}
 use Rattle.model.specs.Database.{Database, has}
 use Rattle.model.specs.Rounds.{leads}
 use Rattle.model.specs.Scheme as Model
+use Rattle.state.specs.Cells.{Cells}
 use Rattle.state.specs.declared.cell.Cell as State
 use Rattle.state.specs.Meaning.{cellOf, cellAt, databaseOf}
 use Rattle.state.proofs.RowLaws.{cell-at}
@@ -27,7 +28,7 @@ use Rattle.catalog.proofs.Rows.{table-is}
 
 -- ---- one row
 
-module _ (rows : ℕ) (cells tables : List ℕ) (j : Model.Constraint) (s : ℕ) where
+module _ (rows : ℕ) (cells : Cells) (tables : List ℕ) (j : Model.Constraint) (s : ℕ) where
   abbrev D : Database
   D = databaseOf rows cells tables
 

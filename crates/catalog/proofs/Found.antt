@@ -8,13 +8,14 @@ use borrow.Author.Tests.{ltb-true, eqb-true, lt-ltb, eq-eqb}
 use lib.Dec.{eqb, ltb}
 use lib.ListN.{getD}
 use Rattle.finite.proofs.Bools.{both, clash}
-use Rattle.model.specs.Cell.{Cell, numbered}
+use Rattle.model.specs.Cell.{Cell}
 use Rattle.model.specs.Database.{Database, has}
 use Rattle.model.specs.Scheme as Model
 use Rattle.finite.specs.Finite.{firstFrom}
-use Rattle.catalog.specs.Catalog.{Falls, Lists, Directory}
+use Rattle.catalog.specs.Catalog.{keyOf, valueOf, Falls, Lists, Directory}
 use Rattle.catalog.specs.Listing.{Searched}
 use Rattle.catalog.proofs.Searching.{searched-only}
+use Rattle.catalog.proofs.KeyLaws.{value-is}
 use Rattle.catalog.proofs.ListedLaws.{listed-hit, listed-miss}
 
 -- ---- whether x stands at place a
@@ -42,7 +43,7 @@ module _ (D : Database) (keys heads starts : List ℕ) (d : Directory D keys hea
   find-none v h = absurd (omega (arith, d .column t c p q .bound))
 
   -- place a is the seat of x, the value's key
-  module _ (v : Cell) (x : ℕ) (key : x ≡ v .number) (from a : ℕ) (y : from ≡ getD starts (8 * t + c) 0)
+  module _ (v : Cell) (x : ℕ) (key : (x ≡ keyOf v) × (v .issue < 256)) (from a : ℕ) (y : from ≡ getD starts (8 * t + c) 0)
       (s : from ≤ to → Falls from to keys → Searched from to x a a keys) (b : Bool) (e : b ≡ ltb a to && eqb (getD keys a 0) x) where
     lists : Lists D k from to keys heads
     lists =
@@ -52,16 +53,16 @@ module _ (D : Database) (keys heads starts : List ℕ) (d : Directory D keys hea
     seat-is : Searched from to x a a keys
     seat-is = s (lists .order) (lists .falls)
 
-    value-is : firstFrom 512 (has D k (numbered x)) 0 ≡ firstFrom 512 (has D k v) 0
-    value-is = ap (λ (z : ℕ). firstFrom 512 (has D k (numbered z)) 0) key
+    same-first : firstFrom 512 (has D k (valueOf x)) 0 ≡ firstFrom 512 (has D k v) 0
+    same-first = ap (λ (w : Cell). firstFrom 512 (has D k w) 0) (value-is v x key)
 
     pub find-hit : (r : ℕ) → r ≡ getD heads a 0 → b ≡ true → r ≡ firstFrom 512 (has D k v) 0
     find-hit r w h =
         let u = stands-here b keys to a x e h in
-        w ∙ listed-hit D k 0 from to keys heads lists x a (seat-is .start) (u .0) (u .1) ∙ value-is
+        w ∙ listed-hit D k 0 from to keys heads lists x a (seat-is .start) (u .0) (u .1) ∙ same-first
 
     pub find-miss : b ≡ false → 512 ≡ firstFrom 512 (has D k v) 0
     find-miss h =
         sym (listed-miss D k 0 from to keys heads lists x
         (λ i m n w. let o = searched-only from to x keys a (lists .falls) seat-is i m n w in
-        stands-not b keys to a x e h (omega arith) (ap (λ (z : ℕ). getD keys z 0) (sym o) ∙ w))) ∙ value-is
+        stands-not b keys to a x e h (omega arith) (ap (λ (z : ℕ). getD keys z 0) (sym o) ∙ w))) ∙ same-first

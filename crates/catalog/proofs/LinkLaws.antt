@@ -7,6 +7,7 @@ use mathlib.Core.List.{List}
 use lib.ListN.{getD}
 use Rattle.model.specs.Cell.{isBlank}
 use Rattle.model.specs.Database.{Database, has}
+use Rattle.state.specs.Cells.{Cells}
 use Rattle.state.specs.declared.cell.Cell.{Cell}
 use Rattle.state.specs.Meaning.{cellOf, cellAt, databaseOf}
 use Rattle.finite.specs.Finite.{firstFrom}
@@ -19,7 +20,7 @@ use Rattle.catalog.proofs.Rows.{has-dead, has-blank, next-none, table-i
 cell-number : (x : ℕ) → 8 * (x / 8) + x % 8 ≡ x
 cell-number x = omega arith
 
-module _ (rows : ℕ) (cells tables : List ℕ) (x : ℕ) (l : x < 4096) where
+module _ (rows : ℕ) (cells : Cells) (tables : List ℕ) (x : ℕ) (l : x < 4096) where
   abbrev D : Database
   D = databaseOf rows cells tables
 

@@ -9,16 +9,17 @@ use mathlib.Core.Logic.{_⊎_, inl, inr, ⊎-elim}
 use lib.ListN.{length, getD, set}
 use lib.Seq.{getD-set-same, getD-set-other}
 use Rattle.finite.proofs.Bools.{clash, refute, same-number, order}
-use Rattle.model.specs.Cell.{Cell, numbered, isBlank}
+use Rattle.model.specs.Cell.{Cell}
 use Rattle.model.specs.Database.{Database, has}
 use Rattle.model.proofs.DatabaseLaws.{has-Has, has-full}
 use Rattle.model.specs.Scheme as Model
 use Rattle.finite.specs.Finite.{firstFrom}
-use Rattle.catalog.specs.Catalog.{Falls, Listed}
+use Rattle.catalog.specs.Catalog.{keyOf, valueOf, Falls, Listed}
 use Rattle.catalog.specs.Listing.{Known, New, Entered}
 use Rattle.finite.proofs.First.{first-here, first-skip, first-none}
 use Rattle.catalog.proofs.Searching.{searched-only}
 use Rattle.catalog.proofs.CatalogLaws.{has-cell}
+use Rattle.catalog.proofs.KeyLaws.{key-value, value-none}
 
 -- falling keys differ
 one-place : (from to : ℕ) (keys : List ℕ) → Falls from to keys → (i j : ℕ) → from ≤ i → i < to → from ≤ j → j < to → getD keys i 0 ≡ getD keys j 0 → i ≡ j
@@ -34,32 +35,33 @@ module _ (D : Database) (k : Model.Column) where
   pub has-own : (v : Cell) (s : ℕ) → has D k v s ≡ true → has D k (D .cell s (k .place)) s ≡ true
   has-own v s e = subst (λ (w : Cell). has D k w s ≡ true) (sym (has-cell D k v s e)) e
 
-  -- ... which is not 0
-  pub has-above : (x s : ℕ) → has D k (numbered x) s ≡ true → 0 < x
-  unfolding isBlank
-  has-above x s e = ⊎-elim (λ (q : x ≡ 0). clash (blank q) (has-full (has-Has D k (numbered x) s e))) (λ (q : x ≡ 0 → ⊥). omega (arith, q)) (same-number x 0)
-    where
-      blank : x ≡ 0 → isBlank (numbered x) ≡ true
-      blank q = ap (λ (y : ℕ). isBlank (numbered y)) q
+  -- ... whose key is not 0
+  pub has-above : (x s : ℕ) → has D k (valueOf x) s ≡ true → 0 < x
+  has-above x s e =
+      ⊎-elim (λ (q : x ≡ 0). clash (value-none x q) (has-full (has-Has D k (valueOf x) s e))) (λ (q : x ≡ 0 → ⊥). omega (arith, q)) (same-number x 0)
+
+  -- ... whose key is the value's
+  pub has-key : (x s : ℕ) → has D k (valueOf x) s ≡ true → keyOf (D .cell s (k .place)) ≡ x
+  has-key x s e = ap keyOf (has-cell D k (valueOf x) s e) ∙ key-value x
 
   -- a row has one value
-  pub has-other : (x y s : ℕ) → has D k (numbered x) s ≡ true → (y ≡ x → ⊥) → has D k (numbered y) s ≡ false
+  pub has-other : (x y s : ℕ) → has D k (valueOf x) s ≡ true → (y ≡ x → ⊥) → has D k (valueOf y) s ≡ false
   has-other x y s e ne =
-      refute (has D k (numbered y) s) (λ h. ne (ap (λ (a : Cell). a .number) (sym (has-cell D k (numbered y) s h) ∙ has-cell D k (numbered x) s e)))
+      refute (has D k (valueOf y) s) (λ h. ne (sym (has-key y s h) ∙ has-key x s e))
 
   module _ (r from to : ℕ) (keys heads : List ℕ) (t : Listed D k r from to keys heads) where
     -- what is not there no row has
-    pub listed-miss : (x : ℕ) → ((i : ℕ) → from ≤ i → i < to → getD keys i 0 ≡ x → ⊥) → firstFrom 512 (has D k (numbered x)) r ≡ 512
-    listed-miss x absent = first-none 512 _ r (λ s a b. refute (has D k (numbered x) s) (λ e. out s a e))
+    pub listed-miss : (x : ℕ) → ((i : ℕ) → from ≤ i → i < to → getD keys i 0 ≡ x → ⊥) → firstFrom 512 (has D k (valueOf x)) r ≡ 512
+    listed-miss x absent = first-none 512 _ r (λ s a b. refute (has D k (valueOf x) s) (λ e. out s a e))
       where
-        out : (s : ℕ) → r ≤ s → has D k (numbered x) s ≡ true → ⊥
+        out : (s : ℕ) → r ≤ s → has D k (valueOf x) s ≡ true → ⊥
         out s a e =
-            let w = t .there s a (has-own (numbered x) s e) in
-            absent (w .0) (w .1) (w .2) (w .3 ∙ ap (λ (a : Cell). a .number) (has-cell D k (numbered x) s e))
+            let w = t .there s a (has-own (valueOf x) s e) in
+            absent (w .0) (w .1) (w .2) (w .3 ∙ has-key x s e)
 
     -- what is there has its first row
-    pub listed-hit : (x i : ℕ) → from ≤ i → i < to → getD keys i 0 ≡ x → getD heads i 0 ≡ firstFrom 512 (has D k (numbered x)) r
-    listed-hit x i a b e = t .head i a b ∙ ap (λ (y : ℕ). firstFrom 512 (has D k (numbered y)) r) e
+    pub listed-hit : (x i : ℕ) → from ≤ i → i < to → getD keys i 0 ≡ x → getD heads i 0 ≡ firstFrom 512 (has D k (valueOf x)) r
+    listed-hit x i a b e = t .head i a b ∙ ap (λ (y : ℕ). firstFrom 512 (has D k (valueOf y)) r) e
 
     -- a list with the same keys and heads
     pub listed-same : (keys′ heads′ : List ℕ) → ((i : ℕ) → i < to → getD keys′ i 0 ≡ getD keys i 0) → ((i : ℕ) → i < to → getD heads′ i 0 ≡ getD heads i 0)
@@ -70,7 +72,7 @@ module _ (D : Database) (k : Model.Column) where
           bound = t .bound;
           falls = λ i j a b c. omega (arith, p i (omega arith), p j c, t .falls i j a b c);
           value = λ i a b. omega (arith, p i b, t .value i a b);
-          head = λ i a b. q i b ∙ t .head i a b ∙ ap (λ (y : ℕ). firstFrom 512 (has D k (numbered y)) r) (sym (p i b));
+          head = λ i a b. q i b ∙ t .head i a b ∙ ap (λ (y : ℕ). firstFrom 512 (has D k (valueOf y)) r) (sym (p i b));
           there = λ s a e. let w = t .there s a e in (w .0, w .1, w .2, p (w .0) (w .2) ∙ w .3);
         }
 
@@ -102,29 +104,29 @@ module _ (D : Database) (k : Model.Column) where
         }
       where
         there : (s : ℕ) → r ≤ s → has D k (D .cell s (k .place)) s ≡ true → (s ≡ r) ⊎ (s ≡ r → ⊥)
-            → (i : ℕ) × (from ≤ i) × (i < m) × (getD keys i 0 ≡ D .cell s (k .place) .number)
+            → (i : ℕ) × (from ≤ i) × (i < m) × (getD keys i 0 ≡ keyOf (D .cell s (k .place)))
         there s a e (inl q) = clash e (subst (λ (z : ℕ). has D k (D .cell z (k .place)) z ≡ false) (sym q) (none _))
         there s a e (inr q) = t .there s (omega (arith, q)) e
 
-    -- a row that has x, with x there or not
-    module _ (x : ℕ) (l : r < 512) (e : has D k (numbered x) r ≡ true) where
+    -- a row that has the value whose key is x, with x there or not
+    module _ (x : ℕ) (l : r < 512) (e : has D k (valueOf x) r ≡ true) where
       abbrev firstIs : ℕ → ℕ → Type 0
-      firstIs h y = h ≡ firstFrom 512 (has D k (numbered y)) r
+      firstIs h y = h ≡ firstFrom 512 (has D k (valueOf y)) r
 
       here : (h y : ℕ) → h ≡ r → y ≡ x → firstIs h y
       here h y p q =
-          p ∙ sym (first-here 512 (has D k (numbered x)) r l e) ∙ ap (λ (z : ℕ). firstFrom 512 (has D k (numbered z)) r) (sym q)
+          p ∙ sym (first-here 512 (has D k (valueOf x)) r l e) ∙ ap (λ (z : ℕ). firstFrom 512 (has D k (valueOf z)) r) (sym q)
 
       other : (i h y : ℕ) → from ≤ i → i < m → h ≡ getD heads i 0 → y ≡ getD keys i 0 → (y ≡ x → ⊥) → firstIs h y
       other i h y a b p q ne =
-          p ∙ t .head i a b ∙ ap (λ (z : ℕ). firstFrom 512 (has D k (numbered z)) (r + 1)) (sym q) ∙ sym (first-skip 512 (has D k (numbered y)) r (has-other x y r e ne))
+          p ∙ t .head i a b ∙ ap (λ (z : ℕ). firstFrom 512 (has D k (valueOf z)) (r + 1)) (sym q) ∙ sym (first-skip 512 (has D k (valueOf y)) r (has-other x y r e ne))
 
-      number : (s : ℕ) → s ≡ r → D .cell s (k .place) .number ≡ x
-      number s q = ap (λ (z : ℕ). D .cell z (k .place) .number) q ∙ ap (λ (a : Cell). a .number) (has-cell D k (numbered x) r e)
+      key : (s : ℕ) → s ≡ r → keyOf (D .cell s (k .place)) ≡ x
+      key s q = ap (λ (z : ℕ). keyOf (D .cell z (k .place))) q ∙ has-key x r e
 
       -- the value's first row before
       module _ (keys′ heads′ : List ℕ) (to next : ℕ) where
-        known-next : Known x r from m keys heads keys′ heads′ to next → next ≡ firstFrom 512 (has D k (numbered x)) (r + 1)
+        known-next : Known x r from m keys heads keys′ heads′ to next → next ≡ firstFrom 512 (has D k (valueOf x)) (r + 1)
         known-next w = w .next-is ∙ listed-hit (r + 1) from m keys heads t x (w .at) (w .start) (w .end) (w .here)
 
         new-none : New x r from m keys heads keys′ heads′ to next → (i : ℕ) → from ≤ i → i < m → getD keys i 0 ≡ x → ⊥
@@ -132,10 +134,10 @@ module _ (D : Database) (k : Model.Column) where
             let p = searched-only from m x keys (w .at) (t .falls) (w .seat) i a b q in
             w .other (omega (arith, p)) (ap (λ (z : ℕ). getD keys z 0) (sym p) ∙ q)
 
-        new-next : New x r from m keys heads keys′ heads′ to next → next ≡ firstFrom 512 (has D k (numbered x)) (r + 1)
+        new-next : New x r from m keys heads keys′ heads′ to next → next ≡ firstFrom 512 (has D k (valueOf x)) (r + 1)
         new-next w = w .next-is ∙ sym (listed-miss (r + 1) from m keys heads t x (new-none w))
 
-        pub entered-next : Entered x r from m keys heads keys′ heads′ to next → next ≡ firstFrom 512 (has D k (numbered x)) (r + 1)
+        pub entered-next : Entered x r from m keys heads keys′ heads′ to next → next ≡ firstFrom 512 (has D k (valueOf x)) (r + 1)
         entered-next w = ⊎-elim known-next new-next w
 
         -- row r is in
@@ -161,8 +163,8 @@ module _ (D : Database) (k : Model.Column) where
                 only j c d h = one-place from m keys (t .falls) j (w .at) c d (w .start) (w .end) (h ∙ sym (w .here))
 
             there : (s : ℕ) → r ≤ s → has D k (D .cell s (k .place)) s ≡ true → (s ≡ r) ⊎ (s ≡ r → ⊥)
-                → (i : ℕ) × (from ≤ i) × (i < m) × (getD keys i 0 ≡ D .cell s (k .place) .number)
-            there s a h (inl q) = (w .at, w .start, w .end, w .here ∙ sym (number s q))
+                → (i : ℕ) × (from ≤ i) × (i < m) × (getD keys i 0 ≡ keyOf (D .cell s (k .place)))
+            there s a h (inl q) = (w .at, w .start, w .end, w .here ∙ sym (key s q))
             there s a h (inr q) = t .there s (omega (arith, q)) h
 
         module _ (b : m < 4096) (w : New x r from m keys heads keys′ heads′ to next) where
@@ -235,15 +237,15 @@ module _ (D : Database) (k : Model.Column) where
               go (inr (inr c)) = old (i - 1) (omega (arith, w .seat .start)) (omega arith) (after-head i c v) (after-key i c v)
 
           new-there : (s : ℕ) → r ≤ s → has D k (D .cell s (k .place)) s ≡ true → (s ≡ r) ⊎ (s ≡ r → ⊥)
-              → (i : ℕ) × (from ≤ i) × (i < m + 1) × (getD keys′ i 0 ≡ D .cell s (k .place) .number)
-          new-there s u h (inl q) = (a, w .seat .start, omega (arith, w .seat .end), w .keys-are .here ∙ sym (number s q))
+              → (i : ℕ) × (from ≤ i) × (i < m + 1) × (getD keys′ i 0 ≡ keyOf (D .cell s (k .place)))
+          new-there s u h (inl q) = (a, w .seat .start, omega (arith, w .seat .end), w .keys-are .here ∙ sym (key s q))
           new-there s u h (inr q) = go (t .there s (omega (arith, q)) h)
             where
-              go : (i : ℕ) × (from ≤ i) × (i < m) × (getD keys i 0 ≡ D .cell s (k .place) .number)
-                  → (i : ℕ) × (from ≤ i) × (i < m + 1) × (getD keys′ i 0 ≡ D .cell s (k .place) .number)
+              go : (i : ℕ) × (from ≤ i) × (i < m) × (getD keys i 0 ≡ keyOf (D .cell s (k .place)))
+                  → (i : ℕ) × (from ≤ i) × (i < m + 1) × (getD keys′ i 0 ≡ keyOf (D .cell s (k .place)))
               go (i, p, v, z) = at (decLt i a)
                 where
-                  at : Dec (i < a) → (j : ℕ) × (from ≤ j) × (j < m + 1) × (getD keys′ j 0 ≡ D .cell s (k .place) .number)
+                  at : Dec (i < a) → (j : ℕ) × (from ≤ j) × (j < m + 1) × (getD keys′ j 0 ≡ keyOf (D .cell s (k .place)))
                   at (yes c) = (i, p, omega arith, before-key i c ∙ z)
                   at (no c) = (i + 1, omega arith, omega arith, w .keys-are .moves .moved i (omega arith) v ∙ z)
 

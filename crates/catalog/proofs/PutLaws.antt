@@ -12,11 +12,12 @@ use Rattle.finite.specs.Finite.{count}
 use Rattle.finite.proofs.Bools.{same-number, clash}
 use Rattle.finite.proofs.Counting.{count-suc}
 use Rattle.finite.proofs.Skipping.{onward}
-use Rattle.model.specs.Cell.{Cell, numbered, isBlank}
+use Rattle.model.specs.Cell.{Cell, isBlank}
 use Rattle.model.specs.Database.{Database, has}
 use Rattle.model.specs.Scheme as Model
-use Rattle.catalog.specs.Catalog.{nextOf, Listed}
+use Rattle.catalog.specs.Catalog.{nextOf, keyOf, valueOf, Listed}
 use Rattle.catalog.specs.Listing.{Entered, inTable, Put, Added}
+use Rattle.catalog.proofs.KeyLaws.{value-is}
 use Rattle.catalog.proofs.ListedLaws.{listed-pass, listed-none, entered-listed, entered-next}
 use Rattle.catalog.proofs.Rows.{has-dead, has-elsewhere, has-blank, next-none}
 use Rattle.catalog.proofs.CatalogLaws.{next-has}
@@ -82,7 +83,8 @@ module _ (D : Database) (t p r from m : ℕ) (keys heads next : List ℕ) where
           }
 
       -- x is the value's key
-      pub put-entered : (v : Cell) (x to n : ℕ) (keys′ heads′ : List ℕ) → x ≡ v .number → has D k v r ≡ true → m + count (r + 1) (inTable D t) ≤ 4096
+      pub put-entered : (v : Cell) (x to n : ℕ) (keys′ heads′ : List ℕ) → (x ≡ keyOf v) × (v .issue < 256) → has D k v r ≡ true
+          → m + count (r + 1) (inTable D t) ≤ 4096
           → length keys ≡ 4096 → length heads ≡ 4096 → Entered x r from m keys heads keys′ heads′ to n
           → Put D k r from m keys heads next to keys′ heads′ (set next (8 * r + p) n)
       put-entered v x to n keys′ heads′ key h b kl hl w =
@@ -94,12 +96,12 @@ module _ (D : Database) (t p r from m : ℕ) (keys heads next : List ℕ) where
             next-long = length-set next _ n;
             keys-kept = λ i u. entered-keys-kept w i u;
             heads-kept = λ i u. entered-heads-kept w i u;
-            own = λ _. store-own r p n next l q long ∙ entered-next D k r from m keys heads listed x l has-key keys′ heads′ to n w ∙ sym (next-has D k (numbered x) r has-key);
+            own = λ _. store-own r p n next l q long ∙ entered-next D k r from m keys heads listed x l has-key keys′ heads′ to n w ∙ sym (next-has D k (valueOf x) r has-key);
             others = λ s c u ne. store-other r p n next l q long s c u (λ z. ne (e, z .0, z .1));
           }
         where
-          has-key : has D k (numbered x) r ≡ true
-          has-key = ap (λ (z : ℕ). has D k (numbered z) r) key ∙ h
+          has-key : has D k (valueOf x) r ≡ true
+          has-key = ap (λ (w : Cell). has D k w r) (value-is v x key) ∙ h
 
           one : count (r + 1) (inTable D t) ≡ count r (inTable D t) + 1
           one = count-one r (inTable D t) (eq-eqb _ _ e)

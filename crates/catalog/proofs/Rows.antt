@@ -11,6 +11,7 @@ use Rattle.model.specs.Cell.{Cell, isBlank, equal}
 use Rattle.model.specs.Database.{Database, has}
 use Rattle.model.proofs.CellLaws.{equal-full, equal-self}
 use Rattle.model.specs.Scheme as Model
+use Rattle.state.specs.Cells.{Cells}
 use Rattle.state.specs.declared.cell.Cell as State
 use Rattle.state.specs.Meaning.{cellOf, cellAt, databaseOf}
 use Rattle.state.proofs.RowLaws.{cell-at, live-at, has-value}
@@ -42,7 +43,7 @@ module _ (D : Database) (t p r : ℕ) where
 
 -- ---- in the lent rows
 
-module _ (rows : ℕ) (cells tables : List ℕ) (r : ℕ) where
+module _ (rows : ℕ) (cells : Cells) (tables : List ℕ) (r : ℕ) where
   pub table-is : databaseOf rows cells tables .table r ≡ getD tables r 0
   unfolding databaseOf
   table-is = refl

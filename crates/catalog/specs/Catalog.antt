@@ -1,6 +1,6 @@
 -- The catalog of a design's rows, derived from them once: for each cell the next row that has the same cell in the same table's column, for each
--- constraint and row the first row that the constraint demands of it, and for each column its values in falling order with the first row of each.
--- Assumes nothing.
+-- constraint and row the first row that the constraint demands of it, and for each column its values, by their keys in falling order, with the first
+-- row of each. Assumes nothing.
 use Prim.Native.Nat.{ℕ, _+_, _*_, _/_, _%_, _≤_, _<_}
 use mathlib.Core.Path.{_≡_}
 use mathlib.Core.Bool.{true, cond}
@@ -8,11 +8,12 @@ use mathlib.Core.List.{List}
 use lib.Dec.{ltb}
 use lib.ListN.{length, getD}
 use Rattle.finite.specs.Finite.{tab, firstFrom}
-use Rattle.model.specs.Cell.{numbered}
+use Rattle.model.specs.Cell.{Cell, issued}
 use Rattle.model.specs.Scheme as Model
 use Rattle.model.specs.Scheme.{Scheme}
 use Rattle.model.specs.Database.{Database, has}
 use Rattle.model.specs.Rounds.{leads}
+use Rattle.state.specs.Cells.{Cells}
 use Rattle.state.specs.declared.design.Design.{Design}
 use Rattle.state.specs.Meaning.{databaseOf, schemeOf}
 
@@ -34,20 +35,29 @@ nexts D = tab 4096 (λ x. nextOf D (x / 8) (x % 8))
 abbrev pub firsts : Scheme → Database → List ℕ
 firsts S D = tab 8192 (λ x. demandedFirst S D (x / 512) (x % 512))
 
+-- a value's key: keys rise with the number, then with the issue, and the blank's is 0. No two values that can be stored share one, for an issue is
+-- below 256
+unfoldable pub keyOf : Cell → ℕ
+keyOf v = 256 * v .number + v .issue
+
+-- the value with this key
+unfoldable pub valueOf : ℕ → Cell
+valueOf x = issued (x / 256) (x % 256)
+
 -- the keys fall from place `from` to place `to`
 abbrev pub Falls : ℕ → ℕ → List ℕ → Type 0
 Falls from to keys = (i j : ℕ) → from ≤ i → i < j → j < to → getD keys j 0 < getD keys i 0
 
--- the values that the rows from r on have in column k stand in `keys` from place `from` to place `to`, falling, none blank, and `heads` has the
--- first of these rows for each
+-- the keys of the values that the rows from r on have in column k stand in `keys` from place `from` to place `to`, falling, none a blank's, and
+-- `heads` has the first of these rows for each
 pub record Listed (D : Database) (k : Model.Column) (r from to : ℕ) (keys heads : List ℕ) : Type 0 where
   pub order : from ≤ to
   pub bound : to ≤ 4096
   pub falls : Falls from to keys
   pub value : (i : ℕ) → from ≤ i → i < to → 0 < getD keys i 0
-  pub head : (i : ℕ) → from ≤ i → i < to → getD heads i 0 ≡ firstFrom 512 (has D k (numbered (getD keys i 0))) r
+  pub head : (i : ℕ) → from ≤ i → i < to → getD heads i 0 ≡ firstFrom 512 (has D k (valueOf (getD keys i 0))) r
   pub there : (s : ℕ) → r ≤ s → has D k (D .cell s (k .place)) s ≡ true
-      → (i : ℕ) × (from ≤ i) × (i < to) × (getD keys i 0 ≡ D .cell s (k .place) .number)
+      → (i : ℕ) × (from ≤ i) × (i < to) × (getD keys i 0 ≡ keyOf (D .cell s (k .place)))
 
 -- the same of all rows
 abbrev pub Lists : Database → Model.Column → ℕ → ℕ → List ℕ → List ℕ → Type 0
@@ -61,7 +71,7 @@ pub record Directory (D : Database) (keys heads starts : List ℕ) : Type 0 wher
   pub column : (t c : ℕ) → t < 8 → c < 8 → Lists D (record { table = t; place = c }) (getD starts (8 * t + c) 0) (getD starts (8 * t + c + 1) 0) keys heads
 
 -- the catalog of a design with lent rows, whatever they are
-pub record Catalogued (d : Design) (cells tables next first keys heads starts : List ℕ) : Type 0 where
+pub record Catalogued (d : Design) (cells : Cells) (tables next first keys heads starts : List ℕ) : Type 0 where
   pub next-is : next ≡ nexts (databaseOf (d .rows) cells tables)
   pub first-is : first ≡ firsts (schemeOf d) (databaseOf (d .rows) cells tables)
   pub directory : Directory (databaseOf (d .rows) cells tables) keys heads starts

@@ -32,7 +32,7 @@ pub record Opened (a m v : ℕ) (xs ys : List ℕ) : Type 0 where
   pub moves : Moved a m xs ys
   pub here : getD ys a 0 ≡ v
 
--- ---- value x of row r is entered into the keys from place `from` to place m; they end at `to` then, and the value's first row was `next`
+-- ---- row r's value, with the key x, is entered into the keys from place `from` to place m; they end at `to` then, and the value's first row was `next`
 
 -- x stands there
 pub record Known (x r from m : ℕ) (keys heads keys′ heads′ : List ℕ) (to next : ℕ) : Type 0 where

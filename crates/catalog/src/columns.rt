@@ -2,6 +2,7 @@
 ghost use mathlib.Core.Path.{_≡_};
 ghost use Prim.Native.Nat.{ℕ, _≤_};
 ghost use lib.ListN.{length};
+ghost use Rattle.state.specs.Cells.{cellsIn};
 ghost use Rattle.state.specs.Design.{Backed};
 ghost use Rattle.state.specs.Meaning.{databaseOf};
 ghost use Rattle.catalog.specs.Columns.{Columns};
@@ -12,16 +13,17 @@ use state::Column;
 pub(crate) fn add_columns(
     rows: usize,
     cells: &[u32],
+    issues: &[u8],
     tables: &[u8],
-    keys: &mut [u32; 4096],
+    keys: &mut [u64; 4096],
     heads: &mut [u16; 4096],
     starts: &mut [u16; 65],
     next: &mut [u16; 4096],
 )
-    requires { ⌜ Backed (now cells) (now tables) ⌝ }
+    requires { ⌜ Backed (cellsIn (now cells) (now issues)) (now tables) ⌝ }
     requires { ⌜ (rows ≤ 512) × (length (now keys) ≡ 4096) × (length (now heads) ≡ 4096) × (length (now starts) ≡ 65) × (length (now next) ≡ 4096) ⌝ }
-    ensures { λ _. ⌜ ((m : ℕ) × Columns (databaseOf rows (now (cells .entry)) (now (tables .entry))) 64 m (now (keys .exit)) (now (heads .exit))
-        (now (starts .exit)) (now (next .exit))) ⌝ }
+    ensures { λ _. ⌜ ((m : ℕ) × Columns (databaseOf rows (cellsIn (now (cells .entry)) (now (issues .entry))) (now (tables .entry))) 64 m
+        (now (keys .exit)) (now (heads .exit)) (now (starts .exit)) (now (next .exit))) ⌝ }
 {
     starts[0] = 0;
     let mut m: usize = 0;
@@ -30,7 +32,7 @@ pub(crate) fn add_columns(
             table: (n / 8) as u8,
             place: (n % 8) as u8,
         };
-        m = add_column(rows, cells, tables, k, m, keys, heads, next);
+        m = add_column(rows, cells, issues, tables, k, m, keys, heads, next);
         starts[n + 1] = m as u16;
     }
 }

@@ -7,21 +7,23 @@ ghost use lib.ListN.{getD};
 ghost use Rattle.model.specs.Database.{Database, has};
 ghost use Rattle.state.specs.Meaning.{cellOf, columnOf};
 ghost use Rattle.finite.specs.Finite.{firstFrom};
-ghost use Rattle.catalog.specs.Catalog.{Falls, Directory};
+ghost use Rattle.catalog.specs.Catalog.{keyOf, Falls, Directory};
 ghost use Rattle.catalog.specs.Listing.{Searched};
 use state::Cell;
 use state::Column;
 use state::Design;
 
-// The key of a value. Here alone values are ordered: by their numbers.
-pub(crate) fn key_of(v: Cell) -> u32
-    ensures { λ x. ⌜ x ≡ v .number ⌝ }
+// The key of a value, which no other value has. Here alone values are ordered: by number, then issue. Constant time.
+pub(crate) fn key_of(v: Cell) -> u64
+    ensures { λ x. ⌜ (x ≡ keyOf (cellOf v)) × (v .issue < 256) ⌝ }
 {
-    v.number
+    let number = v.number as u64;
+    let issue = v.issue as u64;
+    256 * number + issue
 }
 
 // Where x stands or belongs among the falling keys from place `from` to place `to`. A step for each halving: at most 13.
-pub(crate) fn seat(keys: &[u32; 4096], from: usize, to: usize, x: u32) -> usize
+pub(crate) fn seat(keys: &[u64; 4096], from: usize, to: usize, x: u64) -> usize
     requires { ⌜ to ≤ 4096 ⌝ }
     ensures { λ a. ⌜ (from ≤ to → Falls from to (now (keys .entry)) → Searched from to x a a (now (keys .entry))) ⌝ }
 {
@@ -39,7 +41,7 @@ pub(crate) fn seat(keys: &[u32; 4096], from: usize, to: usize, x: u32) -> usize
 }
 
 // Whether x stands at place a, of the places before `to`. Constant time.
-pub(crate) fn stands(keys: &[u32; 4096], to: usize, a: usize, x: u32) -> bool
+pub(crate) fn stands(keys: &[u64; 4096], to: usize, a: usize, x: u64) -> bool
     requires { ⌜ to ≤ 4096 ⌝ }
     ensures { λ b. ⌜ b ≡ ltb a to && eqb (getD (now (keys .entry)) a 0) x ⌝ }
 {
@@ -59,7 +61,7 @@ fn wide(x: u16) -> usize
 // The first row that has the value v in column k, in any database whose directory this is; 512 if none has, as for a blank. A step for each halving
 // of the column's values: at most 10.
 pub fn find(
-    keys: &[u32; 4096],
+    keys: &[u64; 4096],
     heads: &[u16; 4096],
     starts: &[u16; 65],
     k: Column,

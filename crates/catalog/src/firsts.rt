@@ -4,6 +4,7 @@ ghost use Prim.Native.Nat.{_*_, _<_};
 ghost use lib.Seq.{sets};
 ghost use Rattle.finite.specs.Finite.{tab, firstFrom};
 ghost use Rattle.model.specs.Rounds.{leads};
+ghost use Rattle.state.specs.Cells.{cellsIn};
 ghost use Rattle.state.specs.Design.{InRange, Backed};
 ghost use Rattle.state.specs.Meaning.{constraintOf, databaseOf, schemeOf};
 ghost use Rattle.catalog.specs.Catalog.{Directory, firsts};
@@ -17,17 +18,19 @@ use state::is_live;
 fn demanded(
     rows: usize,
     cells: &[u32],
+    issues: &[u8],
     tables: &[u8],
-    keys: &[u32; 4096],
+    keys: &[u64; 4096],
     heads: &[u16; 4096],
     starts: &[u16; 65],
     j: Constraint,
     s: usize,
 ) -> u16
-    requires { ⌜ Backed (now cells) (now tables) ⌝ }
+    requires { ⌜ Backed (cellsIn (now cells) (now issues)) (now tables) ⌝ }
     requires { ⌜ (s < 512) × (j .source .place < 8) × (j .target .table < 8) × (j .target .place < 8) ⌝ }
-    requires { ⌜ Directory (databaseOf rows (now cells) (now tables)) (now keys) (now heads) (now starts) ⌝ }
-    ensures { λ n. ⌜ n ≡ firstFrom 512 (leads (databaseOf rows (now (cells .entry)) (now (tables .entry))) (constraintOf j) s) 0 ⌝ }
+    requires { ⌜ Directory (databaseOf rows (cellsIn (now cells) (now issues)) (now tables)) (now keys) (now heads) (now starts) ⌝ }
+    ensures { λ n. ⌜ n ≡ firstFrom 512 (leads (databaseOf rows (cellsIn (now (cells .entry)) (now (issues .entry))) (now (tables .entry)))
+        (constraintOf j) s) 0 ⌝ }
 {
     if !is_live(rows, s) {
         return 512;
@@ -36,7 +39,7 @@ fn demanded(
     if tables[s] != k.table {
         return 512;
     }
-    let v = cell_at(cells, s, k.place as usize);
+    let v = cell_at(cells, issues, s, k.place as usize);
     let t = j.target;
     find(keys, heads, starts, t, v) as u16
 }
@@ -45,22 +48,34 @@ fn demanded(
 fn add_firsts(
     rows: usize,
     cells: &[u32],
+    issues: &[u8],
     tables: &[u8],
-    keys: &[u32; 4096],
+    keys: &[u64; 4096],
     heads: &[u16; 4096],
     starts: &[u16; 65],
     j: Constraint,
     i: usize,
     first: &mut [u16; 8192],
 )
-    requires { ⌜ Backed (now cells) (now tables) ⌝ }
+    requires { ⌜ Backed (cellsIn (now cells) (now issues)) (now tables) ⌝ }
     requires { ⌜ (i < 16) × (j .source .place < 8) × (j .target .table < 8) × (j .target .place < 8) ⌝ }
-    requires { ⌜ Directory (databaseOf rows (now cells) (now tables)) (now keys) (now heads) (now starts) ⌝ }
+    requires { ⌜ Directory (databaseOf rows (cellsIn (now cells) (now issues)) (now tables)) (now keys) (now heads) (now starts) ⌝ }
     ensures { λ _. ⌜ now (first .exit) ≡ sets (now (first .entry)) (512 * i)
-        (tab 512 (λ s. firstFrom 512 (leads (databaseOf rows (now (cells .entry)) (now (tables .entry))) (constraintOf j) s) 0)) ⌝ }
+        (tab 512 (λ s. firstFrom 512 (leads (databaseOf rows (cellsIn (now (cells .entry)) (now (issues .entry))) (now (tables .entry)))
+        (constraintOf j) s) 0)) ⌝ }
 {
     for s in 0..Design::ROWS {
-        first[Design::ROWS * i + s] = demanded(rows, cells, tables, keys, heads, starts, j, s);
+        first[Design::ROWS * i + s] = demanded(
+            rows,
+            cells,
+            issues,
+            tables,
+            keys,
+            heads,
+            starts,
+            j,
+            s,
+        );
     }
 }
 
@@ -68,20 +83,33 @@ fn add_firsts(
 pub(crate) fn make_firsts(
     d: Design,
     cells: &[u32],
+    issues: &[u8],
     tables: &[u8],
-    keys: &[u32; 4096],
+    keys: &[u64; 4096],
     heads: &[u16; 4096],
     starts: &[u16; 65],
     first: &mut [u16; 8192],
 )
-    requires { ⌜ InRange d × Backed (now cells) (now tables) ⌝ }
-    requires { ⌜ Directory (databaseOf (d .rows) (now cells) (now tables)) (now keys) (now heads) (now starts) ⌝ }
-    ensures { λ _. ⌜ now (first .exit) ≡ firsts (schemeOf d) (databaseOf (d .rows) (now (cells .entry)) (now (tables .entry))) ⌝ }
+    requires { ⌜ InRange d × Backed (cellsIn (now cells) (now issues)) (now tables) ⌝ }
+    requires { ⌜ Directory (databaseOf (d .rows) (cellsIn (now cells) (now issues)) (now tables)) (now keys) (now heads) (now starts) ⌝ }
+    ensures { λ _. ⌜ now (first .exit) ≡ firsts (schemeOf d) (databaseOf (d .rows) (cellsIn (now (cells .entry)) (now (issues .entry)))
+        (now (tables .entry))) ⌝ }
 {
     *first = [512; 8192];
     let constraint = d.constraint;
     for i in 0..d.constraints {
         let j = constraint[i];
-        add_firsts(d.rows, cells, tables, keys, heads, starts, j, i, first);
+        add_firsts(
+            d.rows,
+            cells,
+            issues,
+            tables,
+            keys,
+            heads,
+            starts,
+            j,
+            i,
+            first,
+        );
     }
 }

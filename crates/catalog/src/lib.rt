@@ -1,6 +1,7 @@
 // The catalog of a design's rows, built once when a design is read, so that loads, probes and queries walk just the rows they are about.
 // `next` has for each cell the next row that has the same value in the same column, `first` for each constraint and row the first row that the
-// constraint demands of it, and `keys`, `heads` and `starts` are the directory: for each column its values, falling, with the first row of each.
+// constraint demands of it, and `keys`, `heads` and `starts` are the directory: for each column its values, by their keys falling, with the first row
+// of each.
 mod columns;
 mod finding;
 mod firsts;

@@ -4,6 +4,7 @@ ghost use mathlib.Core.Bool.{true};
 ghost use Prim.Native.Nat.{_+_, _≤_, _<_};
 ghost use lib.ListN.{length};
 ghost use Rattle.finite.specs.Finite.{count};
+ghost use Rattle.state.specs.Cells.{cellsIn};
 ghost use Rattle.state.specs.Design.{Backed};
 ghost use Rattle.state.specs.Meaning.{columnOf, databaseOf};
 ghost use Rattle.catalog.specs.Catalog.{Falls, Listed};
@@ -17,7 +18,7 @@ use state::cell_at;
 use state::is_blank;
 
 // Moves the elements from place a to place m one place on. A step for each.
-fn make_room(keys: &mut [u32; 4096], heads: &mut [u16; 4096], a: usize, m: usize)
+fn make_room(keys: &mut [u64; 4096], heads: &mut [u16; 4096], a: usize, m: usize)
     requires { ⌜ (a ≤ m) × (m < 4096) × (length (now keys) ≡ 4096) × (length (now heads) ≡ 4096) ⌝ }
     ensures { λ _. ⌜ Moved a m (now (keys .entry)) (now (keys .exit)) × Moved a m (now (heads .entry)) (now (heads .exit)) ⌝ }
 {
@@ -37,11 +38,11 @@ pub(crate) struct Entry {
 
 // Enters row r, before all rows that are in, at its key x, which is new or not. A binary search, and a step for each value below a new one.
 fn enter(
-    keys: &mut [u32; 4096],
+    keys: &mut [u64; 4096],
     heads: &mut [u16; 4096],
     from: usize,
     m: usize,
-    x: u32,
+    x: u64,
     r: usize,
 ) -> Entry
     requires { ⌜ (from ≤ m) × (m < 4096) × (r < 512) × (length (now keys) ≡ 4096) × (length (now heads) ≡ 4096) × Falls from m (now keys) ⌝ }
@@ -67,27 +68,29 @@ fn enter(
 fn put(
     rows: usize,
     cells: &[u32],
+    issues: &[u8],
     tables: &[u8],
     k: Column,
     from: usize,
     m: usize,
-    keys: &mut [u32; 4096],
+    keys: &mut [u64; 4096],
     heads: &mut [u16; 4096],
     next: &mut [u16; 4096],
     r: usize,
 ) -> usize
-    requires { ⌜ Backed (now cells) (now tables) ⌝ }
-    requires { ⌜ (k .place < 8) × (databaseOf rows (now cells) (now tables) .live r ≡ true) × (r < 512) × (length (now keys) ≡ 4096) × (length (now heads) ≡ 4096) × (length (now next) ≡ 4096) ⌝ }
-    requires { ⌜ Listed (databaseOf rows (now cells) (now tables)) (columnOf k) (r + 1) from m (now keys) (now heads) ⌝ }
-    requires { ⌜ m + count (r + 1) (inTable (databaseOf rows (now cells) (now tables)) (k .table)) ≤ 4096 ⌝ }
-    ensures { λ to. ⌜ Put (databaseOf rows (now (cells .entry)) (now (tables .entry))) (columnOf k) r from m (now (keys .entry)) (now (heads .entry))
-        (now (next .entry)) to (now (keys .exit)) (now (heads .exit)) (now (next .exit)) ⌝ }
+    requires { ⌜ Backed (cellsIn (now cells) (now issues)) (now tables) ⌝ }
+    requires { ⌜ (k .place < 8) × (databaseOf rows (cellsIn (now cells) (now issues)) (now tables) .live r ≡ true) × (r < 512)
+        × (length (now keys) ≡ 4096) × (length (now heads) ≡ 4096) × (length (now next) ≡ 4096) ⌝ }
+    requires { ⌜ Listed (databaseOf rows (cellsIn (now cells) (now issues)) (now tables)) (columnOf k) (r + 1) from m (now keys) (now heads) ⌝ }
+    requires { ⌜ m + count (r + 1) (inTable (databaseOf rows (cellsIn (now cells) (now issues)) (now tables)) (k .table)) ≤ 4096 ⌝ }
+    ensures { λ to. ⌜ Put (databaseOf rows (cellsIn (now (cells .entry)) (now (issues .entry))) (now (tables .entry))) (columnOf k) r from m
+        (now (keys .entry)) (now (heads .entry)) (now (next .entry)) to (now (keys .exit)) (now (heads .exit)) (now (next .exit)) ⌝ }
 {
     if tables[r] != k.table {
         return m;
     }
     let c = k.place as usize;
-    let v = cell_at(cells, r, c);
+    let v = cell_at(cells, issues, r, c);
     let i = 8 * r + c;
     if is_blank(v) {
         next[i] = 512;
@@ -103,24 +106,37 @@ fn put(
 pub(crate) fn add_column(
     rows: usize,
     cells: &[u32],
+    issues: &[u8],
     tables: &[u8],
     k: Column,
     from: usize,
-    keys: &mut [u32; 4096],
+    keys: &mut [u64; 4096],
     heads: &mut [u16; 4096],
     next: &mut [u16; 4096],
 ) -> usize
-    requires { ⌜ Backed (now cells) (now tables) ⌝ }
+    requires { ⌜ Backed (cellsIn (now cells) (now issues)) (now tables) ⌝ }
     requires { ⌜ (rows ≤ 512) × (k .place < 8) × (length (now keys) ≡ 4096) × (length (now heads) ≡ 4096) × (length (now next) ≡ 4096) ⌝ }
-    requires { ⌜ from + count 512 (inTable (databaseOf rows (now cells) (now tables)) (k .table)) ≤ 4096 ⌝ }
-    ensures { λ to. ⌜ Added (databaseOf rows (now (cells .entry)) (now (tables .entry))) (columnOf k) 0 from (now (keys .entry)) (now (heads .entry))
-        (now (next .entry)) to (now (keys .exit)) (now (heads .exit)) (now (next .exit)) ⌝ }
+    requires { ⌜ from + count 512 (inTable (databaseOf rows (cellsIn (now cells) (now issues)) (now tables)) (k .table)) ≤ 4096 ⌝ }
+    ensures { λ to. ⌜ Added (databaseOf rows (cellsIn (now (cells .entry)) (now (issues .entry))) (now (tables .entry))) (columnOf k) 0 from
+        (now (keys .entry)) (now (heads .entry)) (now (next .entry)) to (now (keys .exit)) (now (heads .exit)) (now (next .exit)) ⌝ }
 {
     let mut m = from;
     let mut r = rows;
     while 0 < r {
         r -= 1;
-        m = put(rows, cells, tables, k, from, m, keys, heads, next, r);
+        m = put(
+            rows,
+            cells,
+            issues,
+            tables,
+            k,
+            from,
+            m,
+            keys,
+            heads,
+            next,
+            r,
+        );
     }
     m
 }

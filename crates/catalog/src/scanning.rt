@@ -2,6 +2,7 @@
 ghost use mathlib.Core.Path.{_≡_};
 ghost use Prim.Native.Nat.{_≤_, _<_};
 ghost use Rattle.model.specs.Database.{has};
+ghost use Rattle.state.specs.Cells.{cellsIn};
 ghost use Rattle.state.specs.Design.{Backed};
 ghost use Rattle.state.specs.Meaning.{cellOf, columnOf, databaseOf};
 ghost use Rattle.finite.specs.Finite.{firstFrom};
@@ -14,17 +15,19 @@ use state::row_has;
 pub(crate) fn scan(
     rows: usize,
     cells: &[u32],
+    issues: &[u8],
     tables: &[u8],
     k: Column,
     v: Cell,
     from: usize,
 ) -> usize
-    requires { ⌜ (from ≤ 512) × (k .place < 8) × Backed (now cells) (now tables) ⌝ }
-    ensures { λ s. ⌜ (s ≡ firstFrom 512 (has (databaseOf rows (now (cells .entry)) (now (tables .entry))) (columnOf k) (cellOf v)) from) × (s ≤ 512) ⌝ }
+    requires { ⌜ (from ≤ 512) × (k .place < 8) × Backed (cellsIn (now cells) (now issues)) (now tables) ⌝ }
+    ensures { λ s. ⌜ (s ≡ firstFrom 512 (has (databaseOf rows (cellsIn (now (cells .entry)) (now (issues .entry))) (now (tables .entry))) (columnOf k)
+        (cellOf v)) from) × (s ≤ 512) ⌝ }
 {
     let mut r = from;
     while r < Design::ROWS {
-        if row_has(rows, cells, tables, k, v, r) {
+        if row_has(rows, cells, issues, tables, k, v, r) {
             return r;
         }
         r += 1;

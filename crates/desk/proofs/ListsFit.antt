@@ -8,7 +8,7 @@ use borrow.Author.Tests.{leb-true, not-false}
 use lib.Dec.{eqb, leb, ltb}
 use lib.ListN.{length, length-take}
 use Rattle.finite.proofs.Bools.{clash}
-use Rattle.model.specs.Cell.{isBlank}
+use Rattle.model.specs.Cell.{numberless}
 use Rattle.model.specs.Scheme.{Scheme, isColumn, candidate}
 use Rattle.model.specs.Database.{Database}
 use Rattle.model.specs.Probe
@@ -29,7 +29,7 @@ use Rattle.state.specs.Lent.{State, scheme, database, cache, longEnough, lawful
 use Rattle.format.specs.declared.command.Command.{Command}
 use Rattle.format.specs.declared.command.Command.the-variants.{Table, Constraint, Filling, Row, End, Operate, Unknown, Short}
 use Rattle.format.specs.Bytes.{byteAt}
-use Rattle.format.specs.Commands.{columnAt, valueAt, heldValueAt, queryAt, totalAt, operationAt, designCommandAt, operandsAt, commandAt, widthOf}
+use Rattle.format.specs.Commands.{columnAt, valueAt, heldValueAt, queryAt, totalAt, operationWidth, issuedAt, operationAt, designCommandAt, operandsAt, commandAt, widthOf}
 use Rattle.script.specs.Step.{Stepped, operated, carried, stepAt}
 use Rattle.script.proofs.StepLaws.{step-by}
 use Rattle.desk.specs.Printed.{listsIn, positionsAt}
@@ -61,7 +61,7 @@ module _ (p room : ℕ) where
     refer-within : (x : Pair) → Within (answer S D c (refer x))
     unfolding answer hasLists shown
     refer-within x =
-        unless-within (not (ltb (x .filling) (S .fillings))) 5 _ (λ _. unless-within (isBlank (x .value)) 9 _ (λ _.
+        unless-within (not (ltb (x .filling) (S .fillings))) 5 _ (λ _. unless-within (numberless (x .value)) 9 _ (λ _.
         or-within (not (candidate (S .filling (x .filling)) (x .value))) noCandidate _ (λ h. clash h refl)
         (or-within (holds (c .held) x) held _ (λ h. clash h refl)
         (unless-within (not (hasRoom (c .held))) 8 _ (λ _ h. clash h refl)))))
@@ -69,14 +69,14 @@ module _ (p room : ℕ) where
     drop-within : (x : Pair) → Within (answer S D c (drop x))
     unfolding answer hasLists shown
     drop-within x =
-        unless-within (not (ltb (x .filling) (S .fillings))) 5 _ (λ _. unless-within (isBlank (x .value)) 9 _ (λ _.
+        unless-within (not (ltb (x .filling) (S .fillings))) 5 _ (λ _. unless-within (numberless (x .value)) 9 _ (λ _.
         unless-within (not (holds (c .held) x)) 10 _ (λ _ h. clash h refl)))
 
     question-within : (q : Question) → Within (questionAnswer S D c q)
     unfolding questionAnswer evenAnswer hasLists shown
     question-within (probe k v) =
         let g = Probe.probe S D (heldIn S (c .held)) (marked (c .marks)) k v in
-        unless-within (not (isColumn S k)) 5 _ (λ _. unless-within (isBlank v) 9 _ (λ _. or-within (ltb 0 g) (ground g (Probe.cachedRows D (marked (c .marks)) k v)) sent (λ h. clash h refl) (λ h. clash h refl)))
+        unless-within (not (isColumn S k)) 5 _ (λ _. unless-within (numberless v) 9 _ (λ _. or-within (ltb 0 g) (ground g (Probe.cachedRows D (marked (c .marks)) k v)) sent (λ h. clash h refl) (λ h. clash h refl)))
     question-within evenness = or-within (ltb (lowestUneven S) (S .constraints)) (uneven _ _) even (λ h. clash h refl) (λ h. clash h refl)
 
     module _ (q : Q.Query) (four : length (q .pairs) ≡ 4) (positions : q .joins + 1 ≡ p) where
@@ -101,7 +101,7 @@ module _ (p room : ℕ) where
       unfolding queryAnswer outputFits withinLimit fullAnswer hasLists shown
       query-within =
           let n = length (wordsOf (fullLists S D q)) in
-          unless-within (not (operandsFit S q)) 5 _ (λ fit. unless-within (isBlank (q .value)) 9 _ (λ _.
+          unless-within (not (operandsFit S q)) 5 _ (λ fit. unless-within (numberless (q .value)) 9 _ (λ _.
           or-within (not (isAnswered S D c q)) sent _ (λ h. clash h refl)
           (unless-within (not (leb n room)) 11 _ (λ l _.
           all-within (not-false (operandsFit S q) fit) (leb-true n room (not-false (leb n room) l))))))
@@ -110,7 +110,7 @@ module _ (p room : ℕ) where
     total-within : (q : Q.Query) (x y : ℕ) → Within (queryAnswer S D c q (asTotal x y))
     unfolding queryAnswer withinLimit fullAnswer hasLists shown
     total-within q x y =
-        unless-within (not (outputFits S q (asTotal x y))) 5 _ (λ _. unless-within (isBlank (q .value)) 9 _ (λ _.
+        unless-within (not (outputFits S q (asTotal x y))) 5 _ (λ _. unless-within (numberless (q .value)) 9 _ (λ _.
         or-within (not (isAnswered S D c q)) sent _ (λ h. clash h refl)
         (unless-within (not (ltb (fullTotal S D q x y) (2 ^ 64))) 13 _ (λ _ h. clash h refl))))
 
@@ -123,19 +123,19 @@ module _ (s : State) (words script : List ℕ) (i : ℕ) where
   guarded-within : (a : Answer) → Here a → Here (guarded s a)
   guarded-within a f = unless-within _ _ (not (longEnough s)) 7 _ (λ _. unless-within _ _ (not (lawful s)) 12 _ (λ _. f))
 
-  -- the operation at place i, whose byte is b
-  operation-within : (b : ℕ) → Here (answerAt s (operationOf (operationAt b script i) (length words)))
-  unfolding answerAt answer operationAt
-  operation-within b = go (eqb b 0x10) (eqb b 0x11) (eqb b 0x12) (eqb b 0x14) (eqb b 0x15)
+  -- the operation at place i of the byte b, whose value has the issue w
+  issued-within : (b w : ℕ) → Here (answerAt s (operationOf (issuedAt b script w i) (length words)))
+  unfolding answerAt answer issuedAt
+  issued-within b w = go (eqb b 0x10) (eqb b 0x11) (eqb b 0x12) (eqb b 0x14) (eqb b 0x15)
     where
       op : Bool → Bool → Bool → Bool → Bool → Operation
       op x y z v t =
-          cond x (O.Refer (heldValueAt script i))
-          (cond y (O.Drop (heldValueAt script i))
-          (cond z (O.Probe (columnAt script (i + 1)) (valueAt script (i + 3)))
+          cond x (O.Refer (heldValueAt script w i))
+          (cond y (O.Drop (heldValueAt script w i))
+          (cond z (O.Probe (columnAt script (i + 1)) (valueAt script w (i + 3)))
           (cond v O.Evenness
-          (cond t (O.Total (totalAt script i))
-          (O.Query (queryAt script i))))))
+          (cond t (O.Total (totalAt script w i))
+          (O.Query (queryAt script w i))))))
 
       go : (x y z v t : Bool) → Here (answerAt s (operationOf (op x y z v t) (length words)))
       go true y z v t = guarded-within _ (refer-within _ _ (scheme s) (database s) (cache s) _)
@@ -145,18 +145,27 @@ module _ (s : State) (words script : List ℕ) (i : ℕ) where
       go false false false false true = guarded-within _ (total-within _ _ (scheme s) (database s) (cache s) _ _ _)
       go false false false false false = guarded-within _ (query-within _ _ (scheme s) (database s) (cache s) _ refl refl)
 
+  -- the operation at place i, whose byte is b
+  operation-within : (b : ℕ) → Here (answerAt s (operationOf (operationAt b script i) (length words)))
+  unfolding operationAt
+  operation-within b = go (ltb b 0x20)
+    where
+      go : (x : Bool) → Here (answerAt s (operationOf (cond x (issuedAt b script 0 i) (issuedAt (b - 0x10) script (byteAt script (i + operationWidth b - 1)) i)) (length words)))
+      go true = issued-within b 0
+      go false = issued-within (b - 0x10) (byteAt script (i + operationWidth b - 1))
+
   -- the command at place i
   command-within : (j : ℕ) → Here (carried s words script i j (commandAt script i) .answer)
   unfolding commandAt operandsAt designCommandAt carried operated hasLists shown
   command-within j =
       let b = byteAt script i in
       go (leb (length script) i) (eqb (widthOf b) 0) (ltb (length script - i) (widthOf b)) (ltb b 0x10)
-      (eqb b 0x01) (eqb b 0x02) (eqb b 0x03) (eqb b 0x04) _ _ _ _ _ (operation-within b)
+      (eqb b 0x01) (eqb b 0x02) (eqb b 0x03) (eqb b 0x05) _ _ _ _ _ (operation-within b)
     where
       go : (x y z k p q r t : Bool) (a : State-table.Table) (c : State-constraint.Constraint) (f : State-filling.Filling) (m : ℕ) (op : Operation) →
           Here (answerAt s (operationOf op (length words))) →
           Here (carried s words script i j (cond x Short (cond y Unknown (cond z Short
-          (cond k (cond p (Table a) (cond q (Constraint c) (cond r (Filling f) (cond t (Row m) End)))) (Operate op))))) .answer)
+          (cond k (cond p (Table a) (cond q (Constraint c) (cond r (Filling f) (cond t End (Row m))))) (Operate op))))) .answer)
       go true y z k p q r t a c f m op h = λ e. clash e refl
       go false true z k p q r t a c f m op h = λ e. clash e refl
       go false false true k p q r t a c f m op h = λ e. clash e refl

@@ -11,6 +11,7 @@ use lib.Seq.{sets-eq, take-at, drop-at, take-append-seam, drop-drop, length-take
 use Rattle.finite.specs.Writing.{Wrote}
 use Rattle.finite.proofs.Bools.{clash, cond-true, cond-false}
 use Rattle.finite.proofs.Writing.{wrote-long}
+use Rattle.state.specs.Cells.{Cells}
 use Rattle.state.specs.declared.design.Design.{Design}
 use Rattle.state.specs.declared.held.Held.{Held}
 use Rattle.state.specs.Held.{noneHeld}
@@ -68,7 +69,7 @@ unfolding firstText
 first-reach o o′ z d (Accepted i) w = omega (arith, design-line-reach o o′ 0 z d w)
 first-reach o o′ z d (Refused n i) w = omega (arith, refusal-line-reach o o′ 0 z n i w)
 
-module _ (script cs₀ ts₀ ms₀ words : List ℕ) (r : DesignReading) (cs ts ms : List ℕ)
+module _ (script : List ℕ) (cs₀ : Cells) (ts₀ ms₀ words : List ℕ) (r : DesignReading) (cs : Cells) (ts ms : List ℕ)
     (read : Leaves (readInto script cs₀ ts₀ ms₀) r cs₀ cs ts₀ ts ms₀ ms) (p : Progress) (o o′ : List ℕ)
     (first : First script (r .design) (r .verdict) o o′ p) where
   abbrev b : Buffers
@@ -145,7 +146,7 @@ pub record Standing (script : List ℕ) (s : State) (words : List ℕ) (p : Prog
   pub ready : p .more ≡ true → NextReady script s p
   pub small : done + p .end + 65536 * turns script p ≤ 65536 * 65540
 
-pub standing-first : (script cs ts ms o : List ℕ) (r : Beginning) → Begins script lentBuffers cs ts ms o r → length o ≡ 65536 → length script ≤ 65537 →
+pub standing-first : (script : List ℕ) (cs : Cells) (ts ms o : List ℕ) (r : Beginning) → Begins script lentBuffers cs ts ms o r → length o ≡ 65536 → length script ≤ 65537 →
     Standing script (lent (r .design) cs ts ms (r .progress .held)) (replicate 4096 0) (r .progress) o 0
 unfolding deskReport
 standing-first script cs ts ms o r f l k =

@@ -3,6 +3,7 @@ use Prim.Native.Nat.{ℕ}
 use mathlib.Core.Path.{_≡_, refl}
 use mathlib.Core.Bool.{true}
 use mathlib.Core.List.{List, []}
+use Rattle.state.specs.Cells.{Cells}
 use Rattle.state.specs.Held.{noneHeld}
 use Rattle.state.specs.Lent.{lent, sound}
 use Rattle.lawful.proofs.RowsLaws.{Stored}
@@ -13,6 +14,6 @@ use Rattle.format.proofs.Small.{Small}
 use Rattle.script.specs.Runs.{buffers}
 use Rattle.script.proofs.RanLaws.{start-sound}
 
-pub started : (script cs₀ ts₀ ms₀ : List ℕ) (r : DesignReading) (cs ts ms : List ℕ) → Leaves (readInto script cs₀ ts₀ ms₀) r cs₀ cs ts₀ ts ms₀ ms →
+pub started : (script : List ℕ) (cs₀ : Cells) (ts₀ ms₀ : List ℕ) (r : DesignReading) (cs : Cells) (ts ms : List ℕ) → Leaves (readInto script cs₀ ts₀ ms₀) r cs₀ cs ts₀ ts ms₀ ms →
     Small script → Stored cs → (j : ℕ) → r .verdict ≡ Accepted j → sound (lent (r .design) cs ts ms noneHeld) ≡ true
 started script cs₀ ts₀ ms₀ r cs ts ms read small stored j v = start-sound script (buffers cs₀ ts₀ ms₀ []) r cs ts ms read noneHeld refl small stored j v

@@ -6,6 +6,7 @@ use mathlib.Core.List.{List, _++_}
 use lib.Dec.{ltb}
 use lib.ListN.{length, take, drop, replicate}
 use Rattle.finite.specs.Writing.{Wrote}
+use Rattle.state.specs.Cells.{Cells, cellsIn}
 use Rattle.state.specs.declared.design.Design.{Design}
 use Rattle.state.specs.Held.{noneHeld}
 use Rattle.state.specs.Lent.{State, lent, sound}
@@ -56,7 +57,7 @@ pub record NextReady (script : List ℕ) (s : State) (p : Progress) : Type 0 whe
   pub number : p .number ≤ p .at
 
 -- what `begin` gives, where b was lent and the rows, their tables and the marks are then cs, ts and ms: the buffer o has the first part of the report
-pub record Begins (script : List ℕ) (b : Buffers) (cs ts ms o : List ℕ) (r : Beginning) : Type 0 where
+pub record Begins (script : List ℕ) (b : Buffers) (cs : Cells) (ts ms o : List ℕ) (r : Beginning) : Type 0 where
   pub part : Part (reportOf script b (readingOf script b)) o (r .progress .end)
       (restOf script (lent (r .design) cs ts ms (r .progress .held)) (b .words) (r .progress))
   pub ready : r .progress .more ≡ true → NextReady script (lent (r .design) cs ts ms (r .progress .held)) (r .progress)
@@ -69,9 +70,9 @@ pub record Continues (script : List ℕ) (s : State) (words : List ℕ) (p : Pro
 
 -- ---- the whole report of a script
 
--- what the desk lends: cells, row tables, marks and answer words, all 0
+-- what the desk lends: cells, issues, row tables, marks and answer words, all 0
 abbrev pub lentBuffers : Buffers
-lentBuffers = buffers (replicate 4096 0) (replicate 512 0) (replicate 512 0) (replicate 4096 0)
+lentBuffers = buffers (cellsIn (replicate 4096 0) (replicate 4096 0)) (replicate 512 0) (replicate 512 0) (replicate 4096 0)
 
 unfoldable pub deskReport : List ℕ → List ℕ
 deskReport script = reportOf script lentBuffers (readingOf script lentBuffers)

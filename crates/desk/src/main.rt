@@ -49,13 +49,14 @@ fn write_report(script: &[u8]) -> Handed
     ensures { λ h. ⌜ HandedOver (deskReport (now (script .entry))) h ⌝ }
 {
     let mut cells = [0u32; 4096];
+    let mut issues = [0u8; 4096];
     let mut tables = [0u8; 512];
     let mut marks = [0u8; 512];
     let mut words = [0u32; 4096];
     let mut out = [0u8; 65536];
     let mut next = [512u16; 4096];
     let mut first = [512u16; 8192];
-    let mut keys = [0u32; 4096];
+    let mut keys = [0u64; 4096];
     let mut heads = [512u16; 4096];
     let mut starts = [0u16; 65];
     let mut weights = [0u64; 2560];
@@ -65,6 +66,7 @@ fn write_report(script: &[u8]) -> Handed
     let beginning = begin(
         script,
         &mut cells,
+        &mut issues,
         &mut tables,
         &mut next,
         &mut first,
@@ -92,6 +94,7 @@ fn write_report(script: &[u8]) -> Handed
             p,
             design,
             &cells,
+            &issues,
             &tables,
             &next,
             &first,

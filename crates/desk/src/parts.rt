@@ -5,6 +5,7 @@ ghost use mathlib.Core.Bool.{true};
 ghost use mathlib.Core.List.{List};
 ghost use mathlib.Core.Path.{_≡_};
 ghost use lib.ListN.{length};
+ghost use Rattle.state.specs.Cells.{cellsIn};
 ghost use Rattle.state.specs.Lent.{lent};
 ghost use Rattle.catalog.specs.Catalog.{Catalogued};
 ghost use Rattle.script.specs.Runs.{buffers};
@@ -60,24 +61,26 @@ fn put_first(script: &[u8], out: &mut [u8], design: Design, verdict: Verdict) ->
 pub(crate) fn begin(
     script: &[u8],
     cells: &mut [u32],
+    issues: &mut [u8],
     tables: &mut [u8],
     next: &mut [u16; 4096],
     first: &mut [u16; 8192],
-    keys: &mut [u32; 4096],
+    keys: &mut [u64; 4096],
     heads: &mut [u16; 4096],
     starts: &mut [u16; 65],
     marks: &mut [u8],
     out: &mut [u8],
 ) -> Beginning
     requires { ⌜ 91 ≤ length (now out) ⌝ }
-    ensures { λ r. ⌜ ((w : List ℕ) → Begins (now (script .entry)) (buffers (now (cells .entry)) (now (tables .entry)) (now (marks .entry)) w)
-        (now (cells .exit)) (now (tables .exit)) (now (marks .exit)) (now (out .exit)) r) ⌝ }
-    ensures { λ r. ⌜ (r .progress .more ≡ true → Catalogued (r .design) (now (cells .exit)) (now (tables .exit))
+    ensures { λ r. ⌜ ((w : List ℕ) → Begins (now (script .entry)) (buffers (cellsIn (now (cells .entry)) (now (issues .entry))) (now (tables .entry)) (now (marks .entry)) w)
+        (cellsIn (now (cells .exit)) (now (issues .exit))) (now (tables .exit)) (now (marks .exit)) (now (out .exit)) r) ⌝ }
+    ensures { λ r. ⌜ (r .progress .more ≡ true → Catalogued (r .design) (cellsIn (now (cells .exit)) (now (issues .exit))) (now (tables .exit))
         (now (next .exit)) (now (first .exit)) (now (keys .exit)) (now (heads .exit)) (now (starts .exit))) ⌝ }
 {
     let reading = read_catalogued(
         script,
         cells,
+        issues,
         tables,
         marks,
         next,
@@ -98,10 +101,11 @@ pub(crate) fn next_part(
     from: Progress,
     design: Design,
     cells: &[u32],
+    issues: &[u8],
     tables: &[u8],
     next: &[u16; 4096],
     first: &[u16; 8192],
-    keys: &[u32; 4096],
+    keys: &[u64; 4096],
     heads: &[u16; 4096],
     starts: &[u16; 65],
     marks: &mut [u8],
@@ -112,10 +116,10 @@ pub(crate) fn next_part(
     links: &mut [u16; 2560],
     out: &mut [u8],
 ) -> Progress
-    requires { ⌜ NextReady (now script) (lent design (now cells) (now tables) (now marks) (from .held)) from
-        × Catalogued design (now cells) (now tables) (now next) (now first) (now keys) (now heads) (now starts) ⌝ }
+    requires { ⌜ NextReady (now script) (lent design (cellsIn (now cells) (now issues)) (now tables) (now marks) (from .held)) from
+        × Catalogued design (cellsIn (now cells) (now issues)) (now tables) (now next) (now first) (now keys) (now heads) (now starts) ⌝ }
     requires { ⌜ (length (now words) ≤ 4096) × (length (now out) ≡ 65536) ⌝ }
-    ensures { λ q. ⌜ Continues (now (script .entry)) (lent design (now (cells .entry)) (now (tables .entry)) (now (marks .entry)) (from .held))
+    ensures { λ q. ⌜ Continues (now (script .entry)) (lent design (cellsIn (now (cells .entry)) (now (issues .entry))) (now (tables .entry)) (now (marks .entry)) (from .held))
         (now (words .entry)) from (now (out .exit)) (now (marks .exit)) (now (words .exit)) q ⌝ }
 {
     let mut p = from;
@@ -125,6 +129,7 @@ pub(crate) fn next_part(
         p,
         design,
         cells,
+        issues,
         tables,
         next,
         first,

@@ -7,6 +7,7 @@ ghost use lib.Dec.{ltb};
 ghost use lib.ListN.{length, getD};
 ghost use Rattle.finite.specs.Writing.{Wrote};
 ghost use Rattle.model.specs.Answers.{hasLists};
+ghost use Rattle.state.specs.Cells.{cellsIn};
 ghost use Rattle.state.specs.Meaning.{answerOf, shownOf};
 ghost use Rattle.state.specs.Lent.{lent, sound};
 ghost use Rattle.catalog.specs.Catalog.{Catalogued};
@@ -80,10 +81,11 @@ fn report_step(
     from: Progress,
     design: Design,
     cells: &[u32],
+    issues: &[u8],
     tables: &[u8],
     next: &[u16; 4096],
     first: &[u16; 8192],
-    keys: &[u32; 4096],
+    keys: &[u64; 4096],
     heads: &[u16; 4096],
     starts: &[u16; 65],
     marks: &mut [u8],
@@ -94,11 +96,11 @@ fn report_step(
     links: &mut [u16; 2560],
     out: &mut [u8],
 ) -> Progress
-    requires { ⌜ (sound (lent design (now cells) (now tables) (now marks) (from .held)) ≡ true)
-        × Catalogued design (now cells) (now tables) (now next) (now first) (now keys) (now heads) (now starts) ⌝ }
+    requires { ⌜ (sound (lent design (cellsIn (now cells) (now issues)) (now tables) (now marks) (from .held)) ≡ true)
+        × Catalogued design (cellsIn (now cells) (now issues)) (now tables) (now next) (now first) (now keys) (now heads) (now starts) ⌝ }
     requires { ⌜ (from .more ≡ true) × (from .at < length (now script)) × (from .number ≤ from .at) × (length (now words) ≤ 4096)
         × (from .end + 45162 ≤ length (now out)) ⌝ }
-    ensures { λ q. ⌜ Printed (now (script .entry)) (lent design (now (cells .entry)) (now (tables .entry)) (now (marks .entry)) (from .held))
+    ensures { λ q. ⌜ Printed (now (script .entry)) (lent design (cellsIn (now (cells .entry)) (now (issues .entry))) (now (tables .entry)) (now (marks .entry)) (from .held))
         (now (words .entry)) from (now (out .entry)) (now (out .exit)) (now (marks .exit)) (now (words .exit)) q ⌝ }
     ensures { λ q. ⌜ (q .end ≤ from .end + 45153)
         × (q .more ≡ true → (from .at < q .at) × (q .at < length (now (script .entry))) × (q .number ≤ q .at)) ⌝ }
@@ -110,6 +112,7 @@ fn report_step(
         at,
         design,
         cells,
+        issues,
         tables,
         next,
         first,
@@ -148,10 +151,11 @@ pub(crate) fn fill(
     from: Progress,
     design: Design,
     cells: &[u32],
+    issues: &[u8],
     tables: &[u8],
     next: &[u16; 4096],
     first: &[u16; 8192],
-    keys: &[u32; 4096],
+    keys: &[u64; 4096],
     heads: &[u16; 4096],
     starts: &[u16; 65],
     marks: &mut [u8],
@@ -162,11 +166,11 @@ pub(crate) fn fill(
     links: &mut [u16; 2560],
     out: &mut [u8],
 ) -> Progress
-    requires { ⌜ (sound (lent design (now cells) (now tables) (now marks) (from .held)) ≡ true)
-        × Catalogued design (now cells) (now tables) (now next) (now first) (now keys) (now heads) (now starts) ⌝ }
+    requires { ⌜ (sound (lent design (cellsIn (now cells) (now issues)) (now tables) (now marks) (from .held)) ≡ true)
+        × Catalogued design (cellsIn (now cells) (now issues)) (now tables) (now next) (now first) (now keys) (now heads) (now starts) ⌝ }
     requires { ⌜ (from .more ≡ true → (from .at < length (now script)) × (from .number ≤ from .at)) × (length (now words) ≤ 4096)
         × (from .end ≤ 16384) × (length (now out) ≡ 65536) ⌝ }
-    ensures { λ q. ⌜ Printed (now (script .entry)) (lent design (now (cells .entry)) (now (tables .entry)) (now (marks .entry)) (from .held))
+    ensures { λ q. ⌜ Printed (now (script .entry)) (lent design (cellsIn (now (cells .entry)) (now (issues .entry))) (now (tables .entry)) (now (marks .entry)) (from .held))
         (now (words .entry)) from (now (out .entry)) (now (out .exit)) (now (marks .exit)) (now (words .exit)) q ⌝ }
     ensures { λ q. ⌜ (q .end ≤ 65536) × (q .more ≡ true → (from .at < q .at) × (q .at < length (now (script .entry))) × (q .number ≤ q .at)) ⌝ }
 {
@@ -183,6 +187,7 @@ pub(crate) fn fill(
             p,
             design,
             cells,
+            issues,
             tables,
             next,
             first,

@@ -3,10 +3,12 @@
 -- code: the start, what a turn calls and indexes, the turn, the end. Assumes nothing.
 use Prim.Native.Nat.{ℕ, _+_, _*_, _≤_, _<_}
 use native.Mathlib.Omega.{arith}
-use mathlib.Core.Path.{_≡_}
+use mathlib.Core.Path.{_≡_, sym, subst}
+use mathlib.Core.Logic.{_⊎_, ⊎-elim}
 use mathlib.Core.List.{List}
 use lib.ListN.{length, getD, set}
 use lib.Seq.{sets}
+use Rattle.finite.proofs.Bools.{order}
 use Rattle.finite.proofs.Tables.{Upto, upto-start, upto-set, upto-end}
 use Rattle.finite.proofs.Stores.{Pieces, pieces-start, pieces-more, pieces-end}
 use Rattle.foreign.specs.Words.{placesWords, placesFrom}
@@ -44,3 +46,7 @@ module _ {A : Type 0} {n a w : ℕ} {none : A} {words : A → List ℕ} {xs : Li
 
   pub storing-end : {ws : List ℕ} {i : ℕ} → Storing n a w none words xs old ws i → n ≤ i → ws ≡ sets old a (placesWords n none words xs)
   storing-end {ws} {i} s g = pieces-end _ old a i n ws (s .most) g (s .places)
+
+-- what holds of the places passed holds of one more
+pub below-more : (P : ℕ → Type 0) (i : ℕ) → ((j : ℕ) → j < i → P j) → P i → (j : ℕ) → j < i + 1 → P j
+below-more P i f p j l = ⊎-elim (f j) (λ (q : (j ≡ i) ⊎ (i < j)). ⊎-elim (λ (e : j ≡ i). subst P (sym e) p) (λ m. absurd (omega arith)) q) (order j i)

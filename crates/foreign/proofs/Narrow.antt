@@ -52,8 +52,10 @@ narrow-design d e =
           (λ i l. narrow-column d w _ (w .filling i l .column)) (w .fillingRest) (omega arith, omega arith);
     }
 
-pub narrow-held : (d : Design) (h : Held) → lawfulDesign d ≡ true → lawfulHeld d h ≡ true → (i : ℕ) → i < 64 → NarrowValue (heldAt h i)
-narrow-held d h e f =
-    let w = held-says d h e f in let v = design-says d e in
-    in-places (heldAt h) noValue 64 (h .count) NarrowValue
-    (λ i l. omega (arith, w .pair i l .filling, v .fillings)) (w .rest) (omega arith)
+pub narrow-held : (d : Design) (h : Held) → lawfulDesign d ≡ true → lawfulHeld d h ≡ true → ((i : ℕ) → i < 64 → heldAt h i .value .issue < 256) →
+    (i : ℕ) → i < 64 → NarrowValue (heldAt h i)
+narrow-held d h e f g i l =
+    let w = held-says d h e f in let v = design-says d e in (
+      in-places (heldAt h) noValue 64 (h .count) (λ u. u .filling < 256) (λ j b. omega (arith, w .pair j b .filling, v .fillings)) (w .rest) (omega arith) i l,
+      g i l,
+    )

@@ -6,12 +6,14 @@ use mathlib.Core.Path.{_≡_, refl, sym, ap, subst, _∙_}
 use mathlib.Core.Bool.{Bool, true, false, not, cond, _&&_}
 use mathlib.Core.List.{List, []}
 use borrow.Author.Tests.{lt-ltb, ltb-true}
-use lib.Dec.{leb, ltb}
+use lib.Dec.{leb, ltb, lit<}
 use lib.ListN.{length}
 use lib.Seq.{sets, length-sets}
-use Rattle.finite.proofs.Tables.{length-tab}
+use Rattle.finite.proofs.Tables.{length-tab, tab-at}
+use Rattle.state.specs.Cells.{Cells}
 use Rattle.state.specs.declared.design.Design.{Design}
-use Rattle.state.specs.Held.{noneHeld, noValue}
+use Rattle.state.specs.declared.held.HeldValue.{HeldValue}
+use Rattle.state.specs.Held.{noneHeld, noValue, heldAt}
 use Rattle.state.specs.Lent.{lent, sound, longEnough}
 use Rattle.state.specs.Design.{emptyDesign}
 use Rattle.state.specs.Meaning.{schemeOf, databaseOf}
@@ -22,7 +24,7 @@ use Rattle.format.specs.declared.command.Command as Commands
 use Rattle.format.specs.declared.command.Command.the-variants as C
 use Rattle.format.specs.Bytes.{byteAt}
 use Rattle.format.specs.Commands.{commandAt, widthOf}
-use Rattle.format.specs.Reading.{Draft, emptyDraft, DesignRead, Advanced, refusedIf, afterTables, afterConstraints, afterFillings, withRow, rowAdvanced}
+use Rattle.format.specs.Reading.{Draft, emptyDraft, DesignRead, Advanced, refusedIf, afterTables, afterConstraints, afterFillings, withRow, needless, rowAdvanced}
 use Rattle.format.specs.Reading.{advanced, readOn, readFrom, readDesign, readInto, mostBytes, cellsAfter, tablesAfter, marksAfter}
 use Rattle.format.specs.Reading.Advanced.{on, complete, refused}
 use Rattle.format.specs.Reading.DesignRead.{accepted, refusedAt}
@@ -67,8 +69,8 @@ advanced-caused p s i (C.Filling f) =
 advanced-caused p s i (C.Row t) =
     let q = withRow p s i t in let r = p .design .rows in
     let S = schemeOf (q .design) in let D = databaseOf (q .design .rows) (q .cells) (q .tables) in
-    if-caused (leb 512 r) 4 _ (omega arith)
-    (if-caused (not (rowFits S D r)) 5 _ (omega arith) (if-caused (repeats S D r) 6 _ (omega arith) refl))
+    if-caused (leb 512 r) 4 _ (omega arith) (if-caused (needless s i) 5 _ (omega arith)
+    (if-caused (not (rowFits S D r)) 5 _ (omega arith) (if-caused (repeats S D r) 6 _ (omega arith) refl)))
 advanced-caused p s i C.End = refl
 advanced-caused p s i (C.Operate o) = cause 3 (omega arith)
 advanced-caused p s i C.Unknown = cause 2 (omega arith)
@@ -90,7 +92,7 @@ cond-caused : (b : Bool) (v w : DesignRead) → causeRead v ≡ true → causeRe
 cond-caused true v w h k = h
 cond-caused false v w h k = k
 
-opening-caused : (script cs ts ms ds hs : List ℕ) → causeRead (opening script cs ts ms ds hs) ≡ true
+opening-caused : (script : List ℕ) (cs : Cells) (ts ms ds hs : List ℕ) → causeRead (opening script cs ts ms ds hs) ≡ true
 unfolding opening readInto readDesign
 opening-caused script cs ts ms ds hs =
     let whole = readFrom (suc (length script)) script emptyDraft 0 in
@@ -109,7 +111,11 @@ none-long : length (noneHeld .values) ≡ 64
 unfolding noneHeld
 none-long = length-tab 64 (λ _. noValue)
 
-module _ (script cs ts ms ds hs : List ℕ) (n : ℕ) (cs′ ts′ ms′ ds′ hs′ : List ℕ)
+none-issues : (i : ℕ) → i < 64 → heldAt noneHeld i .value .issue < 256
+unfolding noneHeld
+none-issues i l = subst (λ (v : HeldValue). v .value .issue < 256) (sym (tab-at noValue 64 (λ _. noValue) i l)) (lit< tt)
+
+module _ (script : List ℕ) (cs : Cells) (ts ms ds hs : List ℕ) (n : ℕ) (cs′ : Cells) (ts′ ms′ ds′ hs′ : List ℕ)
     (o : Opened (opening script cs ts ms ds hs) n cs cs′ ts ts′ ms ms′ ds ds′ hs hs′) (k k′ : Arrays)
     (g : Catalogs (opening script cs ts ms ds hs) cs′ ts′ k k′) where
   -- THEOREM: the buffers that `wurzsige_open` leaves with number 0 meet what `wurzsige_step` requires. That the script is of bytes and the cells
@@ -136,7 +142,7 @@ module _ (script cs ts ms ds hs : List ℕ) (n : ℕ) (cs′ ts′ ms′ ds′ h
           design-stored (p .design) (record { table = z .table; constraint = z .constraint; filling = z .filling })
           (narrow-design (p .design) (b .design)) ds (w .0) in
           let h : wordsHeld hs′ ≡ noneHeld =
-          ap wordsHeld held ∙ held-stored noneHeld none-long (narrow-held (p .design) noneHeld (b .design) (parts _ (b .sound) .held)) hs (w .1) in
+          ap wordsHeld held ∙ held-stored noneHeld none-long (narrow-held (p .design) noneHeld (b .design) (parts _ (b .sound) .held) none-issues) hs (w .1) in
           let s : wordsState ds′ cs′ ts′ ms′ hs′ ≡ justRead (accepted p i) (buffers cs ts ms []) =
           λ x. lent (d x) (cells x) (tables x) (marks x) (h x) in
           record {

@@ -10,6 +10,7 @@ use lib.Dec.{leb}
 use lib.ListN.{length}
 use lib.Seq.{sets}
 use Rattle.finite.proofs.Bools.{dec, both, and-left, and-right, cond-true, cond-false}
+use Rattle.state.specs.Cells.{Cells}
 use Rattle.state.specs.declared.held.Held.{Held}
 use Rattle.state.specs.declared.design.Design.{Design}
 use Rattle.state.specs.Held.{noneHeld}
@@ -26,7 +27,7 @@ use Rattle.script.proofs.JustRead.{into-parts}
 use Rattle.foreign.specs.Words.{designLength, heldLength, designWords, heldWords}
 use Rattle.foreign.specs.Calls.{opening, causeNumber, designWordsAfter, heldWordsAfter, Opened, Arrays, CatalogIn, Catalogs}
 
-module _ (script cs ts ms ds hs : List ℕ) where
+module _ (script : List ℕ) (cs : Cells) (ts ms ds hs : List ℕ) where
   abbrev long : Bool
   long = leb designLength (length ds) && leb heldLength (length hs)
 
@@ -83,7 +84,7 @@ module _ (script cs ts ms ds hs : List ℕ) where
       (dec long)
 
   -- enough words: the design is read
-  module _ (a : designLength ≤ length ds) (b : heldLength ≤ length hs) (r : DesignReading) (cs′ ts′ ms′ : List ℕ)
+  module _ (a : designLength ≤ length ds) (b : heldLength ≤ length hs) (r : DesignReading) (cs′ : Cells) (ts′ ms′ : List ℕ)
       (read : Leaves (readInto script cs ts ms) r cs cs′ ts ts′ ms ms′) where
     opens : opening script cs ts ms ds hs ≡ readInto script cs ts ms
     unfolding opening
@@ -138,7 +139,7 @@ module _ (script cs ts ms ds hs : List ℕ) where
           go (refusedAt c i) e = absurd (let z : _≡_ {A = ℕ} 0 1 = cc (read .verdict ∙ ap verdictOf e) in omega arith)
 
 -- an accepted design is lawful
-pub opened-lawful : (script cs ts ms : List ℕ) (r : DesignReading) (cs′ ts′ ms′ : List ℕ) →
+pub opened-lawful : (script : List ℕ) (cs : Cells) (ts ms : List ℕ) (r : DesignReading) (cs′ : Cells) (ts′ ms′ : List ℕ) →
     Leaves (readInto script cs ts ms) r cs cs′ ts ts′ ms ms′ → (j : ℕ) → r .verdict ≡ Accepted j → Small script → LawfulDesign (r .design)
 opened-lawful script cs ts ms r cs′ ts′ ms′ read j v small = go (readInto script cs ts ms) refl
   where

@@ -1,6 +1,6 @@
 -- What a step and a run leave, from what their parts give: the step on the state that the words stand for, its held values stored, its answer told.
 -- Assumes nothing.
-use Prim.Native.Nat.{ℕ, _≤_}
+use Prim.Native.Nat.{ℕ, _≤_, _<_}
 use native.Mathlib.Omega.{arith}
 use mathlib.Core.Path.{_≡_, sym, ap, subst, _∙_}
 use mathlib.Core.Bool.{true}
@@ -8,8 +8,10 @@ use mathlib.Core.List.{List}
 use lib.ListN.{length}
 use lib.Seq.{sets, length-sets}
 use Rattle.model.specs.Answers.{Answer}
+use Rattle.state.specs.Cells.{Cells}
 use Rattle.state.specs.declared.design.Design.{Design}
 use Rattle.state.specs.declared.held.Held.{Held}
+use Rattle.state.specs.Held.{heldAt}
 use Rattle.state.specs.Meaning.{answerOf}
 use Rattle.state.specs.Lent.{State, lent, sound}
 use Rattle.lawful.proofs.HeldLaws.{held-count}
@@ -29,7 +31,7 @@ use Rattle.foreign.proofs.Narrow.{narrow-held}
 few : (s : State) → sound s ≡ true → s .held .count ≤ 64
 few s e = held-count (s .design) (s .held) (parts s e .held)
 
-module _ (ds cs ts ms hs : List ℕ) (k : Arrays) (d : Design) (h : Held) (dis : d ≡ wordsDesign ds) (his : h ≡ wordsHeld hs)
+module _ (ds : List ℕ) (cs : Cells) (ts ms hs : List ℕ) (k : Arrays) (d : Design) (h : Held) (dis : d ≡ wordsDesign ds) (his : h ≡ wordsHeld hs)
     (ready : Ready ds cs ts k ms hs) where
   -- the design and held values that were read make the state that the words stand for
   same : lent d cs ts ms h ≡ wordsState ds cs ts ms hs
@@ -51,11 +53,12 @@ module _ (ds cs ts ms hs : List ℕ) (k : Arrays) (d : Design) (h : Held) (dis :
     left-few = few (lent d cs ts ms′ kept) still
 
     -- its held values are stored
-    module _ (hs′ : List ℕ) (stored : hs′ ≡ sets hs 0 (heldWords kept)) (long : length (kept .values) ≡ 64) where
+    module _ (hs′ : List ℕ) (stored : hs′ ≡ sets hs 0 (heldWords kept)) (long : length (kept .values) ≡ 64)
+        (issues : (i : ℕ) → i < 64 → heldAt kept i .value .issue < 256) where
       back : wordsHeld hs′ ≡ kept
       back =
           let p = parts (lent d cs ts ms′ kept) still in
-          ap wordsHeld stored ∙ held-stored kept long (narrow-held d kept (p .design) (p .held)) hs (ready .held)
+          ap wordsHeld stored ∙ held-stored kept long (narrow-held d kept (p .design) (p .held) issues) hs (ready .held)
 
       left-kept : Kept s w ds cs ts k ms′ ws′ hs hs′
       left-kept =
@@ -90,12 +93,13 @@ module _ (ds cs ts ms hs : List ℕ) (k : Arrays) (d : Design) (h : Held) (dis :
       pub step-few : t .held .count ≤ 64
       step-few = left-few (R .state) (R .words) R-sound ms′ ws′ (t .held) step-left
 
-      pub step-taken : (hs′ : List ℕ) → hs′ ≡ sets hs 0 (heldWords (t .held)) → length (t .held .values) ≡ 64 → (n : ℕ) (ns′ : List ℕ) →
+      pub step-taken : (hs′ : List ℕ) → hs′ ≡ sets hs 0 (heldWords (t .held)) → length (t .held .values) ≡ 64 →
+          ((j : ℕ) → j < 64 → heldAt (t .held) j .value .issue < 256) → (n : ℕ) (ns′ : List ℕ) →
           Told (answerOf (t .answer)) n ns′ → StepTaken R n ns′ ds cs ts k ms′ ws′ hs hs′
-      step-taken hs′ stored long n ns′ told =
+      step-taken hs′ stored long issues n ns′ told =
           record {
             told = subst (λ (a : Answer). Told a n ns′) (does .answer ∙ ap (λ (Q : Stepped). Q .answer) R-is) told;
-            kept = left-kept (R .state) (R .words) R-sound ms′ ws′ (t .held) step-left hs′ stored long;
+            kept = left-kept (R .state) (R .words) R-sound ms′ ws′ (t .held) step-left hs′ stored long issues;
           }
 
     -- ---- a run
@@ -113,5 +117,6 @@ module _ (ds cs ts ms hs : List ℕ) (k : Arrays) (d : Design) (h : Held) (dis :
       pub run-few : kept .count ≤ 64
       run-few = left-few (l .state) (l .words) l-sound ms′ ws′ kept run-left
 
-      pub run-made : (hs′ : List ℕ) → hs′ ≡ sets hs 0 (heldWords kept) → length (kept .values) ≡ 64 → RunMade l ds cs ts k ms′ ws′ hs hs′
+      pub run-made : (hs′ : List ℕ) → hs′ ≡ sets hs 0 (heldWords kept) → length (kept .values) ≡ 64 →
+          ((j : ℕ) → j < 64 → heldAt kept j .value .issue < 256) → RunMade l ds cs ts k ms′ ws′ hs hs′
       run-made = left-kept (l .state) (l .words) l-sound ms′ ws′ kept run-left

@@ -40,8 +40,8 @@ length-constraints = length-places 16 4 noConstraint constraintWords (λ c. refl
 length-fillings : (fs : List Filling) → length (fillingsWords fs) ≡ 32
 length-fillings = length-places 8 4 noFilling fillingWords (λ f. refl)
 
-length-values : (vs : List HeldValue) → length (valuesWords vs) ≡ 128
-length-values = length-places 64 2 noValue valueWords (λ v. refl)
+length-values : (vs : List HeldValue) → length (valuesWords vs) ≡ 192
+length-values = length-places 64 3 noValue valueWords (λ v. refl)
 
 pub length-design : (d : Design) → length (designWords d) ≡ 116
 unfolding designWords
@@ -57,16 +57,15 @@ length-design d =
       length-fillings (d .filling),
     )
 
-pub length-held : (h : Held) → length (heldWords h) ≡ 129
+pub length-held : (h : Held) → length (heldWords h) ≡ 193
 unfolding heldWords
 length-held h = omega (arith, length-values (h .values))
 
 -- ---- how they are stored
 
-pub stored-four : (l x y : List ℕ) (i a b c d : ℕ) → x ≡ sets l i (a ∷ b ∷ []) → y ≡ sets x (i + 2) (c ∷ d ∷ []) →
-    y ≡ sets l i (a ∷ b ∷ c ∷ d ∷ [])
-stored-four l x y i a b c d p q =
-    q ∙ ap (λ (m : List ℕ). sets m (i + 2) (c ∷ d ∷ [])) p ∙ sets-then (a ∷ b ∷ []) (c ∷ d ∷ []) l i (i + 2) refl
+-- two words, and others behind them
+pub stored-behind : (l x y : List ℕ) (i a b : ℕ) (cs : List ℕ) → x ≡ sets l i (a ∷ b ∷ []) → y ≡ sets x (i + 2) cs → y ≡ sets l i (a ∷ b ∷ cs)
+stored-behind l x y i a b cs p q = q ∙ ap (λ (m : List ℕ). sets m (i + 2) cs) p ∙ sets-then (a ∷ b ∷ []) cs l i (i + 2) refl
 
 pub stored-design : (d : Design) (l x y z u : List ℕ) → x ≡ sets l 0 (countsWords d) → y ≡ sets x 4 (tablesWords (d .table)) →
     z ≡ sets y 20 (constraintsWords (d .constraint)) → u ≡ sets z 84 (fillingsWords (d .filling)) → u ≡ sets l 0 (designWords d)
@@ -110,7 +109,7 @@ abbrev pub NarrowFilling : Filling → Type 0
 NarrowFilling f = NarrowColumn (f .column)
 
 abbrev pub NarrowValue : HeldValue → Type 0
-NarrowValue v = v .filling < 256
+NarrowValue v = (v .filling < 256) × (v .value .issue < 256)
 
 pub record NarrowDesign (d : Design) : Type 0 where
   pub table : (i : ℕ) → i < 8 → NarrowTable (tableAt d i)
@@ -137,8 +136,8 @@ module _ (s : List ℕ) (i : ℕ) where
   value-back : (v : HeldValue) → Stands s i (valueWords v) → NarrowValue v → v ≡ valueFrom s i
   value-back v h n =
       λ x. record {
-        filling = byte-back s _ i h 0 i (omega arith) (omega arith) n x;
-        value = record { number = word-back s _ i h 1 (i + 1) (omega arith) refl x };
+        filling = byte-back s _ i h 0 i (omega arith) (omega arith) (n .0) x;
+        value = record { number = word-back s _ i h 1 (i + 1) (omega arith) refl x; issue = byte-back s _ i h 2 (i + 2) (omega arith) refl (n .1) x };
       }
 
 constraint-back : (s : List ℕ) (i : ℕ) (c : Constraint) → Stands s i (constraintWords c) → NarrowConstraint c → c ≡ constraintFrom s i
@@ -220,13 +219,13 @@ module _ (h : Held) (z : length (h .values) ≡ 64) (n : (i : ℕ) → i < 64 �
       let first : List ℕ = h .count ∷ [] in let rest = valuesWords (h .values) in
       let behind = stands-part s _ first rest [] 0 1 e (ap (λ (l : List ℕ). first ++ l) (sym (append-nil rest))) refl in
       sym (held-is s _ _ (word-back s _ 0 e 0 0 (omega arith) refl)
-      (places-back 64 1 2 noValue valueWords valueFrom NarrowValue (λ v. refl) value-back s (h .values) behind z n))
+      (places-back 64 1 3 noValue valueWords valueFrom NarrowValue (λ v. refl) value-back s (h .values) behind z n))
 
   pub held-back : (rest : List ℕ) → wordsHeld (heldWords h ++ rest) ≡ h
   held-back rest = held-stands _ (stands-first (heldWords h) rest)
 
   -- also where they were stored
-  pub held-stored : (l : List ℕ) → 129 ≤ length l → wordsHeld (sets l 0 (heldWords h)) ≡ h
+  pub held-stored : (l : List ℕ) → 193 ≤ length l → wordsHeld (sets l 0 (heldWords h)) ≡ h
   held-stored l m = ap wordsHeld (sets-eq (heldWords h) l 0 (omega (arith, length-held h))) ∙ held-back (drop (0 + length (heldWords h)) l)
 
 module _ (d : Design) (z : Sized d) (n : NarrowDesign d) where

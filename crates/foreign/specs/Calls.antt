@@ -6,6 +6,7 @@ use mathlib.Core.List.{List}
 use lib.Dec.{leb}
 use lib.ListN.{length}
 use lib.Seq.{sets}
+use Rattle.state.specs.Cells.{Cells}
 use Rattle.state.specs.Held.{noneHeld}
 use Rattle.state.specs.Lent.{State, lent, sound}
 use Rattle.state.specs.declared.design.Design.{Design}
@@ -20,7 +21,7 @@ use Rattle.foreign.specs.Told.{Told}
 -- ---- wurzsige_open
 
 -- the reading: "Lent buffer too short", for the words as for the rows, before anything else
-unfoldable pub opening : List ℕ → List ℕ → List ℕ → List ℕ → List ℕ → List ℕ → DesignRead
+unfoldable pub opening : List ℕ → Cells → List ℕ → List ℕ → List ℕ → List ℕ → DesignRead
 opening script cells tables marks design held =
     cond (leb designLength (length design) && leb heldLength (length held)) (readInto script cells tables marks) (refusedAt 7 0)
 
@@ -39,7 +40,7 @@ heldWordsAfter (accepted p i) ws = sets ws 0 (heldWords noneHeld)
 heldWordsAfter (refusedAt c i) ws = ws
 
 -- the number n, and each lent buffer before and after
-pub record Opened (w : DesignRead) (n : ℕ) (cs cs′ ts ts′ ms ms′ ds ds′ hs hs′ : List ℕ) : Type 0 where
+pub record Opened (w : DesignRead) (n : ℕ) (cs cs′ : Cells) (ts ts′ ms ms′ ds ds′ hs hs′ : List ℕ) : Type 0 where
   pub number : n ≡ causeNumber w
   pub cells : cs′ ≡ cellsAfter w cs
   pub tables : ts′ ≡ tablesAfter w ts
@@ -59,41 +60,41 @@ abbrev pub arrays : List ℕ → List ℕ → List ℕ → List ℕ → List ℕ
 arrays next first keys heads starts = record { next = next; first = first; keys = keys; heads = heads; starts = starts }
 
 -- they have the catalog of a design with lent rows
-abbrev pub CatalogIn : Arrays → Design → List ℕ → List ℕ → Type 0
+abbrev pub CatalogIn : Arrays → Design → Cells → List ℕ → Type 0
 CatalogIn k d cells tables = Catalogued d cells tables (k .next) (k .first) (k .keys) (k .heads) (k .starts)
 
 -- the arrays before, k, and after, k′: with an accepted design the catalog of its rows, else as they were
-pub record Catalogs (w : DesignRead) (cs′ ts′ : List ℕ) (k k′ : Arrays) : Type 0 where
+pub record Catalogs (w : DesignRead) (cs′ : Cells) (ts′ : List ℕ) (k k′ : Arrays) : Type 0 where
   pub made : (p : Draft) (i : ℕ) → w ≡ accepted p i → CatalogIn k′ (p .design) cs′ ts′
   pub kept : (c i : ℕ) → w ≡ refusedAt c i → k′ ≡ k
 
 -- ---- wurzsige_step
 
 -- the state that the words and the other buffers stand for
-abbrev pub wordsState : List ℕ → List ℕ → List ℕ → List ℕ → List ℕ → State
+abbrev pub wordsState : List ℕ → Cells → List ℕ → List ℕ → List ℕ → State
 wordsState design cells tables marks held = lent (wordsDesign design) cells tables marks (wordsHeld held)
 
 -- what a step asks of its buffers: long enough, a sound state, and the catalog of its rows
-pub record Ready (ds cs ts : List ℕ) (k : Arrays) (ms hs : List ℕ) : Type 0 where
+pub record Ready (ds : List ℕ) (cs : Cells) (ts : List ℕ) (k : Arrays) (ms hs : List ℕ) : Type 0 where
   pub design : designLength ≤ length ds
   pub held : heldLength ≤ length hs
   pub sound : sound (wordsState ds cs ts ms hs) ≡ true
   pub catalog : CatalogIn k (wordsDesign ds) cs ts
 
 -- the state s and the answer words w are left: the marks and words afterwards, the held words hs before and hs′ after; and the next step can be taken
-pub record Kept (s : State) (w ds cs ts : List ℕ) (k : Arrays) (ms′ ws′ hs hs′ : List ℕ) : Type 0 where
+pub record Kept (s : State) (w ds : List ℕ) (cs : Cells) (ts : List ℕ) (k : Arrays) (ms′ ws′ hs hs′ : List ℕ) : Type 0 where
   pub marks : ms′ ≡ s .marks
   pub words : ws′ ≡ w
   pub held : hs′ ≡ sets hs 0 (heldWords (s .held))
   pub ready : Ready ds cs ts k ms′ hs′
 
 -- the step R was taken: the number n and the buffer ns′ tell its answer, and what it leaves is kept
-pub record StepTaken (R : Stepped) (n : ℕ) (ns′ ds cs ts : List ℕ) (k : Arrays) (ms′ ws′ hs hs′ : List ℕ) : Type 0 where
+pub record StepTaken (R : Stepped) (n : ℕ) (ns′ ds : List ℕ) (cs : Cells) (ts : List ℕ) (k : Arrays) (ms′ ws′ hs hs′ : List ℕ) : Type 0 where
   pub told : Told (R .answer) n ns′
   pub kept : Kept (R .state) (R .words) ds cs ts k ms′ ws′ hs hs′
 
 -- ---- wurzsige_run
 
 -- the run that leaves l was made: that is kept
-abbrev pub RunMade : Left → List ℕ → List ℕ → List ℕ → Arrays → List ℕ → List ℕ → List ℕ → List ℕ → Type 0
+abbrev pub RunMade : Left → List ℕ → Cells → List ℕ → Arrays → List ℕ → List ℕ → List ℕ → List ℕ → Type 0
 RunMade l = Kept (l .state) (l .words)

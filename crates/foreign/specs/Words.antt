@@ -1,4 +1,4 @@
--- A design and held values as lists of u32 words, 116 and 129 of them, and the design and held values that such a list stands for. The words of a
+-- A design and held values as lists of u32 words, 116 and 193 of them, and the design and held values that such a list stands for. The words of a
 -- design are its four counts, then each table, constraint and filling; those of held values the count, then each pair. Assumes nothing.
 use Prim.Native.Nat.{ℕ, _+_, _*_, _%_}
 use mathlib.Core.Bool.{true}
@@ -20,7 +20,7 @@ abbrev pub designLength : ℕ
 designLength = 116
 
 abbrev pub heldLength : ℕ
-heldLength = 129
+heldLength = 193
 
 -- ---- to words
 
@@ -34,7 +34,7 @@ abbrev pub fillingWords : Filling → List ℕ
 fillingWords f = f .column .table ∷ f .column .place ∷ f .low ∷ f .high ∷ []
 
 abbrev pub valueWords : HeldValue → List ℕ
-valueWords v = v .filling ∷ v .value .number ∷ []
+valueWords v = v .filling ∷ v .value .number ∷ v .value .issue ∷ []
 
 abbrev pub countsWords : Design → List ℕ
 countsWords d = d .tables ∷ d .constraints ∷ d .fillings ∷ d .rows ∷ []
@@ -83,7 +83,7 @@ abbrev pub fillingFrom : List ℕ → ℕ → Filling
 fillingFrom ws i = record { column = columnFrom ws i; low = wordAt ws (i + 2); high = wordAt ws (i + 3) }
 
 abbrev pub valueFrom : List ℕ → ℕ → HeldValue
-valueFrom ws i = record { filling = byteOf ws i; value = record { number = wordAt ws (i + 1) } }
+valueFrom ws i = record { filling = byteOf ws i; value = record { number = wordAt ws (i + 1); issue = byteOf ws (i + 2) } }
 
 -- the n places of an array, each of w words, the first at word a
 abbrev pub placesFrom : {A : Type 0} → ℕ → ℕ → ℕ → (List ℕ → ℕ → A) → List ℕ → List A
@@ -99,7 +99,7 @@ abbrev pub fillingsFrom : List ℕ → List Filling
 fillingsFrom = placesFrom 8 84 4 fillingFrom
 
 abbrev pub valuesFrom : List ℕ → List HeldValue
-valuesFrom = placesFrom 64 1 2 valueFrom
+valuesFrom = placesFrom 64 1 3 valueFrom
 
 unfoldable pub wordsDesign : List ℕ → Design
 wordsDesign ws =

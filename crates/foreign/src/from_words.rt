@@ -67,13 +67,13 @@ fn filling_from(words: &[u32], at: usize) -> Filling
 }
 
 fn value_from(words: &[u32], at: usize) -> HeldValue
-    requires { ⌜ at + 2 ≤ length (now words) ⌝ }
+    requires { ⌜ at + 3 ≤ length (now words) ⌝ }
     ensures { λ v. ⌜ v ≡ valueFrom (now (words .entry)) at ⌝ }
 {
     let filling = byte_at(words, at);
-    let value = Cell {
-        number: words[at + 1],
-    };
+    let number = words[at + 1];
+    let issue = byte_at(words, at + 2);
+    let value = Cell { number, issue };
     HeldValue { filling, value }
 }
 
@@ -127,15 +127,18 @@ fn fillings_from(words: &[u32]) -> [Filling; 8]
 }
 
 fn values_from(words: &[u32]) -> [HeldValue; 64]
-    requires { ⌜ 129 ≤ length (now words) ⌝ }
+    requires { ⌜ 193 ≤ length (now words) ⌝ }
     ensures { λ vs. ⌜ vs ≡ valuesFrom (now (words .entry)) ⌝ }
 {
     let mut vs = [HeldValue {
         filling: 0,
-        value: Cell { number: 0 },
+        value: Cell {
+            number: 0,
+            issue: 0,
+        },
     }; 64];
     for i in 0..64usize {
-        let v = value_from(words, 1 + 2 * i);
+        let v = value_from(words, 1 + 3 * i);
         vs[i] = v;
     }
     vs
@@ -164,9 +167,9 @@ pub(crate) fn design_from(words: &[u32]) -> Design
     }
 }
 
-// The held values that the first 129 words stand for. One step for each of their 64 places.
+// The held values that the first 193 words stand for. One step for each of their 64 places.
 pub(crate) fn held_from(words: &[u32]) -> Held
-    requires { ⌜ 129 ≤ length (now words) ⌝ }
+    requires { ⌜ 193 ≤ length (now words) ⌝ }
     ensures { λ h. ⌜ h ≡ wordsHeld (now (words .entry)) ⌝ }
 {
     let count = count_at(words, 0);

@@ -5,6 +5,7 @@
 ghost use lib.ListN.{length};
 ghost use Rattle.script.specs.Step.{stepAt};
 ghost use Rattle.script.specs.Runs.{leftFrom};
+ghost use Rattle.state.specs.Cells.{cellsIn};
 ghost use Rattle.foreign.specs.Calls.{opening, Opened, arrays, Catalogs, wordsState, Ready, StepTaken, RunMade};
 
 mod from_words;
@@ -25,7 +26,7 @@ use state::Held;
 // How many words a design takes, and held values.
 const DESIGN_WORDS: usize = 116;
 
-const HELD_WORDS: usize = 129;
+const HELD_WORDS: usize = 193;
 
 // Reads a design into lent buffers and makes the catalog of its rows: 0, or the cause of its refusal, which leaves all of them as they were. The cost
 // of `read_catalogued`.
@@ -33,10 +34,11 @@ const HELD_WORDS: usize = 129;
 pub extern "C" fn wurzsige_open(
     script: &[u8],
     cells: &mut [u32],
+    issues: &mut [u8],
     tables: &mut [u8],
     next: &mut [u16; 4096],
     first: &mut [u16; 8192],
-    keys: &mut [u32; 4096],
+    keys: &mut [u64; 4096],
     heads: &mut [u16; 4096],
     starts: &mut [u16; 65],
     marks: &mut [u8],
@@ -44,12 +46,12 @@ pub extern "C" fn wurzsige_open(
     held: &mut [u32],
 ) -> u8
     ensures { λ n. ⌜ Opened
-        (opening (now (script .entry)) (now (cells .entry)) (now (tables .entry)) (now (marks .entry)) (now (design .entry)) (now (held .entry))) n
-        (now (cells .entry)) (now (cells .exit)) (now (tables .entry)) (now (tables .exit)) (now (marks .entry)) (now (marks .exit))
+        (opening (now (script .entry)) (cellsIn (now (cells .entry)) (now (issues .entry))) (now (tables .entry)) (now (marks .entry)) (now (design .entry)) (now (held .entry))) n
+        (cellsIn (now (cells .entry)) (now (issues .entry))) (cellsIn (now (cells .exit)) (now (issues .exit))) (now (tables .entry)) (now (tables .exit)) (now (marks .entry)) (now (marks .exit))
         (now (design .entry)) (now (design .exit)) (now (held .entry)) (now (held .exit)) ⌝ }
     ensures { λ n. ⌜ Catalogs
-        (opening (now (script .entry)) (now (cells .entry)) (now (tables .entry)) (now (marks .entry)) (now (design .entry)) (now (held .entry)))
-        (now (cells .exit)) (now (tables .exit))
+        (opening (now (script .entry)) (cellsIn (now (cells .entry)) (now (issues .entry))) (now (tables .entry)) (now (marks .entry)) (now (design .entry)) (now (held .entry)))
+        (cellsIn (now (cells .exit)) (now (issues .exit))) (now (tables .exit))
         (arrays (now (next .entry)) (now (first .entry)) (now (keys .entry)) (now (heads .entry)) (now (starts .entry)))
         (arrays (now (next .exit)) (now (first .exit)) (now (keys .exit)) (now (heads .exit)) (now (starts .exit))) ⌝ }
 {
@@ -62,6 +64,7 @@ pub extern "C" fn wurzsige_open(
     let reading = read_catalogued(
         script,
         cells,
+        issues,
         tables,
         marks,
         next,
@@ -89,10 +92,11 @@ pub extern "C" fn wurzsige_step(
     script: &[u8],
     at: usize,
     cells: &[u32],
+    issues: &[u8],
     tables: &[u8],
     next: &[u16; 4096],
     first: &[u16; 8192],
-    keys: &[u32; 4096],
+    keys: &[u64; 4096],
     heads: &[u16; 4096],
     starts: &[u16; 65],
     marks: &mut [u8],
@@ -105,11 +109,11 @@ pub extern "C" fn wurzsige_step(
     links: &mut [u16; 2560],
     numbers: &mut [u64; 2],
 ) -> u8
-    requires { ⌜ Ready (now design) (now cells) (now tables) (arrays (now next) (now first) (now keys) (now heads) (now starts)) (now marks) (now held) ⌝ }
+    requires { ⌜ Ready (now design) (cellsIn (now cells) (now issues)) (now tables) (arrays (now next) (now first) (now keys) (now heads) (now starts)) (now marks) (now held) ⌝ }
     ensures { λ n. ⌜ StepTaken
-        (stepAt (wordsState (now (design .entry)) (now (cells .entry)) (now (tables .entry)) (now (marks .entry)) (now (held .entry)))
+        (stepAt (wordsState (now (design .entry)) (cellsIn (now (cells .entry)) (now (issues .entry))) (now (tables .entry)) (now (marks .entry)) (now (held .entry)))
         (now (words .entry)) (now (script .entry)) at)
-        n (now (numbers .exit)) (now (design .entry)) (now (cells .entry)) (now (tables .entry))
+        n (now (numbers .exit)) (now (design .entry)) (cellsIn (now (cells .entry)) (now (issues .entry))) (now (tables .entry))
         (arrays (now (next .entry)) (now (first .entry)) (now (keys .entry)) (now (heads .entry)) (now (starts .entry)))
         (now (marks .exit)) (now (words .exit)) (now (held .entry)) (now (held .exit)) ⌝ }
 {
@@ -120,6 +124,7 @@ pub extern "C" fn wurzsige_step(
         at,
         d,
         cells,
+        issues,
         tables,
         next,
         first,
@@ -147,10 +152,11 @@ pub extern "C" fn wurzsige_run(
     script: &[u8],
     at: usize,
     cells: &[u32],
+    issues: &[u8],
     tables: &[u8],
     next: &[u16; 4096],
     first: &[u16; 8192],
-    keys: &[u32; 4096],
+    keys: &[u64; 4096],
     heads: &[u16; 4096],
     starts: &[u16; 65],
     marks: &mut [u8],
@@ -162,11 +168,11 @@ pub extern "C" fn wurzsige_run(
     froms: &mut [u16; 2560],
     links: &mut [u16; 2560],
 )
-    requires { ⌜ Ready (now design) (now cells) (now tables) (arrays (now next) (now first) (now keys) (now heads) (now starts)) (now marks) (now held) ⌝ }
+    requires { ⌜ Ready (now design) (cellsIn (now cells) (now issues)) (now tables) (arrays (now next) (now first) (now keys) (now heads) (now starts)) (now marks) (now held) ⌝ }
     ensures { λ _. ⌜ RunMade
         (leftFrom (length (now (script .entry))) (now (script .entry))
-        (wordsState (now (design .entry)) (now (cells .entry)) (now (tables .entry)) (now (marks .entry)) (now (held .entry))) (now (words .entry)) at)
-        (now (design .entry)) (now (cells .entry)) (now (tables .entry))
+        (wordsState (now (design .entry)) (cellsIn (now (cells .entry)) (now (issues .entry))) (now (tables .entry)) (now (marks .entry)) (now (held .entry))) (now (words .entry)) at)
+        (now (design .entry)) (cellsIn (now (cells .entry)) (now (issues .entry))) (now (tables .entry))
         (arrays (now (next .entry)) (now (first .entry)) (now (keys .entry)) (now (heads .entry)) (now (starts .entry)))
         (now (marks .exit)) (now (words .exit)) (now (held .entry)) (now (held .exit)) ⌝ }
 {
@@ -177,6 +183,7 @@ pub extern "C" fn wurzsige_run(
         at,
         d,
         cells,
+        issues,
         tables,
         next,
         first,

@@ -1,9 +1,10 @@
 // A design and held values stored as their u32 words (specs/Words.antt), from the first word on.
-ghost use Prim.Native.Nat.{_+_, _≤_};
+ghost use Prim.Native.Nat.{ℕ, _+_, _≤_, _<_};
 ghost use mathlib.Core.Path.{_≡_};
 ghost use mathlib.Core.List.{[], _∷_};
-ghost use lib.ListN.{length};
+ghost use lib.ListN.{length, getD};
 ghost use lib.Seq.{sets};
+ghost use Rattle.state.specs.Held.{noValue, heldAt};
 ghost use Rattle.foreign.specs.Words.{tableWords, constraintWords, fillingWords, valueWords, countsWords, tablesWords, constraintsWords};
 ghost use Rattle.foreign.specs.Words.{fillingsWords, valuesWords, designWords, heldWords};
 use state::Constraint;
@@ -62,12 +63,14 @@ fn put_filling(words: &mut [u32], at: usize, f: Filling)
     put_four(words, at, k.table as u32, k.place as u32, f.low, f.high);
 }
 
+// The issue is a byte, as its type says: a word that is read as a byte gives it back.
 fn put_value(words: &mut [u32], at: usize, v: HeldValue)
-    requires { ⌜ at + 2 ≤ length (now words) ⌝ }
-    ensures { λ _. ⌜ now (words .exit) ≡ sets (now (words .entry)) at (valueWords v) ⌝ }
+    requires { ⌜ at + 3 ≤ length (now words) ⌝ }
+    ensures { λ _. ⌜ (now (words .exit) ≡ sets (now (words .entry)) at (valueWords v)) × (v .value .issue < 256) ⌝ }
 {
     let value = v.value;
     put_two(words, at, v.filling as u32, value.number);
+    words[at + 2] = value.issue as u32;
 }
 
 // The four counts of a design.
@@ -114,11 +117,11 @@ fn put_fillings(fs: [Filling; 8], words: &mut [u32])
 }
 
 fn put_values(vs: [HeldValue; 64], words: &mut [u32])
-    requires { ⌜ 129 ≤ length (now words) ⌝ }
-    ensures { λ _. ⌜ now (words .exit) ≡ sets (now (words .entry)) 1 (valuesWords vs) ⌝ }
+    requires { ⌜ 193 ≤ length (now words) ⌝ }
+    ensures { λ _. ⌜ (now (words .exit) ≡ sets (now (words .entry)) 1 (valuesWords vs)) × ((i : ℕ) → i < 64 → getD vs i noValue .value .issue < 256) ⌝ }
 {
     for i in 0..64usize {
-        put_value(words, 1 + 2 * i, vs[i]);
+        put_value(words, 1 + 3 * i, vs[i]);
     }
 }
 
@@ -136,10 +139,11 @@ pub(crate) fn put_design(d: Design, words: &mut [u32])
     put_fillings(filling, words);
 }
 
-// The held values as the first 129 words; their array has 64 places, as its type says. One step for each place.
+// The held values as the first 193 words; their array has 64 places, and their issues are bytes, as their types say. One step for each place.
 pub(crate) fn put_held(h: Held, words: &mut [u32])
-    requires { ⌜ (129 ≤ length (now words)) × (h .count ≤ 64) ⌝ }
-    ensures { λ _. ⌜ (now (words .exit) ≡ sets (now (words .entry)) 0 (heldWords h)) × (length (h .values) ≡ 64) ⌝ }
+    requires { ⌜ (193 ≤ length (now words)) × (h .count ≤ 64) ⌝ }
+    ensures { λ _. ⌜ (now (words .exit) ≡ sets (now (words .entry)) 0 (heldWords h)) × (length (h .values) ≡ 64)
+        × ((i : ℕ) → i < 64 → heldAt h i .value .issue < 256) ⌝ }
 {
     words[0] = h.count as u32;
     let values = h.values;

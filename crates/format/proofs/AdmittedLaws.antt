@@ -1,20 +1,19 @@
 -- A command read without a look at cause 6, beside the definition's: the same, but for a row that repeats a value. Assumes nothing.
 use Prim.Native.Nat.{ℕ, _<_}
-use mathlib.Core.Path.{_≡_, refl, sym, subst, _∙_}
+use mathlib.Core.Path.{_≡_, refl, sym, ap, subst, _∙_}
 use mathlib.Core.Bool.{Bool, true, false, not}
 use mathlib.Core.List.{List}
 use borrow.Author.Tests.{leb-false}
 use lib.Dec.{leb}
-use Rattle.finite.proofs.Bools.{clash}
 use Rattle.state.specs.Meaning.{schemeOf, databaseOf}
 use Rattle.state.specs.Lawful.{rowFits}
 use Rattle.format.specs.declared.command.Command.{Command}
 use Rattle.format.specs.declared.command.Command.the-variants.{Table, Constraint, Filling, Row, End, Operate, Unknown, Short}
 use Rattle.format.specs.Commands.{commandAt}
-use Rattle.format.specs.Reading.{Draft, Advanced, refusedIf, advanced, rowAdvanced, withRow}
+use Rattle.format.specs.Reading.{Draft, Advanced, refusedIf, needless, advanced, rowAdvanced, withRow}
 use Rattle.format.specs.Reading.Advanced.{on, refused}
 use Rattle.format.specs.Admitting.{admitted, again}
-use Rattle.format.proofs.AdvancedLaws.{not-on, on-same, unless-on, none}
+use Rattle.format.proofs.AdvancedLaws.{not-on, unless-off, all-three, none}
 use Rattle.format.proofs.ReadingLaws.{Whole, whole-or}
 
 -- ---- no row
@@ -36,27 +35,17 @@ admitted-whole s i p q e = whole-or s i (λ n h k. not-on n q (sym (h p) ∙ sym
 -- ---- a row
 
 -- causes 4 and 5 of a row, and cause 6 behind them
-not-refused : (a b : Bool) (q x : Draft) → refusedIf a 4 (refusedIf b 5 (on q)) ≡ on x → (a ≡ false) × (b ≡ false) × (q ≡ x)
-not-refused a b q x e =
-    let y = unless-on a 4 (refusedIf b 5 (on q)) x e in
-    let z = unless-on b 5 (on q) x (y .1) in
-    (y .0, z .0, on-same q x (z .1))
-
-stopped : (a b c : Bool) (q : Draft) (r : Advanced) → ((x : Draft) → on x ≡ r → ⊥) → refusedIf a 4 (refusedIf b 5 (on q)) ≡ r
-    → refusedIf a 4 (refusedIf b 5 (refusedIf c 6 (on q))) ≡ r
-stopped true b c q r never e = e
-stopped false true c q r never e = e
-stopped false false c q r never e = absurd (never q e)
-
-then-twice : (a b c : Bool) (q : Draft) → a ≡ false → b ≡ false → c ≡ true → refusedIf a 4 (refusedIf b 5 (refusedIf c 6 (on q))) ≡ refused 6
-then-twice true b c q e f g = clash refl e
-then-twice false true c q e f g = clash refl f
-then-twice false false true q e f g = refl
-then-twice false false false q e f g = clash g refl
+stopped : (a m b c : Bool) (q : Draft) (r : Advanced) → ((x : Draft) → on x ≡ r → ⊥) → refusedIf a 4 (refusedIf m 5 (refusedIf b 5 (on q))) ≡ r
+    → refusedIf a 4 (refusedIf m 5 (refusedIf b 5 (refusedIf c 6 (on q)))) ≡ r
+stopped true m b c q r never e = e
+stopped false true b c q r never e = e
+stopped false false true c q r never e = e
+stopped false false false c q r never e = absurd (never q e)
 
 -- a row that is admitted, and q the draft with it: the definition goes on with q, or refuses the row with cause 6 because it repeats a value
 pub record Admitted (p : Draft) (s : List ℕ) (i t : ℕ) (q : Draft) : Type 0 where
   pub room : p .design .rows < 512
+  pub needed : needless s i ≡ false
   pub is : withRow p s i t ≡ q
   pub once : again (q .design) (q .cells) (q .tables) (p .design .rows) ≡ false → advanced p s i (Row t) ≡ on q
   pub twice : again (q .design) (q .cells) (q .tables) (p .design .rows) ≡ true → advanced p s i (Row t) ≡ refused 6
@@ -69,9 +58,17 @@ row-admitted p s i t q e =
     let a = leb 512 n in
     let b = not (rowFits (schemeOf (x .design)) (databaseOf (x .design .rows) (x .cells) (x .tables)) n) in
     let c = again (x .design) (x .cells) (x .tables) n in
-    let y = not-refused a b x q e in
-    subst (Admitted p s i t) (y .2)
-    (record { room = leb-false 512 n (y .0); is = refl; once = none a b c 4 5 6 (on x) (y .0) (y .1); twice = then-twice a b c x (y .0) (y .1) })
+    let m = needless s i in
+    let y = all-three a m b 4 5 5 x q e in
+    let go : (t : Advanced) → refusedIf a 4 (refusedIf m 5 (refusedIf b 5 t)) ≡ t = λ t. none a m b 4 5 5 t (y .0) (y .1) (y .2) in
+    subst (Admitted p s i t) (y .3)
+    (record {
+      room = leb-false 512 n (y .0);
+      needed = y .1;
+      is = refl;
+      once = λ h. go (refusedIf c 6 (on x)) ∙ unless-off c 6 (on x) h;
+      twice = λ h. go (refusedIf c 6 (on x)) ∙ ap (λ (z : Bool). refusedIf z 6 (on x)) h;
+    })
 
 -- ---- where the reading stops, the definition's stops alike
 
@@ -80,7 +77,7 @@ unfolding admitted advanced rowAdvanced
 stops p s i (Row t) r never e =
     let x = withRow p s i t in
     let n = p .design .rows in
-    stopped (leb 512 n) (not (rowFits (schemeOf (x .design)) (databaseOf (x .design .rows) (x .cells) (x .tables)) n))
+    stopped (leb 512 n) (needless s i) (not (rowFits (schemeOf (x .design)) (databaseOf (x .design .rows) (x .cells) (x .tables)) n))
     (again (x .design) (x .cells) (x .tables) n) x r never e
 stops p s i (Table t) r never e = e
 stops p s i (Constraint c) r never e = e

@@ -15,7 +15,7 @@ use Rattle.state.specs.Meaning.{schemeOf, databaseOf}
 use Rattle.state.specs.Lawful.{tableFits, constraintFits, fillingFits, rowFits, repeats}
 use Rattle.format.specs.declared.command.Command.{Command}
 use Rattle.format.specs.declared.command.Command.the-variants.{Table, Constraint, Filling, Row, End, Operate, Unknown, Short}
-use Rattle.format.specs.Reading.{Draft, Advanced, refusedIf, advanced, rowAdvanced, redesigned, withTable, withConstraint, withFilling, withRow, afterTables, afterConstraints, afterFillings}
+use Rattle.format.specs.Reading.{Draft, Advanced, refusedIf, advanced, rowAdvanced, redesigned, withTable, withConstraint, withFilling, withRow, needless, afterTables, afterConstraints, afterFillings}
 use Rattle.format.specs.Reading.Advanced.{on, complete, refused}
 use Rattle.format.proofs.LawfulLaws.{rowTest}
 
@@ -39,12 +39,17 @@ pub unless-on : (b : Bool) (n : ℕ) (t : Advanced) (q : Draft) → refusedIf b 
 unless-on true n t q e = absurd (not-on n q e)
 unless-on false n t q e = (refl, e)
 
+-- a cause that does not apply
+pub unless-off : (b : Bool) (n : ℕ) (t : Advanced) → b ≡ false → refusedIf b n t ≡ t
+unless-off true n t e = clash refl e
+unless-off false n t e = refl
+
 unless-complete : (b : Bool) (n : ℕ) (t : Advanced) → (t ≡ complete → ⊥) → refusedIf b n t ≡ complete → ⊥
 unless-complete true n t h e = not-complete n e
 unless-complete false n t h e = h e
 
 module _ (a b c : Bool) (k m n : ℕ) (p : Draft) where
-  all-three : (q : Draft) → refusedIf a k (refusedIf b m (refusedIf c n (on p))) ≡ on q → (a ≡ false) × (b ≡ false) × (c ≡ false) × (p ≡ q)
+  pub all-three : (q : Draft) → refusedIf a k (refusedIf b m (refusedIf c n (on p))) ≡ on q → (a ≡ false) × (b ≡ false) × (c ≡ false) × (p ≡ q)
   all-three q e =
       let x = unless-on a k (refusedIf b m (refusedIf c n (on p))) q e in
       let y = unless-on b m (refusedIf c n (on p)) q (x .1) in
@@ -135,15 +140,16 @@ module _ (p q : Draft) (s : List ℕ) (i : ℕ) where
       let x = all-three (afterFillings (p .design)) (leb 8 (p .design .fillings)) (not (fillingFits (p .design) (p .design .fillings) f)) 3 4 5 (redesigned p (withFilling (p .design) f)) q e in
       record { rows = after-fillings (p .design) (x .0); room = leb-false _ _ (x .1); fits = not-false _ (x .2); is = x .3 }
 
-  pub added-row : (t : ℕ) → advanced p s i (Row t) ≡ on q → AddedRow p (withRow p s i t) q
+  pub added-row : (t : ℕ) → advanced p s i (Row t) ≡ on q → (needless s i ≡ false) × AddedRow p (withRow p s i t) q
   unfolding advanced rowAdvanced
   added-row t e =
       let r = withRow p s i t in
       let S = schemeOf (r .design) in
       let D = databaseOf (r .design .rows) (r .cells) (r .tables) in
       let n = p .design .rows in
-      let x = all-three (leb 512 n) (not (rowFits S D n)) (repeats S D n) 4 5 6 r q e in
-      record { room = leb-false _ _ (x .0); fits = both (not-false (rowFits S D n) (x .1)) (ap not (x .2)); is = x .3 }
+      let y = unless-on (leb 512 n) 4 (refusedIf (needless s i) 5 (refusedIf (not (rowFits S D n)) 5 (refusedIf (repeats S D n) 6 (on r)))) q e in
+      let x = all-three (needless s i) (not (rowFits S D n)) (repeats S D n) 5 5 6 r q (y .1) in
+      (x .0, record { room = leb-false _ _ (y .0); fits = both (not-false (rowFits S D n) (x .1)) (ap not (x .2)); is = x .3 })
 
   -- ... and what is read so
 
@@ -170,15 +176,16 @@ module _ (p q : Draft) (s : List ℕ) (i : ℕ) where
       (on (redesigned p (withFilling (p .design) f)))
       (ap (ltb 0) (h .rows)) (lt-leb 8 (p .design .fillings) (h .room)) (ap not (h .fits)) ∙ ap on (h .is)
 
-  pub adds-row : (t : ℕ) → AddedRow p (withRow p s i t) q → advanced p s i (Row t) ≡ on q
+  pub adds-row : (t : ℕ) → needless s i ≡ false → AddedRow p (withRow p s i t) q → advanced p s i (Row t) ≡ on q
   unfolding advanced rowAdvanced
-  adds-row t h =
+  adds-row t e h =
       let r = withRow p s i t in
       let S = schemeOf (r .design) in
       let D = databaseOf (r .design .rows) (r .cells) (r .tables) in
       let n = p .design .rows in
       let x = and-eq-true-iff (rowFits S D n) (not (repeats S D n)) .0 (h .fits) in
-      none (leb 512 n) (not (rowFits S D n)) (repeats S D n) 4 5 6 (on r) (lt-leb 512 n (h .room)) (ap not (x .0)) (not-true (repeats S D n) (x .1)) ∙ ap on (h .is)
+      unless-off (leb 512 n) 4 _ (lt-leb 512 n (h .room)) ∙
+      none (needless s i) (not (rowFits S D n)) (repeats S D n) 5 5 6 (on r) e (ap not (x .0)) (not-true (repeats S D n) (x .1)) ∙ ap on (h .is)
 
 -- ---- END alone completes a design
 
@@ -194,7 +201,7 @@ only-end p s i (Row t) e =
     let S = schemeOf (r .design) in
     let D = databaseOf (r .design .rows) (r .cells) (r .tables) in
     let n = p .design .rows in
-    absurd (never (leb 512 n) (not (rowFits S D n)) (repeats S D n) 4 5 6 r e)
+    absurd (unless-complete (leb 512 n) 4 _ (never (needless s i) (not (rowFits S D n)) (repeats S D n) 5 5 6 r) e)
 only-end p s i End e = refl
 only-end p s i (Operate o) e = absurd (not-complete 3 e)
 only-end p s i Unknown e = absurd (not-complete 2 e)

@@ -1,34 +1,38 @@
 -- What the code answers for one command: the three answers, and each command of `admitted`. Assumes nothing.
-use Prim.Native.Nat.{ℕ, _+_, _*_}
+use Prim.Native.Nat.{ℕ, _+_}
 use native.Mathlib.Omega.{arith}
 use mathlib.Core.Path.{_≡_, refl, sym, ap, ap₂, subst, _∙_}
+use mathlib.Core.Bool.{Bool, true, false, not, _&&_}
 use mathlib.Core.List.{List}
+use lib.Dec.{leb}
 use lib.ListN.{getD, set}
-use lib.Seq.{sets, getD-set-other}
+use lib.Seq.{getD-set-other}
 use Rattle.finite.specs.Finite.{tab}
-use Rattle.finite.proofs.Stores.{sets-below}
+use Rattle.finite.proofs.Bools.{both, and-left, and-right}
+use Rattle.state.specs.Cells.{Cells}
 use Rattle.state.specs.declared.operation.Operation.{Operation}
 use Rattle.state.specs.declared.design.Design.{Design}
 use Rattle.state.specs.declared.design.Table as State-table
 use Rattle.state.specs.declared.design.Constraint as State-constraint
 use Rattle.state.specs.declared.design.Filling as State-filling
-use Rattle.state.specs.Meaning.{schemeOf, databaseOf}
+use Rattle.state.specs.Meaning.{cellIn, schemeOf, databaseOf}
 use Rattle.state.specs.Lawful.{tableFits, constraintFits, fillingFits, rowFits}
 use Rattle.format.specs.declared.command.Command.{Command}
 use Rattle.format.specs.declared.command.Command.the-variants.{Table, Constraint, Filling, Row, End, Operate, Unknown, Short}
-use Rattle.format.specs.Commands.{rowCellAt}
+use Rattle.format.specs.Commands.{rowCellAt, rowIssueAt}
 use Rattle.format.specs.declared.reading.Outcome.the-variants.{On, Complete, Cause}
 use Rattle.format.specs.declared.reading.Advance.{Advance}
-use Rattle.format.specs.Reading.{Draft, draft, advanced, redesigned, withTable, withConstraint, withFilling, withRows, withRow}
+use Rattle.format.specs.Reading.{Draft, draft, Advanced, refusedIf, advanced, needless, redesigned, withTable, withConstraint, withFilling, withRows, withRow}
 use Rattle.format.specs.Reading.Advanced.{on, complete, refused}
-use Rattle.format.specs.Kinds.{countOf, mostOf, isLate}
+use Rattle.format.specs.Kinds.{countOf, mostOf, isLate, orderCause}
 use Rattle.format.specs.Admitting.{admitted, outcomeOf, Kept, Advances}
-use Rattle.format.proofs.KindLaws.{item}
+use Rattle.format.proofs.CellsLaws.{putRow, put-below}
+use Rattle.format.proofs.KindLaws.{item, item-refused, item-wrong, item-right}
 use Rattle.format.proofs.AdvancedLaws.{not-on, not-complete, on-same, on-complete}
 
 -- ---- the three answers
 
-module _ (p : Draft) (s : List ℕ) (i : ℕ) (c : Command) (r : Advance) (cells tables : List ℕ) where
+module _ (p : Draft) (s : List ℕ) (i : ℕ) (c : Command) (r : Advance) (cells : Cells) (tables : List ℕ) where
   pub advances-refused : (n : ℕ) (d : Design) → r ≡ record { outcome = Cause n; design = d } → admitted p s i c ≡ refused n
       → Kept (p .design .rows) (p .cells) (p .tables) cells tables → Advances p s i c r cells tables
   advances-refused n d f e k =
@@ -45,7 +49,7 @@ module _ (p : Draft) (s : List ℕ) (i : ℕ) (c : Command) (r : Advance) (cells
         outcome = f ∙ sym (ap outcomeOf e);
         goes = λ q h. absurd (on-complete q (sym h ∙ e));
         whole = λ h. k;
-        kept = record { cell = λ x l. ap (λ (q : Draft). getD (q .cells) x 0) (sym k); table = λ n l. ap (λ (q : Draft). getD (q .tables) n 0) (sym k) };
+        kept = record { cell = λ x l. ap (λ (q : Draft). cellIn (q .cells) x) (sym k); table = λ n l. ap (λ (q : Draft). getD (q .tables) n 0) (sym k) };
       }
 
   pub advances-on : r .outcome ≡ On → admitted p s i c ≡ on (draft (r .design) cells tables)
@@ -59,18 +63,22 @@ module _ (p : Draft) (s : List ℕ) (i : ℕ) (c : Command) (r : Advance) (cells
       }
 
 -- the rows before a row that is put in, and all rows where none is
-pub kept-all : (n : ℕ) (cells tables : List ℕ) → Kept n cells tables cells tables
+pub kept-all : (n : ℕ) (cells : Cells) (tables : List ℕ) → Kept n cells tables cells tables
 kept-all n cells tables = record { cell = λ x l. refl; table = λ r l. refl }
 
-pub kept-put : (n t i : ℕ) (cells tables s ys : List ℕ) → ys ≡ sets cells (8 * n) (tab 8 (rowCellAt s i)) → Kept n cells tables ys (set tables n t)
-kept-put n t i cells tables s ys e =
+-- the cells with the row whose command stands at place i
+abbrev pub rowCells : Cells → ℕ → List ℕ → ℕ → Cells
+rowCells cells n s i = putRow cells n (tab 8 (rowCellAt s i)) (tab 8 (rowIssueAt s i))
+
+pub kept-put : (n t i : ℕ) (cells : Cells) (tables s : List ℕ) (cells′ : Cells) → cells′ ≡ rowCells cells n s i → Kept n cells tables cells′ (set tables n t)
+kept-put n t i cells tables s cells′ e =
     record {
-      cell = λ x l. ap (λ (zs : List ℕ). getD zs x 0) e ∙ sets-below 0 cells (8 * n) (tab 8 (rowCellAt s i)) x l;
+      cell = λ x l. ap (λ (zs : Cells). cellIn zs x) e ∙ put-below cells n (tab 8 (rowCellAt s i)) (tab 8 (rowIssueAt s i)) x l;
       table = λ r l. getD-set-other tables n r t 0 (λ (q : r ≡ n). omega arith);
     }
 
 -- a command that is known
-pub advances-as : (p : Draft) (s : List ℕ) (i : ℕ) (c k : Command) (r : Advance) (cells tables : List ℕ) → c ≡ k → Advances p s i k r cells tables → Advances p s i c r cells tables
+pub advances-as : (p : Draft) (s : List ℕ) (i : ℕ) (c k : Command) (r : Advance) (cells : Cells) (tables : List ℕ) → c ≡ k → Advances p s i k r cells tables → Advances p s i c r cells tables
 advances-as p s i c k r cells tables e t = subst (λ (x : Command). Advances p s i x r cells tables) (sym e) t
 
 -- ---- a command of each kind is an item
@@ -90,18 +98,46 @@ module _ (p : Draft) (s : List ℕ) (i : ℕ) where
   unfolding admitted advanced item isLate mostOf countOf
   filling-item f = refl
 
-  -- the draft q has the row
-  pub row-item : (t : ℕ) (q : Draft) → q ≡ withRow p s i t
-      → admitted p s i (Row t) ≡ item (p .design) 0x04 (rowFits (schemeOf (q .design)) (databaseOf (q .design .rows) (q .cells) (q .tables)) (p .design .rows)) q
-  unfolding admitted item isLate mostOf countOf
-  row-item t q e =
-      ap (λ (x : Draft). item (p .design) 0x04 (rowFits (schemeOf (x .design)) (databaseOf (x .design .rows) (x .cells) (x .tables)) (p .design .rows)) x) (sym e)
+-- a ROW with the draft q that has it: causes 3 and 4, then a needless 0x07 and a row that does not fit
+module _ (p : Draft) (s : List ℕ) (i t k : ℕ) (e : k ≡ orderCause (p .design) 0x04) where
+  fits : Draft → Bool
+  fits q = rowFits (schemeOf (q .design)) (databaseOf (q .design .rows) (q .cells) (q .tables)) (p .design .rows)
+
+  row-item : (q : Draft) → q ≡ withRow p s i t → admitted p s i (Row t) ≡ item (p .design) 0x04 (not (needless s i) && fits q) q
+  unfolding admitted item isLate mostOf countOf fits
+  row-item q h =
+      let r = withRow p s i t in
+      ap (refusedIf (leb 512 (p .design .rows)) 4) (one-cause (needless s i) (fits r) (on r)) ∙
+      ap (λ (x : Draft). item (p .design) 0x04 (not (needless s i) && fits x) x) (sym h)
+    where
+      one-cause : (a b : Bool) (x : Advanced) → refusedIf a 5 (refusedIf (not b) 5 x) ≡ refusedIf (not (not a && b)) 5 x
+      one-cause true b x = refl
+      one-cause false b x = refl
+
+  pub row-late : (k ≡ 0 → ⊥) → admitted p s i (Row t) ≡ refused k
+  row-late n = row-item (withRow p s i t) refl ∙ item-refused (p .design) 0x04 k (not (needless s i) && fits (withRow p s i t)) (withRow p s i t) e n
+
+  module _ (none : k ≡ 0) where
+    pub row-needless : needless s i ≡ true → admitted p s i (Row t) ≡ refused 5
+    row-needless n =
+        let q = withRow p s i t in
+        row-item q refl ∙ item-wrong (p .design) 0x04 k (not (needless s i) && fits q) q e none (and-left (not (needless s i)) (fits q) (ap not n))
+
+    module _ (q : Draft) (h : q ≡ withRow p s i t) where
+      pub row-unfit : rowFits (schemeOf (q .design)) (databaseOf (q .design .rows) (q .cells) (q .tables)) (p .design .rows) ≡ false → admitted p s i (Row t) ≡ refused 5
+      unfolding fits
+      row-unfit f = row-item q h ∙ item-wrong (p .design) 0x04 k (not (needless s i) && fits q) q e none (and-right (not (needless s i)) (fits q) f)
+
+      pub row-taken : needless s i ≡ false → rowFits (schemeOf (q .design)) (databaseOf (q .design .rows) (q .cells) (q .tables)) (p .design .rows) ≡ true
+          → admitted p s i (Row t) ≡ on q
+      unfolding fits
+      row-taken n f = row-item q h ∙ item-right (p .design) 0x04 k (not (needless s i) && fits q) q e none q (both (ap not n) f) refl
 
 -- the row put in, with the design and the cells that the code has made
-pub row-put : (p : Draft) (s : List ℕ) (i t : ℕ) (e : Design) (cells : List ℕ) → e ≡ withRows (p .design) (p .design .rows + 1)
-    → cells ≡ sets (p .cells) (8 * p .design .rows) (tab 8 (rowCellAt s i)) → draft e cells (set (p .tables) (p .design .rows) t) ≡ withRow p s i t
+pub row-put : (p : Draft) (s : List ℕ) (i t : ℕ) (e : Design) (cells : Cells) → e ≡ withRows (p .design) (p .design .rows + 1)
+    → cells ≡ rowCells (p .cells) (p .design .rows) s i → draft e cells (set (p .tables) (p .design .rows) t) ≡ withRow p s i t
 unfolding withRow
-row-put p s i t e cells a b = ap₂ (λ (d : Design) (l : List ℕ). draft d l (set (p .tables) (p .design .rows) t)) a b
+row-put p s i t e cells a b = ap₂ (λ (d : Design) (l : Cells). draft d l (set (p .tables) (p .design .rows) t)) a b
 
 -- ---- an operation in a design, a command that is none, and END
 

@@ -15,10 +15,12 @@ use Rattle.model.specs.Scheme as Model
 use Rattle.model.specs.Scheme.{Scheme}
 use Rattle.model.specs.Database.{Database, has}
 use Rattle.model.specs.Rounds.{leads}
+use Rattle.state.specs.Cells.{Cells, cellsIn}
 use Rattle.state.specs.declared.design.Design.{Design}
-use Rattle.state.specs.Meaning.{schemeOf, databaseOf}
+use Rattle.state.specs.Meaning.{cellIn, schemeOf, databaseOf}
 use Rattle.finite.specs.Finite.{firstFrom}
-use Rattle.catalog.specs.Catalog.{columnAt, nextOf, demandedFirst, Listed, Directory, Catalogued}
+use Rattle.catalog.specs.Catalog.{columnAt, nextOf, demandedFirst, keyOf, valueOf, Listed, Directory, Catalogued}
+use Rattle.format.proofs.CellsLaws.{same-cell}
 use Rattle.format.proofs.LawfulLaws.{SameRow, same-row}
 
 -- which rows have a value, as a test of any kind; and the rows that constraint j demands by it of a row that is live or not, with its table and cell
@@ -81,21 +83,21 @@ module _ (D E : Database) (live : (r : ℕ) → D .live r ≡ E .live r) (dead :
             bound = g .bound;
             falls = g .falls;
             value = g .value;
-            head = λ i a b. g .head i a b ∙ ap (λ (h : Test). firstFrom 512 (h k (record { number = getD keys i 0 })) 0) has-is;
+            head = λ i a b. g .head i a b ∙ ap (λ (h : Test). firstFrom 512 (h k (valueOf (getD keys i 0))) 0) has-is;
             there = λ s a h. there s h (decLt s 512);
           }
         where
           there : (s : ℕ) → has E k (E .cell s (k .place)) s ≡ true → Dec (s < 512)
-              → (i : ℕ) × (from ≤ i) × (i < to) × (getD keys i 0 ≡ E .cell s (k .place) .number)
+              → (i : ℕ) × (from ≤ i) × (i < to) × (getD keys i 0 ≡ keyOf (E .cell s (k .place)))
           there s h (yes l) =
               let e = same s l .cell (k .place) in
               let y = g .there s (omega arith) (has-alike k (D .cell s (k .place)) s ∙ ap (λ (v : Cell). has E k v s) e ∙ h) in
-              (y .0, y .1, y .2, y .3 ∙ ap (λ (v : Cell). v .number) e)
+              (y .0, y .1, y .2, y .3 ∙ ap keyOf e)
           there s h (no l) = clash h (has-none k (E .cell s (k .place)) s (omega arith))
 
 -- the first 512 rows of both are the same
-pub catalogued-as : (d : Design) (cells tables cells′ tables′ next first keys heads starts : List ℕ)
-    → ((x : ℕ) → x < 4096 → getD cells′ x 0 ≡ getD cells x 0) → ((r : ℕ) → r < 512 → getD tables′ r 0 ≡ getD tables r 0)
+pub catalogued-as : (d : Design) (cells : Cells) (tables : List ℕ) (cells′ : Cells) (tables′ next first keys heads starts : List ℕ)
+    → ((x : ℕ) → x < 4096 → cellIn cells′ x ≡ cellIn cells x) → ((r : ℕ) → r < 512 → getD tables′ r 0 ≡ getD tables r 0)
     → Catalogued d cells tables next first keys heads starts → Catalogued d cells′ tables′ next first keys heads starts
 unfolding databaseOf
 catalogued-as d cells tables cells′ tables′ next first keys heads starts a b f =
@@ -121,8 +123,11 @@ catalogued-as d cells tables cells′ tables′ next first keys heads starts a b
     same r l = same-row (d .rows) (d .rows) cells cells′ tables tables′ r (sym (b r l)) (λ c h. sym (a (8 * r + c) (omega arith)))
 
 -- what is copied out
-pub catalogued-copied : (d : Design) (cells tables more rest next first keys heads starts : List ℕ) → length cells ≡ 4096 → length tables ≡ 512
-    → Catalogued d cells tables next first keys heads starts → Catalogued d (cells ++ more) (tables ++ rest) next first keys heads starts
-catalogued-copied d cells tables more rest next first keys heads starts a b f =
-    catalogued-as d cells tables (cells ++ more) (tables ++ rest) next first keys heads starts
-    (λ x l. List·getD-append cells more 0 x (omega arith)) (λ r l. List·getD-append tables rest 0 r (omega arith)) f
+pub catalogued-copied : (d : Design) (cells : Cells) (tables more others rest next first keys heads starts : List ℕ)
+    → length (cells .numbers) ≡ 4096 → length (cells .issues) ≡ 4096 → length tables ≡ 512 → Catalogued d cells tables next first keys heads starts
+    → Catalogued d (cellsIn (cells .numbers ++ more) (cells .issues ++ others)) (tables ++ rest) next first keys heads starts
+catalogued-copied d cells tables more others rest next first keys heads starts a c b f =
+    catalogued-as d cells tables (cellsIn (cells .numbers ++ more) (cells .issues ++ others)) (tables ++ rest) next first keys heads starts
+    (λ x l. same-cell (cellsIn (cells .numbers ++ more) (cells .issues ++ others)) cells x x
+    (List·getD-append (cells .numbers) more 0 x (omega arith)) (List·getD-append (cells .issues) others 0 x (omega arith)))
+    (λ r l. List·getD-append tables rest 0 r (omega arith)) f

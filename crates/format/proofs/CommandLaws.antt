@@ -1,7 +1,7 @@
 -- The byte of a command decides its width and its operands. Assumes nothing.
 use Prim.Native.Nat.{ℕ, _≤_, _<_, _-_, _+_}
 use native.Mathlib.Omega.{arith}
-use mathlib.Core.Path.{_≡_, sym, ap, ap₂, _∙_}
+use mathlib.Core.Path.{_≡_, refl, sym, ap, ap₂, subst, _∙_}
 use mathlib.Core.Bool.{Bool, true, false, cond}
 use mathlib.Core.Logic.{⊎-elim}
 use mathlib.Core.List.{List}
@@ -20,9 +20,18 @@ use Rattle.state.specs.declared.operation.Total.{Total}
 use Rattle.state.specs.declared.operation.Operation.the-variants as O
 use Rattle.format.specs.declared.command.Command.the-variants.{Table, Constraint, Filling, Row, End, Operate, Unknown, Short}
 use Rattle.format.specs.Bytes.{byteAt, u32At}
-use Rattle.format.specs.Commands.{designWidth, operationWidth, widthOf, columnAt, valueAt, heldValueAt, queryAt, totalAt, designCommandAt, operationAt, operandsAt, commandAt}
+use Rattle.format.specs.Commands.{designWidth, operationWidth, widthOf, columnAt, valueAt, heldValueAt, queryAt, totalAt, designCommandAt, issuedAt, operationAt, operandsAt, commandAt}
 
 -- ---- widths
+
+-- a ROW's byte, and its width: with issues it is wider
+pub data RowByte (b w : ℕ) : Type 0 where
+  plain : b ≡ 0x04 → w ≡ 34 → RowByte b w
+  issued : b ≡ 0x07 → w ≡ 42 → RowByte b w
+
+pub row-width : {b w : ℕ} → RowByte b w → 34 ≤ w
+row-width (plain e f) = omega arith
+row-width (issued e f) = omega arith
 
 module _ (b : ℕ) where
   pub width-design : b < 16 → widthOf b ≡ designWidth b
@@ -41,39 +50,78 @@ module _ (b : ℕ) where
     pub operation-room : 16 ≤ b → (operationWidth b ≡ 0 → ⊥) × (i + operationWidth b ≤ n)
     operation-room l = (λ e. some (width-operation l ∙ e), omega (arith, width-operation l))
 
-  pub design-width-none : (b ≡ 1 → ⊥) → (b ≡ 2 → ⊥) → (b ≡ 3 → ⊥) → (b ≡ 4 → ⊥) → (b ≡ 5 → ⊥) → designWidth b ≡ 0
+  pub design-width-none : (b ≡ 1 → ⊥) → (b ≡ 2 → ⊥) → (b ≡ 3 → ⊥) → (b ≡ 4 → ⊥) → (b ≡ 5 → ⊥) → (b ≡ 7 → ⊥) → designWidth b ≡ 0
   unfolding designWidth
-  design-width-none h₁ h₂ h₃ h₄ h₅ = rw (ne-eqb b 1 h₁, ne-eqb b 2 h₂, ne-eqb b 3 h₃, ne-eqb b 4 h₄, ne-eqb b 5 h₅)
+  design-width-none h₁ h₂ h₃ h₄ h₅ h₇ = rw (ne-eqb b 1 h₁, ne-eqb b 2 h₂, ne-eqb b 3 h₃, ne-eqb b 4 h₄, ne-eqb b 5 h₅, ne-eqb b 7 h₇)
 
-  pub operation-width-none : (b ≡ 16 → ⊥) → (b ≡ 17 → ⊥) → (b ≡ 18 → ⊥) → (b ≡ 19 → ⊥) → (b ≡ 20 → ⊥) → (b ≡ 21 → ⊥) → operationWidth b ≡ 0
+  pub operation-width-none : (b ≡ 16 → ⊥) → (b ≡ 17 → ⊥) → (b ≡ 18 → ⊥) → (b ≡ 19 → ⊥) → (b ≡ 20 → ⊥) → (b ≡ 21 → ⊥)
+      → (b ≡ 32 → ⊥) → (b ≡ 33 → ⊥) → (b ≡ 34 → ⊥) → (b ≡ 35 → ⊥) → (b ≡ 37 → ⊥) → operationWidth b ≡ 0
   unfolding operationWidth
-  operation-width-none h₁ h₂ h₃ h₄ h₅ h₆ = rw (ne-eqb b 16 h₁, ne-eqb b 17 h₂, ne-eqb b 18 h₃, ne-eqb b 19 h₄, ne-eqb b 20 h₅, ne-eqb b 21 h₆)
+  operation-width-none h₁ h₂ h₃ h₄ h₅ h₆ k₁ k₂ k₃ k₄ k₆ =
+      rw (
+        ne-eqb b 16 h₁,
+        ne-eqb b 17 h₂,
+        ne-eqb b 18 h₃,
+        ne-eqb b 19 h₄,
+        ne-eqb b 20 h₅,
+        ne-eqb b 21 h₆,
+        ne-eqb b 32 k₁,
+        ne-eqb b 33 k₂,
+        ne-eqb b 34 k₃,
+        ne-eqb b 35 k₄,
+        ne-eqb b 37 k₆,
+      )
 
-  -- what is left of the design's bytes is END's, and of the operations' QUERY's
-  pub is-end : (designWidth b ≡ 0 → ⊥) → (b ≡ 1 → ⊥) → (b ≡ 2 → ⊥) → (b ≡ 3 → ⊥) → (b ≡ 4 → ⊥) → b ≡ 5
-  is-end w h₁ h₂ h₃ h₄ = ⊎-elim (λ (e : b ≡ 5). e) (λ (n : b ≡ 5 → ⊥). absurd (w (design-width-none h₁ h₂ h₃ h₄ n))) (same-number b 5)
+  -- what is left of the design's bytes is a ROW's, and of the operations' below 0x20 QUERY's
+  pub is-row : (designWidth b ≡ 0 → ⊥) → (b ≡ 1 → ⊥) → (b ≡ 2 → ⊥) → (b ≡ 3 → ⊥) → (b ≡ 5 → ⊥) → RowByte b (designWidth b)
+  unfolding designWidth
+  is-row w h₁ h₂ h₃ h₅ =
+      ⊎-elim (λ (e : b ≡ 4). plain e (ap designWidth e))
+      (λ (n : b ≡ 4 → ⊥). ⊎-elim (λ (e : b ≡ 7). issued e (ap designWidth e)) (λ (m : b ≡ 7 → ⊥). absurd (w (design-width-none h₁ h₂ h₃ n h₅ m))) (same-number b 7))
+      (same-number b 4)
 
-  pub is-query : (operationWidth b ≡ 0 → ⊥) → (b ≡ 16 → ⊥) → (b ≡ 17 → ⊥) → (b ≡ 18 → ⊥) → (b ≡ 20 → ⊥) → (b ≡ 21 → ⊥) → b ≡ 19
-  is-query w h₁ h₂ h₃ h₅ h₆ = ⊎-elim (λ (e : b ≡ 19). e) (λ (n : b ≡ 19 → ⊥). absurd (w (operation-width-none h₁ h₂ h₃ n h₅ h₆))) (same-number b 19)
+  pub is-query : (operationWidth b ≡ 0 → ⊥) → b < 32 → (b ≡ 16 → ⊥) → (b ≡ 17 → ⊥) → (b ≡ 18 → ⊥) → (b ≡ 20 → ⊥) → (b ≡ 21 → ⊥) → b ≡ 19
+  is-query w l h₁ h₂ h₃ h₅ h₆ =
+      ⊎-elim (λ (e : b ≡ 19). e)
+      (λ (n : b ≡ 19 → ⊥). absurd (w (operation-width-none h₁ h₂ h₃ n h₅ h₆ (λ e. omega arith) (λ e. omega arith) (λ e. omega arith) (λ e. omega arith) (λ e. omega arith))))
+      (same-number b 19)
 
--- a command takes at most 34 bytes
-pick : (x : Bool) (m n : ℕ) → m ≤ 34 → n ≤ 34 → cond x m n ≤ 34
+  -- an operation with an issue is one byte wider than the same without it
+  pub issue-width : (operationWidth b ≡ 0 → ⊥) → 32 ≤ b → (b - 16 < 32) × (0 < operationWidth (b - 16)) × (operationWidth (b - 16) + 1 ≡ operationWidth b)
+  unfolding operationWidth
+  issue-width w l =
+      ⊎-elim (λ (e : b ≡ 32). wider 32 e (omega arith, omega arith, refl))
+      (λ (k₁ : b ≡ 32 → ⊥). ⊎-elim (λ (e : b ≡ 33). wider 33 e (omega arith, omega arith, refl))
+      (λ (k₂ : b ≡ 33 → ⊥). ⊎-elim (λ (e : b ≡ 34). wider 34 e (omega arith, omega arith, refl))
+      (λ (k₃ : b ≡ 34 → ⊥). ⊎-elim (λ (e : b ≡ 35). wider 35 e (omega arith, omega arith, refl))
+      (λ (k₄ : b ≡ 35 → ⊥). ⊎-elim (λ (e : b ≡ 37). wider 37 e (omega arith, omega arith, refl))
+      (λ (k₆ : b ≡ 37 → ⊥). absurd (w (operation-width-none (λ e. omega arith) (λ e. omega arith) (λ e. omega arith) (λ e. omega arith) (λ e. omega arith) (λ e. omega arith) k₁ k₂ k₃ k₄ k₆)))
+      (same-number b 37)) (same-number b 35)) (same-number b 34)) (same-number b 33)) (same-number b 32)
+    where
+      wider : (n : ℕ) → b ≡ n → (n - 16 < 32) × (0 < operationWidth (n - 16)) × (operationWidth (n - 16) + 1 ≡ operationWidth n)
+          → (b - 16 < 32) × (0 < operationWidth (b - 16)) × (operationWidth (b - 16) + 1 ≡ operationWidth b)
+      wider n e h = subst (λ (k : ℕ). (k - 16 < 32) × (0 < operationWidth (k - 16)) × (operationWidth (k - 16) + 1 ≡ operationWidth k)) (sym e) h
+
+-- a command takes at most 42 bytes
+pick : (x : Bool) (m n : ℕ) → m ≤ 42 → n ≤ 42 → cond x m n ≤ 42
 pick true m n k l = k
 pick false m n k l = l
 
-design-most : (b : ℕ) → designWidth b ≤ 34
+design-most : (b : ℕ) → designWidth b ≤ 42
 unfolding designWidth
 design-most b =
     pick (eqb b 1) 3 _ (omega arith) (pick (eqb b 2) 5 _ (omega arith) (pick (eqb b 3) 11 _ (omega arith) (pick (eqb b 4) 34 _ (omega arith)
-    (pick (eqb b 5) 1 0 (omega arith) (omega arith)))))
+    (pick (eqb b 5) 1 _ (omega arith) (pick (eqb b 7) 42 0 (omega arith) (omega arith))))))
 
-operation-most : (b : ℕ) → operationWidth b ≤ 34
+operation-most : (b : ℕ) → operationWidth b ≤ 42
 unfolding operationWidth
 operation-most b =
     pick (eqb b 16) 6 _ (omega arith) (pick (eqb b 17) 6 _ (omega arith) (pick (eqb b 18) 7 _ (omega arith)
-    (pick (eqb b 19) 16 _ (omega arith) (pick (eqb b 20) 1 _ (omega arith) (pick (eqb b 21) 18 0 (omega arith) (omega arith))))))
+    (pick (eqb b 19) 16 _ (omega arith) (pick (eqb b 20) 1 _ (omega arith) (pick (eqb b 21) 18 _ (omega arith)
+    (pick (eqb b 32) 7 _ (omega arith) (pick (eqb b 33) 7 _ (omega arith) (pick (eqb b 34) 8 _ (omega arith)
+    (pick (eqb b 35) 17 _ (omega arith) (pick (eqb b 37) 19 0 (omega arith) (omega arith)))))))))))
 
-pub width-most : (b : ℕ) → widthOf b ≤ 34
+pub width-most : (b : ℕ) → widthOf b ≤ 42
 unfolding widthOf
 width-most b = pick (ltb b 16) _ _ (design-most b) (operation-most b)
 
@@ -107,37 +155,51 @@ module _ (b : ℕ) (s : List ℕ) (i : ℕ) where
   unfolding designCommandAt
   command-filling f p e = ap Filling p ∙ ap (λ (k : ℕ). designCommandAt k s i) (sym e)
 
-  pub command-row : b ≡ 4 → Row (byteAt s (i + 1)) ≡ designCommandAt b s i
+  pub command-row : (w : ℕ) → RowByte b w → Row (byteAt s (i + 1)) ≡ designCommandAt b s i
   unfolding designCommandAt
-  command-row e = ap (λ (k : ℕ). designCommandAt k s i) (sym e)
+  command-row w (plain e f) = ap (λ (k : ℕ). designCommandAt k s i) (sym e)
+  command-row w (issued e f) = ap (λ (k : ℕ). designCommandAt k s i) (sym e)
 
   pub command-end : b ≡ 5 → End ≡ designCommandAt b s i
   unfolding designCommandAt
   command-end e = ap (λ (k : ℕ). designCommandAt k s i) (sym e)
 
-  pub operation-refer : (v : HeldValue) → v ≡ heldValueAt s i → b ≡ 16 → O.Refer v ≡ operationAt b s i
+  -- an operation of the first kind has issue 0, and one of the second its last byte
+  pub operation-old : b < 32 → issuedAt b s 0 i ≡ operationAt b s i
   unfolding operationAt
-  operation-refer v p e = ap O.Refer p ∙ ap (λ (k : ℕ). operationAt k s i) (sym e)
+  operation-old l = sym (rw (lt-ltb b 32 l))
 
-  pub operation-drop : (v : HeldValue) → v ≡ heldValueAt s i → b ≡ 17 → O.Drop v ≡ operationAt b s i
+  pub operation-new : 32 ≤ b → issuedAt (b - 16) s (byteAt s (i + operationWidth b - 1)) i ≡ operationAt b s i
   unfolding operationAt
-  operation-drop v p e = ap O.Drop p ∙ ap (λ (k : ℕ). operationAt k s i) (sym e)
+  operation-new l = sym (rw (le-ltb b 32 l))
 
-  pub operation-probe : (k : Column) (v : Cell) → k ≡ columnAt s (i + 1) → v ≡ valueAt s (i + 3) → b ≡ 18 → O.Probe k v ≡ operationAt b s i
-  unfolding operationAt
-  operation-probe k v p q e = ap₂ O.Probe p q ∙ ap (λ (j : ℕ). operationAt j s i) (sym e)
+  module _ (w : ℕ) where
+    at : (n : ℕ) → b ≡ n → issuedAt n s w i ≡ issuedAt b s w i
+    at n e = ap (λ (k : ℕ). issuedAt k s w i) (sym e)
 
-  pub operation-evenness : b ≡ 20 → O.Evenness ≡ operationAt b s i
-  unfolding operationAt
-  operation-evenness e = ap (λ (j : ℕ). operationAt j s i) (sym e)
+    pub operation-refer : (v : HeldValue) → v ≡ heldValueAt s w i → b ≡ 16 → O.Refer v ≡ issuedAt b s w i
+    unfolding issuedAt
+    operation-refer v p e = ap O.Refer p ∙ at 16 e
 
-  pub operation-total : (t : Total) → t ≡ totalAt s i → b ≡ 21 → O.Total t ≡ operationAt b s i
-  unfolding operationAt
-  operation-total t p e = ap O.Total p ∙ ap (λ (j : ℕ). operationAt j s i) (sym e)
+    pub operation-drop : (v : HeldValue) → v ≡ heldValueAt s w i → b ≡ 17 → O.Drop v ≡ issuedAt b s w i
+    unfolding issuedAt
+    operation-drop v p e = ap O.Drop p ∙ at 17 e
 
-  pub operation-query : (q : Query) → q ≡ queryAt s i → b ≡ 19 → O.Query q ≡ operationAt b s i
-  unfolding operationAt
-  operation-query q p e = ap O.Query p ∙ ap (λ (j : ℕ). operationAt j s i) (sym e)
+    pub operation-probe : (k : Column) (v : Cell) → k ≡ columnAt s (i + 1) → v ≡ valueAt s w (i + 3) → b ≡ 18 → O.Probe k v ≡ issuedAt b s w i
+    unfolding issuedAt
+    operation-probe k v p q e = ap₂ O.Probe p q ∙ at 18 e
+
+    pub operation-evenness : b ≡ 20 → O.Evenness ≡ issuedAt b s w i
+    unfolding issuedAt
+    operation-evenness e = at 20 e
+
+    pub operation-total : (t : Total) → t ≡ totalAt s w i → b ≡ 21 → O.Total t ≡ issuedAt b s w i
+    unfolding issuedAt
+    operation-total t p e = ap O.Total p ∙ at 21 e
+
+    pub operation-query : (q : Query) → q ≡ queryAt s w i → b ≡ 19 → O.Query q ≡ issuedAt b s w i
+    unfolding issuedAt
+    operation-query q p e = ap O.Query p ∙ at 19 e
 
 -- ---- the command at a place, test by test
 

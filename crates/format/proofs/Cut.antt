@@ -3,7 +3,7 @@ use Prim.Native.Nat.{ℕ, _+_, _*_, _-_, _/_, _%_, _≤_, _<_}
 use native.Mathlib.Nat.{div-add-mod}
 use native.Mathlib.Omega.{arith}
 use mathlib.Core.Path.{_≡_, sym, ap, ap₂, subst, _∙_}
-use mathlib.Core.Bool.{Bool, true, false, cond, _&&_, and-eq-true-iff}
+use mathlib.Core.Bool.{true, false, cond, _&&_, and-eq-true-iff}
 use mathlib.Core.List.{List}
 use mathlib.Core.Logic.{_⊎_, ⊎-elim}
 use borrow.Author.Tests.{lt-ltb, le-ltb, ltb-true, ltb-false, eqb-true}
@@ -15,16 +15,20 @@ use Rattle.finite.proofs.Bools.{dec, cond-true, cond-false, order}
 use Rattle.finite.proofs.Search.{all-at}
 use Rattle.finite.proofs.Tables.{tab-at, tab-of, tab-same, length-tab}
 use Rattle.finite.proofs.Stores.{sets-below, sets-at, sets-above}
-use Rattle.model.specs.Cell.{numbered, blank, isBlank}
+use Rattle.model.specs.Cell.{blank, isBlank}
+use Rattle.model.proofs.CellLaws.{is-blank}
+use Rattle.state.specs.Cells.{Cells}
 use Rattle.state.specs.declared.design.Table.{Table}
 use Rattle.state.specs.declared.design.Column.{Column}
 use Rattle.state.specs.declared.design.Constraint.{Constraint}
 use Rattle.state.specs.declared.design.Filling.{Filling}
 use Rattle.state.specs.declared.design.Design.{Design}
 use Rattle.state.specs.Design.{noTable, noColumn, noConstraint, noFilling, tableAt, constraintAt, fillingAt}
-use Rattle.state.specs.Meaning.{schemeOf, databaseOf}
+use Rattle.state.specs.Held.{noCell}
+use Rattle.state.specs.Meaning.{cellBack, cellIn, cellAt, schemeOf, databaseOf}
 use Rattle.state.specs.Lawful.{tableFits, zeroTable, zeroColumn, constraintFits, zeroConstraint, fillingFits, zeroFilling, zeroRow}
 use Rattle.state.proofs.Places.{unused-is}
+use Rattle.state.proofs.RowLaws.{cell-at}
 use Rattle.format.proofs.LawfulLaws.{Parts, RowParts, rowTest}
 
 -- ---- lists cut after k elements: f up to there, then e
@@ -106,13 +110,14 @@ zero-filling f h =
     ap₂ (λ (a b : ℕ). let z : Filling = record { column = noColumn; low = a; high = b } in z) (eqb-true _ _ (y .0)) (eqb-true _ _ (y .1))
 
 -- a row that is 0, in the buffers
-zero-row : (n : ℕ) (cells tables : List ℕ) (r : ℕ) → zeroRow (databaseOf n cells tables) r ≡ true → (getD tables r 0 ≡ 0) × ((c : ℕ) → c < 8 → getD cells (8 * r + c) 0 ≡ 0)
-unfolding zeroRow databaseOf isBlank
+zero-row : (n : ℕ) (cells : Cells) (tables : List ℕ) (r : ℕ) → zeroRow (databaseOf n cells tables) r ≡ true
+    → (getD tables r 0 ≡ 0) × ((c : ℕ) → c < 8 → cellAt cells r c ≡ noCell)
+unfolding zeroRow databaseOf blank
 zero-row n cells tables r h =
-    let blanks = all 8 (λ c. isBlank (cond (ltb c 8) (numbered (getD cells (8 * r + c) 0)) blank)) in
-    let x = and-eq-true-iff (eqb (getD tables r 0) 0) blanks .0 h in (
+    let D = databaseOf n cells tables in
+    let x = and-eq-true-iff (eqb (getD tables r 0) 0) (all 8 (λ c. isBlank (D .cell r c))) .0 h in (
       eqb-true _ _ (x .0),
-      λ c l. eqb-true _ _ (ap (λ (b : Bool). isBlank (cond b (numbered (getD cells (8 * r + c) 0)) blank)) (sym (lt-ltb c 8 l)) ∙ all-at 8 (λ c. isBlank (cond (ltb c 8) (numbered (getD cells (8 * r + c) 0)) blank)) (x .1) c l),
+      λ c l. ap cellBack (sym (cell-at n cells tables r c l) ∙ is-blank (D .cell r c) (all-at 8 (λ c. isBlank (D .cell r c)) (x .1) c l)),
     )
 
 -- ---- unused places of a lawful design with its rows
@@ -128,7 +133,7 @@ module _ (d : Design) (p : Parts d) where
   pub unused-filling : (i : ℕ) → i < 8 → d .fillings ≤ i → fillingAt d i ≡ noFilling
   unused-filling i l h = zero-filling (fillingAt d i) (sym (unused-is i (d .fillings) (fillingFits d i (fillingAt d i)) (zeroFilling (fillingAt d i)) h) ∙ p .filling i l)
 
-module _ (d : Design) (cells tables : List ℕ) (p : RowParts d cells tables) where
+module _ (d : Design) (cells : Cells) (tables : List ℕ) (p : RowParts d cells tables) where
   row-zero : (r : ℕ) → r < 512 → d .rows ≤ r → zeroRow (databaseOf (d .rows) cells tables) r ≡ true
   row-zero r l h =
       sym (unused-is r (d .rows) (rowTest (schemeOf d) (databaseOf (d .rows) cells tables) r) (zeroRow (databaseOf (d .rows) cells tables) r) h) ∙ p .row r l
@@ -136,7 +141,7 @@ module _ (d : Design) (cells tables : List ℕ) (p : RowParts d cells tables) wh
   pub unused-member : (r : ℕ) → r < 512 → d .rows ≤ r → getD tables r 0 ≡ 0
   unused-member r l h = zero-row (d .rows) cells tables r (row-zero r l h) .0
 
-  pub unused-cell : (i : ℕ) → i < 4096 → 8 * d .rows ≤ i → getD cells i 0 ≡ 0
+  pub unused-cell : (i : ℕ) → i < 4096 → 8 * d .rows ≤ i → cellIn cells i ≡ noCell
   unused-cell i l h =
       let e : 8 * (i / 8) + i % 8 ≡ i = div-add-mod i 8 in
-      ap (λ (k : ℕ). getD cells k 0) (sym e) ∙ zero-row (d .rows) cells tables (i / 8) (row-zero (i / 8) (omega arith) (omega arith)) .1 (i % 8) (omega arith)
+      ap (cellIn cells) (sym e) ∙ zero-row (d .rows) cells tables (i / 8) (row-zero (i / 8) (omega arith) (omega arith)) .1 (i % 8) (omega arith)

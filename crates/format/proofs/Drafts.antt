@@ -10,6 +10,8 @@ use lib.Seq.{sets}
 use Rattle.finite.specs.Finite.{tab}
 use Rattle.finite.proofs.Tables.{tab-same}
 use Rattle.model.specs.Database.{Database}
+use Rattle.state.specs.Cells.{Cells, cellsIn}
+use Rattle.state.specs.declared.cell.Cell.{Cell}
 use Rattle.state.specs.declared.design.Table.{Table}
 use Rattle.state.specs.declared.design.Constraint.{Constraint}
 use Rattle.state.specs.declared.design.Filling.{Filling}
@@ -18,14 +20,13 @@ use Rattle.state.specs.Design.{noTable, noConstraint, noFilling, tableAt, const
 use Rattle.state.specs.Meaning.{schemeOf, databaseOf}
 use Rattle.state.specs.Lawful.{tableFits, zeroTable, constraintFits, zeroConstraint, fillingFits, zeroFilling, zeroRow}
 use Rattle.state.proofs.Places.{used-is}
-use Rattle.format.specs.Commands.{rowCellAt}
+use Rattle.format.specs.Commands.{rowCellAt, rowIssueAt}
 use Rattle.format.specs.Reading.{Draft, emptyDraft, withTable, withConstraint, withFilling, withRows, withRow}
+use Rattle.format.proofs.CellsLaws.{same-cell, same-cells}
 use Rattle.format.proofs.LawfulLaws.{Parts, RowParts, SameRow, rowTest, constraint-fits-same, filling-fits-same, same-row, live-same, row-test-same}
 use Rattle.format.proofs.Cut.{cutList, cut-at, cut-none, cut-more, cut-whole, cut-eight, unused-table, unused-constraint, unused-filling, unused-member, unused-cell}
 use Rattle.format.proofs.AdvancedLaws.{AddedTable, AddedConstraint, AddedFilling, AddedRow}
-
-abbrev noCells : List ℕ
-noCells = tab 4096 (λ _. 0)
+use Rattle.format.proofs.Reached.{noCells}
 
 abbrev noMembers : List ℕ
 noMembers = tab 512 (λ _. 0)
@@ -79,11 +80,18 @@ withFillings d k =
       tables = noMembers;
     }
 
-unfoldable pub withAllRows : Design → List ℕ → List ℕ → ℕ → Draft
+-- a list of cells' numbers or issues, and the cells, cut after k rows
+abbrev cutRows : List ℕ → ℕ → List ℕ
+cutRows xs k = cutList 0 4096 (8 * k) (λ i. getD xs i 0)
+
+abbrev cutCells : Cells → ℕ → Cells
+cutCells cells k = cellsIn (cutRows (cells .numbers) k) (cutRows (cells .issues) k)
+
+unfoldable pub withAllRows : Design → Cells → List ℕ → ℕ → Draft
 withAllRows d cells tables k =
     record {
       design = withRows d k;
-      cells = cutList 0 4096 (8 * k) (λ i. getD cells i 0);
+      cells = cutCells cells k;
       tables = cutList 0 512 k (λ i. getD tables i 0);
     }
 
@@ -108,20 +116,22 @@ module _ (d : Design) (p : Parts d) (z : length (d .table) ≡ 8) (y : length (d
       ap₂ (λ (l : List Constraint) (m : List Filling). let r : Draft = record { design = record { tables = d .tables; table = d .table; constraints = d .constraints; constraint = l; fillings = 0; filling = m; rows = 0 }; cells = noCells; tables = noMembers } in r)
       (cut-whole noConstraint 16 (constraintAt d) (d .constraints) (d .constraint) y (λ i l. refl) (unused-constraint d p)) (cut-none noFilling 8 (fillingAt d))
 
-  pub all-fillings : (cells tables : List ℕ) → withFillings d (d .fillings) ≡ withAllRows d cells tables 0
+  pub all-fillings : (cells : Cells) (tables : List ℕ) → withFillings d (d .fillings) ≡ withAllRows d cells tables 0
   unfolding withFillings withAllRows withRows
   all-fillings cells tables =
       ap (λ (l : List Filling). let r : Draft = record { design = record { tables = d .tables; table = d .table; constraints = d .constraints; constraint = d .constraint; fillings = d .fillings; filling = l; rows = 0 }; cells = noCells; tables = noMembers } in r)
       (cut-whole noFilling 8 (fillingAt d) (d .fillings) (d .filling) x (λ i l. refl) (unused-filling d p)) ∙
-      ap₂ (λ (l m : List ℕ). let r : Draft = record { design = withRows d 0; cells = l; tables = m } in r)
-      (cut-none 0 4096 (λ i. getD cells i 0)) (cut-none 0 512 (λ i. getD tables i 0))
+      ap₂ (λ (l : Cells) (m : List ℕ). let r : Draft = record { design = withRows d 0; cells = l; tables = m } in r)
+      (ap₂ cellsIn (cut-none 0 4096 (λ i. getD (cells .numbers) i 0)) (cut-none 0 4096 (λ i. getD (cells .issues) i 0))) (cut-none 0 512 (λ i. getD tables i 0))
 
-pub all-rows : (d : Design) (cells tables : List ℕ) → RowParts d cells tables → length cells ≡ 4096 → length tables ≡ 512
-    → withAllRows d cells tables (d .rows) ≡ record { design = d; cells = cells; tables = tables }
+pub all-rows : (d : Design) (cells : Cells) (tables : List ℕ) → RowParts d cells tables → length (cells .numbers) ≡ 4096 → length (cells .issues) ≡ 4096
+    → length tables ≡ 512 → withAllRows d cells tables (d .rows) ≡ record { design = d; cells = cells; tables = tables }
 unfolding withAllRows withRows
-all-rows d cells tables p a b =
-    ap₂ (λ (l m : List ℕ). let r : Draft = record { design = d; cells = l; tables = m } in r)
-    (cut-whole 0 4096 (λ i. getD cells i 0) (8 * d .rows) cells a (λ i l. refl) (unused-cell d cells tables p))
+all-rows d cells tables p a c b =
+    ap₂ (λ (l : Cells) (m : List ℕ). let r : Draft = record { design = d; cells = l; tables = m } in r)
+    (same-cells (cutCells cells (d .rows)) cells
+    (cut-whole 0 4096 (λ i. getD (cells .numbers) i 0) (8 * d .rows) (cells .numbers) a (λ i l. refl) (λ i l h. ap (λ (v : Cell). v .number) (unused-cell d cells tables p i l h)))
+    (cut-whole 0 4096 (λ i. getD (cells .issues) i 0) (8 * d .rows) (cells .issues) c (λ i l. refl) (λ i l h. ap (λ (v : Cell). v .issue) (unused-cell d cells tables p i l h))))
     (cut-whole 0 512 (λ i. getD tables i 0) (d .rows) tables b (λ i l. refl) (unused-member d cells tables p))
 
 -- ---- each item is read
@@ -174,19 +184,26 @@ module _ (d : Design) (p : Parts d) (k : ℕ) where
       }
 
 -- the ROW at place i of a script has row k's table and cells
-module _ (d : Design) (cells tables : List ℕ) (rows : RowParts d cells tables) (most : d .rows ≤ 512) (k : ℕ) (l : k < d .rows) (s : List ℕ) (i t : ℕ)
-    (member : t ≡ getD tables k 0) (cell : (c : ℕ) → c < 8 → rowCellAt s i c ≡ getD cells (8 * k + c) 0) where
+module _ (d : Design) (cells : Cells) (tables : List ℕ) (rows : RowParts d cells tables) (most : d .rows ≤ 512) (k : ℕ) (l : k < d .rows) (s : List ℕ) (i t : ℕ)
+    (member : t ≡ getD tables k 0) (number : (c : ℕ) → c < 8 → rowCellAt s i c ≡ getD (cells .numbers) (8 * k + c) 0)
+    (issue : (c : ℕ) → c < 8 → rowIssueAt s i c ≡ getD (cells .issues) (8 * k + c) 0) where
+  -- eight of them put in
+  eight : (xs : List ℕ) (f : ℕ → ℕ) → ((c : ℕ) → c < 8 → f c ≡ getD xs (8 * k + c) 0) → sets (cutRows xs k) (8 * k) (tab 8 f) ≡ cutRows xs (k + 1)
+  eight xs f h = ap (sets (cutRows xs k) (8 * k)) (tab-same 8 f (λ c. getD xs (8 * k + c) 0) h) ∙ cut-eight 4096 (λ j. getD xs j 0) k (omega arith)
+
   put : withRow (withAllRows d cells tables k) s i t ≡ withAllRows d cells tables (k + 1)
   unfolding withRow withAllRows withRows
   put =
-      ap₂ (λ (m n : List ℕ). let x : Draft = record { design = withRows d (k + 1); cells = m; tables = n } in x)
-      (ap (sets (cutList 0 4096 (8 * k) (λ j. getD cells j 0)) (8 * k)) (tab-same 8 (rowCellAt s i) (λ c. getD cells (8 * k + c) 0) cell) ∙ cut-eight 4096 (λ j. getD cells j 0) k (omega arith))
+      ap₂ (λ (m : Cells) (n : List ℕ). let x : Draft = record { design = withRows d (k + 1); cells = m; tables = n } in x)
+      (ap₂ cellsIn (eight (cells .numbers) (rowCellAt s i) number) (eight (cells .issues) (rowIssueAt s i) issue))
       (ap (set (cutList 0 512 k (λ j. getD tables j 0)) k) member ∙ cut-more 0 512 (λ j. getD tables j 0) k (omega arith))
 
-  same : (r : ℕ) → r ≤ k → SameRow (databaseOf (k + 1) (cutList 0 4096 (8 * (k + 1)) (λ j. getD cells j 0)) (cutList 0 512 (k + 1) (λ j. getD tables j 0))) (databaseOf (d .rows) cells tables) r
+  same : (r : ℕ) → r ≤ k → SameRow (databaseOf (k + 1) (cutCells cells (k + 1)) (cutList 0 512 (k + 1) (λ j. getD tables j 0))) (databaseOf (d .rows) cells tables) r
   same r h =
       same-row (k + 1) (d .rows) _ cells _ tables r (cut-at 0 512 (λ j. getD tables j 0) (k + 1) r (omega arith) (omega arith))
-      (λ c g. cut-at 0 4096 (λ j. getD cells j 0) (8 * (k + 1)) (8 * r + c) (omega arith) (omega arith))
+      (λ c g. same-cell (cutCells cells (k + 1)) cells (8 * r + c) (8 * r + c)
+      (cut-at 0 4096 (λ j. getD (cells .numbers) j 0) (8 * (k + 1)) (8 * r + c) (omega arith) (omega arith))
+      (cut-at 0 4096 (λ j. getD (cells .issues) j 0) (8 * (k + 1)) (8 * r + c) (omega arith) (omega arith)))
 
   tested : rowTest (schemeOf (withAllRows d cells tables (k + 1) .design)) (databaseOf (withAllRows d cells tables (k + 1) .design .rows) (withAllRows d cells tables (k + 1) .cells) (withAllRows d cells tables (k + 1) .tables)) k ≡ true
   unfolding withAllRows withRows schemeOf

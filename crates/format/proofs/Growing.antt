@@ -1,16 +1,14 @@
 -- A lawful design stays lawful when an item that passes its test is added. Assumes nothing.
-use Prim.Native.Nat.{ℕ, _+_, _*_, _≤_, _<_}
+use Prim.Native.Nat.{ℕ, _+_, _≤_, _<_}
 use native.Mathlib.Omega.{arith}
 use mathlib.Core.Path.{_≡_, refl, sym, ap, _∙_}
 use mathlib.Core.Bool.{Bool, true}
-use mathlib.Core.Logic.{_⊎_, inl, inr, ⊎-elim}
 use mathlib.Core.List.{List}
 use lib.ListN.{length, getD, set}
-use lib.Seq.{sets, getD-set-same, getD-set-other}
-use Rattle.finite.proofs.Bools.{order}
-use Rattle.finite.proofs.Stores.{sets-below, sets-above}
+use lib.Seq.{getD-set-same, getD-set-other}
 use Rattle.model.specs.Scheme.{Scheme}
 use Rattle.model.specs.Database.{Database}
+use Rattle.state.specs.Cells.{Cells}
 use Rattle.state.specs.declared.design.Table.{Table}
 use Rattle.state.specs.declared.design.Constraint.{Constraint}
 use Rattle.state.specs.declared.design.Filling.{Filling}
@@ -20,6 +18,7 @@ use Rattle.state.specs.Meaning.{schemeOf, databaseOf}
 use Rattle.state.specs.Lawful.{usedOr, tableFits, zeroTable, constraintFits, zeroConstraint, fillingFits, zeroFilling, zeroRow}
 use Rattle.state.proofs.Places.{one-more, none-used, unused-is}
 use Rattle.format.specs.Reading.{withTable, withConstraint, withFilling, withRows}
+use Rattle.format.proofs.CellsLaws.{putRow, put-other}
 use Rattle.format.proofs.LawfulLaws.{Parts, RowParts, SameRow, rowTest, constraint-fits-same, filling-fits-same, same-row, live-same, zero-row-same, row-test-same}
 
 -- ---- one more table, before any constraint and filling
@@ -126,40 +125,33 @@ count-rows d n l p =
     }
 
 -- row n is stored: the others are as they were
-module _ (m k n t : ℕ) (cells tables xs : List ℕ) (eight : length xs ≡ 8) where
-  pub other-rows : (r : ℕ) → (r ≡ n → ⊥) → SameRow (databaseOf m (sets cells (8 * n) xs) (set tables n t)) (databaseOf k cells tables) r
+module _ (m k n t : ℕ) (cells : Cells) (tables xs ys : List ℕ) (a : length xs ≡ 8) (b : length ys ≡ 8) where
+  pub other-rows : (r : ℕ) → (r ≡ n → ⊥) → SameRow (databaseOf m (putRow cells n xs ys) (set tables n t)) (databaseOf k cells tables) r
   other-rows r ne =
-      same-row m k (sets cells (8 * n) xs) cells (set tables n t) tables r (getD-set-other tables n r t 0 ne) (λ c h. around c h (apart r n ne))
-    where
-      apart : (i j : ℕ) → (i ≡ j → ⊥) → (i < j) ⊎ (j < i)
-      apart i j h = ⊎-elim inl (λ (q : (i ≡ j) ⊎ (j < i)). ⊎-elim (λ (e : i ≡ j). absurd (h e)) inr q) (order i j)
+      same-row m k (putRow cells n xs ys) cells (set tables n t) tables r (getD-set-other tables n r t 0 ne) (put-other cells n xs ys a b r ne)
 
-      around : (c : ℕ) → c < 8 → (r < n) ⊎ (n < r) → getD (sets cells (8 * n) xs) (8 * r + c) 0 ≡ getD cells (8 * r + c) 0
-      around c h (inl l) = sets-below 0 cells (8 * n) xs (8 * r + c) (omega arith)
-      around c h (inr l) = sets-above 0 cells (8 * n) xs (8 * r + c) (omega arith)
-
-module _ (d : Design) (t : ℕ) (cells tables xs : List ℕ) (eight : length xs ≡ 8) where
+module _ (d : Design) (t : ℕ) (cells : Cells) (tables xs ys : List ℕ) (a : length xs ≡ 8) (b : length ys ≡ 8) where
   pub grow-row : RowParts d cells tables
-      → rowTest (schemeOf d) (databaseOf (d .rows + 1) (sets cells (8 * d .rows) xs) (set tables (d .rows) t)) (d .rows) ≡ true
-      → RowParts (withRows d (d .rows + 1)) (sets cells (8 * d .rows) xs) (set tables (d .rows) t)
+      → rowTest (schemeOf d) (databaseOf (d .rows + 1) (putRow cells (d .rows) xs ys) (set tables (d .rows) t)) (d .rows) ≡ true
+      → RowParts (withRows d (d .rows + 1)) (putRow cells (d .rows) xs ys) (set tables (d .rows) t)
   unfolding withRows schemeOf
   grow-row p fits =
       let n = d .rows in
       let S : Scheme = schemeOf d in
       let D : Database = databaseOf n cells tables in
-      let E : Database = databaseOf (n + 1) (sets cells (8 * n) xs) (set tables n t) in
-      let kept : (r : ℕ) → (r ≡ n → ⊥) → SameRow E D r = other-rows (n + 1) n n t cells tables xs eight in
+      let E : Database = databaseOf (n + 1) (putRow cells n xs ys) (set tables n t) in
+      let kept : (r : ℕ) → (r ≡ n → ⊥) → SameRow E D r = other-rows (n + 1) n n t cells tables xs ys a b in
       record {
         row =
             one-more 512 n (rowTest S D) (rowTest S E) (zeroRow D) (zeroRow E) (p .row)
             (λ r h. row-test-same S E D r (kept r (λ (e : r ≡ n). omega arith)) (λ q k. kept q (λ (e : q ≡ n). omega arith))
-            (λ q k. live-same (n + 1) n (sets cells (8 * n) xs) cells (set tables n t) tables q (omega arith) (omega arith)))
+            (λ q k. live-same (n + 1) n (putRow cells n xs ys) cells (set tables n t) tables q (omega arith) (omega arith)))
             fits
             (λ r h k. zero-row-same S E D r (kept r (λ (e : r ≡ n). omega arith)));
       }
 
 -- no row has been read: the tables, constraints and fillings do not matter
-pub no-rows : (d e : Design) (cells tables : List ℕ) → d .rows ≡ 0 → e .rows ≡ 0 → RowParts d cells tables → RowParts e cells tables
+pub no-rows : (d e : Design) (cells : Cells) (tables : List ℕ) → d .rows ≡ 0 → e .rows ≡ 0 → RowParts d cells tables → RowParts e cells tables
 no-rows d e cells tables z y p =
     record {
       row = λ r h.

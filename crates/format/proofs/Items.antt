@@ -2,24 +2,31 @@
 use Prim.Native.Nat.{ℕ, _+_, _*_, _≤_, _<_}
 use native.Mathlib.Omega.{arith}
 use mathlib.Core.Path.{_≡_, refl, sym, ap, ap₂, _∙_}
-use mathlib.Core.Bool.{true}
+use mathlib.Core.Bool.{true, false, not}
 use mathlib.Core.List.{List, [], _∷_, _++_, append-nil, append-assoc}
 use lib.ListN.{length, getD, set, take, drop}
-use lib.Seq.{sets, getD-set-same, getD-set-other}
+use lib.Seq.{getD-set-same, getD-set-other}
+use lib.Dec.{eqb}
 use Rattle.finite.specs.Finite.{tab, collect}
-use Rattle.finite.proofs.Tables.{tab-at, length-tab}
+use Rattle.finite.proofs.Search.{any-same}
+use Rattle.finite.proofs.Tables.{tab-at, tab-same, length-tab}
 use Rattle.finite.proofs.Collecting.{collect-same, collect-suc}
-use Rattle.finite.proofs.Stores.{sets-below, sets-at}
+use Rattle.state.specs.Cells.{Cells}
+use Rattle.state.specs.declared.cell.Cell.{Cell}
 use Rattle.state.specs.declared.design.Table.{Table}
 use Rattle.state.specs.declared.design.Constraint.{Constraint}
 use Rattle.state.specs.declared.design.Filling.{Filling}
 use Rattle.state.specs.declared.design.Design.{Design}
 use Rattle.state.specs.Design.{noTable, noConstraint, noFilling, tableAt, constraintAt, fillingAt}
+use Rattle.state.specs.Meaning.{cellAt}
 use Rattle.format.specs.Bytes.{byteAt, u32At, u32Bytes}
-use Rattle.format.specs.Commands.{columnAt, rowCellAt}
-use Rattle.format.specs.Reading.{Draft, withTable, withConstraint, withFilling, withRows, withRow}
-use Rattle.format.specs.Writing.{tableBytes, constraintBytes, fillingBytes, cellsBytes, rowBytes, designBytes}
+use Rattle.format.specs.Commands.{columnAt, rowCellAt, rowIssueAt}
+use Rattle.format.specs.Reading.{Draft, withTable, withConstraint, withFilling, withRows, withRow, needless}
+use Rattle.format.specs.Writing.{tableBytes, constraintBytes, fillingBytes, isIssued, rowBytes, designBytes}
+use Rattle.format.proofs.CommandLaws.{RowByte, plain, issued}
 use Rattle.format.proofs.BytesLaws.{part-add, part-tab, u32-part, parts-collected}
+use Rattle.format.proofs.CellsLaws.{putRow, put-below, put-at}
+use Rattle.format.proofs.RowText.{anyIssue, numbersText, rowText, text-issued, text-plain, text-same, row-text, row-issued, issue-read, none-plain, some-issued}
 
 abbrev pub tablesBytes : Design → List ℕ
 tablesBytes d = collect (d .tables) (λ _. true) (λ i. tableBytes (tableAt d i))
@@ -30,14 +37,14 @@ constraintsBytes d = collect (d .constraints) (λ _. true) (λ i. constraintByte
 abbrev pub fillingsBytes : Design → List ℕ
 fillingsBytes d = collect (d .fillings) (λ _. true) (λ i. fillingBytes (fillingAt d i))
 
-abbrev pub rowsBytes : Design → List ℕ → List ℕ → List ℕ
+abbrev pub rowsBytes : Design → Cells → List ℕ → List ℕ
 rowsBytes d cells tables = collect (d .rows) (λ _. true) (rowBytes cells tables)
 
 -- all but the END
-unfoldable pub itemsBytes : Design → List ℕ → List ℕ → List ℕ
+unfoldable pub itemsBytes : Design → Cells → List ℕ → List ℕ
 itemsBytes d cells tables = tablesBytes d ++ (constraintsBytes d ++ (fillingsBytes d ++ rowsBytes d cells tables))
 
-pub design-items : (d : Design) (cells tables : List ℕ) → designBytes d cells tables ≡ itemsBytes d cells tables ++ (5 ∷ [])
+pub design-items : (d : Design) (cells : Cells) (tables : List ℕ) → designBytes d cells tables ≡ itemsBytes d cells tables ++ (5 ∷ [])
 unfolding designBytes itemsBytes
 design-items d cells tables = five (tablesBytes d) (constraintsBytes d) (fillingsBytes d) (rowsBytes d cells tables) (5 ∷ [])
   where
@@ -62,7 +69,7 @@ behind a x r e =
 both-empty : (a b : List ℕ) → a ≡ [] → b ≡ [] → a ++ b ≡ []
 both-empty a b p q = ap₂ _++_ p q
 
-module _ (d : Design) (cells tables : List ℕ) where
+module _ (d : Design) (cells : Cells) (tables : List ℕ) where
   pub more-table : (t : Table) → d .tables < length (d .table) → d .constraints ≡ 0 → d .fillings ≡ 0 → d .rows ≡ 0
       → itemsBytes (withTable d t) cells tables ≡ itemsBytes d cells tables ++ tableBytes t
   unfolding itemsBytes withTable
@@ -104,34 +111,48 @@ module _ (d : Design) (cells tables : List ℕ) where
       sym (append-assoc (tablesBytes d) (constraintsBytes d ++ (fillingsBytes d ++ rest)) (fillingBytes f))
 
 -- the row whose command stands at place i
-module _ (p : Draft) (s : List ℕ) (i t : ℕ) (long : 8 * p .design .rows + 8 ≤ length (p .cells)) (room : p .design .rows < length (p .tables)) where
-  new-cells : List ℕ
-  new-cells = sets (p .cells) (8 * p .design .rows) (tab 8 (rowCellAt s i))
+module _ (p : Draft) (s : List ℕ) (i t : ℕ) (long : 8 * p .design .rows + 8 ≤ length (p .cells .numbers)) (wide : 8 * p .design .rows + 8 ≤ length (p .cells .issues))
+    (room : p .design .rows < length (p .tables)) where
+  new-cells : Cells
+  new-cells = putRow (p .cells) (p .design .rows) (tab 8 (rowCellAt s i)) (tab 8 (rowIssueAt s i))
 
   new-tables : List ℕ
   new-tables = set (p .tables) (p .design .rows) t
 
   old-row : (r : ℕ) → r < p .design .rows → rowBytes new-cells new-tables r ≡ rowBytes (p .cells) (p .tables) r
-  unfolding rowBytes cellsBytes new-cells new-tables
+  unfolding new-cells new-tables
   old-row r h =
-      ap₂ (λ (x : ℕ) (l : List ℕ). 4 ∷ x ∷ l) (getD-set-other (p .tables) (p .design .rows) r t 0 (λ (e : r ≡ p .design .rows). omega arith))
-      (collect-same 8 (λ _. true) (λ _. true) _ _ (λ c l. refl)
-      (λ c l z. ap u32Bytes (sets-below 0 (p .cells) (8 * p .design .rows) (tab 8 (rowCellAt s i)) (8 * r + c) (omega arith))))
+      row-text new-cells new-tables r ∙
+      text-same _ _ _ _ _ _ (getD-set-other (p .tables) (p .design .rows) r t 0 (λ (e : r ≡ p .design .rows). omega arith))
+      (λ c l. ap (λ (v : Cell). v .number) (old c l)) (λ c l. ap (λ (v : Cell). v .issue) (old c l)) ∙ sym (row-text (p .cells) (p .tables) r)
+    where
+      old : (c : ℕ) → c < 8 → cellAt new-cells r c ≡ cellAt (p .cells) r c
+      old c l = put-below (p .cells) (p .design .rows) (tab 8 (rowCellAt s i)) (tab 8 (rowIssueAt s i)) (8 * r + c) (omega arith)
 
-  new-row : rowBytes new-cells new-tables (p .design .rows) ≡ 4 ∷ t ∷ collect 8 (λ _. true) (λ c. u32Bytes (rowCellAt s i c))
-  unfolding rowBytes cellsBytes new-cells new-tables
+  -- its cells are those of the command
+  new : (c : ℕ) → c < 8 → cellAt new-cells (p .design .rows) c ≡ record { number = rowCellAt s i c; issue = rowIssueAt s i c }
+  unfolding new-cells
+  new c l =
+      put-at (p .cells) (p .design .rows) (tab 8 (rowCellAt s i)) (tab 8 (rowIssueAt s i)) (length-tab 8 (rowCellAt s i)) (length-tab 8 (rowIssueAt s i)) long wide c l ∙
+      (λ j. record { number = tab-at 0 8 (rowCellAt s i) c l j; issue = tab-at 0 8 (rowIssueAt s i) c l j })
+
+  new-row : rowBytes new-cells new-tables (p .design .rows) ≡ rowText t (rowCellAt s i) (rowIssueAt s i)
+  unfolding new-tables
   new-row =
-      ap₂ (λ (x : ℕ) (l : List ℕ). 4 ∷ x ∷ l) (getD-set-same (p .tables) (p .design .rows) t 0 room)
-      (collect-same 8 (λ _. true) (λ _. true) _ _ (λ c l. refl)
-      (λ c l z. ap u32Bytes (let e = length-tab 8 (rowCellAt s i) in
-      sets-at 0 (p .cells) (8 * p .design .rows) (tab 8 (rowCellAt s i)) c (omega arith) (omega arith) ∙ tab-at 0 8 (rowCellAt s i) c l)))
+      row-text new-cells new-tables (p .design .rows) ∙
+      text-same _ _ _ _ _ _ (getD-set-same (p .tables) (p .design .rows) t 0 room)
+      (λ c l. ap (λ (v : Cell). v .number) (new c l)) (λ c l. ap (λ (v : Cell). v .issue) (new c l))
+
+  pub new-issued : isIssued (withRow p s i t .cells) (p .design .rows) ≡ anyIssue (rowIssueAt s i)
+  unfolding new-cells withRow
+  new-issued = row-issued new-cells (p .design .rows) ∙ any-same 8 _ _ (λ c l. ap (λ (v : Cell). not (eqb (v .issue) 0)) (new c l))
 
   pub more-row : itemsBytes (withRow p s i t .design) (withRow p s i t .cells) (withRow p s i t .tables)
-      ≡ itemsBytes (p .design) (p .cells) (p .tables) ++ (4 ∷ t ∷ collect 8 (λ _. true) (λ c. u32Bytes (rowCellAt s i c)))
+      ≡ itemsBytes (p .design) (p .cells) (p .tables) ++ rowText t (rowCellAt s i) (rowIssueAt s i)
   unfolding itemsBytes withRow withRows new-cells new-tables
   more-row =
       let d = p .design in
-      let x : List ℕ = 4 ∷ t ∷ collect 8 (λ _. true) (λ c. u32Bytes (rowCellAt s i c)) in
+      let x : List ℕ = rowText t (rowCellAt s i) (rowIssueAt s i) in
       let ts = tablesBytes d in let cs = constraintsBytes d in let fs = fillingsBytes d in let rs = rowsBytes d (p .cells) (p .tables) in
       ap (λ (l : List ℕ). ts ++ (cs ++ (fs ++ l))) (grown (d .rows) (rowBytes (p .cells) (p .tables)) (rowBytes new-cells new-tables) x old-row new-row) ∙
       ap (λ (l : List ℕ). ts ++ (cs ++ l)) (sym (append-assoc fs rs x)) ∙ ap (λ (l : List ℕ). ts ++ l) (sym (append-assoc cs (fs ++ rs) x)) ∙
@@ -164,10 +185,20 @@ module _ (s : List ℕ) (i : ℕ) where
         first 3 _ e ∙ ap₂ (λ (x : ℕ) (l : List ℕ). (byteAt s (i + 0) ∷ byteAt s (i + 1) ∷ byteAt s x ∷ []) ++ l) a q ∙
         ap (λ (l : List ℕ). l ++ take 8 (drop (i + 3) s)) (sym (part-tab s i 3 (omega arith))) ∙ sym (part-add s i 3 8)
 
-    pub row-part : byteAt s i ≡ 4 → i + 34 ≤ length s → 4 ∷ byteAt s (i + 1) ∷ collect 8 (λ _. true) (λ c. u32Bytes (rowCellAt s i c)) ≡ take 34 (drop i s)
+    -- a row's command up to its cells
+    front-part : (b : ℕ) → byteAt s i ≡ b → i + 34 ≤ length s → b ∷ byteAt s (i + 1) ∷ numbersText (rowCellAt s i) ≡ take 34 (drop i s)
     unfolding rowCellAt tab
-    row-part e h =
+    front-part b e h =
         let q : collect 8 (λ _. true) (λ c. u32Bytes (u32At s (i + 2 + 4 * c))) ≡ take 32 (drop (i + 2) s) =
         collect-same 8 (λ _. true) (λ _. true) _ _ (λ c l. refl) (λ c l z. u32-part s (i + 2 + 4 * c) small (omega arith)) ∙ parts-collected s (i + 2) 4 8 in
-        first 4 _ e ∙ ap (λ (l : List ℕ). (byteAt s (i + 0) ∷ byteAt s (i + 1) ∷ []) ++ l) q ∙
+        first b _ e ∙ ap (λ (l : List ℕ). (byteAt s (i + 0) ∷ byteAt s (i + 1) ∷ []) ++ l) q ∙
         ap (λ (l : List ℕ). l ++ take 32 (drop (i + 2) s)) (sym (part-tab s i 2 (omega arith))) ∙ sym (part-add s i 2 32)
+
+    pub row-part : (w : ℕ) → RowByte (byteAt s i) w → needless s i ≡ false → i + w ≤ length s
+        → rowText (byteAt s (i + 1)) (rowCellAt s i) (rowIssueAt s i) ≡ take w (drop i s)
+    row-part w (plain e f) n h =
+        text-plain _ _ _ (none-plain s i (λ (z : byteAt s i ≡ 7). omega arith)) ∙ front-part 4 e (omega arith) ∙ ap (λ (k : ℕ). take k (drop i s)) (sym f)
+    row-part w (issued e f) n h =
+        text-issued _ _ _ (some-issued s i e n) ∙
+        ap₂ _++_ (front-part 7 e (omega arith)) (tab-same 8 (rowIssueAt s i) (λ j. byteAt s (i + 34 + j)) (λ c l. issue-read s i e c) ∙ sym (part-tab s (i + 34) 8 (omega arith))) ∙
+        sym (part-add s i 34 8) ∙ ap (λ (k : ℕ). take k (drop i s)) (sym f)

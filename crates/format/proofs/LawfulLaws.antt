@@ -1,7 +1,7 @@
 -- A lawful design place by place, and what the test of an item looks at: only what stands before the item. Assumes nothing.
-use Prim.Native.Nat.{ℕ, _+_, _*_, _≤_, _<_}
+use Prim.Native.Nat.{ℕ, _≤_, _<_}
 use mathlib.Core.Path.{_≡_, refl, sym, ap, ap₂, _∙_}
-use mathlib.Core.Bool.{Bool, true, false, not, cond, _&&_, _||_, and-eq-true-iff}
+use mathlib.Core.Bool.{Bool, true, false, not, cond, _&&_, and-eq-true-iff}
 use mathlib.Core.List.{List}
 use borrow.Author.Tests.{lt-ltb, ltb-true, leb-true, le-leb}
 use lib.Dec.{eqb, leb, ltb}
@@ -9,16 +9,18 @@ use lib.ListN.{getD}
 use Rattle.finite.specs.Finite.{any, all}
 use Rattle.finite.proofs.Bools.{both, cond-false}
 use Rattle.finite.proofs.Search.{any-same, all-same, all-at, all-true}
-use Rattle.model.specs.Cell.{Cell, numbered, blank, isBlank, equal}
+use Rattle.model.specs.Cell.{Cell, blank, isBlank, equal}
 use Rattle.model.specs.Scheme as Model
 use Rattle.model.specs.Scheme.{isColumn, sameColumn, Scheme}
 use Rattle.model.specs.Database.{Database, has}
+use Rattle.state.specs.Cells.{Cells}
+use Rattle.state.specs.declared.cell.Cell as State-cell
 use Rattle.state.specs.declared.design.Constraint.{Constraint}
 use Rattle.state.specs.declared.design.Filling.{Filling}
 use Rattle.state.specs.declared.design.Design.{Design}
 use Rattle.state.specs.Design.{tableAt, constraintAt, fillingAt}
-use Rattle.state.specs.Meaning.{columnOf, schemeOf, databaseOf}
-use Rattle.state.specs.Lawful.{usedOr, tableFits, zeroTable, sameConstraint, constraintFits, zeroConstraint, fillingFits, zeroFilling, countsFit, lawfulDesign, rowFits, repeatsAt, repeats, zeroRow, lawfulRows}
+use Rattle.state.specs.Meaning.{cellOf, cellAt, columnOf, schemeOf, databaseOf}
+use Rattle.state.specs.Lawful.{usedOr, tableFits, zeroTable, sameConstraint, constraintFits, zeroConstraint, fillingFits, zeroFilling, countsFit, lawfulDesign, cellFits, rowFits, repeatsAt, repeats, zeroRow, lawfulRows}
 
 -- ---- a lawful design, place by place
 
@@ -85,14 +87,14 @@ module _ (d e : Design) (counts : d .tables ≡ e .tables) (tables : (t : ℕ) �
 abbrev pub rowTest : Scheme → Database → ℕ → Bool
 rowTest S D r = rowFits S D r && not (repeats S D r)
 
-pub record RowParts (d : Design) (cells tables : List ℕ) : Type 0 where
+pub record RowParts (d : Design) (cells : Cells) (tables : List ℕ) : Type 0 where
   pub row : (r : ℕ) → r < 512 → usedOr r (d .rows) (rowTest (schemeOf d) (databaseOf (d .rows) cells tables) r) (zeroRow (databaseOf (d .rows) cells tables) r) ≡ true
 
-pub row-parts : (d : Design) (cells tables : List ℕ) → lawfulRows d cells tables ≡ true → RowParts d cells tables
+pub row-parts : (d : Design) (cells : Cells) (tables : List ℕ) → lawfulRows d cells tables ≡ true → RowParts d cells tables
 unfolding lawfulRows
 row-parts d cells tables h = record { row = all-at 512 _ h }
 
-pub whole-rows : (d : Design) (cells tables : List ℕ) → RowParts d cells tables → lawfulRows d cells tables ≡ true
+pub whole-rows : (d : Design) (cells : Cells) (tables : List ℕ) → RowParts d cells tables → lawfulRows d cells tables ≡ true
 unfolding lawfulRows
 whole-rows d cells tables p = all-true 512 _ (p .row)
 
@@ -103,17 +105,17 @@ pub record SameRow (D E : Database) (r : ℕ) : Type 0 where
   pub table : D .table r ≡ E .table r
   pub cell : (c : ℕ) → D .cell r c ≡ E .cell r c
 
-pub same-row : (m n : ℕ) (cells cells′ tables tables′ : List ℕ) (r : ℕ) → getD tables r 0 ≡ getD tables′ r 0
-    → ((c : ℕ) → c < 8 → getD cells (8 * r + c) 0 ≡ getD cells′ (8 * r + c) 0) → SameRow (databaseOf m cells tables) (databaseOf n cells′ tables′) r
+pub same-row : (m n : ℕ) (cells cells′ : Cells) (tables tables′ : List ℕ) (r : ℕ) → getD tables r 0 ≡ getD tables′ r 0
+    → ((c : ℕ) → c < 8 → cellAt cells r c ≡ cellAt cells′ r c) → SameRow (databaseOf m cells tables) (databaseOf n cells′ tables′) r
 unfolding databaseOf
 same-row m n cells cells′ tables tables′ r t h = record { table = t; cell = λ c. go c (ltb c 8) (λ e. h c (ltb-true c 8 e)) refl }
   where
-    go : (c : ℕ) (b : Bool) → (b ≡ true → getD cells (8 * r + c) 0 ≡ getD cells′ (8 * r + c) 0) → ltb c 8 ≡ b
-        → cond (ltb c 8) (numbered (getD cells (8 * r + c) 0)) blank ≡ cond (ltb c 8) (numbered (getD cells′ (8 * r + c) 0)) blank
-    go c true g e = ap (λ (x : ℕ). cond (ltb c 8) (numbered x) blank) (g refl)
-    go c false g e = cond-false (ltb c 8) (numbered (getD cells (8 * r + c) 0)) blank e ∙ sym (cond-false (ltb c 8) (numbered (getD cells′ (8 * r + c) 0)) blank e)
+    go : (c : ℕ) (b : Bool) → (b ≡ true → cellAt cells r c ≡ cellAt cells′ r c) → ltb c 8 ≡ b
+        → cond (ltb c 8) (cellOf (cellAt cells r c)) blank ≡ cond (ltb c 8) (cellOf (cellAt cells′ r c)) blank
+    go c true g e = ap (λ (x : State-cell.Cell). cond (ltb c 8) (cellOf x) blank) (g refl)
+    go c false g e = cond-false (ltb c 8) (cellOf (cellAt cells r c)) blank e ∙ sym (cond-false (ltb c 8) (cellOf (cellAt cells′ r c)) blank e)
 
-pub live-same : (m n : ℕ) (cells cells′ tables tables′ : List ℕ) (r : ℕ) → r < m → r < n → databaseOf m cells tables .live r ≡ databaseOf n cells′ tables′ .live r
+pub live-same : (m n : ℕ) (cells cells′ : Cells) (tables tables′ : List ℕ) (r : ℕ) → r < m → r < n → databaseOf m cells tables .live r ≡ databaseOf n cells′ tables′ .live r
 unfolding databaseOf
 live-same m n cells cells′ tables tables′ r h k = ap (λ (b : Bool). ltb r 512 && b) (lt-ltb r m h ∙ sym (lt-ltb r n k))
 
@@ -122,7 +124,7 @@ module _ (S : Scheme) (D E : Database) (r : ℕ) (same : SameRow D E r) where
   unfolding rowFits
   row-fits-same =
       ap₂ _&&_ (ap (λ (t : ℕ). ltb t (S .tables)) (same .table))
-      (all-same 8 _ _ (λ c l. ap₂ (λ t v. ltb c (S .columns t) || isBlank v) (same .table) (same .cell c)))
+      (all-same 8 _ _ (λ c l. ap₂ (λ t v. cellFits (S .columns t) c v) (same .table) (same .cell c)))
 
   pub zero-row-same : zeroRow D r ≡ zeroRow E r
   unfolding zeroRow

@@ -1,11 +1,14 @@
--- Laws of the definitions in specs/. CommandLaws: a command's byte, width and operands; Seen: which command stands at a place. BytesLaws, WritingLaws:
--- numbers and commands as they are written, and how long. LawfulLaws and Growing: a lawful design place by place, and one item more. KindLaws: causes 3 to
+-- Laws of the definitions in specs/. CommandLaws: a command's byte, width and operands; Seen: which command stands at a place. CellsLaws: cells by number
+-- and issue; RowText: a ROW by its parts, plain or with issues. BytesLaws, WritingLaws: numbers and commands as they are written, and how long, and where
+-- each row begins. LawfulLaws and Growing: a lawful design place by place, and one item more. KindLaws: causes 3 to
 -- 5 of one more command of a kind. AdvancedLaws, ReadingLaws: one command and all of them. AdmittedLaws, FirstPass: the same with cause 6 left aside,
 -- beside the definition. RepeatLaws: the first repeated value by the catalog; CatalogOf: the catalog of the rows read is that of the lent buffers.
 -- AdvancesLaws, Verdicts, Lent: what the code answers and leaves. Items, Cut, Reached, Drafts, Standing, Small, ReadBack, RoundTrip: reading and writing
 -- undo each other.
 pub mod CommandLaws
 pub mod BytesLaws
+pub mod CellsLaws
+pub mod RowText
 pub mod WritingLaws
 pub mod LawfulLaws
 pub mod Growing

@@ -7,7 +7,7 @@ use mathlib.Core.Path.{_≡_, refl, sym, ap, ap₂, subst, _∙_}
 use mathlib.Core.Bool.{Bool, true, false, cond}
 use mathlib.Core.List.{List, [], _∷_, _++_}
 use mathlib.Core.Logic.{_⊎_, inl, inr, ⊎-elim}
-use borrow.Author.Tests.{lt-ltb, ltb-true, ltb-false, eq-eqb}
+use borrow.Author.Tests.{ltb-true, ltb-false, eq-eqb}
 use lib.Dec.{ltb}
 use lib.ListN.{length, getD, take, drop, length-set}
 use lib.Seq.{length-sets, take-add, take-suc}
@@ -15,21 +15,25 @@ use Rattle.finite.specs.Finite.{tab, collect}
 use Rattle.finite.proofs.Bools.{dec, both}
 use Rattle.finite.proofs.Search.{all-true}
 use Rattle.finite.proofs.Tables.{length-tab, tab-at, tab-past}
+use Rattle.state.specs.Cells.{Cells, cellsIn}
 use Rattle.state.specs.declared.design.Table as State-table
 use Rattle.state.specs.declared.design.Constraint as State-constraint
 use Rattle.state.specs.declared.design.Filling as State-filling
-use Rattle.model.specs.Cell.{numbered, blank, isBlank}
+use Rattle.model.specs.Cell.{blank, isBlank}
+use Rattle.model.proofs.CellLaws.{blank-is}
 use Rattle.state.specs.Design.{noTable, noConstraint, noFilling, tableAt, constraintAt, fillingAt, emptyDesign}
-use Rattle.state.specs.Meaning.{schemeOf, databaseOf}
+use Rattle.state.specs.Meaning.{cellOf, cellIn, schemeOf, databaseOf}
 use Rattle.state.specs.Lawful.{tableFits, zeroTable, zeroColumn, constraintFits, zeroConstraint, fillingFits, zeroFilling, zeroRow, lawfulDesign, lawfulRows}
 use Rattle.state.proofs.Places.{unused-is}
+use Rattle.state.proofs.RowLaws.{cell-at}
 use Rattle.format.specs.declared.command.Command.the-variants.{Table, Constraint, Filling}
-use Rattle.format.specs.Bytes.{byteAt, u32Bytes}
-use Rattle.format.specs.Commands.{widthOf, commandAt, rowCellAt}
+use Rattle.format.specs.Bytes.{byteAt}
+use Rattle.format.specs.Commands.{widthOf, commandAt, rowCellAt, rowIssueAt}
 use Rattle.format.specs.Reading.{Draft, draft, emptyDraft, Advanced, advanced, redesigned, withTable, withConstraint, withFilling, withRows, withRow, DesignRead, readOn, readFrom, readDesign, mostBytes}
 use Rattle.format.specs.Reading.Advanced.{on, complete, refused}
 use Rattle.format.specs.Reading.DesignRead.{accepted, refusedAt}
 use Rattle.format.specs.Writing.{tableBytes, constraintBytes, fillingBytes, designBytes}
+use Rattle.format.proofs.RowText.{rowText}
 use Rattle.format.proofs.LawfulLaws.{Parts, RowParts, whole, whole-rows}
 use Rattle.format.proofs.Growing.{grow-table, grow-constraint, grow-filling, count-rows, grow-row, no-rows}
 use Rattle.format.proofs.Items.{itemsBytes, design-items, more-table, more-constraint, more-filling, more-row, table-part, constraint-part, filling-part, row-part}
@@ -42,7 +46,8 @@ pub record Sizes (p : Draft) : Type 0 where
   pub table : length (p .design .table) ≡ 8
   pub constraint : length (p .design .constraint) ≡ 16
   pub filling : length (p .design .filling) ≡ 8
-  pub cells : length (p .cells) ≡ 4096
+  pub cells : length (p .cells .numbers) ≡ 4096
+  pub issues : length (p .cells .issues) ≡ 4096
   pub tables : length (p .tables) ≡ 512
 
 -- a draft whose design is lawful and whose arrays have their sizes
@@ -65,7 +70,7 @@ module _ (p : Draft) (r : Fitting p) where
       let z = r .sizes in
       record {
         design = grow-table (p .design) t (z .table) (r .design) (h .room) (h .constraints) (h .fillings) (h .fits);
-        sizes = record { table = length-set (p .design .table) (p .design .tables) t ∙ z .table; constraint = z .constraint; filling = z .filling; cells = z .cells; tables = z .tables };
+        sizes = record { table = length-set (p .design .table) (p .design .tables) t ∙ z .table; constraint = z .constraint; filling = z .filling; cells = z .cells; issues = z .issues; tables = z .tables };
       }
 
   pub fit-constraint : (q : Draft) (c : State-constraint.Constraint) → AddedConstraint p q c → Fitting (redesigned p (withConstraint (p .design) c))
@@ -74,7 +79,7 @@ module _ (p : Draft) (r : Fitting p) where
       let z = r .sizes in
       record {
         design = grow-constraint (p .design) c (z .constraint) (r .design) (h .room) (h .fillings) (h .fits);
-        sizes = record { table = z .table; constraint = length-set (p .design .constraint) (p .design .constraints) c ∙ z .constraint; filling = z .filling; cells = z .cells; tables = z .tables };
+        sizes = record { table = z .table; constraint = length-set (p .design .constraint) (p .design .constraints) c ∙ z .constraint; filling = z .filling; cells = z .cells; issues = z .issues; tables = z .tables };
       }
 
   pub fit-filling : (q : Draft) (f : State-filling.Filling) → AddedFilling p q f → Fitting (redesigned p (withFilling (p .design) f))
@@ -83,7 +88,7 @@ module _ (p : Draft) (r : Fitting p) where
       let z = r .sizes in
       record {
         design = grow-filling (p .design) f (z .filling) (r .design) (h .room) (h .fits);
-        sizes = record { table = z .table; constraint = z .constraint; filling = length-set (p .design .filling) (p .design .fillings) f ∙ z .filling; cells = z .cells; tables = z .tables };
+        sizes = record { table = z .table; constraint = z .constraint; filling = length-set (p .design .filling) (p .design .fillings) f ∙ z .filling; cells = z .cells; issues = z .issues; tables = z .tables };
       }
 
   pub fit-row : (s : List ℕ) (i t : ℕ) → p .design .rows < 512 → Fitting (withRow p s i t)
@@ -93,7 +98,14 @@ module _ (p : Draft) (r : Fitting p) where
       let n = p .design .rows in
       record {
         design = count-rows (p .design) (n + 1) (omega arith) (r .design);
-        sizes = record { table = z .table; constraint = z .constraint; filling = z .filling; cells = length-sets (p .cells) (8 * n) (tab 8 (rowCellAt s i)) ∙ z .cells; tables = length-set (p .tables) n t ∙ z .tables };
+        sizes = record {
+          table = z .table;
+          constraint = z .constraint;
+          filling = z .filling;
+          cells = length-sets (p .cells .numbers) (8 * n) (tab 8 (rowCellAt s i)) ∙ z .cells;
+          issues = length-sets (p .cells .issues) (8 * n) (tab 8 (rowIssueAt s i)) ∙ z .issues;
+          tables = length-set (p .tables) n t ∙ z .tables;
+        };
       }
 
 -- what is written goes on by the part of the script at place i
@@ -125,15 +137,15 @@ module _ (s : List ℕ) (p q : Draft) (i : ℕ) (r : Reached s p i) where
       subst (λ (x : Draft). Reached s x (i + 11)) (h .is)
       (record { fitting = fit-filling p (r .fitting) q f h; rows = no-rows (p .design) (withFilling (p .design) f) (p .cells) (p .tables) (h .rows) (h .rows) (r .rows); bytes = b })
 
-  reach-row : (t : ℕ) → 4 ∷ t ∷ collect 8 (λ _. true) (λ c. u32Bytes (rowCellAt s i c)) ≡ take 34 (drop i s) → AddedRow p (withRow p s i t) q → Reached s q (i + 34)
+  reach-row : (t w : ℕ) → rowText t (rowCellAt s i) (rowIssueAt s i) ≡ take w (drop i s) → AddedRow p (withRow p s i t) q → Reached s q (i + w)
   unfolding withRow withRows schemeOf
-  reach-row t e h =
+  reach-row t w e h =
       let z = r .fitting .sizes in
-      subst (λ (x : Draft). Reached s x (i + 34)) (h .is)
+      subst (λ (x : Draft). Reached s x (i + w)) (h .is)
       (record {
         fitting = fit-row p (r .fitting) s i t (h .room);
-        rows = grow-row (p .design) t (p .cells) (p .tables) (tab 8 (rowCellAt s i)) (length-tab 8 (rowCellAt s i)) (r .rows) (h .fits);
-        bytes = goes-on s _ _ _ i 34 (r .bytes) (more-row p s i t (omega (arith, z .cells, h .room)) (omega (arith, z .tables, h .room))) e;
+        rows = grow-row (p .design) t (p .cells) (p .tables) (tab 8 (rowCellAt s i)) (tab 8 (rowIssueAt s i)) (length-tab 8 (rowCellAt s i)) (length-tab 8 (rowIssueAt s i)) (r .rows) (h .fits);
+        bytes = goes-on s _ _ _ i w (r .bytes) (more-row p s i t (omega (arith, z .cells, h .room)) (omega (arith, z .issues, h .room)) (omega (arith, z .tables, h .room))) e;
       })
 
 module _ (s : List ℕ) (small : (j : ℕ) → byteAt s j < 256) where
@@ -147,7 +159,7 @@ module _ (s : List ℕ) (small : (j : ℕ) → byteAt s j < 256) where
       go (seen-table a w f c) = at 3 w (reach-table s p q i r _ (table-part s i a f) (added-table p q s i _ (ap (advanced p s i) (sym c) ∙ e)))
       go (seen-constraint a w f c) = at 5 w (reach-constraint s p q i r _ (constraint-part s i a f) (added-constraint p q s i _ (ap (advanced p s i) (sym c) ∙ e)))
       go (seen-filling a w f c) = at 11 w (reach-filling s p q i r _ (filling-part s i small a f) (added-filling p q s i _ (ap (advanced p s i) (sym c) ∙ e)))
-      go (seen-row a w f c) = at 34 w (reach-row s p q i r _ (row-part s i small a f) (added-row p q s i _ (ap (advanced p s i) (sym c) ∙ e)))
+      go (seen-row a f c) = let h = added-row p q s i _ (ap (advanced p s i) (sym c) ∙ e) in reach-row s p q i r _ _ (row-part s i small _ a (h .0) f) (h .1)
       go (seen-end a w f c) = absurd (end-on p s i q (ap (advanced p s i) (sym c) ∙ e))
       go (seen-refused n h k) = absurd (not-on n q (sym (h p) ∙ e))
 
@@ -169,25 +181,34 @@ empty-parts =
       filling = λ i h. unused-is i 0 (fillingFits emptyDesign i (fillingAt emptyDesign i)) (zeroFilling (fillingAt emptyDesign i)) (omega arith) ∙ ap zeroFilling (tab-at noFilling 8 (λ _. noFilling) i h);
     }
 
-empty-row : (n r : ℕ) → zeroRow (databaseOf n (tab 4096 (λ _. 0)) (tab 512 (λ _. 0))) r ≡ true
-unfolding zeroRow databaseOf isBlank
+-- cells that are all 0
+abbrev pub noCells : Cells
+noCells = cellsIn (tab 4096 (λ _. 0)) (tab 4096 (λ _. 0))
+
+no-cell : (x : ℕ) → cellOf (cellIn noCells x) ≡ blank
+unfolding blank
+no-cell x = λ i. record { number = no-number 4096 x i; issue = no-number 4096 x i }
+
+empty-row : (n r : ℕ) → zeroRow (databaseOf n noCells (tab 512 (λ _. 0))) r ≡ true
+unfolding zeroRow databaseOf
 empty-row n r =
     both (eq-eqb (getD (tab 512 (λ _. 0)) r 0) 0 (no-number 512 r))
-    (all-true 8 _ (λ c h. ap (λ (b : Bool). isBlank (cond b (numbered (getD (tab 4096 (λ _. 0)) (8 * r + c) 0)) blank)) (lt-ltb c 8 h) ∙ eq-eqb (getD (tab 4096 (λ _. 0)) (8 * r + c) 0) 0 (no-number 4096 (8 * r + c))))
+    (all-true 8 _ (λ c h. ap isBlank (cell-at n noCells (tab 512 (λ _. 0)) r c h ∙ no-cell (8 * r + c)) ∙ blank-is))
 
-pub fit-empty : (cells tables : List ℕ) → length cells ≡ 4096 → length tables ≡ 512 → Fitting (draft emptyDesign cells tables)
+pub fit-empty : (cells : Cells) (tables : List ℕ) → length (cells .numbers) ≡ 4096 → length (cells .issues) ≡ 4096 → length tables ≡ 512
+    → Fitting (draft emptyDesign cells tables)
 unfolding emptyDesign
-fit-empty cells tables a b =
+fit-empty cells tables a c b =
     record {
       design = empty-parts;
-      sizes = record { table = length-tab 8 (λ _. noTable); constraint = length-tab 16 (λ _. noConstraint); filling = length-tab 8 (λ _. noFilling); cells = a; tables = b };
+      sizes = record { table = length-tab 8 (λ _. noTable); constraint = length-tab 16 (λ _. noConstraint); filling = length-tab 8 (λ _. noFilling); cells = a; issues = c; tables = b };
     }
 
 reached-start : (s : List ℕ) → Reached s emptyDraft 0
 unfolding emptyDraft emptyDesign itemsBytes collect
 reached-start s =
     record {
-      fitting = fit-empty (tab 4096 (λ _. 0)) (tab 512 (λ _. 0)) (length-tab 4096 (λ _. 0)) (length-tab 512 (λ _. 0));
+      fitting = fit-empty noCells (tab 512 (λ _. 0)) (length-tab 4096 (λ _. 0)) (length-tab 4096 (λ _. 0)) (length-tab 512 (λ _. 0));
       rows = record { row = λ r h. unused-is r 0 _ _ (omega arith) ∙ empty-row 0 r };
       bytes = refl;
     }

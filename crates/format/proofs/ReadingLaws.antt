@@ -11,7 +11,7 @@ use Rattle.format.specs.Commands.{widthOf, commandAt}
 use Rattle.format.specs.Reading.{Draft, Advanced, advanced, DesignRead, readOn, readFrom}
 use Rattle.format.specs.Reading.Advanced.{on, complete, refused}
 use Rattle.format.specs.Reading.DesignRead.{accepted, refusedAt}
-use Rattle.format.proofs.CommandLaws.{at-end}
+use Rattle.format.proofs.CommandLaws.{row-width, at-end}
 use Rattle.format.proofs.Seen.{Seen, seen-table, seen-constraint, seen-filling, seen-row, seen-end, seen-refused, seen}
 use Rattle.format.proofs.AdvancedLaws.{not-on, not-complete, only-end}
 
@@ -28,7 +28,7 @@ whole-or s i never = go (seen s i)
     go (seen-table a w f c) = record { some = omega arith; fits = omega arith }
     go (seen-constraint a w f c) = record { some = omega arith; fits = omega arith }
     go (seen-filling a w f c) = record { some = omega arith; fits = omega arith }
-    go (seen-row a w f c) = record { some = omega arith; fits = omega arith }
+    go (seen-row a f c) = record { some = omega (arith, row-width a); fits = f }
     go (seen-end a w f c) = record { some = omega arith; fits = omega arith }
     go (seen-refused n h k) = absurd (never n h k)
 
@@ -49,7 +49,7 @@ advanced-complete s i p e = go (only-end p s i (commandAt s i) e) (seen s i)
     go h (seen-table a w f c) = let z : _≡_ {A = ℕ} 0 1 = cc in omega arith
     go h (seen-constraint a w f c) = let z : _≡_ {A = ℕ} 0 1 = cc in omega arith
     go h (seen-filling a w f c) = let z : _≡_ {A = ℕ} 0 1 = cc in omega arith
-    go h (seen-row a w f c) = let z : _≡_ {A = ℕ} 0 1 = cc in omega arith
+    go h (seen-row a f c) = let z : _≡_ {A = ℕ} 0 1 = cc in omega arith
     go h (seen-end a w f c) = record { byte = a; width = w; fits = f }
     go h (seen-refused n g k) = absurd (not-complete n (sym (g p) ∙ e))
 

@@ -20,6 +20,7 @@ use Rattle.model.specs.Scheme.{Scheme}
 use Rattle.model.specs.Database.{Database, has}
 use Rattle.model.proofs.CellLaws.{equal-self}
 use Rattle.model.proofs.DatabaseLaws.{has-Has, Has-has, has-full}
+use Rattle.state.specs.Cells.{Cells}
 use Rattle.state.specs.declared.design.Design.{Design}
 use Rattle.state.specs.Meaning.{schemeOf, databaseOf}
 use Rattle.state.specs.Lawful.{repeatsAt, repeats}
@@ -117,7 +118,7 @@ next-says D q c r a b e = go (dec (has D (columnAt D q c) (D .cell q c) q))
         let f = first-from 512 p (q + 1) (omega arith) in
         (h, ap p (sym z) ∙ f .here (omega arith), (let g = f .start in omega arith))
 
-module _ (d : Design) (cells tables next : List ℕ) (few : d .rows ≤ 512) (e : next ≡ nexts (databaseOf (d .rows) cells tables)) where
+module _ (d : Design) (cells : Cells) (tables next : List ℕ) (few : d .rows ≤ 512) (e : next ≡ nexts (databaseOf (d .rows) cells tables)) where
   abbrev D : Database
   D = databaseOf (d .rows) cells tables
 

@@ -11,12 +11,13 @@ use borrow.Author.Tests.{le-ltb}
 use lib.Dec.{ltb}
 use lib.ListN.{length, take}
 use Rattle.finite.proofs.Bools.{cond-false}
+use Rattle.state.specs.Cells.{Cells}
 use Rattle.state.specs.declared.design.Design.{Design}
 use Rattle.state.specs.Lawful.{lawfulDesign, lawfulRows}
 use Rattle.format.specs.Reading.{Draft, emptyDraft, readFrom, readDesign, mostBytes}
 use Rattle.format.specs.Reading.DesignRead.{accepted, refusedAt}
 use Rattle.format.specs.Writing.{designBytes}
-use Rattle.format.proofs.WritingLaws.{length-design}
+use Rattle.format.proofs.WritingLaws.{length-design, place-most}
 use Rattle.format.proofs.LawfulLaws.{parts, row-parts}
 use Rattle.format.proofs.ReadingLaws.{readAll}
 use Rattle.format.proofs.Reached.{Sizes, reads-lawful}
@@ -24,10 +25,11 @@ use Rattle.format.proofs.Standing.{stands-first}
 use Rattle.format.proofs.Small.{Small, small-design}
 use Rattle.format.proofs.ReadBack.{Numbers, reading}
 
-pub design-short : (d : Design) (cells tables : List ℕ) → lawfulDesign d ≡ true → length (designBytes d cells tables) ≤ 17601
-design-short d cells tables h = let p = parts d h in let e = length-design d cells tables in omega arith
+pub design-short : (d : Design) (cells : Cells) (tables : List ℕ) → lawfulDesign d ≡ true → length (designBytes d cells tables) ≤ 21697
+design-short d cells tables h =
+    let p = parts d h in let e = length-design d cells tables in let k = place-most d cells (d .rows) (p .tables) (p .constraints) (p .fillings) (p .rows) in omega arith
 
-module _ (d : Design) (cells tables : List ℕ) (h : lawfulDesign d ≡ true) (g : lawfulRows d cells tables ≡ true) (z : Sizes (record { design = d; cells = cells; tables = tables })) (n : Numbers d cells) where
+module _ (d : Design) (cells : Cells) (tables : List ℕ) (h : lawfulDesign d ≡ true) (g : lawfulRows d cells tables ≡ true) (z : Sizes (record { design = d; cells = cells; tables = tables })) (n : Numbers d cells) where
   pub read-written : (rest : List ℕ) → length (designBytes d cells tables ++ rest) ≤ 65536
       → readDesign (designBytes d cells tables ++ rest) ≡ accepted (record { design = d; cells = cells; tables = tables }) (length (designBytes d cells tables))
   unfolding readDesign readAll
@@ -38,7 +40,7 @@ module _ (d : Design) (cells tables : List ℕ) (h : lawfulDesign d ≡ true) (g
       cond-false (ltb mostBytes (length s)) (refusedAt 4 0) (readFrom (suc (length s)) s emptyDraft 0) (le-ltb mostBytes (length s) l) ∙
       ap (λ (m : ℕ). readFrom (suc m) s emptyDraft 0) (sym e) ∙
       reading d cells tables (parts d h) (row-parts d cells tables g) z n s (stands-first (designBytes d cells tables) rest) ∙
-      ap (accepted q) (let f = length-design d cells tables in omega arith)
+      ap (accepted q) (sym (length-design d cells tables))
 
   pub read-written-alone : readDesign (designBytes d cells tables) ≡ accepted (record { design = d; cells = cells; tables = tables }) (length (designBytes d cells tables))
   read-written-alone =
@@ -54,9 +56,9 @@ module _ (s : List ℕ) (small : Small s) (p : Draft) (i : ℕ) (e : readDesign 
   accepted-lawful = let a = reads-lawful s (small .at) p i e in (a .design, a .rows, a .sizes)
 
 -- lawful is what some script reads as
-pub lawful-reads : (d : Design) (cells tables : List ℕ) → Sizes (record { design = d; cells = cells; tables = tables }) → Numbers d cells
+pub lawful-reads : (d : Design) (cells : Cells) (tables : List ℕ) → Sizes (record { design = d; cells = cells; tables = tables }) → Numbers d cells
     → ((lawfulDesign d ≡ true) × (lawfulRows d cells tables ≡ true)) ↔ ((s : List ℕ) × (i : ℕ) × Small s × (readDesign s ≡ accepted (record { design = d; cells = cells; tables = tables }) i))
 lawful-reads d cells tables z n = (
-  λ h. (designBytes d cells tables, length (designBytes d cells tables), small-design d cells tables (h .0) (h .1), read-written-alone d cells tables (h .0) (h .1) z n),
+  λ h. (designBytes d cells tables, length (designBytes d cells tables), small-design d cells tables (n .issue) (h .0) (h .1), read-written-alone d cells tables (h .0) (h .1) z n),
   λ h. let a = accepted-lawful (h .0) (h .2) _ (h .1) (h .3) in (a .0, a .1),
 )

@@ -1,7 +1,7 @@
 -- The command at a place, by its byte: a command of the design that is whole, or one that no draft takes. Assumes nothing.
 use Prim.Native.Nat.{ℕ, _+_, _-_, _≤_, _<_}
 use native.Mathlib.Omega.{arith}
-use mathlib.Core.Path.{_≡_, refl, sym, ap, _∙_}
+use mathlib.Core.Path.{_≡_, refl, sym, ap, subst, _∙_}
 use mathlib.Core.Bool.{true, false}
 use mathlib.Core.Logic.{⊎-elim}
 use mathlib.Core.List.{List}
@@ -19,14 +19,14 @@ use Rattle.format.specs.Bytes.{byteAt, u32At}
 use Rattle.format.specs.Commands.{designWidth, widthOf, columnAt, designCommandAt, operationAt, operandsAt, commandAt}
 use Rattle.format.specs.Reading.{Draft, advanced}
 use Rattle.format.specs.Reading.Advanced.{refused}
-use Rattle.format.proofs.CommandLaws.{at-end, at-unknown, at-short, at-whole, width-design, is-end, operands-design, operands-operation, command-table, command-constraint, command-filling, command-row, command-end}
+use Rattle.format.proofs.CommandLaws.{RowByte, plain, issued, at-end, at-unknown, at-short, at-whole, width-design, is-row, operands-design, operands-operation, command-table, command-constraint, command-filling, command-row, command-end}
 
 -- what the command c of width w, at place i, is
 pub data Seen (s : List ℕ) (i : ℕ) (c : Command) (w : ℕ) : Type 0 where
   seen-table : byteAt s i ≡ 1 → w ≡ 3 → i + 3 ≤ length s → c ≡ Table (record { columns = byteAt s (i + 1); unique = byteAt s (i + 2) }) → Seen s i c w
   seen-constraint : byteAt s i ≡ 2 → w ≡ 5 → i + 5 ≤ length s → c ≡ Constraint (record { source = columnAt s (i + 1); target = columnAt s (i + 3) }) → Seen s i c w
   seen-filling : byteAt s i ≡ 3 → w ≡ 11 → i + 11 ≤ length s → c ≡ Filling (record { column = columnAt s (i + 1); low = u32At s (i + 3); high = u32At s (i + 7) }) → Seen s i c w
-  seen-row : byteAt s i ≡ 4 → w ≡ 34 → i + 34 ≤ length s → c ≡ Row (byteAt s (i + 1)) → Seen s i c w
+  seen-row : RowByte (byteAt s i) w → i + w ≤ length s → c ≡ Row (byteAt s (i + 1)) → Seen s i c w
   seen-end : byteAt s i ≡ 5 → w ≡ 1 → i + 1 ≤ length s → c ≡ End → Seen s i c w
   seen-refused : (n : ℕ) → ((p : Draft) → advanced p s i c ≡ refused n) → ((t : ℕ) → c ≡ Row t → ⊥) → Seen s i c w
 
@@ -62,9 +62,10 @@ module _ (s : List ℕ) (i : ℕ) (some : widthOf (byteAt s i) ≡ 0 → ⊥) (e
       ⊎-elim (λ (h : b ≡ 1). seen-table h (w 1 h) (omega (arith, w 1 h)) (sym c ∙ sym (command-table b s i _ refl h)))
       (λ (n₁ : b ≡ 1 → ⊥). ⊎-elim (λ (h : b ≡ 2). seen-constraint h (w 2 h) (omega (arith, w 2 h)) (sym c ∙ sym (command-constraint b s i _ refl h)))
       (λ (n₂ : b ≡ 2 → ⊥). ⊎-elim (λ (h : b ≡ 3). seen-filling h (w 3 h) (omega (arith, w 3 h)) (sym c ∙ sym (command-filling b s i _ refl h)))
-      (λ (n₃ : b ≡ 3 → ⊥). ⊎-elim (λ (h : b ≡ 4). seen-row h (w 4 h) (omega (arith, w 4 h)) (sym c ∙ sym (command-row b s i h)))
-      (λ (n₄ : b ≡ 4 → ⊥). let h = is-end b (λ z. some (width-design b l ∙ z)) n₁ n₂ n₃ n₄ in seen-end h (w 5 h) (omega (arith, w 5 h)) (sym c ∙ sym (command-end b s i h)))
-      (same-number b 4)) (same-number b 3)) (same-number b 2)) (same-number b 1)
+      (λ (n₃ : b ≡ 3 → ⊥). ⊎-elim (λ (h : b ≡ 5). seen-end h (w 5 h) (omega (arith, w 5 h)) (sym c ∙ sym (command-end b s i h)))
+      (λ (n₅ : b ≡ 5 → ⊥). let h = subst (RowByte b) (sym (width-design b l)) (is-row b (λ z. some (width-design b l ∙ z)) n₁ n₂ n₃ n₅) in
+      seen-row h room (sym c ∙ sym (command-row b s i (widthOf b) h)))
+      (same-number b 5)) (same-number b 3)) (same-number b 2)) (same-number b 1)
 
   whole : Seen s i (commandAt s i) (widthOf (byteAt s i))
   unfolding advanced
@@ -87,13 +88,14 @@ seen s i =
     (dec (ltb (length s - i) (widthOf (byteAt s i))))) (same-number (widthOf (byteAt s i)) 0)) (dec (leb (length s) i))
 
 -- a ROW is whole
-pub row-whole : (s : List ℕ) (i t : ℕ) → commandAt s i ≡ Row t → i + 34 ≤ length s
+pub row-whole : (s : List ℕ) (i t : ℕ) → commandAt s i ≡ Row t → (i + 34 ≤ length s) × (byteAt s i ≡ 7 → i + 42 ≤ length s)
 row-whole s i t e = go (seen s i)
   where
-    go : Seen s i (commandAt s i) (widthOf (byteAt s i)) → i + 34 ≤ length s
+    go : Seen s i (commandAt s i) (widthOf (byteAt s i)) → (i + 34 ≤ length s) × (byteAt s i ≡ 7 → i + 42 ≤ length s)
     go (seen-table a w f c) = absurd (let z : _≡_ {A = ℕ} 0 1 = cc in omega arith)
     go (seen-constraint a w f c) = absurd (let z : _≡_ {A = ℕ} 0 1 = cc in omega arith)
     go (seen-filling a w f c) = absurd (let z : _≡_ {A = ℕ} 0 1 = cc in omega arith)
-    go (seen-row a w f c) = f
+    go (seen-row (plain a w) f c) = (omega arith, λ (h : byteAt s i ≡ 7). omega arith)
+    go (seen-row (issued a w) f c) = (omega arith, λ (h : byteAt s i ≡ 7). omega arith)
     go (seen-end a w f c) = absurd (let z : _≡_ {A = ℕ} 0 1 = cc in omega arith)
     go (seen-refused n h g) = absurd (g t e)

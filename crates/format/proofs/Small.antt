@@ -1,16 +1,17 @@
 -- What a lawful design is written as are bytes. Assumes nothing.
-use Prim.Native.Nat.{ℕ, zero, suc, _^_, _≤_, _<_}
+use Prim.Native.Nat.{ℕ, zero, suc, _+_, _*_, _^_, _≤_, _<_}
 use native.Mathlib.Nat.{lt-of-lt-of-le}
 use native.Mathlib.Omega.{arith}
-use mathlib.Core.Path.{_≡_, sym, _∙_}
-use mathlib.Core.Bool.{true, not, _&&_, and-eq-true-iff}
+use mathlib.Core.Path.{_≡_, sym, subst, _∙_}
+use mathlib.Core.Bool.{Bool, true, false, not, cond, _&&_, and-eq-true-iff}
 use mathlib.Core.List.{List, [], _∷_, _++_}
 use borrow.Author.Tests.{ltb-true, leb-true}
 use lib.Dec.{leb, ltb}
 use lib.ListN.{getD}
 use lib.Pow.{pow-mono}
-use Rattle.finite.specs.Finite.{any, collect}
+use Rattle.finite.specs.Finite.{any, tab, collect}
 use Rattle.model.specs.Scheme.{isColumn, sameColumn}
+use Rattle.state.specs.Cells.{Cells}
 use Rattle.state.specs.declared.design.Column.{Column}
 use Rattle.state.specs.declared.design.Design.{Design}
 use Rattle.state.specs.Design.{tableAt, constraintAt, fillingAt}
@@ -18,7 +19,8 @@ use Rattle.state.specs.Meaning.{columnOf, schemeOf, databaseOf}
 use Rattle.state.specs.Lawful.{tableFits, zeroTable, sameConstraint, constraintFits, zeroConstraint, fillingFits, zeroFilling, rowFits, repeats, zeroRow, lawfulDesign, lawfulRows}
 use Rattle.state.proofs.Places.{used-is}
 use Rattle.format.specs.Bytes.{u32Bytes}
-use Rattle.format.specs.Writing.{tableBytes, constraintBytes, fillingBytes, cellsBytes, rowBytes, designBytes}
+use Rattle.format.specs.Writing.{tableBytes, constraintBytes, fillingBytes, rowBytes, designBytes}
+use Rattle.format.proofs.RowText.{anyIssue, numbersText, rowText, row-text}
 use Rattle.format.proofs.LawfulLaws.{Parts, RowParts, parts, row-parts, rowTest}
 
 -- every element is a byte
@@ -44,9 +46,25 @@ unfolding collect
 small-collect zero f h = small-none
 small-collect (suc n) f h = small-append (collect n (λ _. true) f) (f n) (small-collect n f (λ i l. h i (omega arith))) (h n (omega arith))
 
+small-tab : (n : ℕ) (g : ℕ → ℕ) → ((i : ℕ) → g i < 256) → Small (tab n g)
+unfolding tab
+small-tab zero g h = small-none
+small-tab (suc n) g h = small-one (g 0) (tab n (λ i. g (suc i))) (h 0) (small-tab n (λ i. g (suc i)) (λ i. h (suc i)))
+
 small-u32 : (v : ℕ) → Small (u32Bytes v)
 unfolding u32Bytes
 small-u32 v = small-one _ _ (omega arith) (small-one _ _ (omega arith) (small-one _ _ (omega arith) (small-one _ _ (omega arith) small-none)))
+
+small-text : (t : ℕ) (f g : ℕ → ℕ) → t < 256 → ((c : ℕ) → g c < 256) → Small (rowText t f g)
+unfolding rowText
+small-text t f g l h = go (anyIssue g)
+  where
+    numbers : Small (numbersText f)
+    numbers = small-collect 8 _ (λ c k. small-u32 _)
+
+    go : (b : Bool) → Small (cond b (7 ∷ t ∷ (numbersText f ++ tab 8 g)) (4 ∷ t ∷ numbersText f))
+    go true = small-one _ _ (omega arith) (small-one _ _ l (small-append (numbersText f) (tab 8 g) numbers (small-tab 8 g h)))
+    go false = small-one _ _ (omega arith) (small-one _ _ l numbers)
 
 -- ---- the numbers of a lawful design
 
@@ -92,21 +110,23 @@ module _ (d : Design) (p : Parts d) where
       let a = naming (f .column) (and-eq-true-iff (isColumn (schemeOf d) (columnOf (f .column))) rest .0 h .0) in
       small-one _ _ (omega arith) (small-one _ _ (omega arith) (small-one _ _ (omega arith) (small-append (u32Bytes (f .low)) (u32Bytes (f .high)) (small-u32 _) (small-u32 _))))
 
-  small-row : (cells tables : List ℕ) → RowParts d cells tables → (r : ℕ) → r < d .rows → Small (rowBytes cells tables r)
-  unfolding rowBytes cellsBytes rowFits schemeOf databaseOf
-  small-row cells tables q r l =
+  small-row : (cells : Cells) (tables : List ℕ) → ((x : ℕ) → getD (cells .issues) x 0 < 256) → RowParts d cells tables → (r : ℕ) → r < d .rows
+      → Small (rowBytes cells tables r)
+  unfolding rowFits schemeOf databaseOf
+  small-row cells tables small q r l =
       let S = schemeOf d in let D = databaseOf (d .rows) cells tables in
       let t : rowTest S D r ≡ true = sym (used-is r (d .rows) (rowTest S D r) (zeroRow D r) l) ∙ q .row r (let h = p .rows in omega arith) in
       let f : rowFits S D r ≡ true = and-eq-true-iff (rowFits S D r) (not (repeats S D r)) .0 t .0 in
       let a = ltb-true (getD tables r 0) (d .tables) (and-eq-true-iff (ltb (getD tables r 0) (d .tables)) _ .0 f .0) in
       let e = p .tables in
-      small-one _ _ (omega arith) (small-one _ _ (omega arith) (small-collect 8 _ (λ c g. small-u32 _)))
+      subst Small (sym (row-text cells tables r)) (small-text (getD tables r 0) _ _ (omega arith) (λ c. small (8 * r + c)))
 
-pub small-design : (d : Design) (cells tables : List ℕ) → lawfulDesign d ≡ true → lawfulRows d cells tables ≡ true → Small (designBytes d cells tables)
+pub small-design : (d : Design) (cells : Cells) (tables : List ℕ) → ((x : ℕ) → getD (cells .issues) x 0 < 256) → lawfulDesign d ≡ true → lawfulRows d cells tables ≡ true
+    → Small (designBytes d cells tables)
 unfolding designBytes
-small-design d cells tables h g =
+small-design d cells tables small h g =
     let p = parts d h in
     small-append _ _ (small-collect (d .tables) _ (small-table d p))
     (small-append _ _ (small-collect (d .constraints) _ (small-constraint d p))
     (small-append _ _ (small-collect (d .fillings) _ (small-filling d p))
-    (small-append _ _ (small-collect (d .rows) _ (small-row d p cells tables (row-parts d cells tables g))) (small-one 5 [] (omega arith) small-none))))
+    (small-append _ _ (small-collect (d .rows) _ (small-row d p cells tables small (row-parts d cells tables g))) (small-one 5 [] (omega arith) small-none))))

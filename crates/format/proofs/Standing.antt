@@ -2,24 +2,32 @@
 use Prim.Native.Nat.{ℕ, zero, suc, _+_, _*_, _≤_, _<_}
 use native.Mathlib.Omega.{arith}
 use mathlib.Core.Path.{_≡_, refl, sym, ap, ap₂, subst, _∙_}
-use mathlib.Core.Bool.{true}
+use mathlib.Core.Bool.{true, false, not}
 use mathlib.Core.List.{List, [], _∷_, _++_, append-nil, append-assoc}
-use mathlib.Core.Logic.{_⊎_, inl, inr}
+use mathlib.Core.Logic.{_⊎_, inl, inr, ⊎-elim}
+use borrow.Author.Tests.{eqb-true, not-false}
+use lib.Dec.{eqb}
 use lib.ListN.{length, getD, length-append, List·getD-append}
 use lib.Seq.{getD-append-add}
-use Rattle.finite.specs.Finite.{collect}
-use Rattle.finite.proofs.Search.{below-suc}
+use Rattle.finite.specs.Finite.{tab, collect}
+use Rattle.finite.proofs.Bools.{dec}
+use Rattle.finite.proofs.Search.{below-suc, any-same, any-none}
+use Rattle.finite.proofs.Tables.{tab-at, length-tab}
 use Rattle.finite.proofs.Collecting.{length-pieces}
+use Rattle.state.specs.Cells.{Cells}
 use Rattle.state.specs.declared.design.Table as State-table
 use Rattle.state.specs.declared.design.Constraint as State-constraint
 use Rattle.state.specs.declared.design.Filling as State-filling
+use Rattle.state.specs.Meaning.{cellAt}
 use Rattle.format.specs.declared.command.Command.{Command}
 use Rattle.format.specs.declared.command.Command.the-variants.{Table, Constraint, Filling, Row, End}
 use Rattle.format.specs.Bytes.{byteAt, u32At, u32Bytes}
-use Rattle.format.specs.Commands.{designWidth, widthOf, columnAt, designCommandAt, commandAt, rowCellAt}
-use Rattle.format.specs.Writing.{tableBytes, constraintBytes, fillingBytes, cellsBytes, rowBytes}
-use Rattle.format.proofs.CommandLaws.{at-whole, width-design, operands-design, command-table, command-constraint, command-filling, command-row, command-end}
+use Rattle.format.specs.Commands.{designWidth, widthOf, columnAt, designCommandAt, commandAt, rowCellAt, rowIssueAt}
+use Rattle.format.specs.Reading.{needless}
+use Rattle.format.specs.Writing.{tableBytes, constraintBytes, fillingBytes, isIssued, rowBytes}
+use Rattle.format.proofs.CommandLaws.{plain, issued, at-whole, width-design, operands-design, command-table, command-constraint, command-filling, command-row, command-end}
 use Rattle.format.proofs.BytesLaws.{u32-written}
+use Rattle.format.proofs.RowText.{anyIssue, numbersText, rowWidth, text-issued, text-plain, row-text, row-issued, length-numbers, issue-plain, issue-read, needed-plain, needed-issued}
 use Rattle.format.proofs.WritingLaws.{length-u32, length-filling, length-row}
 
 -- the bytes x stand in s from place i on
@@ -73,10 +81,13 @@ piece f (suc n) k l = go (below-suc l) (piece f n k)
               ap (λ (l : List ℕ). collect k (λ _. true) f ++ l) (append-assoc (f k) (h .0) (f n)),
         )
 
+pub piece-at : (s : List ℕ) (i : ℕ) (f : ℕ → List ℕ) (n : ℕ) → Stands s i (collect n (λ _. true) f) → (k : ℕ) → k < n → (m : ℕ) → length (collect k (λ _. true) f) ≡ m
+    → Stands s (i + m) (f k)
+piece-at s i f n h k l m e = let x = piece f n k l in stands-part s _ (collect k (λ _. true) f) (f k) (x .0) i (i + m) h (x .1) (ap (λ (j : ℕ). i + j) (sym e))
+
+-- of one length
 pub stands-piece : (s : List ℕ) (i w : ℕ) (f : ℕ → List ℕ) → ((j : ℕ) → length (f j) ≡ w) → (n : ℕ) → Stands s i (collect n (λ _. true) f) → (k : ℕ) → k < n → Stands s (i + w * k) (f k)
-stands-piece s i w f even n h k l =
-    let x = piece f n k l in
-    stands-part s _ (collect k (λ _. true) f) (f k) (x .0) i (i + w * k) h (x .1) (ap (λ (m : ℕ). i + m) (sym (length-pieces w f even k)))
+stands-piece s i w f even n h k l = piece-at s i f n h k l (w * k) (length-pieces w f even k)
 
 -- ---- the commands that are read
 
@@ -140,23 +151,80 @@ module _ (s : List ℕ) (i : ℕ) where
       let b : byteAt s i ≡ 5 = stands-here s _ i h (omega arith) in
       reads-whole s i 5 1 End b (omega arith) refl (omega arith) (stands-long s _ i h) (command-end (byteAt s i) s i b)
 
--- a ROW: its table, its cells
-module _ (s : List ℕ) (i : ℕ) (cells tables : List ℕ) (r : ℕ) (h : Stands s i (rowBytes cells tables r)) where
+-- a ROW: its table, its cells' numbers and issues
+module _ (s : List ℕ) (i : ℕ) (cells : Cells) (tables : List ℕ) (r : ℕ) (h : Stands s i (rowBytes cells tables r)) where
+  abbrev table : ℕ
+  table = getD tables r 0
+
+  abbrev number : ℕ → ℕ
+  number c = cellAt cells r c .number
+
+  abbrev issue : ℕ → ℕ
+  issue c = cellAt cells r c .issue
+
+  whole-plain : anyIssue issue ≡ false → Stands s i (4 ∷ table ∷ numbersText number)
+  whole-plain e = subst (Stands s i) (row-text cells tables r ∙ text-plain table number issue e) h
+
+  whole-issued : anyIssue issue ≡ true → Stands s i (7 ∷ table ∷ (numbersText number ++ tab 8 issue))
+  whole-issued e = subst (Stands s i) (row-text cells tables r ∙ text-issued table number issue e) h
+
+  -- its byte, its table and its numbers
+  front : (b : ℕ) × Stands s i (b ∷ table ∷ numbersText number)
+  front =
+      ⊎-elim (λ (e : anyIssue issue ≡ true). (7, stands-part s _ [] (7 ∷ table ∷ numbersText number) (tab 8 issue) i i (whole-issued e) refl (omega arith)))
+      (λ (e : anyIssue issue ≡ false). (4, whole-plain e)) (dec (anyIssue issue))
+
+  byte-plain : anyIssue issue ≡ false → byteAt s i ≡ 4
+  byte-plain e = stands-here s _ i (whole-plain e) (omega arith)
+
+  byte-issued : anyIssue issue ≡ true → byteAt s i ≡ 7
+  byte-issued e = stands-here s _ i (whole-issued e) (omega arith)
+
   pub row-table : byteAt s (i + 1) ≡ getD tables r 0
-  unfolding rowBytes
-  row-table = stands-at s _ i h 1 (omega arith)
+  row-table = stands-at s _ i (front .1) 1 (omega arith)
 
-  pub row-cells : ((j : ℕ) → getD cells j 0 < 4294967296) → (c : ℕ) → c < 8 → rowCellAt s i c ≡ getD cells (8 * r + c) 0
-  unfolding rowBytes cellsBytes rowCellAt
+  pub row-cells : ((j : ℕ) → getD (cells .numbers) j 0 < 4294967296) → (c : ℕ) → c < 8 → rowCellAt s i c ≡ getD (cells .numbers) (8 * r + c) 0
+  unfolding rowCellAt
   row-cells small c l =
-      let f : ℕ → List ℕ = λ j. u32Bytes (getD cells (8 * r + j) 0) in
-      let head : List ℕ = 4 ∷ getD tables r 0 ∷ [] in
-      u32-stands s (i + 2 + 4 * c) (getD cells (8 * r + c) 0) (small _)
+      let f : ℕ → List ℕ = λ j. u32Bytes (number j) in
+      let head : List ℕ = front .0 ∷ table ∷ [] in
+      u32-stands s (i + 2 + 4 * c) (number c) (small _)
       (stands-piece s (i + 2) 4 f (λ j. length-u32 _) 8
-      (stands-part s _ head (collect 8 (λ _. true) f) [] i (i + 2) h (ap (λ (m : List ℕ). head ++ m) (sym (append-nil (collect 8 (λ _. true) f)))) refl) c l)
+      (stands-part s _ head (collect 8 (λ _. true) f) [] i (i + 2) (front .1) (ap (λ (m : List ℕ). head ++ m) (sym (append-nil (collect 8 (λ _. true) f)))) refl) c l)
 
-  pub reads-row : Reads s i 34 (Row (byteAt s (i + 1)))
-  unfolding designWidth rowBytes
-  reads-row =
-      let b : byteAt s i ≡ 4 = stands-here s _ i h (omega arith) in
-      reads-whole s i 4 34 (Row (byteAt s (i + 1))) b (omega arith) refl (omega arith) (let e = length-row cells tables r in let g = stands-long s _ i h in omega arith) (command-row (byteAt s i) s i b)
+  pub row-issues : (c : ℕ) → c < 8 → rowIssueAt s i c ≡ getD (cells .issues) (8 * r + c) 0
+  row-issues c l = ⊎-elim some none (dec (anyIssue issue))
+    where
+      some : anyIssue issue ≡ true → rowIssueAt s i c ≡ issue c
+      some e =
+          let head : List ℕ = 7 ∷ table ∷ numbersText number in
+          let x = stands-part s _ head (tab 8 issue) [] i (i + 34) (whole-issued e) (ap (λ (m : List ℕ). head ++ m) (sym (append-nil (tab 8 issue))))
+          (let k = length-numbers number in omega arith) in
+          issue-read s i (byte-issued e) c ∙ stands-at s _ (i + 34) x c (let k = length-tab 8 issue in omega arith) ∙ tab-at 0 8 issue c l
+
+      none : anyIssue issue ≡ false → rowIssueAt s i c ≡ issue c
+      none e =
+          issue-plain s i (λ (z : byteAt s i ≡ 7). omega (arith, byte-plain e)) c ∙
+          sym (eqb-true (issue c) 0 (not-false (eqb (issue c) 0) (any-none 8 (λ j. not (eqb (issue j) 0)) e c l)))
+
+  pub row-needed : needless s i ≡ false
+  row-needed =
+      ⊎-elim (λ (e : anyIssue issue ≡ true). needed-issued s i (any-same 8 _ _ (λ c l. ap (λ (x : ℕ). not (eqb x 0)) (row-issues c l)) ∙ e))
+      (λ (e : anyIssue issue ≡ false). needed-plain s i (λ (z : byteAt s i ≡ 7). omega (arith, byte-plain e))) (dec (anyIssue issue))
+
+  pub reads-row : Reads s i (rowWidth (isIssued cells r)) (Row (byteAt s (i + 1)))
+  unfolding designWidth
+  reads-row = ⊎-elim some none (dec (anyIssue issue))
+    where
+      long : i + rowWidth (isIssued cells r) ≤ length s
+      long = let e = length-row cells tables r in let g = stands-long s _ i h in omega arith
+
+      some : anyIssue issue ≡ true → Reads s i (rowWidth (isIssued cells r)) (Row (byteAt s (i + 1)))
+      some e =
+          let w : 42 ≡ rowWidth (isIssued cells r) = ap rowWidth (sym (row-issued cells r ∙ e)) in
+          reads-whole s i 7 _ _ (byte-issued e) (omega arith) w (omega arith) long (command-row (byteAt s i) s i 42 (issued (byte-issued e) refl))
+
+      none : anyIssue issue ≡ false → Reads s i (rowWidth (isIssued cells r)) (Row (byteAt s (i + 1)))
+      none e =
+          let w : 34 ≡ rowWidth (isIssued cells r) = ap rowWidth (sym (row-issued cells r ∙ e)) in
+          reads-whole s i 4 _ _ (byte-plain e) (omega arith) w (omega arith) long (command-row (byteAt s i) s i 34 (plain (byte-plain e) refl))

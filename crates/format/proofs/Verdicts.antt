@@ -1,9 +1,10 @@
 -- What is answered where the first pass has stopped: its verdict, or cause 6; and the catalog. Assumes nothing.
-use Prim.Native.Nat.{ℕ, _-_, _*_, _≤_, _<_}
+use Prim.Native.Nat.{ℕ, _*_, _≤_, _<_}
 use native.Mathlib.Omega.{arith}
 use mathlib.Core.Path.{_≡_, sym, ap, ap₂, subst, _∙_}
 use mathlib.Core.List.{List, _++_}
 use lib.ListN.{length}
+use Rattle.state.specs.Cells.{Cells, cellsIn}
 use Rattle.state.specs.declared.design.Design.{Design}
 use Rattle.state.specs.Design.{emptyDesign}
 use Rattle.catalog.specs.Catalog.{Catalogued}
@@ -13,7 +14,8 @@ use Rattle.format.specs.declared.verdict.Verdict.the-variants.{Accepted,
 use Rattle.format.specs.declared.reading.Stop.{Stop}
 use Rattle.format.specs.Reading.{Draft, draft, DesignRead, Read, verdictOf, designOf}
 use Rattle.format.specs.Reading.DesignRead.{accepted, refusedAt}
-use Rattle.format.specs.Admitting.{again, Earliest, readAs, rowPlace, Stopped, uniqueNext, lowest, Opens, Keeps}
+use Rattle.format.specs.Admitting.{again, Earliest, readAs, Stopped, uniqueNext, lowest, Opens, Keeps}
+use Rattle.format.specs.Writing.{rowPlace}
 use Rattle.format.proofs.CatalogOf.{catalogued-copied}
 use Rattle.format.proofs.RepeatLaws.{found-none, found-first}
 
@@ -23,7 +25,7 @@ use Rattle.format.proofs.RepeatLaws.{found-none, found-first}
 not-both : (n i j : ℕ) → Refused n i ≡ Accepted j → ⊥
 not-both n i j e = let z : _≡_ {A = ℕ} 0 1 = cc in omega arith
 
-pub opens-refused : (x : DesignReading) (n i : ℕ) → x .verdict ≡ Refused n i → (cells tables next first keys heads starts : List ℕ)
+pub opens-refused : (x : DesignReading) (n i : ℕ) → x .verdict ≡ Refused n i → (cells : Cells) (tables next first keys heads starts : List ℕ)
     → Opens x cells tables next first keys heads starts
 opens-refused x n i e cells tables next first keys heads starts j f = absurd (not-both n i j (sym e ∙ f))
 
@@ -38,15 +40,19 @@ keeps-accepted x j e n n′ f f′ k k′ h h′ s s′ =
     }
 
 -- what is copied out is catalogued
-pub opens-copied : (x : DesignReading) (cells tables next first keys heads starts : List ℕ) → Opens x cells tables next first keys heads starts
-    → length cells ≡ 4096 → length tables ≡ 512 → (cs ts more rest : List ℕ) → cs ≡ cells ++ more → ts ≡ tables ++ rest
-    → Opens x cs ts next first keys heads starts
-opens-copied x cells tables next first keys heads starts o a b cs ts more rest e f i v =
-    subst (λ (ys : List ℕ). Catalogued (x .design) cs ys next first keys heads starts) (sym f)
-    (subst (λ (xs : List ℕ). Catalogued (x .design) xs (tables ++ rest) next first keys heads starts) (sym e)
-    (catalogued-copied (x .design) cells tables more rest next first keys heads starts a b (o i v)))
+pub opens-copied : (x : DesignReading) (cells : Cells) (tables next first keys heads starts : List ℕ) → Opens x cells tables next first keys heads starts
+    → length (cells .numbers) ≡ 4096 → length (cells .issues) ≡ 4096 → length tables ≡ 512 → (cs is ts more others rest : List ℕ)
+    → cs ≡ cells .numbers ++ more → is ≡ cells .issues ++ others → ts ≡ tables ++ rest → Opens x (cellsIn cs is) ts next first keys heads starts
+opens-copied x cells tables next first keys heads starts o a c b cs is ts more others rest e g f i v =
+    subst (λ (ys : List ℕ). Catalogued (x .design) (cellsIn cs is) ys next first keys heads starts) (sym f)
+    (subst (λ (xs : Cells). Catalogued (x .design) xs (tables ++ rest) next first keys heads starts) (sym (ap₂ cellsIn e g))
+    (catalogued-copied (x .design) cells tables more others rest next first keys heads starts a c b (o i v)))
 
-pub read-refused : (w : DesignRead) (x : DesignReading) (cells tables : List ℕ) (n i : ℕ) → w ≡ refusedAt n i
+-- a refusal with the place where row r's command begins
+pub refusal-at : (x : DesignReading) (i j : ℕ) → x ≡ record { verdict = Refused 6 i; design = emptyDesign } → i ≡ j → x ≡ record { verdict = Refused 6 j; design = emptyDesign }
+refusal-at x i j e f = e ∙ ap (λ (k : ℕ). let z : DesignReading = record { verdict = Refused 6 k; design = emptyDesign } in z) f
+
+pub read-refused : (w : DesignRead) (x : DesignReading) (cells : Cells) (tables : List ℕ) (n i : ℕ) → w ≡ refusedAt n i
     → x ≡ record { verdict = Refused n i; design = emptyDesign } → Read w x cells tables
 read-refused w x cells tables n i h g =
     record {
@@ -58,7 +64,7 @@ read-refused w x cells tables n i h g =
     never : (m k : ℕ) (q : Draft) (j : ℕ) → refusedAt m k ≡ accepted q j → ⊥
     never m k q j e = let z : _≡_ {A = ℕ} 0 1 = cc in omega arith
 
-pub read-accepted : (w : DesignRead) (v : Verdict) (d : Design) (cells tables : List ℕ) (j : ℕ) → v ≡ Accepted j → w ≡ accepted (draft d cells tables) j
+pub read-accepted : (w : DesignRead) (v : Verdict) (d : Design) (cells : Cells) (tables : List ℕ) (j : ℕ) → v ≡ Accepted j → w ≡ accepted (draft d cells tables) j
     → Read w (record { verdict = v; design = d }) cells tables
 read-accepted w v d cells tables j g e =
     record {
@@ -72,20 +78,17 @@ read-accepted w v d cells tables j g e =
 
 -- ---- the first pass has stopped, the rows read are catalogued, and the lowest next row in a unique column is r
 
-module _ (w : DesignRead) (p : Stop) (cells tables next first keys heads starts : List ℕ) (h : Stopped w p cells tables)
+module _ (w : DesignRead) (p : Stop) (cells : Cells) (tables next first keys heads starts : List ℕ) (h : Stopped w p cells tables)
     (k : Catalogued (p .design) cells tables next first keys heads starts) (r : ℕ)
     (f : r ≡ lowest (8 * p .design .rows) (uniqueNext (p .design) tables next)) where
   earliest : r < p .design .rows → Earliest (p .design .rows) (again (p .design) cells tables) r
   earliest l = found-first (p .design) cells tables next (h .range .rows) (k .next-is) r f l
 
-  pub repeat-place : r < p .design .rows → 34 * (p .design .rows - r) ≤ p .at
-  repeat-place l = h .twice r (earliest l) .0
-
   -- row r repeats a value
-  pub rows-twice : r < p .design .rows → (x : DesignReading) → x ≡ record { verdict = Refused 6 (rowPlace (p .at) (p .design .rows) r); design = emptyDesign }
+  pub rows-twice : r < p .design .rows → (x : DesignReading) → x ≡ record { verdict = Refused 6 (rowPlace (p .design) cells r); design = emptyDesign }
       → Read w x cells tables × Opens x cells tables next first keys heads starts
   rows-twice l x e = (
-    read-refused w x cells tables 6 _ (h .twice r (earliest l) .1) e,
+    read-refused w x cells tables 6 _ (h .twice r (earliest l)) e,
     opens-refused x 6 _ (ap (λ y. y .verdict) e) cells tables next first keys heads starts,
   )
 

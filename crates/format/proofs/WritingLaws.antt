@@ -4,26 +4,31 @@ use native.Mathlib.Numerals.{add-one, add-two}
 use native.Mathlib.Omega.{arith}
 use mathlib.Core.Path.{_≡_, refl, sym, ap, _∙_}
 use mathlib.Core.Logic.{⊎-elim}
-use mathlib.Core.Bool.{true}
+use mathlib.Core.Bool.{Bool, true, false}
 use mathlib.Core.List.{List, [], _∷_, _++_}
 use borrow.Author.Tests.{ne-eqb}
 use lib.ListN.{length, getD, set, length-append}
 use lib.Seq.{sets}
-use Rattle.finite.specs.Finite.{collect}
+use Rattle.finite.specs.Finite.{count, collect}
 use Rattle.finite.proofs.Search.{below-suc}
+use Rattle.finite.proofs.Bools.{cond-true, cond-false}
+use Rattle.finite.proofs.Counting.{count-le, count-start, count-suc}
 use Rattle.finite.proofs.Collecting.{length-pieces}
 use Rattle.finite.specs.Writing.{Wrote}
 use Rattle.finite.proofs.Writing.{wrote-as, wrote-long}
 use Rattle.finite.proofs.Stores.{sets-then, stored-three, stored-five}
+use Rattle.state.specs.Cells.{Cells}
 use Rattle.state.specs.declared.cell.Cell.{Cell}
 use Rattle.state.specs.declared.design.Table.{Table}
 use Rattle.state.specs.declared.design.Constraint.{Constraint}
 use Rattle.state.specs.declared.design.Filling.{Filling}
 use Rattle.state.specs.declared.design.Design.{Design}
 use Rattle.state.specs.Design.{InRange, tableAt, constraintAt, fillingAt}
+use Rattle.state.specs.Meaning.{cellAt}
 use Rattle.format.specs.Bytes.{u32Bytes}
 use Rattle.format.specs.Kinds.{countOf}
-use Rattle.format.specs.Writing.{tableBytes, constraintBytes, fillingBytes, valueBytes, cellsBytes, rowBytes, designBytes, itemBytes, kindBytes}
+use Rattle.format.specs.Writing.{tableBytes, constraintBytes, fillingBytes, numberBytes, cellsBytes, issuesBytes, isIssued, rowBytes, designBytes, itemBytes, kindBytes, rowPlace}
+use Rattle.format.proofs.RowText.{rowWidth, length-numbers, row-text, row-issued, length-text}
 
 pub length-u32 : (v : ℕ) → length (u32Bytes v) ≡ 4
 unfolding u32Bytes
@@ -41,16 +46,24 @@ pub length-filling : (f : Filling) → length (fillingBytes f) ≡ 11
 unfolding fillingBytes u32Bytes
 length-filling f = refl
 
-pub length-cells : (cells : List ℕ) (r : ℕ) → length (cellsBytes cells r) ≡ 32
+pub length-cells : (cells : Cells) (r : ℕ) → length (cellsBytes cells r) ≡ 32
 unfolding cellsBytes
-length-cells cells r = length-pieces 4 _ (λ c. length-u32 _) 8
+length-cells cells r = length-numbers (λ c. cellAt cells r c .number)
 
-pub length-row : (cells tables : List ℕ) (r : ℕ) → length (rowBytes cells tables r) ≡ 34
-unfolding rowBytes
-length-row cells tables r = let h = length-cells cells r in omega arith
+pub length-row : (cells : Cells) (tables : List ℕ) (r : ℕ) → length (rowBytes cells tables r) ≡ rowWidth (isIssued cells r)
+length-row cells tables r = ap length (row-text cells tables r) ∙ length-text _ _ _ ∙ ap rowWidth (sym (row-issued cells r))
 
-pub length-design : (d : Design) (cells tables : List ℕ) → length (designBytes d cells tables) ≡ 3 * d .tables + 5 * d .constraints + 11 * d .fillings + 34 * d .rows + 1
-unfolding designBytes
+pub length-rows : (cells : Cells) (tables : List ℕ) (n : ℕ) → length (collect n (λ _. true) (rowBytes cells tables)) ≡ 34 * n + 8 * count n (isIssued cells)
+unfolding collect count
+length-rows cells tables zero = omega arith
+length-rows cells tables (suc n) =
+    let h = length-rows cells tables n in
+    let k = length-append (collect n (λ _. true) (rowBytes cells tables)) (rowBytes cells tables n) in
+    let e = length-row cells tables n in
+    omega arith
+
+pub length-design : (d : Design) (cells : Cells) (tables : List ℕ) → length (designBytes d cells tables) ≡ rowPlace d cells (d .rows) + 1
+unfolding designBytes rowPlace
 length-design d cells tables =
     let ts = collect (d .tables) (λ _. true) (λ i. tableBytes (tableAt d i)) in
     let cs = collect (d .constraints) (λ _. true) (λ i. constraintBytes (constraintAt d i)) in
@@ -65,16 +78,41 @@ length-design d cells tables =
       length-pieces 3 (λ i. tableBytes (tableAt d i)) (λ i. length-table _) (d .tables),
       length-pieces 5 (λ i. constraintBytes (constraintAt d i)) (λ i. length-constraint _) (d .constraints),
       length-pieces 11 (λ i. fillingBytes (fillingAt d i)) (λ i. length-filling _) (d .fillings),
-      length-pieces 34 (rowBytes cells tables) (length-row cells tables) (d .rows),
+      length-rows cells tables (d .rows),
     )
 
-pub length-most : (d : Design) (cells tables : List ℕ) → InRange d → length (designBytes d cells tables) ≤ 17601
-length-most d cells tables h = omega (arith, length-design d cells tables, h .tables, h .constraints, h .fillings, h .rows)
+-- m of the first r rows are issued
+pub place-of : (d : Design) (cells : Cells) (r m : ℕ) → m ≡ count r (isIssued cells)
+    → 3 * d .tables + 5 * d .constraints + 11 * d .fillings + 34 * r + 8 * m ≡ rowPlace d cells r
+unfolding rowPlace
+place-of d cells r m e = ap (λ (k : ℕ). 3 * d .tables + 5 * d .constraints + 11 * d .fillings + 34 * r + 8 * k) e
+
+-- before the first row there are tables, constraints and fillings alone; behind a row's command the next begins
+pub place-first : (d : Design) (cells : Cells) → 3 * d .tables + 5 * d .constraints + 11 * d .fillings ≡ rowPlace d cells 0
+unfolding rowPlace
+place-first d cells = let k = count-start (isIssued cells) in omega arith
+
+pub place-more : (d : Design) (cells : Cells) (r i w : ℕ) → i ≡ rowPlace d cells r → w ≡ rowWidth (isIssued cells r) → i + w ≡ rowPlace d cells (r + 1)
+unfolding rowPlace
+place-more d cells r i w e f = let k = count-suc r (isIssued cells) in omega arith
+
+-- where a row's command begins, at the most
+pub place-most : (d : Design) (cells : Cells) (r : ℕ) → d .tables ≤ 8 → d .constraints ≤ 16 → d .fillings ≤ 8 → r ≤ 512 → rowPlace d cells r ≤ 21696
+unfolding rowPlace
+place-most d cells r a b c l = omega (arith, count-le r (isIssued cells))
+
+-- n rows of which m are issued, where the code says so
+pub issued-most : (m n : ℕ) (p : ℕ → Bool) → m ≡ count n p → m ≤ n
+issued-most m n p e = let k = count-le n p in omega arith
+
+pub length-most : (d : Design) (cells : Cells) (tables : List ℕ) → InRange d → length (designBytes d cells tables) ≤ 21697
+length-most d cells tables h =
+    let e = length-design d cells tables in let k = place-most d cells (d .rows) (h .tables) (h .constraints) (h .fillings) (h .rows) in omega arith
 
 -- ---- a value and each command, as they are stored
 
-pub stored-value : (l l′ : List ℕ) (i : ℕ) (v w : Cell) → l′ ≡ sets l i (valueBytes v) → v ≡ w → l′ ≡ sets l i (valueBytes w)
-stored-value l l′ i v w h e = h ∙ ap (λ (x : Cell). sets l i (valueBytes x)) e
+pub stored-value : (l l′ : List ℕ) (i : ℕ) (v w : Cell) → l′ ≡ sets l i (numberBytes v) → v ≡ w → l′ ≡ sets l i (numberBytes w)
+stored-value l l′ i v w h e = h ∙ ap (λ (x : Cell). sets l i (numberBytes x)) e
 
 pub wrote-table : (l : List ℕ) (i : ℕ) (t : Table) → Wrote l (set (set (set l i 1) (i + 1) (t .columns)) (i + 2) (t .unique)) i (i + 3) (tableBytes t)
 unfolding tableBytes
@@ -100,14 +138,43 @@ wrote-filling l xs ys i f p q =
           sets-then (head ++ u32Bytes (f .low)) (u32Bytes (f .high)) l i (i + 7) (let h = length-u32 (f .low) in omega arith);
     }
 
-pub wrote-row : (l xs cells tables : List ℕ) (i r : ℕ) → xs ≡ sets (set (set l i 4) (i + 1) (getD tables r 0)) (i + 2) (cellsBytes cells r)
-    → Wrote l xs i (i + 34) (rowBytes cells tables r)
-unfolding rowBytes
-wrote-row l xs cells tables i r p = record { next = ap (λ (n : ℕ). i + n) (sym (length-row cells tables r)); text = p ∙ rw (add-one i, add-two i) }
+-- room for a row's command
+module _ (cells : Cells) (tables : List ℕ) (r j n : ℕ) (h : j + length (rowBytes cells tables r) ≤ n) where
+  pub room-plain : isIssued cells r ≡ false → j + 34 ≤ n
+  room-plain e = let k = length-row cells tables r ∙ ap rowWidth e in omega arith
+
+  pub room-issued : isIssued cells r ≡ true → j + 42 ≤ n
+  room-issued e = let k = length-row cells tables r ∙ ap rowWidth e in omega arith
+
+-- the front of a row's command: its byte, its table, its numbers
+pub stored-front : (l xs : List ℕ) (i b t : ℕ) (cells : Cells) (r : ℕ) → xs ≡ sets (set (set l i b) (i + 1) t) (i + 2) (cellsBytes cells r)
+    → xs ≡ sets l i (b ∷ t ∷ cellsBytes cells r)
+stored-front l xs i b t cells r p = p ∙ rw (add-one i, add-two i)
+
+module _ (l : List ℕ) (cells : Cells) (tables : List ℕ) (i r : ℕ) where
+  pub wrote-plain : (xs : List ℕ) → isIssued cells r ≡ false → xs ≡ sets l i (4 ∷ getD tables r 0 ∷ cellsBytes cells r) → Wrote l xs i (i + 34) (rowBytes cells tables r)
+  unfolding rowBytes
+  wrote-plain xs e p =
+      let k = length-row cells tables r ∙ ap rowWidth e in
+      record { next = omega arith; text = p ∙ ap (sets l i) (sym (cond-false (isIssued cells r) _ _ e)) }
+
+  pub wrote-issued : (xs ys : List ℕ) → isIssued cells r ≡ true → xs ≡ sets l i (7 ∷ getD tables r 0 ∷ cellsBytes cells r) → ys ≡ sets xs (i + 34) (issuesBytes cells r)
+      → Wrote l ys i (i + 42) (rowBytes cells tables r)
+  unfolding rowBytes
+  wrote-issued xs ys e p q =
+      let head : List ℕ = 7 ∷ getD tables r 0 ∷ cellsBytes cells r in
+      let k = length-row cells tables r ∙ ap rowWidth e in
+      record {
+        next = omega arith;
+        text =
+            q ∙ ap (λ (m : List ℕ). sets m (i + 34) (issuesBytes cells r)) p ∙
+            sets-then head (issuesBytes cells r) l i (i + 34) (let h = length-cells cells r in omega arith) ∙
+            ap (sets l i) (sym (cond-true (isIssued cells r) _ _ e));
+      }
 
 -- ---- a command of kind b
 
-module _ (d : Design) (cells tables : List ℕ) (b i : ℕ) where
+module _ (d : Design) (cells : Cells) (tables : List ℕ) (b i : ℕ) where
   pub table-is : b ≡ 1 → tableBytes (tableAt d i) ≡ itemBytes d cells tables b i
   unfolding itemBytes
   table-is e = ap (λ (k : ℕ). itemBytes d cells tables k i) (sym e)
@@ -166,7 +233,7 @@ module _ (o : List ℕ) (j : ℕ) (w : List ℕ) (ws : List (List ℕ)) (h : Roo
 
 -- ---- the whole design
 
-module _ (d : Design) (cells tables : List ℕ) where
+module _ (d : Design) (cells : Cells) (tables : List ℕ) where
   abbrev kind : ℕ → List ℕ
   kind = kindBytes d cells tables
 

@@ -1,14 +1,15 @@
 -- How the code reads a design: a first pass leaves cause 6 aside, so that each command is looked at once; the catalog of the rows read then tells
 -- the first row that repeats a value. Assumes nothing.
-use Prim.Native.Nat.{ℕ, zero, suc, _-_, _*_, _/_, _%_, _≤_, _<_}
+use Prim.Native.Nat.{ℕ, zero, suc, _*_, _/_, _%_, _<_}
 use mathlib.Core.Path.{_≡_}
 use mathlib.Core.Bool.{Bool, true, false, not, cond}
 use mathlib.Core.List.{List}
 use lib.Dec.{leb, ltb}
 use lib.ListN.{getD}
+use Rattle.state.specs.Cells.{Cells}
 use Rattle.state.specs.declared.design.Design.{Design}
 use Rattle.state.specs.Design.{InRange}
-use Rattle.state.specs.Meaning.{schemeOf, databaseOf}
+use Rattle.state.specs.Meaning.{cellIn, schemeOf, databaseOf}
 use Rattle.state.specs.Lawful.{rowFits, repeats}
 use Rattle.catalog.specs.Catalog.{Catalogued}
 use Rattle.format.specs.declared.command.Command.{Command}
@@ -20,9 +21,10 @@ use Rattle.format.specs.declared.reading.Outcome.{Outcome}
 use Rattle.format.specs.declared.reading.Outcome.the-variants.{On, Complete, Cause}
 use Rattle.format.specs.declared.reading.Advance.{Advance}
 use Rattle.format.specs.declared.reading.Stop.{Stop}
-use Rattle.format.specs.Reading.{Draft, draft, Advanced, refusedIf, advanced, withRow, DesignRead}
+use Rattle.format.specs.Reading.{Draft, draft, Advanced, refusedIf, needless, advanced, withRow, DesignRead}
 use Rattle.format.specs.Reading.Advanced.{on, complete, refused}
 use Rattle.format.specs.Reading.DesignRead.{accepted, refusedAt}
+use Rattle.format.specs.Writing.{rowPlace}
 
 -- ---- one command
 
@@ -31,8 +33,9 @@ unfoldable pub admitted : Draft → List ℕ → ℕ → Command → Advanced
 admitted p s i (Row t) =
     let q = withRow p s i t in
     refusedIf (leb 512 (p .design .rows)) 4
+    (refusedIf (needless s i) 5
     (refusedIf (not (rowFits (schemeOf (q .design)) (databaseOf (q .design .rows) (q .cells) (q .tables)) (p .design .rows))) 5
-    (on q))
+    (on q)))
 admitted p s i (Table t) = advanced p s i (Table t)
 admitted p s i (Constraint c) = advanced p s i (Constraint c)
 admitted p s i (Filling f) = advanced p s i (Filling f)
@@ -41,7 +44,7 @@ admitted p s i (Operate o) = advanced p s i (Operate o)
 admitted p s i Unknown = advanced p s i Unknown
 admitted p s i Short = advanced p s i Short
 
--- what the code answers for a command, and the draft that it leaves: the design beside the answer (an enum holds no array), and the two arrays
+-- what the code answers for a command, and the draft that it leaves: the design beside the answer (an enum holds no array), and the arrays
 abbrev pub outcomeOf : Advanced → Outcome
 outcomeOf (on p) = On
 outcomeOf complete = Complete
@@ -53,12 +56,12 @@ causeOf On = 0
 causeOf Complete = 0
 
 -- the first n rows are as they were
-pub record Kept (n : ℕ) (cells tables cells′ tables′ : List ℕ) : Type 0 where
-  pub cell : (x : ℕ) → x < 8 * n → getD cells′ x 0 ≡ getD cells x 0
+pub record Kept (n : ℕ) (cells : Cells) (tables : List ℕ) (cells′ : Cells) (tables′ : List ℕ) : Type 0 where
+  pub cell : (x : ℕ) → x < 8 * n → cellIn cells′ x ≡ cellIn cells x
   pub table : (r : ℕ) → r < n → getD tables′ r 0 ≡ getD tables r 0
 
 -- the command c at place i, read into the draft p: the code has answered r and left the arrays
-pub record Advances (p : Draft) (s : List ℕ) (i : ℕ) (c : Command) (r : Advance) (cells tables : List ℕ) : Type 0 where
+pub record Advances (p : Draft) (s : List ℕ) (i : ℕ) (c : Command) (r : Advance) (cells : Cells) (tables : List ℕ) : Type 0 where
   pub outcome : r .outcome ≡ outcomeOf (admitted p s i c)
   pub goes : (q : Draft) → admitted p s i c ≡ on q → q ≡ draft (r .design) cells tables
   pub whole : admitted p s i c ≡ complete → p ≡ draft (r .design) cells tables
@@ -67,7 +70,7 @@ pub record Advances (p : Draft) (s : List ℕ) (i : ℕ) (c : Command) (r : Adva
 -- ---- the first pass
 
 -- row r repeats a value of an earlier row in a unique column
-abbrev pub again : Design → List ℕ → List ℕ → ℕ → Bool
+abbrev pub again : Design → Cells → List ℕ → ℕ → Bool
 again d cells tables r = repeats (schemeOf d) (databaseOf (d .rows) cells tables) r
 
 -- none of the first n numbers passes, and r is the first of them that does
@@ -84,16 +87,12 @@ abbrev pub readAs : Verdict → Draft → DesignRead
 readAs (Accepted j) p = accepted p j
 readAs (Refused n i) p = refusedAt n i
 
--- a ROW takes 34 bytes: the place of row r's command, where n rows end at place i
-abbrev pub rowPlace : ℕ → ℕ → ℕ → ℕ
-rowPlace i n r = i - 34 * (n - r)
-
 -- a script that reads as w has been read up to the END or to the first command that is refused, with cause 6 left aside: the code has answered r
-pub record Stopped (w : DesignRead) (r : Stop) (cells tables : List ℕ) : Type 0 where
+pub record Stopped (w : DesignRead) (r : Stop) (cells : Cells) (tables : List ℕ) : Type 0 where
   pub range : InRange (r .design)
   pub once : None (r .design .rows) (again (r .design) cells tables) → w ≡ readAs (r .verdict) (draft (r .design) cells tables)
   pub twice : (q : ℕ) → Earliest (r .design .rows) (again (r .design) cells tables) q
-      → (34 * (r .design .rows - q) ≤ r .at) × (w ≡ refusedAt 6 (rowPlace (r .at) (r .design .rows) q))
+      → w ≡ refusedAt 6 (rowPlace (r .design) cells q)
 
 -- ---- the first repeated value, by the next rows of a catalog
 
@@ -112,7 +111,7 @@ lowest (suc n) f = lower (lowest n f) (f n)
 -- ---- the catalog of an accepted design
 
 -- the rows of an accepted design are catalogued
-abbrev pub Opens : DesignReading → List ℕ → List ℕ → List ℕ → List ℕ → List ℕ → List ℕ → List ℕ → Type 0
+abbrev pub Opens : DesignReading → Cells → List ℕ → List ℕ → List ℕ → List ℕ → List ℕ → List ℕ → Type 0
 Opens r cells tables next first keys heads starts = (i : ℕ) → r .verdict ≡ Accepted i → Catalogued (r .design) cells tables next first keys heads starts
 
 -- ... and a refused one leaves the catalog's arrays as they were: n, f, k, h and s before

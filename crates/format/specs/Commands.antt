@@ -1,4 +1,4 @@
--- The commands of a script: byte, operands, widths (01, "The script"). Bytes below 0x10 are the design's, the others the operations'; only this file
+-- The commands of a script: byte, operands, widths (01, "The script"; 02). Bytes below 0x10 are the design's, the others the operations'; only this file
 -- maps bytes to operations. Assumes nothing.
 use Prim.Native.Nat.{ℕ, _+_, _-_, _*_}
 use mathlib.Core.Bool.{cond}
@@ -25,7 +25,8 @@ designWidth b =
     (cond (eqb b 0x02) 5
     (cond (eqb b 0x03) 11
     (cond (eqb b 0x04) 34
-    (cond (eqb b 0x05) 1 0))))
+    (cond (eqb b 0x05) 1
+    (cond (eqb b 0x07) 42 0)))))
 
 unfoldable pub operationWidth : ℕ → ℕ
 operationWidth b =
@@ -34,7 +35,12 @@ operationWidth b =
     (cond (eqb b 0x12) 7
     (cond (eqb b 0x13) 16
     (cond (eqb b 0x14) 1
-    (cond (eqb b 0x15) 18 0)))))
+    (cond (eqb b 0x15) 18
+    (cond (eqb b 0x20) 7
+    (cond (eqb b 0x21) 7
+    (cond (eqb b 0x22) 8
+    (cond (eqb b 0x23) 17
+    (cond (eqb b 0x25) 19 0))))))))))
 
 unfoldable pub widthOf : ℕ → ℕ
 widthOf b = cond (ltb b 0x10) (designWidth b) (operationWidth b)
@@ -44,22 +50,23 @@ widthOf b = cond (ltb b 0x10) (designWidth b) (operationWidth b)
 abbrev pub columnAt : List ℕ → ℕ → Column
 columnAt s i = record { table = byteAt s i; place = byteAt s (i + 1) }
 
-abbrev pub valueAt : List ℕ → ℕ → Cell
-valueAt s i = record { number = u32At s i }
+-- the value whose number stands at place i, with the issue v
+abbrev pub valueAt : List ℕ → ℕ → ℕ → Cell
+valueAt s v i = record { number = u32At s i; issue = v }
 
 abbrev pub joinAt : List ℕ → ℕ → Join
 joinAt s i = record { position = byteAt s i; constraint = byteAt s (i + 1) }
 
--- the filling and the value of the REFER or DROP at place i
-abbrev pub heldValueAt : List ℕ → ℕ → HeldValue
-heldValueAt s i = record { filling = byteAt s (i + 1); value = valueAt s (i + 2) }
+-- the filling and the value of the REFER or DROP at place i, whose issue is v
+abbrev pub heldValueAt : List ℕ → ℕ → ℕ → HeldValue
+heldValueAt s v i = record { filling = byteAt s (i + 1); value = valueAt s v (i + 2) }
 
--- the operands of the QUERY at place i
-abbrev pub queryAt : List ℕ → ℕ → Query
-queryAt s i =
+-- the operands of the QUERY at place i, whose issue is v
+abbrev pub queryAt : List ℕ → ℕ → ℕ → Query
+queryAt s v i =
     record {
       column = columnAt s (i + 1);
-      value = valueAt s (i + 3);
+      value = valueAt s v (i + 3);
       joins = byteAt s (i + 7);
       first = joinAt s (i + 8);
       second = joinAt s (i + 10);
@@ -68,12 +75,15 @@ queryAt s i =
     }
 
 -- the operands of the total at place i: "QUERY's operands, then a position u8 and a column u8" (02, Req 03)
-abbrev pub totalAt : List ℕ → ℕ → Total
-totalAt s i = record { query = queryAt s i; position = byteAt s (i + 16); column = byteAt s (i + 17) }
+abbrev pub totalAt : List ℕ → ℕ → ℕ → Total
+totalAt s v i = record { query = queryAt s v i; position = byteAt s (i + 16); column = byteAt s (i + 17) }
 
--- cell c of the ROW at place i
+-- the number of cell c of the ROW at place i, and its issue: "0x07 is ROW with eight issue bytes after the cells" (02, Req 06)
 unfoldable pub rowCellAt : List ℕ → ℕ → ℕ → ℕ
-rowCellAt s i c = valueAt s (i + 2 + 4 * c) .number
+rowCellAt s i c = u32At s (i + 2 + 4 * c)
+
+unfoldable pub rowIssueAt : List ℕ → ℕ → ℕ → ℕ
+rowIssueAt s i c = cond (eqb (byteAt s i) 0x07) (byteAt s (i + 34 + c)) 0
 
 -- ---- the command whose byte is b, with its operands behind place i
 
@@ -82,17 +92,22 @@ designCommandAt b s i =
     cond (eqb b 0x01) (Table (record { columns = byteAt s (i + 1); unique = byteAt s (i + 2) }))
     (cond (eqb b 0x02) (Constraint (record { source = columnAt s (i + 1); target = columnAt s (i + 3) }))
     (cond (eqb b 0x03) (Filling (record { column = columnAt s (i + 1); low = u32At s (i + 3); high = u32At s (i + 7) }))
-    (cond (eqb b 0x04) (Row (byteAt s (i + 1)))
-    End)))
+    (cond (eqb b 0x05) End
+    (Row (byteAt s (i + 1))))))
 
-unfoldable pub operationAt : ℕ → List ℕ → ℕ → Operation
-operationAt b s i =
-    cond (eqb b 0x10) (O.Refer (heldValueAt s i))
-    (cond (eqb b 0x11) (O.Drop (heldValueAt s i))
-    (cond (eqb b 0x12) (O.Probe (columnAt s (i + 1)) (valueAt s (i + 3)))
+-- the operation of the byte b, whose value has the issue v
+unfoldable pub issuedAt : ℕ → List ℕ → ℕ → ℕ → Operation
+issuedAt b s v i =
+    cond (eqb b 0x10) (O.Refer (heldValueAt s v i))
+    (cond (eqb b 0x11) (O.Drop (heldValueAt s v i))
+    (cond (eqb b 0x12) (O.Probe (columnAt s (i + 1)) (valueAt s v (i + 3)))
     (cond (eqb b 0x14) O.Evenness
-    (cond (eqb b 0x15) (O.Total (totalAt s i))
-    (O.Query (queryAt s i))))))
+    (cond (eqb b 0x15) (O.Total (totalAt s v i))
+    (O.Query (queryAt s v i))))))
+
+-- "Operations 0x20 to 0x23 are REFER, DROP, PROBE and QUERY with an issue byte at the end, 0x25 likewise for totals; the old bytes mean issue 0" (02, Req 06)
+unfoldable pub operationAt : ℕ → List ℕ → ℕ → Operation
+operationAt b s i = cond (ltb b 0x20) (issuedAt b s 0 i) (issuedAt (b - 0x10) s (byteAt s (i + operationWidth b - 1)) i)
 
 unfoldable pub operandsAt : ℕ → List ℕ → ℕ → Command
 operandsAt b s i = cond (ltb b 0x10) (designCommandAt b s i) (Operate (operationAt b s i))

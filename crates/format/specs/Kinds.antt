@@ -1,4 +1,5 @@
--- The four kinds of commands before a design's END, each by its byte: 0x01 TABLE, 0x02 CONSTRAINT, 0x03 FILLING, 0x04 ROW. Assumes nothing.
+-- The four kinds of commands before a design's END, each by its byte: 0x01 TABLE, 0x02 CONSTRAINT, 0x03 FILLING, 0x04 ROW (0x07 too: it is "used among
+-- the ROWs"). Assumes nothing.
 use Prim.Native.Nat.{ℕ}
 use mathlib.Core.Bool.{Bool, false, cond}
 use lib.Dec.{eqb, leb}

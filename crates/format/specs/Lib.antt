@@ -4,5 +4,5 @@ pub mod Bytes
 pub mod Commands
 pub mod Reading
 pub mod Kinds
-pub mod Admitting
 pub mod Writing
+pub mod Admitting

@@ -2,12 +2,13 @@
 -- "command by command 2, 1, 3, 4 (counts), 5, then 6"). Assumes nothing.
 use Prim.Native.Nat.{ℕ, zero, suc, _+_, _*_}
 use mathlib.Core.Path.{_≡_}
-use mathlib.Core.Bool.{Bool, true, false, not, cond, _||_}
+use mathlib.Core.Bool.{Bool, true, false, not, cond, _&&_, _||_}
 use mathlib.Core.List.{List, _++_}
-use lib.Dec.{leb, ltb}
+use lib.Dec.{eqb, leb, ltb}
 use lib.ListN.{length, set, drop}
 use lib.Seq.{sets}
-use Rattle.finite.specs.Finite.{tab}
+use Rattle.finite.specs.Finite.{all, tab}
+use Rattle.state.specs.Cells.{Cells, cellsIn}
 use Rattle.state.specs.declared.design.Design.{Design}
 use Rattle.state.specs.declared.design.Table as State-table
 use Rattle.state.specs.declared.design.Constraint as State-constraint
@@ -23,16 +24,16 @@ use Rattle.format.specs.declared.verdict.Verdict.{Verdict}
 use Rattle.format.specs.declared.verdict.Verdict.the-variants.{Accepted, Refused}
 use Rattle.format.specs.declared.verdict.DesignReading.{DesignReading}
 use Rattle.format.specs.Bytes.{byteAt}
-use Rattle.format.specs.Commands.{commandAt, widthOf, rowCellAt}
+use Rattle.format.specs.Commands.{commandAt, widthOf, rowCellAt, rowIssueAt}
 
--- a design with its rows, as far as it has been read: 4,096 cells and 512 row tables, 0 where no row has been read
+-- a design with its rows, as far as it has been read: 4,096 cells with their issues and 512 row tables, 0 where no row has been read
 pub record Draft : Type 0 where
   pub design : Design
-  pub cells : List ℕ
+  pub cells : Cells
   pub tables : List ℕ
 
 unfoldable pub emptyDraft : Draft
-emptyDraft = record { design = emptyDesign; cells = tab 4096 (λ _. 0); tables = tab 512 (λ _. 0) }
+emptyDraft = record { design = emptyDesign; cells = cellsIn (tab 4096 (λ _. 0)) (tab 4096 (λ _. 0)); tables = tab 512 (λ _. 0) }
 
 -- ---- one more table, constraint, filling or row
 
@@ -53,7 +54,9 @@ unfoldable pub withRow : Draft → List ℕ → ℕ → ℕ → Draft
 withRow p s i t =
     record {
       design = withRows (p .design) (p .design .rows + 1);
-      cells = sets (p .cells) (8 * p .design .rows) (tab 8 (rowCellAt s i));
+      cells =
+          cellsIn (sets (p .cells .numbers) (8 * p .design .rows) (tab 8 (rowCellAt s i)))
+          (sets (p .cells .issues) (8 * p .design .rows) (tab 8 (rowIssueAt s i)));
       tables = set (p .tables) (p .design .rows) t;
     }
 
@@ -83,6 +86,10 @@ afterFillings d = ltb 0 (d .rows)
 abbrev pub redesigned : Draft → Design → Draft
 redesigned p d = record { design = d; cells = p .cells; tables = p .tables }
 
+-- the command at place i is "a 0x07 with all issues 0" (02, Req 06)
+unfoldable pub needless : List ℕ → ℕ → Bool
+needless s i = eqb (byteAt s i) 0x07 && all 8 (λ c. eqb (rowIssueAt s i c) 0)
+
 -- q is the draft with row r put in: causes 5 and 6 of that row
 unfoldable pub rowAdvanced : Draft → ℕ → Advanced
 rowAdvanced q r =
@@ -107,14 +114,17 @@ advanced p s i (Filling f) =
     (refusedIf (leb 8 (p .design .fillings)) 4
     (refusedIf (not (fillingFits (p .design) (p .design .fillings) f)) 5
     (on (redesigned p (withFilling (p .design) f)))))
-advanced p s i (Row t) = refusedIf (leb 512 (p .design .rows)) 4 (rowAdvanced (withRow p s i t) (p .design .rows))
+advanced p s i (Row t) =
+    refusedIf (leb 512 (p .design .rows)) 4
+    (refusedIf (needless s i) 5
+    (rowAdvanced (withRow p s i t) (p .design .rows)))
 advanced p s i End = complete
 advanced p s i (Operate o) = refused 3
 advanced p s i Unknown = refused 2
 advanced p s i Short = refused 1
 
--- a draft as the code has it: the design, and the two arrays
-abbrev pub draft : Design → List ℕ → List ℕ → Draft
+-- a draft as the code has it: the design, and the arrays
+abbrev pub draft : Design → Cells → List ℕ → Draft
 draft d cells tables = record { design = d; cells = cells; tables = tables }
 
 -- ---- the whole design
@@ -153,20 +163,20 @@ designOf (accepted p i) = p .design
 designOf (refusedAt c i) = emptyDesign
 
 -- what the code answers for a whole design, and the arrays that it leaves where it is accepted
-pub record Read (w : DesignRead) (r : DesignReading) (cells tables : List ℕ) : Type 0 where
+pub record Read (w : DesignRead) (r : DesignReading) (cells : Cells) (tables : List ℕ) : Type 0 where
   pub verdict : r .verdict ≡ verdictOf w
   pub design : r .design ≡ designOf w
   pub rows : (p : Draft) (i : ℕ) → w ≡ accepted p i → (cells ≡ p .cells) × (tables ≡ p .tables)
 
 -- ---- reading into lent buffers
 
--- cause 7 first, whatever the script: 4,096 cells, 512 row tables and 512 marks are lent, or more
-unfoldable pub readInto : List ℕ → List ℕ → List ℕ → List ℕ → DesignRead
+-- cause 7 first, whatever the script: 4,096 cells with their issues, 512 row tables and 512 marks are lent, or more
+unfoldable pub readInto : List ℕ → Cells → List ℕ → List ℕ → DesignRead
 readInto s cells tables marks = cond (longEnough (lent emptyDesign cells tables marks noneHeld)) (readDesign s) (refusedAt 7 0)
 
 -- the lent buffers afterwards: stored only with an accepted design, "the cache is empty, and longer buffers are untouched past the sizes"
-abbrev pub cellsAfter : DesignRead → List ℕ → List ℕ
-cellsAfter (accepted p i) cells = p .cells ++ drop 4096 cells
+abbrev pub cellsAfter : DesignRead → Cells → Cells
+cellsAfter (accepted p i) cells = cellsIn (p .cells .numbers ++ drop 4096 (cells .numbers)) (p .cells .issues ++ drop 4096 (cells .issues))
 cellsAfter (refusedAt c i) cells = cells
 
 abbrev pub tablesAfter : DesignRead → List ℕ → List ℕ
@@ -178,7 +188,7 @@ marksAfter (accepted p i) marks = tab 512 (λ _. 0) ++ drop 512 marks
 marksAfter (refusedAt c i) marks = marks
 
 -- what a call of the reader answers, and what it leaves of each lent buffer, before and after
-pub record Leaves (w : DesignRead) (r : DesignReading) (cs cs′ ts ts′ ms ms′ : List ℕ) : Type 0 where
+pub record Leaves (w : DesignRead) (r : DesignReading) (cs cs′ : Cells) (ts ts′ ms ms′ : List ℕ) : Type 0 where
   pub verdict : r .verdict ≡ verdictOf w
   pub design : r .design ≡ designOf w
   pub cells : cs′ ≡ cellsAfter w cs

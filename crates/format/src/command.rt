@@ -4,7 +4,7 @@ ghost use mathlib.Core.Path.{_≡_};
 ghost use Prim.Native.Nat.{_+_, _≤_, _<_};
 ghost use lib.ListN.{length};
 ghost use Rattle.format.specs.Bytes.{byteAt, u32At};
-ghost use Rattle.format.specs.Commands.{designWidth, operationWidth, widthOf, columnAt, valueAt, joinAt, heldValueAt, queryAt, totalAt, designCommandAt, operationAt, commandAt, rowCellAt};
+ghost use Rattle.format.specs.Commands.{designWidth, operationWidth, widthOf, columnAt, valueAt, joinAt, heldValueAt, queryAt, totalAt, designCommandAt, issuedAt, operationAt, commandAt, rowCellAt, rowIssueAt};
 use crate::bytes::u32_at;
 use state::Cell;
 use state::Column;
@@ -17,7 +17,7 @@ use state::Query;
 use state::Table;
 use state::Total;
 
-// A ROW's cells are read from the bytes by place (an enum holds no array).
+// A ROW's cells and issues are read from the bytes by place (an enum holds no array).
 pub enum Command {
     Table(Table),
     Constraint(Constraint),
@@ -43,6 +43,7 @@ fn design_width(b: u8) -> usize
         0x03 => 11,
         0x04 => 34,
         0x05 => 1,
+        0x07 => 42,
         _ => 0,
     }
 }
@@ -57,6 +58,11 @@ fn operation_width(b: u8) -> usize
         0x13 => 16,
         0x14 => 1,
         0x15 => 18,
+        0x20 => 7,
+        0x21 => 7,
+        0x22 => 8,
+        0x23 => 17,
+        0x25 => 19,
         _ => 0,
     }
 }
@@ -72,7 +78,7 @@ pub fn width_of(b: u8) -> usize
 
 // ---- operands
 
-// The column, the value and the join that stand at place i.
+// The column, the value with this issue and the join that stand at place i.
 fn column_at(script: &[u8], i: usize) -> Column
     requires { ⌜ i + 2 ≤ length (now script) ⌝ }
     ensures { λ r. ⌜ r ≡ columnAt (now (script .entry)) i ⌝ }
@@ -83,12 +89,13 @@ fn column_at(script: &[u8], i: usize) -> Column
     }
 }
 
-fn value_at(script: &[u8], i: usize) -> Cell
+fn value_at(script: &[u8], issue: u8, i: usize) -> Cell
     requires { ⌜ i + 4 ≤ length (now script) ⌝ }
-    ensures { λ r. ⌜ r ≡ valueAt (now (script .entry)) i ⌝ }
+    ensures { λ r. ⌜ r ≡ valueAt (now (script .entry)) issue i ⌝ }
 {
     Cell {
         number: u32_at(script, i),
+        issue,
     }
 }
 
@@ -134,24 +141,24 @@ fn filling_operands(script: &[u8], i: usize) -> Filling
     }
 }
 
-// The operands of a REFER or DROP, and of a QUERY.
-fn held_value_at(script: &[u8], i: usize) -> HeldValue
+// The operands of a REFER or DROP, and of a QUERY, whose value has this issue.
+fn held_value_at(script: &[u8], issue: u8, i: usize) -> HeldValue
     requires { ⌜ i + 6 ≤ length (now script) ⌝ }
-    ensures { λ r. ⌜ r ≡ heldValueAt (now (script .entry)) i ⌝ }
+    ensures { λ r. ⌜ r ≡ heldValueAt (now (script .entry)) issue i ⌝ }
 {
     HeldValue {
         filling: script[i + 1],
-        value: value_at(script, i + 2),
+        value: value_at(script, issue, i + 2),
     }
 }
 
-fn query_at(script: &[u8], i: usize) -> Query
+fn query_at(script: &[u8], issue: u8, i: usize) -> Query
     requires { ⌜ i + 16 ≤ length (now script) ⌝ }
-    ensures { λ r. ⌜ r ≡ queryAt (now (script .entry)) i ⌝ }
+    ensures { λ r. ⌜ r ≡ queryAt (now (script .entry)) issue i ⌝ }
 {
     Query {
         column: column_at(script, i + 1),
-        value: value_at(script, i + 3),
+        value: value_at(script, issue, i + 3),
         joins: script[i + 7],
         first: join_at(script, i + 8),
         second: join_at(script, i + 10),
@@ -161,23 +168,33 @@ fn query_at(script: &[u8], i: usize) -> Query
 }
 
 // The operands of a total: a QUERY's, then its position and its column.
-fn total_at(script: &[u8], i: usize) -> Total
+fn total_at(script: &[u8], issue: u8, i: usize) -> Total
     requires { ⌜ i + 18 ≤ length (now script) ⌝ }
-    ensures { λ r. ⌜ r ≡ totalAt (now (script .entry)) i ⌝ }
+    ensures { λ r. ⌜ r ≡ totalAt (now (script .entry)) issue i ⌝ }
 {
     Total {
-        query: query_at(script, i),
+        query: query_at(script, issue, i),
         position: script[i + 16],
         column: script[i + 17],
     }
 }
 
-// Cell c of the ROW at place `at`.
+// The number of cell c of the ROW at place `at`, and its issue.
 pub(crate) fn row_cell(script: &[u8], at: usize, c: usize) -> u32
     requires { ⌜ (c < 8) × (at + 34 ≤ length (now script)) ⌝ }
     ensures { λ r. ⌜ r ≡ rowCellAt (now (script .entry)) at c ⌝ }
 {
-    value_at(script, at + 2 + 4 * c).number
+    u32_at(script, at + 2 + 4 * c)
+}
+
+pub(crate) fn row_issue(script: &[u8], at: usize, c: usize) -> u8
+    requires { ⌜ (c < 8) × (at < length (now script)) × (byteAt (now script) at ≡ 0x07 → at + 42 ≤ length (now script)) ⌝ }
+    ensures { λ r. ⌜ r ≡ rowIssueAt (now (script .entry)) at c ⌝ }
+{
+    if script[at] != 0x07 {
+        return 0;
+    }
+    script[at + 34 + c]
 }
 
 // ---- the command whose byte is b, with its operands behind place i
@@ -195,24 +212,37 @@ fn design_operands(b: u8, script: &[u8], i: usize) -> Command
     if b == 0x03 {
         return Command::Filling(filling_operands(script, i));
     }
-    if b == 0x04 {
-        return Command::Row(script[i + 1]);
+    if b == 0x05 {
+        return Command::End;
     }
-    Command::End
+    Command::Row(script[i + 1])
 }
 
+// The operation of a byte below 0x20, whose value has this issue.
+fn issued_at(b: u8, script: &[u8], issue: u8, i: usize) -> Operation
+    requires { ⌜ (operationWidth b ≡ 0 → ⊥) × (b < 0x20) × (i + operationWidth b ≤ length (now script)) ⌝ }
+    ensures { λ r. ⌜ r ≡ issuedAt b (now (script .entry)) issue i ⌝ }
+{
+    match b {
+        0x10 => Operation::Refer(held_value_at(script, issue, i)),
+        0x11 => Operation::Drop(held_value_at(script, issue, i)),
+        0x12 => Operation::Probe(column_at(script, i + 1), value_at(script, issue, i + 3)),
+        0x14 => Operation::Evenness,
+        0x15 => Operation::Total(total_at(script, issue, i)),
+        _ => Operation::Query(query_at(script, issue, i)),
+    }
+}
+
+// The issue stands at the end of the operations from 0x20 on, each of which is one byte wider than the same without it.
 fn operation_at(b: u8, script: &[u8], i: usize) -> Operation
     requires { ⌜ (operationWidth b ≡ 0 → ⊥) × (i + operationWidth b ≤ length (now script)) ⌝ }
     ensures { λ r. ⌜ r ≡ operationAt b (now (script .entry)) i ⌝ }
 {
-    match b {
-        0x10 => Operation::Refer(held_value_at(script, i)),
-        0x11 => Operation::Drop(held_value_at(script, i)),
-        0x12 => Operation::Probe(column_at(script, i + 1), value_at(script, i + 3)),
-        0x14 => Operation::Evenness,
-        0x15 => Operation::Total(total_at(script, i)),
-        _ => Operation::Query(query_at(script, i)),
+    if b < 0x20 {
+        return issued_at(b, script, 0, i);
     }
+    let issue = script[i + operation_width(b) - 1];
+    issued_at(b - 0x10, script, issue, i)
 }
 
 // The command at a place.

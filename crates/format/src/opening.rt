@@ -4,6 +4,7 @@ ghost use mathlib.Core.Path.{_≡_};
 ghost use mathlib.Core.List.{_++_};
 ghost use Prim.Native.Nat.{suc, _≤_};
 ghost use lib.ListN.{length, drop};
+ghost use Rattle.state.specs.Cells.{cellsIn};
 ghost use Rattle.state.specs.Design.{emptyDesign};
 ghost use Rattle.format.specs.declared.verdict.Verdict.the-variants as Answer;
 ghost use Rattle.format.specs.Reading.{emptyDraft, draft, Read, Leaves, readFrom, readInto};
@@ -12,13 +13,11 @@ use crate::reading::read_commands;
 use crate::repeating::first_repeat;
 use crate::verdict::DesignReading;
 use crate::verdict::Verdict;
+use crate::writing::row_place;
 use state::Design;
 use state::copy_bytes;
 
 pub const MOST_BYTES: usize = 65536;
-
-// A ROW's bytes.
-const ROW_BYTES: usize = 34;
 
 // A reading that is refused: its design is empty.
 fn refusal(cause: u8, at: usize) -> DesignReading
@@ -30,31 +29,31 @@ fn refusal(cause: u8, at: usize) -> DesignReading
     }
 }
 
-// Reads a whole design and makes the catalog of the rows read. A row that repeats a value comes before the command at which the first pass stopped,
-// and behind it there are only ROWs. The cost of the catalog, and one look at each command and cell.
+// Reads a whole design and makes the catalog of the rows read. A row that repeats a value comes before the command at which the first pass stopped, and
+// its command begins where it would be written. The cost of the catalog, and one look at each command and cell.
 fn read_rows(
     script: &[u8],
     cells: &mut [u32],
+    issues: &mut [u8],
     tables: &mut [u8],
     next: &mut [u16; 4096],
     first: &mut [u16; 8192],
-    keys: &mut [u32; 4096],
+    keys: &mut [u64; 4096],
     heads: &mut [u16; 4096],
     starts: &mut [u16; 65],
 ) -> DesignReading
-    requires { ⌜ (length (now cells) ≡ 4096) × (length (now tables) ≡ 512) ⌝ }
+    requires { ⌜ (length (now cells) ≡ 4096) × (length (now issues) ≡ 4096) × (length (now tables) ≡ 512) ⌝ }
     ensures { λ r. ⌜ Read (readFrom (suc (length (now (script .entry)))) (now (script .entry))
-        (draft emptyDesign (now (cells .entry)) (now (tables .entry))) 0) r (now (cells .exit)) (now (tables .exit)) ⌝ }
-    ensures { λ r. ⌜ Opens r (now (cells .exit)) (now (tables .exit)) (now (next .exit)) (now (first .exit)) (now (keys .exit)) (now (heads .exit))
+        (draft emptyDesign (cellsIn (now (cells .entry)) (now (issues .entry))) (now (tables .entry))) 0) r (cellsIn (now (cells .exit)) (now (issues .exit))) (now (tables .exit)) ⌝ }
+    ensures { λ r. ⌜ Opens r (cellsIn (now (cells .exit)) (now (issues .exit))) (now (tables .exit)) (now (next .exit)) (now (first .exit)) (now (keys .exit)) (now (heads .exit))
         (now (starts .exit)) ⌝ }
 {
-    let stop = read_commands(script, cells, tables);
+    let stop = read_commands(script, cells, issues, tables);
     let d = stop.design;
-    let at = stop.at;
-    catalog::build(d, cells, tables, next, first, keys, heads, starts);
+    catalog::build(d, cells, issues, tables, next, first, keys, heads, starts);
     let r = first_repeat(d, tables, next);
     if r < d.rows {
-        return refusal(6, at - ROW_BYTES * (d.rows - r));
+        return refusal(6, row_place(d, issues, r));
     }
     let v = stop.verdict;
     let Verdict::Accepted(_) = v else {
@@ -85,31 +84,44 @@ fn copy_cells(from: &[u32], to: &mut [u32])
 fn read_into(
     script: &[u8],
     cells: &mut [u32],
+    issues: &mut [u8],
     tables: &mut [u8],
     marks: &mut [u8],
     next: &mut [u16; 4096],
     first: &mut [u16; 8192],
-    keys: &mut [u32; 4096],
+    keys: &mut [u64; 4096],
     heads: &mut [u16; 4096],
     starts: &mut [u16; 65],
 ) -> DesignReading
-    requires { ⌜ (4096 ≤ length (now cells)) × (512 ≤ length (now tables)) × (512 ≤ length (now marks)) ⌝ }
-    ensures { λ r. ⌜ Leaves (readFrom (suc (length (now (script .entry)))) (now (script .entry)) emptyDraft 0) r (now (cells .entry)) (now (cells .exit))
+    requires { ⌜ (4096 ≤ length (now cells)) × (4096 ≤ length (now issues)) × (512 ≤ length (now tables)) × (512 ≤ length (now marks)) ⌝ }
+    ensures { λ r. ⌜ Leaves (readFrom (suc (length (now (script .entry)))) (now (script .entry)) emptyDraft 0) r (cellsIn (now (cells .entry)) (now (issues .entry))) (cellsIn (now (cells .exit)) (now (issues .exit)))
         (now (tables .entry)) (now (tables .exit)) (now (marks .entry)) (now (marks .exit)) ⌝ }
-    ensures { λ r. ⌜ Opens r (now (cells .exit)) (now (tables .exit)) (now (next .exit)) (now (first .exit)) (now (keys .exit)) (now (heads .exit))
+    ensures { λ r. ⌜ Opens r (cellsIn (now (cells .exit)) (now (issues .exit))) (now (tables .exit)) (now (next .exit)) (now (first .exit)) (now (keys .exit)) (now (heads .exit))
         (now (starts .exit)) ⌝ }
 {
     let mut x = [0u32; 4096];
+    let mut v = [0u8; 4096];
     let mut y = [0u8; 512];
     let z = [0u8; 512];
-    let r = read_rows(script, &mut x, &mut y, next, first, keys, heads, starts);
+    let r = read_rows(
+        script,
+        &mut x,
+        &mut v,
+        &mut y,
+        next,
+        first,
+        keys,
+        heads,
+        starts,
+    );
     let read = r.verdict;
     let Verdict::Accepted(_) = read else {
         return r;
     };
     copy_cells(&x, cells);
-    copy_bytes(&y, tables);
-    copy_bytes(&z, marks);
+    copy_bytes(&v, issues, Design::CELLS);
+    copy_bytes(&y, tables, Design::ROWS);
+    copy_bytes(&z, marks, Design::ROWS);
     r
 }
 
@@ -117,20 +129,24 @@ fn read_into(
 fn read_lent(
     script: &[u8],
     cells: &mut [u32],
+    issues: &mut [u8],
     tables: &mut [u8],
     marks: &mut [u8],
     next: &mut [u16; 4096],
     first: &mut [u16; 8192],
-    keys: &mut [u32; 4096],
+    keys: &mut [u64; 4096],
     heads: &mut [u16; 4096],
     starts: &mut [u16; 65],
 ) -> DesignReading
-    ensures { λ r. ⌜ Leaves (readInto (now (script .entry)) (now (cells .entry)) (now (tables .entry)) (now (marks .entry))) r (now (cells .entry))
-        (now (cells .exit)) (now (tables .entry)) (now (tables .exit)) (now (marks .entry)) (now (marks .exit)) ⌝ }
-    ensures { λ r. ⌜ Opens r (now (cells .exit)) (now (tables .exit)) (now (next .exit)) (now (first .exit)) (now (keys .exit)) (now (heads .exit))
+    ensures { λ r. ⌜ Leaves (readInto (now (script .entry)) (cellsIn (now (cells .entry)) (now (issues .entry))) (now (tables .entry)) (now (marks .entry))) r (cellsIn (now (cells .entry)) (now (issues .entry)))
+        (cellsIn (now (cells .exit)) (now (issues .exit))) (now (tables .entry)) (now (tables .exit)) (now (marks .entry)) (now (marks .exit)) ⌝ }
+    ensures { λ r. ⌜ Opens r (cellsIn (now (cells .exit)) (now (issues .exit))) (now (tables .exit)) (now (next .exit)) (now (first .exit)) (now (keys .exit)) (now (heads .exit))
         (now (starts .exit)) ⌝ }
 {
     if cells.len() < Design::CELLS {
+        return refusal(7, 0);
+    }
+    if issues.len() < Design::CELLS {
         return refusal(7, 0);
     }
     if tables.len() < Design::ROWS {
@@ -145,6 +161,7 @@ fn read_lent(
     read_into(
         script,
         cells,
+        issues,
         tables,
         marks,
         next,
@@ -161,29 +178,31 @@ fn read_lent(
 pub fn read_catalogued(
     script: &[u8],
     cells: &mut [u32],
+    issues: &mut [u8],
     tables: &mut [u8],
     marks: &mut [u8],
     next: &mut [u16; 4096],
     first: &mut [u16; 8192],
-    keys: &mut [u32; 4096],
+    keys: &mut [u64; 4096],
     heads: &mut [u16; 4096],
     starts: &mut [u16; 65],
 ) -> DesignReading
-    ensures { λ r. ⌜ Leaves (readInto (now (script .entry)) (now (cells .entry)) (now (tables .entry)) (now (marks .entry))) r (now (cells .entry))
-        (now (cells .exit)) (now (tables .entry)) (now (tables .exit)) (now (marks .entry)) (now (marks .exit)) ⌝ }
-    ensures { λ r. ⌜ Opens r (now (cells .exit)) (now (tables .exit)) (now (next .exit)) (now (first .exit)) (now (keys .exit)) (now (heads .exit))
+    ensures { λ r. ⌜ Leaves (readInto (now (script .entry)) (cellsIn (now (cells .entry)) (now (issues .entry))) (now (tables .entry)) (now (marks .entry))) r (cellsIn (now (cells .entry)) (now (issues .entry)))
+        (cellsIn (now (cells .exit)) (now (issues .exit))) (now (tables .entry)) (now (tables .exit)) (now (marks .entry)) (now (marks .exit)) ⌝ }
+    ensures { λ r. ⌜ Opens r (cellsIn (now (cells .exit)) (now (issues .exit))) (now (tables .exit)) (now (next .exit)) (now (first .exit)) (now (keys .exit)) (now (heads .exit))
         (now (starts .exit)) ⌝ }
     ensures { λ r. ⌜ Keeps r (now (next .entry)) (now (next .exit)) (now (first .entry)) (now (first .exit)) (now (keys .entry)) (now (keys .exit))
         (now (heads .entry)) (now (heads .exit)) (now (starts .entry)) (now (starts .exit)) ⌝ }
 {
     let mut a = [0u16; 4096];
     let mut b = [0u16; 8192];
-    let mut k = [0u32; 4096];
+    let mut k = [0u64; 4096];
     let mut h = [0u16; 4096];
     let mut s = [0u16; 65];
     let r = read_lent(
         script,
         cells,
+        issues,
         tables,
         marks,
         &mut a,
@@ -208,20 +227,22 @@ pub fn read_catalogued(
 pub fn read_design(
     script: &[u8],
     cells: &mut [u32],
+    issues: &mut [u8],
     tables: &mut [u8],
     marks: &mut [u8],
 ) -> DesignReading
-    ensures { λ r. ⌜ Leaves (readInto (now (script .entry)) (now (cells .entry)) (now (tables .entry)) (now (marks .entry))) r (now (cells .entry))
-        (now (cells .exit)) (now (tables .entry)) (now (tables .exit)) (now (marks .entry)) (now (marks .exit)) ⌝ }
+    ensures { λ r. ⌜ Leaves (readInto (now (script .entry)) (cellsIn (now (cells .entry)) (now (issues .entry))) (now (tables .entry)) (now (marks .entry))) r (cellsIn (now (cells .entry)) (now (issues .entry)))
+        (cellsIn (now (cells .exit)) (now (issues .exit))) (now (tables .entry)) (now (tables .exit)) (now (marks .entry)) (now (marks .exit)) ⌝ }
 {
     let mut a = [0u16; 4096];
     let mut b = [0u16; 8192];
-    let mut k = [0u32; 4096];
+    let mut k = [0u64; 4096];
     let mut h = [0u16; 4096];
     let mut s = [0u16; 65];
     read_lent(
         script,
         cells,
+        issues,
         tables,
         marks,
         &mut a,

@@ -1,19 +1,23 @@
-// The first pass over a design with its rows: command by command into a draft, which is a design by value and two arrays that are lent. Causes 1 to
+// The first pass over a design with its rows: command by command into a draft, which is a design by value and three arrays that are lent. Causes 1 to
 // 5 are tested in document 01's order; cause 6 is left aside, and opening.rt finds it through the catalog of the rows read.
 ghost use mathlib.Core.Path.{_≡_};
 ghost use mathlib.Core.List.{List};
 ghost use Prim.Native.Nat.{ℕ, suc, _+_, _*_, _≤_, _<_};
+ghost use lib.Dec.{eqb};
 ghost use lib.ListN.{length};
 ghost use lib.Seq.{sets};
-ghost use Rattle.finite.specs.Finite.{tab};
+ghost use Rattle.finite.specs.Finite.{all, tab};
+ghost use Rattle.state.specs.Cells.{Cells, cellsIn};
 ghost use Rattle.state.specs.Design.{emptyDesign};
 ghost use Rattle.format.specs.declared.command.Command.the-variants as C;
 ghost use Rattle.format.specs.declared.reading.Outcome.the-variants as O;
-ghost use Rattle.format.specs.Commands.{commandAt, rowCellAt};
-ghost use Rattle.format.specs.Reading.{withTable, withConstraint, withFilling, withRows, draft, readFrom};
+ghost use Rattle.format.specs.Bytes.{byteAt};
+ghost use Rattle.format.specs.Commands.{commandAt, rowCellAt, rowIssueAt};
+ghost use Rattle.format.specs.Reading.{withTable, withConstraint, withFilling, withRows, needless, draft, readFrom};
 ghost use Rattle.format.specs.Admitting.{causeOf, Advances, Stopped};
 use crate::command::Command;
 use crate::command::row_cell;
+use crate::command::row_issue;
 use crate::command::width_of;
 use crate::kinds::order_cause;
 use crate::reader::command_at;
@@ -37,11 +41,10 @@ pub struct Advance {
 }
 
 // Where the first pass stops: at the END, or at the first command that is refused. The verdict holds if no row read repeats a value; with it the
-// design read so far, and the place of that command.
+// design read so far.
 pub struct Stop {
     pub verdict: Verdict,
     pub design: Design,
-    pub at: usize,
 }
 
 // ---- one more table, constraint, filling or row. Constant time.
@@ -83,7 +86,7 @@ fn with_rows(mut d: Design, n: usize) -> Design
     d
 }
 
-// The cells of the ROW at place `at`, stored as row r's.
+// The numbers and the issues of the cells of the ROW at place `at`, stored as row r's. One step for each cell.
 fn store_cells(script: &[u8], at: usize, cells: &mut [u32], r: usize)
     requires { ⌜ (r < 512) × (at + 34 ≤ length (now script)) × (length (now cells) ≡ 4096) ⌝ }
     ensures { λ _. ⌜ now (cells .exit) ≡ sets (now (cells .entry)) (8 * r) (tab 8 (rowCellAt (now (script .entry)) at)) ⌝ }
@@ -91,6 +94,39 @@ fn store_cells(script: &[u8], at: usize, cells: &mut [u32], r: usize)
     for c in 0..8usize {
         cells[8 * r + c] = row_cell(script, at, c);
     }
+}
+
+fn store_issues(script: &[u8], at: usize, issues: &mut [u8], r: usize)
+    requires { ⌜ (r < 512) × (at < length (now script)) × (byteAt (now script) at ≡ 0x07 → at + 42 ≤ length (now script)) × (length (now issues) ≡ 4096) ⌝ }
+    ensures { λ _. ⌜ now (issues .exit) ≡ sets (now (issues .entry)) (8 * r) (tab 8 (rowIssueAt (now (script .entry)) at)) ⌝ }
+{
+    for c in 0..8usize {
+        issues[8 * r + c] = row_issue(script, at, c);
+    }
+}
+
+// Whether all issues of the ROW at place `at` are 0. One look at each.
+fn is_plain(script: &[u8], at: usize) -> bool
+    requires { ⌜ (at < length (now script)) × (byteAt (now script) at ≡ 0x07 → at + 42 ≤ length (now script)) ⌝ }
+    ensures { λ b. ⌜ b ≡ all 8 (λ c. eqb (rowIssueAt (now (script .entry)) at c) 0) ⌝ }
+{
+    for c in 0..8usize {
+        if row_issue(script, at, c) != 0 {
+            return false;
+        }
+    }
+    true
+}
+
+// Whether the ROW at place `at` has issue bytes, and no issue.
+fn is_needless(script: &[u8], at: usize) -> bool
+    requires { ⌜ (at < length (now script)) × (byteAt (now script) at ≡ 0x07 → at + 42 ≤ length (now script)) ⌝ }
+    ensures { λ b. ⌜ b ≡ needless (now (script .entry)) at ⌝ }
+{
+    if script[at] != 0x07 {
+        return false;
+    }
+    is_plain(script, at)
 }
 
 // ---- one command
@@ -107,7 +143,7 @@ fn refused(d: Design, cause: u8) -> Advance
 
 // A TABLE read into the draft. Constant time.
 fn take_table(d: Design, t: Table) -> Advance
-    ensures { λ r. ⌜ ((s cells tables : List ℕ) (i : ℕ) → Advances (draft d cells tables) s i (C.Table t) r cells tables) ⌝ }
+    ensures { λ r. ⌜ ((s : List ℕ) (cells : Cells) (tables : List ℕ) (i : ℕ) → Advances (draft d cells tables) s i (C.Table t) r cells tables) ⌝ }
 {
     let cause = order_cause(d, 0x01);
     if cause != 0 {
@@ -124,7 +160,7 @@ fn take_table(d: Design, t: Table) -> Advance
 
 // A CONSTRAINT. One look at each constraint before it.
 fn take_constraint(d: Design, c: Constraint) -> Advance
-    ensures { λ r. ⌜ ((s cells tables : List ℕ) (i : ℕ) → Advances (draft d cells tables) s i (C.Constraint c) r cells tables) ⌝ }
+    ensures { λ r. ⌜ ((s : List ℕ) (cells : Cells) (tables : List ℕ) (i : ℕ) → Advances (draft d cells tables) s i (C.Constraint c) r cells tables) ⌝ }
 {
     let cause = order_cause(d, 0x02);
     if cause != 0 {
@@ -141,7 +177,7 @@ fn take_constraint(d: Design, c: Constraint) -> Advance
 
 // A FILLING. One look at each filling before it.
 fn take_filling(d: Design, f: Filling) -> Advance
-    ensures { λ r. ⌜ ((s cells tables : List ℕ) (i : ℕ) → Advances (draft d cells tables) s i (C.Filling f) r cells tables) ⌝ }
+    ensures { λ r. ⌜ ((s : List ℕ) (cells : Cells) (tables : List ℕ) (i : ℕ) → Advances (draft d cells tables) s i (C.Filling f) r cells tables) ⌝ }
 {
     let cause = order_cause(d, 0x03);
     if cause != 0 {
@@ -163,20 +199,25 @@ fn take_row(
     at: usize,
     t: u8,
     cells: &mut [u32],
+    issues: &mut [u8],
     tables: &mut [u8],
 ) -> Advance
-    requires { ⌜ (at + 34 ≤ length (now script)) × (length (now cells) ≡ 4096) × (length (now tables) ≡ 512) ⌝ }
-    ensures { λ r. ⌜ Advances (draft d (now (cells .entry)) (now (tables .entry))) (now (script .entry)) at (C.Row t) r (now (cells .exit)) (now (tables .exit)) ⌝ }
+    requires { ⌜ (at + 34 ≤ length (now script)) × (byteAt (now script) at ≡ 0x07 → at + 42 ≤ length (now script)) × (length (now cells) ≡ 4096) × (length (now issues) ≡ 4096) × (length (now tables) ≡ 512) ⌝ }
+    ensures { λ r. ⌜ Advances (draft d (cellsIn (now (cells .entry)) (now (issues .entry))) (now (tables .entry))) (now (script .entry)) at (C.Row t) r (cellsIn (now (cells .exit)) (now (issues .exit))) (now (tables .exit)) ⌝ }
 {
     let cause = order_cause(d, 0x04);
     if cause != 0 {
         return refused(d, cause);
     }
+    if is_needless(script, at) {
+        return refused(d, 5);
+    }
     let n = d.rows;
     store_cells(script, at, cells, n);
+    store_issues(script, at, issues, n);
     tables[n] = t;
     let e = with_rows(d, n + 1);
-    if !lawful::row_fits(e, cells, tables, n) {
+    if !lawful::row_fits(e, cells, issues, tables, n) {
         return refused(d, 5);
     }
     Advance {
@@ -192,16 +233,17 @@ fn take(
     at: usize,
     c: Command,
     cells: &mut [u32],
+    issues: &mut [u8],
     tables: &mut [u8],
 ) -> Advance
-    requires { ⌜ (c ≡ commandAt (now script) at) × (length (now cells) ≡ 4096) × (length (now tables) ≡ 512) ⌝ }
-    ensures { λ r. ⌜ Advances (draft d (now (cells .entry)) (now (tables .entry))) (now (script .entry)) at c r (now (cells .exit)) (now (tables .exit)) ⌝ }
+    requires { ⌜ (c ≡ commandAt (now script) at) × (length (now cells) ≡ 4096) × (length (now issues) ≡ 4096) × (length (now tables) ≡ 512) ⌝ }
+    ensures { λ r. ⌜ Advances (draft d (cellsIn (now (cells .entry)) (now (issues .entry))) (now (tables .entry))) (now (script .entry)) at c r (cellsIn (now (cells .exit)) (now (issues .exit))) (now (tables .exit)) ⌝ }
 {
     match c {
         Command::Table(t) => take_table(d, t),
         Command::Constraint(k) => take_constraint(d, k),
         Command::Filling(f) => take_filling(d, f),
-        Command::Row(t) => take_row(d, script, at, t, cells, tables),
+        Command::Row(t) => take_row(d, script, at, t, cells, issues, tables),
         Command::End => Advance {
             outcome: Outcome::Complete,
             design: d,
@@ -225,29 +267,32 @@ fn cause_of(o: Outcome) -> u8
 }
 
 // Reads from the first command to the END, or to the first that is refused, cause 6 left aside. Each command is read once.
-pub(crate) fn read_commands(script: &[u8], cells: &mut [u32], tables: &mut [u8]) -> Stop
-    requires { ⌜ (length (now cells) ≡ 4096) × (length (now tables) ≡ 512) ⌝ }
+pub(crate) fn read_commands(
+    script: &[u8],
+    cells: &mut [u32],
+    issues: &mut [u8],
+    tables: &mut [u8],
+) -> Stop
+    requires { ⌜ (length (now cells) ≡ 4096) × (length (now issues) ≡ 4096) × (length (now tables) ≡ 512) ⌝ }
     ensures { λ r. ⌜ Stopped (readFrom (suc (length (now (script .entry)))) (now (script .entry))
-        (draft emptyDesign (now (cells .entry)) (now (tables .entry))) 0) r (now (cells .exit)) (now (tables .exit)) ⌝ }
+        (draft emptyDesign (cellsIn (now (cells .entry)) (now (issues .entry))) (now (tables .entry))) 0) r (cellsIn (now (cells .exit)) (now (issues .exit))) (now (tables .exit)) ⌝ }
 {
     let mut d = Design::empty();
     let mut at = 0usize;
     loop {
         let c = command_at(script, at);
-        let step = take(d, script, at, c, cells, tables);
+        let step = take(d, script, at, c, cells, issues, tables);
         let o = step.outcome;
         if let Outcome::Complete = o {
             return Stop {
                 verdict: Verdict::Accepted(at + 1),
                 design: d,
-                at,
             };
         }
         let Outcome::On = o else {
             return Stop {
                 verdict: Verdict::Refused(cause_of(o), at),
                 design: d,
-                at,
             };
         };
         let e = step.design;

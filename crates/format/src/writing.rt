@@ -1,13 +1,15 @@
 // Writing a design with its rows: its tables, constraints, fillings and rows in order of their numbers, then END.
 ghost use mathlib.Core.Path.{_≡_};
-ghost use mathlib.Core.List.{List};
+ghost use mathlib.Core.List.{List, _∷_};
 ghost use Prim.Native.Nat.{ℕ, _+_, _≤_, _<_};
-ghost use lib.ListN.{length};
+ghost use lib.ListN.{length, getD};
 ghost use lib.Seq.{sets};
+ghost use Rattle.finite.specs.Finite.{count};
 ghost use Rattle.finite.specs.Writing.{Wrote};
+ghost use Rattle.state.specs.Cells.{cellsIn};
 ghost use Rattle.state.specs.Design.{InRange, Backed};
 ghost use Rattle.format.specs.Kinds.{countOf};
-ghost use Rattle.format.specs.Writing.{tableBytes, constraintBytes, fillingBytes, valueBytes, cellsBytes, rowBytes, designBytes, itemBytes, kindBytes};
+ghost use Rattle.format.specs.Writing.{tableBytes, constraintBytes, fillingBytes, numberBytes, cellsBytes, issuesBytes, isIssued, rowBytes, designBytes, itemBytes, kindBytes, rowPlace};
 use crate::bytes::put_u32;
 use crate::kinds::count_of;
 use state::Cell;
@@ -17,13 +19,52 @@ use state::Filling;
 use state::Table;
 use state::cell_at;
 
-// How many bytes the design is written in, whatever its rows hold. Constant time.
-pub fn design_length(d: Design) -> usize
-    requires { ⌜ InRange d ⌝ }
-    ensures { λ n. ⌜ ((cells tables : List ℕ) → n ≡ length (designBytes d cells tables)) ⌝ }
+// ---- lengths
+
+// Whether one of row r's issues isn't 0. One look at each.
+fn is_issued(issues: &[u8], r: usize) -> bool
+    requires { ⌜ (r < 512) × (4096 ≤ length (now issues)) ⌝ }
+    ensures { λ b. ⌜ ((numbers : List ℕ) → b ≡ isIssued (cellsIn numbers (now (issues .entry))) r) ⌝ }
 {
-    3 * d.tables + 5 * d.constraints + 11 * d.fillings + 34 * d.rows + 1
+    for c in 0..Design::COLUMNS {
+        if issues[8 * r + c] != 0 {
+            return true;
+        }
+    }
+    false
 }
+
+// How many of the first n rows have an issue that isn't 0. Eight looks at each.
+fn issued_rows(issues: &[u8], n: usize) -> usize
+    requires { ⌜ (n ≤ 512) × (4096 ≤ length (now issues)) ⌝ }
+    ensures { λ m. ⌜ ((numbers : List ℕ) → m ≡ count n (isIssued (cellsIn numbers (now (issues .entry))))) ⌝ }
+{
+    let mut m: usize = 0;
+    for r in 0..n {
+        if is_issued(issues, r) {
+            m += 1;
+        }
+    }
+    m
+}
+
+// Where row r's command begins in the written design, and the END behind the last row. The cost of `issued_rows`.
+pub(crate) fn row_place(d: Design, issues: &[u8], r: usize) -> usize
+    requires { ⌜ InRange d × (r ≤ 512) × (4096 ≤ length (now issues)) ⌝ }
+    ensures { λ n. ⌜ ((numbers : List ℕ) → n ≡ rowPlace d (cellsIn numbers (now (issues .entry))) r) ⌝ }
+{
+    3 * d.tables + 5 * d.constraints + 11 * d.fillings + 34 * r + 8 * issued_rows(issues, r)
+}
+
+// How many bytes the design is written in: at most 21,697. Eight looks at each row.
+pub fn design_length(d: Design, issues: &[u8]) -> usize
+    requires { ⌜ InRange d × (4096 ≤ length (now issues)) ⌝ }
+    ensures { λ n. ⌜ ((numbers tables : List ℕ) → n ≡ length (designBytes d (cellsIn numbers (now (issues .entry))) tables)) ⌝ }
+{
+    row_place(d, issues, d.rows) + 1
+}
+
+// ---- bytes
 
 // One command each, from place `at` on, and the place after it. Constant time.
 fn put_table(out: &mut [u8], at: usize, t: Table) -> usize
@@ -63,77 +104,126 @@ fn put_filling(out: &mut [u8], at: usize, f: Filling) -> usize
     at + 11
 }
 
-fn put_value(out: &mut [u8], at: usize, v: Cell)
+fn put_number(out: &mut [u8], at: usize, v: Cell)
     requires { ⌜ at + 4 ≤ length (now out) ⌝ }
-    ensures { λ _. ⌜ now (out .exit) ≡ sets (now (out .entry)) at (valueBytes v) ⌝ }
+    ensures { λ _. ⌜ now (out .exit) ≡ sets (now (out .entry)) at (numberBytes v) ⌝ }
 {
     put_u32(out, at, v.number);
 }
 
-// The eight cells of row r.
-fn put_cells(out: &mut [u8], at: usize, cells: &[u32], r: usize)
-    requires { ⌜ (r < 512) × (4096 ≤ length (now cells)) × (at + 32 ≤ length (now out)) ⌝ }
-    ensures { λ _. ⌜ now (out .exit) ≡ sets (now (out .entry)) at (cellsBytes (now (cells .entry)) r) ⌝ }
+// The numbers of the eight cells of row r, and their issues.
+fn put_cells(out: &mut [u8], at: usize, cells: &[u32], issues: &[u8], r: usize)
+    requires { ⌜ (r < 512) × (4096 ≤ length (now cells)) × (4096 ≤ length (now issues)) × (at + 32 ≤ length (now out)) ⌝ }
+    ensures { λ _. ⌜ now (out .exit) ≡ sets (now (out .entry)) at (cellsBytes (cellsIn (now (cells .entry)) (now (issues .entry))) r) ⌝ }
 {
     for c in 0..8usize {
-        put_value(out, at + 4 * c, cell_at(cells, r, c));
+        put_number(out, at + 4 * c, cell_at(cells, issues, r, c));
     }
 }
 
-fn put_row(out: &mut [u8], at: usize, cells: &[u32], tables: &[u8], r: usize) -> usize
-    requires { ⌜ (r < 512) × Backed (now cells) (now tables) × (at + 34 ≤ length (now out)) ⌝ }
-    ensures { λ z. ⌜ Wrote (now (out .entry)) (now (out .exit)) at z (rowBytes (now (cells .entry)) (now (tables .entry)) r) ⌝ }
+fn put_issues(out: &mut [u8], at: usize, issues: &[u8], r: usize)
+    requires { ⌜ (r < 512) × (4096 ≤ length (now issues)) × (at + 8 ≤ length (now out)) ⌝ }
+    ensures { λ _. ⌜ ((numbers : List ℕ) → now (out .exit) ≡ sets (now (out .entry)) at (issuesBytes (cellsIn numbers (now (issues .entry))) r)) ⌝ }
 {
-    out[at] = 0x04;
+    for c in 0..Design::COLUMNS {
+        out[at + c] = issues[8 * r + c];
+    }
+}
+
+// A row's command up to its cells: the byte b, the table, the numbers.
+fn put_front(
+    out: &mut [u8],
+    at: usize,
+    b: u8,
+    cells: &[u32],
+    issues: &[u8],
+    tables: &[u8],
+    r: usize,
+)
+    requires { ⌜ (r < 512) × Backed (cellsIn (now cells) (now issues)) (now tables) × (at + 34 ≤ length (now out)) ⌝ }
+    ensures { λ _. ⌜ now (out .exit) ≡ sets (now (out .entry)) at
+        (b ∷ getD (now (tables .entry)) r 0 ∷ cellsBytes (cellsIn (now (cells .entry)) (now (issues .entry))) r) ⌝ }
+{
+    out[at] = b;
     out[at + 1] = tables[r];
-    put_cells(out, at + 2, cells, r);
-    at + 34
+    put_cells(out, at + 2, cells, issues, r);
+}
+
+// A row as 0x04, or as 0x07 if it has an issue.
+fn put_row(
+    out: &mut [u8],
+    at: usize,
+    cells: &[u32],
+    issues: &[u8],
+    tables: &[u8],
+    r: usize,
+) -> usize
+    requires { ⌜ (r < 512) × Backed (cellsIn (now cells) (now issues)) (now tables)
+        × (at + length (rowBytes (cellsIn (now cells) (now issues)) (now tables) r) ≤ length (now out)) ⌝ }
+    ensures { λ z. ⌜ Wrote (now (out .entry)) (now (out .exit)) at z (rowBytes (cellsIn (now (cells .entry)) (now (issues .entry))) (now (tables .entry)) r) ⌝ }
+{
+    if !is_issued(issues, r) {
+        put_front(out, at, 0x04, cells, issues, tables, r);
+        return at + 34;
+    }
+    put_front(out, at, 0x07, cells, issues, tables, r);
+    put_issues(out, at + 34, issues, r);
+    at + 42
 }
 
 // The command of kind b that has number i among them.
 fn put_item(
     d: Design,
     cells: &[u32],
+    issues: &[u8],
     tables: &[u8],
     b: u8,
     i: usize,
     out: &mut [u8],
     at: usize,
 ) -> usize
-    requires { ⌜ (i < countOf d b) × InRange d × Backed (now cells) (now tables)
-        × (at + length (itemBytes d (now cells) (now tables) b i) ≤ length (now out)) ⌝ }
-    ensures { λ r. ⌜ Wrote (now (out .entry)) (now (out .exit)) at r (itemBytes d (now (cells .entry)) (now (tables .entry)) b i) ⌝ }
+    requires { ⌜ (i < countOf d b) × InRange d × Backed (cellsIn (now cells) (now issues)) (now tables)
+        × (at + length (itemBytes d (cellsIn (now cells) (now issues)) (now tables) b i) ≤ length (now out)) ⌝ }
+    ensures { λ r. ⌜ Wrote (now (out .entry)) (now (out .exit)) at r (itemBytes d (cellsIn (now (cells .entry)) (now (issues .entry))) (now (tables .entry)) b i) ⌝ }
 {
     match b {
         0x01 => put_table(out, at, d.table[i]),
         0x02 => put_constraint(out, at, d.constraint[i]),
         0x03 => put_filling(out, at, d.filling[i]),
-        _ => put_row(out, at, cells, tables, i),
+        _ => put_row(out, at, cells, issues, tables, i),
     }
 }
 
 // All commands of kind b. One step for each.
-fn put_kind(d: Design, cells: &[u32], tables: &[u8], b: u8, out: &mut [u8], at: usize) -> usize
-    requires { ⌜ InRange d × Backed (now cells) (now tables) × (at + length (kindBytes d (now cells) (now tables) b) ≤ length (now out)) ⌝ }
-    ensures { λ r. ⌜ Wrote (now (out .entry)) (now (out .exit)) at r (kindBytes d (now (cells .entry)) (now (tables .entry)) b) ⌝ }
+fn put_kind(
+    d: Design,
+    cells: &[u32],
+    issues: &[u8],
+    tables: &[u8],
+    b: u8,
+    out: &mut [u8],
+    at: usize,
+) -> usize
+    requires { ⌜ InRange d × Backed (cellsIn (now cells) (now issues)) (now tables) × (at + length (kindBytes d (cellsIn (now cells) (now issues)) (now tables) b) ≤ length (now out)) ⌝ }
+    ensures { λ r. ⌜ Wrote (now (out .entry)) (now (out .exit)) at r (kindBytes d (cellsIn (now (cells .entry)) (now (issues .entry))) (now (tables .entry)) b) ⌝ }
 {
     let mut place = at;
     for i in 0..count_of(d, b) {
-        place = put_item(d, cells, tables, b, i, out, place);
+        place = put_item(d, cells, issues, tables, b, i, out, place);
     }
     place
 }
 
 // Writes the design with its rows from the first byte on; how many bytes that took. One step for each table, constraint and filling, eight
 // for each row.
-pub fn write_design(d: Design, cells: &[u32], tables: &[u8], out: &mut [u8]) -> usize
-    requires { ⌜ InRange d × Backed (now cells) (now tables) × (length (designBytes d (now cells) (now tables)) ≤ length (now out)) ⌝ }
-    ensures { λ n. ⌜ (n ≡ length (designBytes d (now (cells .entry)) (now (tables .entry)))) × (now (out .exit) ≡ sets (now (out .entry)) 0 (designBytes d (now (cells .entry)) (now (tables .entry)))) ⌝ }
+pub fn write_design(d: Design, cells: &[u32], issues: &[u8], tables: &[u8], out: &mut [u8]) -> usize
+    requires { ⌜ InRange d × Backed (cellsIn (now cells) (now issues)) (now tables) × (length (designBytes d (cellsIn (now cells) (now issues)) (now tables)) ≤ length (now out)) ⌝ }
+    ensures { λ n. ⌜ (n ≡ length (designBytes d (cellsIn (now (cells .entry)) (now (issues .entry))) (now (tables .entry)))) × (now (out .exit) ≡ sets (now (out .entry)) 0 (designBytes d (cellsIn (now (cells .entry)) (now (issues .entry))) (now (tables .entry)))) ⌝ }
 {
-    let a = put_kind(d, cells, tables, 0x01, out, 0);
-    let b = put_kind(d, cells, tables, 0x02, out, a);
-    let c = put_kind(d, cells, tables, 0x03, out, b);
-    let e = put_kind(d, cells, tables, 0x04, out, c);
+    let a = put_kind(d, cells, issues, tables, 0x01, out, 0);
+    let b = put_kind(d, cells, issues, tables, 0x02, out, a);
+    let c = put_kind(d, cells, issues, tables, 0x03, out, b);
+    let e = put_kind(d, cells, issues, tables, 0x04, out, c);
     out[e] = 0x05;
     e + 1
 }

@@ -37,7 +37,7 @@ module _ (s : State) (e : sound s ≡ true) where
   sound-range z = in-range (s .design) z (parts s e .design)
 
   pub sound-backed : Backed (s .cells) (s .tables)
-  sound-backed = record { rows = parts s e .long .cells; members = parts s e .long .tables }
+  sound-backed = record { rows = parts s e .long .cells; issued = parts s e .long .issues; members = parts s e .long .tables }
 
   pub sound-marks : 512 ≤ length (s .marks)
   sound-marks = parts s e .long .marks
@@ -59,4 +59,4 @@ module _ (s : State) (e : sound s ≡ true) where
 
 -- buffers that are long enough
 pub long-asked : (s : State) → longEnough s ≡ true → Backed (s .cells) (s .tables) × (512 ≤ length (s .marks))
-long-asked s e = let l = long-parts s e in (record { rows = l .cells; members = l .tables }, l .marks)
+long-asked s e = let l = long-parts s e in (record { rows = l .cells; issued = l .issues; members = l .tables }, l .marks)

@@ -9,7 +9,7 @@ use borrow.Author.Tests.{ltb-true, lt-ltb, leb-true, le-leb, eqb-true, eq-eqb, n
 use lib.Dec.{lit<}
 use Rattle.finite.proofs.Bools.{both, clash, refute}
 use Rattle.finite.proofs.Search.{none-before, not-before}
-use Rattle.model.specs.Cell.{numbered, isBlank}
+use Rattle.model.specs.Cell.{Cell, numberless}
 use Rattle.model.specs.Scheme as Model
 use Rattle.model.specs.Scheme.{ColumnOf, Scheme, isColumn, sameColumn, candidate}
 use Rattle.model.specs.Demand.{FillingAt, FillingsApart}
@@ -221,14 +221,14 @@ in-range d z e =
           (λ f h. table-below _ l (l .filling f h .column)) (l .fillingRest) (lit< tt);
     }
 
--- a candidate is not blank
-pub low-full : (d : Design) → lawfulDesign d ≡ true → (f : ℕ) → f < d .fillings → (v : ℕ) →
-    candidate (fillingOf (fillingAt d f)) (numbered v) ≡ true → isBlank (numbered v) ≡ false
-unfolding candidate isBlank
+-- a candidate has a number
+pub low-full : (d : Design) → lawfulDesign d ≡ true → (f : ℕ) → f < d .fillings → (v : Cell) → candidate (fillingOf (fillingAt d f)) v ≡ true →
+    numberless v ≡ false
+unfolding candidate numberless
 low-full d e f l v c =
-    let h : fillingAt d f .low ≤ v = leb-true _ _ (and-eq-true-iff _ _ .0 c .0) in
+    let h : fillingAt d f .low ≤ v .number = leb-true _ _ (and-eq-true-iff _ _ .0 c .0) in
     let g = design-says d e .filling f l .low in
-    ne-eqb v 0 (λ z. omega arith)
+    ne-eqb (v .number) 0 (λ z. omega arith)
 
 -- no two fillings of a lawful design have one column
 pub fillings-apart : (d : Design) → lawfulDesign d ≡ true → FillingsApart (schemeOf d)

@@ -12,17 +12,17 @@ use Rattle.finite.specs.Finite.{all, tab}
 use Rattle.finite.proofs.Bools.{dec, both, clash, refute}
 use Rattle.finite.proofs.Search.{none-before, not-before}
 use Rattle.finite.proofs.Tables.{length-tab, tab-at, tab-past, tab-of}
-use Rattle.model.specs.Cell.{isBlank}
+use Rattle.model.specs.Cell.{blank, isBlank}
 use Rattle.model.specs.Scheme.{Scheme, candidate}
 use Rattle.model.specs.Holding.{Pair, samePair, Holding}
-use Rattle.model.proofs.CellLaws.{equal-same, equal-self}
+use Rattle.model.proofs.CellLaws.{is-blank, blank-is, numbered-full, equal-same, equal-self}
 use Rattle.model.proofs.HoldingLaws.{noPair, pairAt, HoldingFits}
 use Rattle.state.specs.declared.design.Design.{Design}
 use Rattle.state.specs.declared.held.HeldValue.{HeldValue}
 use Rattle.state.specs.declared.held.Held.{Held}
 use Rattle.state.specs.Design.{fillingAt}
 use Rattle.state.specs.Held.{noValue, heldAt}
-use Rattle.state.specs.Meaning.{cellOf, schemeOf, fillingOf, pairOf, pairBack, pairsOf, holdingOf, heldOf}
+use Rattle.state.specs.Meaning.{cellOf, cellBack, schemeOf, fillingOf, pairOf, pairBack, pairsOf, holdingOf, heldOf}
 use Rattle.state.specs.Lawful.{heldFits, zeroHeld, lawfulHeld, lawfulDesign}
 use Rattle.state.proofs.Places.{in-array, used-at, unused-at, all-places}
 use Rattle.lawful.specs.Parts.{heldLawful}
@@ -35,7 +35,7 @@ same-pair : (a b : HeldValue) → samePair (pairOf a) (pairOf b) ≡ true → a 
 unfolding samePair
 same-pair a b e =
     let h = and-eq-true-iff _ _ .0 e in
-    λ i. record { filling = eqb-true (a .filling) (b .filling) (h .0) i; value = record { number = equal-same (cellOf (a .value)) (cellOf (b .value)) (h .1) i .number } }
+    λ i. record { filling = eqb-true (a .filling) (b .filling) (h .0) i; value = cellBack (equal-same (cellOf (a .value)) (cellOf (b .value)) (h .1) i) }
 
 same-pair-self : (a : HeldValue) → isBlank (cellOf (a .value)) ≡ false → samePair (pairOf a) (pairOf a) ≡ true
 unfolding samePair
@@ -62,7 +62,7 @@ module _ (d : Design) (h : Held) (n : ℕ) (v : HeldValue) where
   pair-new : lawfulDesign d ≡ true → heldFits d h n v ≡ true → (i : ℕ) → i < n → heldAt h i ≡ v → ⊥
   pair-new w e i l p =
       let t = fits-tests e in
-      clash (ap (λ (a : HeldValue). samePair (pairOf a) (pairOf v)) p ∙ same-pair-self v (low-full d w (v .filling) (t .0) (v .value .number) (t .1))) (t .2 i l)
+      clash (ap (λ (a : HeldValue). samePair (pairOf a) (pairOf v)) p ∙ same-pair-self v (numbered-full _ (low-full d w (v .filling) (t .0) (cellOf (v .value)) (t .1)))) (t .2 i l)
 
   pair-if : LawfulPair d v → ((i : ℕ) → i < n → heldAt h i ≡ v → ⊥) → heldFits d h n v ≡ true
   unfolding heldFits candidate
@@ -71,15 +71,13 @@ module _ (d : Design) (h : Held) (n : ℕ) (v : HeldValue) where
       (both (both (le-leb _ _ (w .low)) (le-leb _ _ (w .high))) (not-before n _ (λ i l. refute _ (λ e. f i l (same-pair _ _ e)))))
 
 zero-held : (v : HeldValue) → zeroHeld v ≡ true → v ≡ noValue
-unfolding zeroHeld isBlank
-zero-held v e = let h = and-eq-true-iff _ _ .0 e in λ i. record {
-  filling = eqb-true (v .filling) 0 (h .0) i;
-  value = record { number = eqb-true (v .value .number) 0 (h .1) i };
-}
+unfolding zeroHeld blank
+zero-held v e =
+    let h = and-eq-true-iff _ _ .0 e in λ i. record { filling = eqb-true (v .filling) 0 (h .0) i; value = cellBack (is-blank (cellOf (v .value)) (h .1) i) }
 
 held-zero : (v : HeldValue) → v ≡ noValue → zeroHeld v ≡ true
-unfolding zeroHeld isBlank
-held-zero v e = both (eq-eqb _ _ (ap (λ (m : HeldValue). m .filling) e)) (eq-eqb _ _ (ap (λ (m : HeldValue). m .value .number) e))
+unfolding zeroHeld blank
+held-zero v e = both (eq-eqb _ _ (ap (λ (m : HeldValue). m .filling) e)) (ap (λ (m : HeldValue). isBlank (cellOf (m .value))) e ∙ blank-is)
 
 -- ---- all of them
 

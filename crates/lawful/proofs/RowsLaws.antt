@@ -9,38 +9,60 @@ use borrow.Author.Tests.{lt-ltb, le-ltb, ltb-true, ltb-false, eqb-true, eq-eqb, 
 use lib.Dec.{ltb}
 use lib.ListN.{getD}
 use Rattle.finite.specs.Finite.{any}
-use Rattle.finite.proofs.Bools.{dec, both, clash, refute, or-cases, or-left, cond-false}
+use Rattle.finite.proofs.Bools.{dec, both, clash, refute, cond-true, cond-false}
 use Rattle.finite.proofs.Search.{any-true, any-found, all-at, all-true}
-use Rattle.model.specs.Cell.{Cell, Fits, blank, isBlank}
+use Rattle.model.specs.Cell.{Cell, Fits, blank, isBlank, numberless}
 use Rattle.model.specs.Scheme.{Column, Scheme}
 use Rattle.model.specs.Database.{Database, Has, has, Lawful}
-use Rattle.model.proofs.CellLaws.{blank-fits, blank-is, is-blank, equal-same, equal-full, equal-self}
+use Rattle.model.proofs.CellLaws.{blank-fits, blank-is, is-blank, numbered-full, equal-same, equal-full, equal-self}
 use Rattle.model.proofs.DatabaseLaws.{has-Has, Has-has, has-full}
+use Rattle.state.specs.Cells.{Cells}
 use Rattle.state.specs.declared.design.Design.{Design}
-use Rattle.state.specs.Meaning.{schemeOf, databaseOf}
-use Rattle.state.specs.Lawful.{rowFits, repeatsAt, repeats, zeroRow, lawfulRows}
+use Rattle.state.specs.Held.{noCell}
+use Rattle.state.specs.Meaning.{cellOf, cellBack, cellAt, schemeOf, databaseOf}
+use Rattle.state.specs.Lawful.{cellFits, rowFits, repeatsAt, repeats, zeroRow, lawfulRows}
 use Rattle.state.proofs.RowLaws.{cell-at}
 use Rattle.state.proofs.Places.{used-at, unused-at, all-places}
 use Rattle.lawful.specs.LawfulState.{LawfulRows}
 use Rattle.lawful.specs.Parts.{rowsStand}
+use Rattle.lawful.proofs.RowTests.{fits-blank, fits-number}
+
+-- ---- one cell
+
+module _ (n c : ℕ) (a : Cell) where
+  -- a cell without a number is blank
+  numberless-says : cellFits n c a ≡ true → numberless a ≡ true → isBlank a ≡ true
+  unfolding cellFits
+  numberless-says e q = sym (cond-true (numberless a) _ _ q) ∙ e
+
+  -- and one past the columns
+  past-says : cellFits n c a ≡ true → n ≤ c → isBlank a ≡ true
+  past-says e h =
+      ⊎-elim (numberless-says e) (λ (q : numberless a ≡ false). clash (fits-number n c a q ∙ e) (le-ltb c n h)) (dec (numberless a))
+
+  -- so that none has an issue alone
+  full-says : cellFits n c a ≡ true → a .number ≡ 0 → a .issue ≡ 0
+  unfolding numberless blank
+  full-says e z = ap (λ (b : Cell). b .issue) (is-blank a (numberless-says e (eq-eqb (a .number) 0 z)))
+
+  cell-if : Fits a → (n ≤ c → isBlank a ≡ true) → cellFits n c a ≡ true
+  unfolding numberless isBlank
+  cell-if f h =
+      ⊎-elim (λ (q : numberless a ≡ true). let z = eqb-true (a .number) 0 q in sym (fits-blank n c a (both q (eq-eqb (a .issue) 0 (f .full z)))))
+      (λ (q : numberless a ≡ false). sym (fits-number n c a q) ∙
+      ⊎-elim (λ (p : ltb c n ≡ true). p) (λ (p : ltb c n ≡ false). clash (h (ltb-false c n p)) (numbered-full a q)) (dec (ltb c n)))
+      (dec (numberless a))
 
 -- ---- one row of any database
 
 module _ (S : Scheme) (D : Database) (r : ℕ) where
-  fits-says : rowFits S D r ≡ true → (D .table r < S .tables) × ((c : ℕ) → c < 8 → S .columns (D .table r) ≤ c → isBlank (D .cell r c) ≡ true)
+  fits-says : rowFits S D r ≡ true → (D .table r < S .tables) × ((c : ℕ) → c < 8 → cellFits (S .columns (D .table r)) c (D .cell r c) ≡ true)
   unfolding rowFits
-  fits-says e =
-      let h = and-eq-true-iff (ltb (D .table r) (S .tables)) _ .0 e in (
-        ltb-true _ _ (h .0),
-        λ c l b. ⊎-elim (λ (q : ltb c (S .columns (D .table r)) ≡ true). clash q (le-ltb _ _ b)) (λ q. q) (or-cases _ _ (all-at 8 _ (h .1) c l)),
-      )
+  fits-says e = let h = and-eq-true-iff (ltb (D .table r) (S .tables)) _ .0 e in (ltb-true _ _ (h .0), all-at 8 _ (h .1))
 
-  fits-if : D .table r < S .tables → ((c : ℕ) → c < 8 → S .columns (D .table r) ≤ c → isBlank (D .cell r c) ≡ true) → rowFits S D r ≡ true
+  fits-if : D .table r < S .tables → ((c : ℕ) → c < 8 → cellFits (S .columns (D .table r)) c (D .cell r c) ≡ true) → rowFits S D r ≡ true
   unfolding rowFits
-  fits-if t h =
-      both (lt-ltb _ _ t)
-      (all-true 8 _ (λ c l. ⊎-elim (λ (q : ltb c (S .columns (D .table r)) ≡ true). sym (or-left _ _ q))
-      (λ (q : ltb c (S .columns (D .table r)) ≡ false). rw q (h c l (ltb-false _ _ q))) (dec (ltb c (S .columns (D .table r))))))
+  fits-if t h = both (lt-ltb _ _ t) (all-true 8 _ h)
 
 -- an earlier row with the same value in a unique column would be a repeat
 no-repeat : (S : Scheme) (D : Database) (k : Column) (v : Cell) (r s : ℕ) → repeats S D s ≡ false → k .place < 8 → S .unique k ≡ true → r < s →
@@ -78,37 +100,37 @@ repeats-none S D r l h = refute _ (λ e. let f = any-found 8 (repeatsAt S D r) e
 -- ---- the lent rows
 
 -- past the eighth cell a row is blank
-pub cell-past : (rows : ℕ) (cells tables : List ℕ) (r c : ℕ) → 8 ≤ c → databaseOf rows cells tables .cell r c ≡ blank
+pub cell-past : (rows : ℕ) (cells : Cells) (tables : List ℕ) (r c : ℕ) → 8 ≤ c → databaseOf rows cells tables .cell r c ≡ blank
 unfolding databaseOf
 cell-past rows cells tables r c h = cond-false (ltb c 8) _ _ (le-ltb c 8 h)
 
-live-says : (rows : ℕ) (cells tables : List ℕ) (r : ℕ) → databaseOf rows cells tables .live r ≡ true → (r < 512) × (r < rows)
+live-says : (rows : ℕ) (cells : Cells) (tables : List ℕ) (r : ℕ) → databaseOf rows cells tables .live r ≡ true → (r < 512) × (r < rows)
 unfolding databaseOf
 live-says rows cells tables r e = let h = and-eq-true-iff (ltb r 512) (ltb r rows) .0 e in (ltb-true _ _ (h .0), ltb-true _ _ (h .1))
 
-live-if : (rows : ℕ) (cells tables : List ℕ) (r : ℕ) → r < 512 → r < rows → databaseOf rows cells tables .live r ≡ true
+live-if : (rows : ℕ) (cells : Cells) (tables : List ℕ) (r : ℕ) → r < 512 → r < rows → databaseOf rows cells tables .live r ≡ true
 unfolding databaseOf
 live-if rows cells tables r a b = both (lt-ltb _ _ a) (lt-ltb _ _ b)
 
-module _ (d : Design) (cells tables : List ℕ) where
+module _ (d : Design) (cells : Cells) (tables : List ℕ) where
   -- the lent rows as a database
   abbrev rows : Database
   rows = databaseOf (d .rows) cells tables
 
   -- a cell is blank, in the database and in the buffer
-  blank-says : (r c : ℕ) → c < 8 → isBlank (rows .cell r c) ≡ true → getD cells (8 * r + c) 0 ≡ 0
-  unfolding isBlank
-  blank-says r c l e = eqb-true _ 0 (sym (ap isBlank (cell-at (d .rows) cells tables r c l)) ∙ e)
+  blank-says : (r c : ℕ) → c < 8 → isBlank (rows .cell r c) ≡ true → cellAt cells r c ≡ noCell
+  unfolding blank
+  blank-says r c l e = ap cellBack (sym (cell-at (d .rows) cells tables r c l) ∙ is-blank (rows .cell r c) e)
 
-  blank-if : (r c : ℕ) → c < 8 → getD cells (8 * r + c) 0 ≡ 0 → isBlank (rows .cell r c) ≡ true
-  unfolding isBlank
-  blank-if r c l e = ap isBlank (cell-at (d .rows) cells tables r c l) ∙ eq-eqb _ 0 e
+  blank-if : (r c : ℕ) → c < 8 → cellAt cells r c ≡ noCell → isBlank (rows .cell r c) ≡ true
+  unfolding blank
+  blank-if r c l e = ap isBlank (cell-at (d .rows) cells tables r c l ∙ ap cellOf e) ∙ blank-is
 
-  zero-says : (r : ℕ) → zeroRow rows r ≡ true → (getD tables r 0 ≡ 0) × ((c : ℕ) → c < 8 → getD cells (8 * r + c) 0 ≡ 0)
+  zero-says : (r : ℕ) → zeroRow rows r ≡ true → (getD tables r 0 ≡ 0) × ((c : ℕ) → c < 8 → cellAt cells r c ≡ noCell)
   unfolding zeroRow databaseOf
   zero-says r e = let h = and-eq-true-iff _ _ .0 e in (eqb-true _ 0 (h .0), λ c l. blank-says r c l (all-at 8 (λ b. isBlank (rows .cell r b)) (h .1) c l))
 
-  zero-if : (r : ℕ) → getD tables r 0 ≡ 0 → ((c : ℕ) → c < 8 → getD cells (8 * r + c) 0 ≡ 0) → zeroRow rows r ≡ true
+  zero-if : (r : ℕ) → getD tables r 0 ≡ 0 → ((c : ℕ) → c < 8 → cellAt cells r c ≡ noCell) → zeroRow rows r ≡ true
   unfolding zeroRow databaseOf
   zero-if r t h = both (eq-eqb _ 0 t) (all-true 8 _ (λ c l. blank-if r c l (h c l)))
 
@@ -144,13 +166,13 @@ module _ (d : Design) (cells tables : List ℕ) where
 
     blanks-say : (r c : ℕ) → rows .live r ≡ true → schemeOf d .columns (rows .table r) ≤ c → rows .cell r c ≡ blank
     blanks-say r c l h =
-        ⊎-elim (λ (q : ltb c 8 ≡ true). is-blank (rows .cell r c) (fits-says (schemeOf d) rows r (row-says r l .0) .1 c (ltb-true c 8 q) h))
+        ⊎-elim (λ (q : ltb c 8 ≡ true). is-blank (rows .cell r c) (past-says _ c _ (fits-says (schemeOf d) rows r (row-says r l .0) .1 c (ltb-true c 8 q)) h))
         (λ (q : ltb c 8 ≡ false). cell-past (d .rows) cells tables r c (ltb-false c 8 q))
         (dec (ltb c 8))
 
 -- ---- lawful rows are those that stand and have no value twice in a unique column
 
-module _ (d : Design) (cells tables : List ℕ) where
+module _ (d : Design) (cells : Cells) (tables : List ℕ) where
   pub lawful-stand : lawfulRows d cells tables ≡ true → rowsStand d cells tables ≡ true
   unfolding rowsStand
   lawful-stand e =
@@ -182,29 +204,38 @@ module _ (d : Design) (cells tables : List ℕ) where
         (λ r a b. both (stand-used r a b) (ap not (repeats-none (schemeOf d) (rows d cells tables) r (live-if (d .rows) cells tables r a b) h)))
         stand-unused
 
--- the lent cells are u32, as their type says
-abbrev pub Stored : List ℕ → Type 0
-Stored cells = (i : ℕ) → getD cells i 0 < 2 ^ 32
+-- the lent numbers are u32 and the issues u8, as their types say
+pub record Stored (cells : Cells) : Type 0 where
+  pub number : (i : ℕ) → getD (cells .numbers) i 0 < 2 ^ 32
+  pub issue : (i : ℕ) → getD (cells .issues) i 0 < 2 ^ 8
 
-cells-fit : (rows : ℕ) (cells tables : List ℕ) → Stored cells → (r c : ℕ) → Fits (databaseOf rows cells tables .cell r c)
-unfolding Fits
-cells-fit rows cells tables u r c =
-    ⊎-elim (λ (q : ltb c 8 ≡ true). subst Fits (sym (cell-at rows cells tables r c (ltb-true c 8 q))) (u (8 * r + c)))
-    (λ (q : ltb c 8 ≡ false). subst Fits (sym (cell-past rows cells tables r c (ltb-false c 8 q))) blank-fits)
+cells-fit : (d : Design) (cells : Cells) (tables : List ℕ) → lawfulRows d cells tables ≡ true → Stored cells → (r c : ℕ) → rows d cells tables .live r ≡ true →
+    Fits (rows d cells tables .cell r c)
+cells-fit d cells tables e u r c l =
+    ⊎-elim (λ (q : ltb c 8 ≡ true). let k = ltb-true c 8 q in subst Fits (sym (cell-at (d .rows) cells tables r c k)) (inside k))
+    (λ (q : ltb c 8 ≡ false). subst Fits (sym (cell-past (d .rows) cells tables r c (ltb-false c 8 q))) blank-fits)
     (dec (ltb c 8))
+  where
+    inside : c < 8 → Fits (cellOf (cellAt cells r c))
+    inside k =
+        record {
+          number = u .number (8 * r + c);
+          issue = u .issue (8 * r + c);
+          full = full-says _ c _ (rw (cell-at (d .rows) cells tables r c k) at (fits-says (schemeOf d) (rows d cells tables) r (row-says d cells tables e r l .0) .1 c k));
+        }
 
 -- lawful rows are a lawful database
-pub lawful-database : (d : Design) (cells tables : List ℕ) → lawfulRows d cells tables ≡ true → Stored cells →
+pub lawful-database : (d : Design) (cells : Cells) (tables : List ℕ) → lawfulRows d cells tables ≡ true → Stored cells →
     Lawful (schemeOf d) (databaseOf (d .rows) cells tables)
 lawful-database d cells tables e u =
     record {
-      cells = λ r c l. cells-fit (d .rows) cells tables u r c;
+      cells = cells-fit d cells tables e u;
       tables = λ r l. fits-says _ _ r (row-says d cells tables e r l .0) .0;
       blanks = blanks-say d cells tables e;
       unique = unique-says d cells tables e;
     }
 
-pub rows-say : (d : Design) (cells tables : List ℕ) → Stored cells → lawfulRows d cells tables ≡ true → LawfulRows d cells tables
+pub rows-say : (d : Design) (cells : Cells) (tables : List ℕ) → Stored cells → lawfulRows d cells tables ≡ true → LawfulRows d cells tables
 rows-say d cells tables u e =
     record {
       database = lawful-database d cells tables e u;
@@ -212,7 +243,7 @@ rows-say d cells tables u e =
       cellRest = λ r c l b h. zero-says d cells tables r (rest-says d cells tables e r l h) .1 c b;
     }
 
-pub rows-if : {d : Design} {cells tables : List ℕ} → LawfulRows d cells tables → lawfulRows d cells tables ≡ true
+pub rows-if : {d : Design} {cells : Cells} {tables : List ℕ} → LawfulRows d cells tables → lawfulRows d cells tables ≡ true
 unfolding lawfulRows
 rows-if {d} {cells} {tables} w =
     all-places 512 (d .rows) _ (zeroRow (rows d cells tables)) (λ r a b. there r (live-if (d .rows) cells tables r a b))
@@ -223,5 +254,5 @@ rows-if {d} {cells} {tables} w =
     there r l =
         both
         (fits-if (schemeOf d) (rows d cells tables) r (w .database .tables r l)
-        (λ c _ h. ap isBlank (w .database .blanks r c l h) ∙ blank-is))
+        (λ c _. cell-if _ c _ (w .database .cells r c l) (λ h. ap isBlank (w .database .blanks r c l h) ∙ blank-is)))
         (ap not (repeats-none (schemeOf d) (rows d cells tables) r l (w .database .unique)))

@@ -17,6 +17,7 @@ use Rattle.model.proofs.Marks.{length-marks}
 use Rattle.model.proofs.HoldingLaws.{HoldingFits, step-fit}
 use Rattle.model.proofs.RunLaws.{Sound, step-held}
 use Rattle.model.proofs.Fresh.{Fresh, fresh-sound, step-fresh}
+use Rattle.state.specs.Cells.{Cells}
 use Rattle.state.specs.declared.design.Design.{Design}
 use Rattle.state.specs.declared.held.Held.{Held}
 use Rattle.state.specs.Meaning.{schemeOf, databaseOf, holdingOf, heldOf, cacheOf}
@@ -27,7 +28,8 @@ use Rattle.lawful.proofs.HeldLaws.{held-back, holding-fits, holding-bac
 -- ---- the parts
 
 pub record Lengths (s : State) : Type 0 where
-  pub cells : 4096 ≤ length (s .cells)
+  pub cells : 4096 ≤ length (s .cells .numbers)
+  pub issues : 4096 ≤ length (s .cells .issues)
   pub tables : 512 ≤ length (s .tables)
   pub marks : 512 ≤ length (s .marks)
 
@@ -41,9 +43,10 @@ pub record Parts (s : State) : Type 0 where
 pub long-parts : (s : State) → longEnough s ≡ true → Lengths s
 unfolding longEnough
 long-parts s e =
-    let a = and-eq-true-iff (leb 4096 (length (s .cells))) _ .0 e in
-    let b = and-eq-true-iff (leb 512 (length (s .tables))) _ .0 (a .1) in
-    record { cells = leb-true _ _ (a .0); tables = leb-true _ _ (b .0); marks = leb-true _ _ (b .1) }
+    let a = and-eq-true-iff (leb 4096 (length (s .cells .numbers))) _ .0 e in
+    let i = and-eq-true-iff (leb 4096 (length (s .cells .issues))) _ .0 (a .1) in
+    let b = and-eq-true-iff (leb 512 (length (s .tables))) _ .0 (i .1) in
+    record { cells = leb-true _ _ (a .0); issues = leb-true _ _ (i .0); tables = leb-true _ _ (b .0); marks = leb-true _ _ (b .1) }
 
 pub parts : (s : State) → sound s ≡ true → Parts s
 unfolding lawful
@@ -57,7 +60,7 @@ parts s e =
 pub from-parts : (s : State) → Parts s → sound s ≡ true
 unfolding longEnough lawful
 from-parts s p =
-    both (both (le-leb _ _ (p .long .cells)) (both (le-leb _ _ (p .long .tables)) (le-leb _ _ (p .long .marks))))
+    both (both (le-leb _ _ (p .long .cells)) (both (le-leb _ _ (p .long .issues)) (both (le-leb _ _ (p .long .tables)) (le-leb _ _ (p .long .marks)))))
     (both (p .design) (both (p .rows) (both (p .held) (p .marks))))
 
 -- a part that is not lawful, whatever those before it are
@@ -67,17 +70,17 @@ held-unlawful s e = sym (and-right (lawfulDesign (s .design)) _ (and-right (lawf
 
 -- ---- the marks
 
-pub lawful-fresh : (d : Design) (cells tables : List ℕ) (h : Held) (m : List ℕ) → 512 ≤ length m → lawfulMarks d cells tables h m ≡ true →
+pub lawful-fresh : (d : Design) (cells : Cells) (tables : List ℕ) (h : Held) (m : List ℕ) → 512 ≤ length m → lawfulMarks d cells tables h m ≡ true →
     Fresh (schemeOf d) (databaseOf (d .rows) cells tables) (cacheOf h m)
 unfolding lawfulMarks marks databaseOf
 lawful-fresh d cells tables h m l e =
     record { reloaded = tab-of 0 512 _ (take 512 m) (length-take-le 512 m l) (λ r k. getD-take 512 m r 0 k ∙ eqb-true _ _ (all-at 512 _ e r k)) }
 
-pub fresh-long : (d : Design) (cells tables : List ℕ) (c : Cache) → Fresh (schemeOf d) (databaseOf (d .rows) cells tables) c → length (c .marks) ≡ 512
+pub fresh-long : (d : Design) (cells : Cells) (tables : List ℕ) (c : Cache) → Fresh (schemeOf d) (databaseOf (d .rows) cells tables) c → length (c .marks) ≡ 512
 unfolding databaseOf
 fresh-long d cells tables c f = ap length (f .reloaded) ∙ length-marks (databaseOf (d .rows) cells tables) _
 
-pub fresh-lawful : (d : Design) (cells tables : List ℕ) (h : Held) (m rest : List ℕ) →
+pub fresh-lawful : (d : Design) (cells : Cells) (tables : List ℕ) (h : Held) (m rest : List ℕ) →
     Fresh (schemeOf d) (databaseOf (d .rows) cells tables) (record { held = holdingOf h; marks = m }) → lawfulMarks d cells tables h (m ++ rest) ≡ true
 unfolding lawfulMarks marks databaseOf
 fresh-lawful d cells tables h m rest f =
@@ -129,6 +132,7 @@ module _ (s : State) (e : sound s ≡ true) (o : Operation) where
       (record {
         long = record {
           cells = parts s e .long .cells;
+          issues = parts s e .long .issues;
           tables = parts s e .long .tables;
           marks = omega (
             arith,

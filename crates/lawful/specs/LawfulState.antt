@@ -1,6 +1,6 @@
 -- What a lawful state is, in plain terms: the counts, what stands in each used place, that nothing stands twice, that the rest is 0, and that
 -- the marks are the smallest row set. That the tests of cause 12 say this, both ways, is proved in proofs/LawfulState.antt. Assumes nothing.
-use Prim.Native.Nat.{ℕ, _+_, _*_, _^_, _≤_, _<_}
+use Prim.Native.Nat.{ℕ, _^_, _≤_, _<_}
 use mathlib.Core.Path.{_≡_}
 use mathlib.Core.Logic.{_≢_}
 use mathlib.Core.List.{List}
@@ -10,6 +10,7 @@ use Rattle.model.specs.Database.{Lawful}
 use Rattle.model.specs.Cache.{Smallest}
 use Rattle.model.specs.Holding.{heldIn}
 use Rattle.model.specs.Runs.{marked}
+use Rattle.state.specs.Cells.{Cells}
 use Rattle.state.specs.declared.design.Table.{Table}
 use Rattle.state.specs.declared.design.Constraint.{Constraint}
 use Rattle.state.specs.declared.design.Filling.{Filling}
@@ -17,8 +18,8 @@ use Rattle.state.specs.declared.design.Design.{Design}
 use Rattle.state.specs.declared.held.HeldValue.{HeldValue}
 use Rattle.state.specs.declared.held.Held.{Held}
 use Rattle.state.specs.Design.{noTable, noConstraint, noFilling, tableAt, constraintAt, fillingAt}
-use Rattle.state.specs.Held.{noValue, heldAt}
-use Rattle.state.specs.Meaning.{columnOf, schemeOf, databaseOf, holdingOf}
+use Rattle.state.specs.Held.{noCell, noValue, heldAt}
+use Rattle.state.specs.Meaning.{cellAt, columnOf, schemeOf, databaseOf, holdingOf}
 use Rattle.state.specs.Lent.{State, scheme, database}
 
 -- ---- the design
@@ -56,11 +57,11 @@ pub record LawfulDesign (d : Design) : Type 0 where
 
 -- ---- the rows
 
-pub record LawfulRows (d : Design) (cells tables : List ℕ) : Type 0 where
+pub record LawfulRows (d : Design) (cells : Cells) (tables : List ℕ) : Type 0 where
   pub database : Lawful (schemeOf d) (databaseOf (d .rows) cells tables)
   -- numbers without a row are 0
   pub memberRest : (r : ℕ) → r < 512 → d .rows ≤ r → getD tables r 0 ≡ 0
-  pub cellRest : (r c : ℕ) → r < 512 → c < 8 → d .rows ≤ r → getD cells (8 * r + c) 0 ≡ 0
+  pub cellRest : (r c : ℕ) → r < 512 → c < 8 → d .rows ≤ r → cellAt cells r c ≡ noCell
 
 -- ---- the held values
 

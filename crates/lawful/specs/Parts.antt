@@ -1,17 +1,16 @@
 -- The parts of a lawful state, place by place, as the loops over the places decide them. Assumes nothing.
 use Prim.Native.Nat.{ℕ}
-use mathlib.Core.Bool.{Bool, _||_}
+use mathlib.Core.Bool.{Bool}
 use mathlib.Core.List.{List}
-use lib.Dec.{ltb}
 use Rattle.finite.specs.Finite.{all}
-use Rattle.model.specs.Cell.{isBlank}
+use Rattle.state.specs.Cells.{Cells}
 use Rattle.state.specs.declared.design.Design.{Design}
 use Rattle.state.specs.declared.held.Held.{Held}
 use Rattle.state.specs.Design.{tableAt, constraintAt, fillingAt}
 use Rattle.state.specs.Held.{heldAt}
 use Rattle.state.specs.Meaning.{cellOf, cellAt, schemeOf, databaseOf}
 use Rattle.state.specs.Lawful.{usedOr, tableFits, zeroTable, constraintFits, zeroConstraint, fillingFits, zeroFilling}
-use Rattle.state.specs.Lawful.{rowFits, zeroRow, heldFits, zeroHeld}
+use Rattle.state.specs.Lawful.{cellFits, rowFits, zeroRow, heldFits, zeroHeld}
 
 -- ---- a design's places: each holds what can stand there, or is unused and 0
 
@@ -35,21 +34,21 @@ fillingsLawful d = all 8 (fillingLawful d)
 
 -- ---- a row's places
 
--- cell c of row r is one of the first n, or blank
-abbrev pub blankAt : List ℕ → ℕ → ℕ → ℕ → Bool
-blankAt cells r n c = ltb c n || isBlank (cellOf (cellAt cells r c))
+-- cell c of row r fits a table of n columns
+abbrev pub cellFitsAt : Cells → ℕ → ℕ → ℕ → Bool
+cellFitsAt cells r n c = cellFits n c (cellOf (cellAt cells r c))
 
-abbrev pub blankFrom : List ℕ → ℕ → ℕ → Bool
-blankFrom cells r n = all 8 (blankAt cells r n)
+abbrev pub cellsFit : Cells → ℕ → ℕ → Bool
+cellsFit cells r n = all 8 (cellFitsAt cells r n)
 
 -- row r fits, or there is none and it is 0
-abbrev pub rowStands : Design → List ℕ → List ℕ → ℕ → Bool
+abbrev pub rowStands : Design → Cells → List ℕ → ℕ → Bool
 rowStands d cells tables r =
     let D = databaseOf (d .rows) cells tables in
     usedOr r (d .rows) (rowFits (schemeOf d) D r) (zeroRow D r)
 
 -- what lawful rows are, but for the values of unique columns
-unfoldable pub rowsStand : Design → List ℕ → List ℕ → Bool
+unfoldable pub rowsStand : Design → Cells → List ℕ → Bool
 rowsStand d cells tables = all 512 (rowStands d cells tables)
 
 -- ---- a held record's places

@@ -20,6 +20,7 @@ use Rattle.model.specs.Database.{Database}
 use Rattle.model.specs.Cache.{RowSet, Inside}
 use Rattle.model.specs.Rounds.{level, orElse, start, demands, reachedFrom, next, levels, reached, load, addedRows, laterRounds}
 use Rattle.model.proofs.RoundsLaws.{reached-level, level-reached, levels-length}
+use Rattle.state.specs.Cells.{Cells}
 use Rattle.state.specs.Meaning.{databaseOf}
 use Rattle.load.specs.Queue.{added}
 use Rattle.load.specs.Ended.{Enough, Ended, Covers, Within, Reaches}
@@ -164,7 +165,7 @@ pub load-covered : (S : Scheme) (D : Database) (seed X : RowSet) → Covers S D 
 unfolding load
 load-covered S D seed X c = levels-inside S D (start D (λ _. false) seed) X (c .closed) (start-inside D seed X (c .seeds)) (D .size)
 
-module _ (S : Scheme) (number : ℕ) (cells tables : List ℕ) (L M : List ℕ) (rows rounds : ℕ) where
+module _ (S : Scheme) (number : ℕ) (cells : Cells) (tables : List ℕ) (L M : List ℕ) (rows rounds : ℕ) where
   abbrev D : Database
   D = databaseOf number cells tables
 

@@ -15,6 +15,7 @@ use Rattle.model.specs.Scheme.{Scheme}
 use Rattle.model.specs.Database.{Database}
 use Rattle.model.specs.Cache.{RowSet}
 use Rattle.model.specs.Rounds.{level, demands, reachedFrom, next}
+use Rattle.state.specs.Cells.{Cells}
 use Rattle.state.specs.Meaning.{databaseOf}
 use Rattle.load.specs.Raised.{raised}
 use Rattle.load.specs.Queue.{added, Listed, Grown, Front}
@@ -96,7 +97,7 @@ pub asks-here : (d : ℕ → RowSet) (from : ℕ) (q q′ : List ℕ) (j : ℕ) 
 unfolding asks
 asks-here d from q q′ j l e r = ap (λ (s : ℕ). d s r) e ∙ sym (ap (λ (b : Bool). b && d (getD q j 0) r) (le-leb from j l))
 
-module _ (S : Scheme) (rows : ℕ) (cells tables : List ℕ) (n : ℕ) (L q : List ℕ) (from end : ℕ) (u : Listed (added L) q end) (w : Front (n + 2) L q from end) where
+module _ (S : Scheme) (rows : ℕ) (cells : Cells) (tables : List ℕ) (n : ℕ) (L q : List ℕ) (from end : ℕ) (u : Listed (added L) q end) (w : Front (n + 2) L q from end) where
   abbrev D : Database
   D = databaseOf rows cells tables
 

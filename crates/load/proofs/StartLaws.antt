@@ -15,6 +15,7 @@ use Rattle.model.specs.Database.{Database, has}
 use Rattle.model.specs.Cache.{RowSet}
 use Rattle.model.specs.Rounds.{level, orElse, start, levels, load}
 use Rattle.model.specs.Holding.{Pair, pairsWant, wanted}
+use Rattle.state.specs.Cells.{Cells}
 use Rattle.state.specs.declared.held.Held.{Held}
 use Rattle.state.specs.Meaning.{cellOf, databaseOf, pairOf, pairsOf, holdingOf}
 use Rattle.state.specs.Held.{heldAt}
@@ -44,7 +45,7 @@ module _ (D : Database) (old seed : RowSet) where
       at-row (no h) = omega (arith, tab-past {A = ℕ} 0 (D .size) (λ i. cond (old i) 1 (cond (seed i) 2 0)) r (omega arith))
 
 -- the same over lent rows
-module _ (rows : ℕ) (cells tables : List ℕ) (old seed : RowSet) (L : List ℕ) (e : L ≡ start (databaseOf rows cells tables) old seed) where
+module _ (rows : ℕ) (cells : Cells) (tables : List ℕ) (old seed : RowSet) (L : List ℕ) (e : L ≡ start (databaseOf rows cells tables) old seed) where
   pub started-long : length L ≡ 512
   unfolding databaseOf
   started-long = ap length e ∙ length-start (databaseOf rows cells tables) old seed
@@ -52,7 +53,7 @@ module _ (rows : ℕ) (cells tables : List ℕ) (old seed : RowSet) (L : List �
   pub started-low : (r : ℕ) → level L r ≤ 2
   started-low r = subst (λ (K : List ℕ). level K r ≤ 2) (sym e) (start-low (databaseOf rows cells tables) old seed r)
 
-pub load-is : (S : Scheme) (rows : ℕ) (cells tables : List ℕ) (old seed : RowSet) →
+pub load-is : (S : Scheme) (rows : ℕ) (cells : Cells) (tables : List ℕ) (old seed : RowSet) →
     levels S (databaseOf rows cells tables) (start (databaseOf rows cells tables) old seed) 512 ≡ load S (databaseOf rows cells tables) old seed
 unfolding load databaseOf
 load-is S rows cells tables old seed = refl
@@ -75,7 +76,7 @@ module _ (old : RowSet) (L : List ℕ) (e : L ≡ tab 512 (λ r. cond (old r) 1 
       low false l e = omega arith
 
   -- a step to level 2
-  pub start-raised : (rows : ℕ) (cells tables : List ℕ) (P seed : RowSet) (M : List ℕ) → M ≡ raised L 2 P → ((r : ℕ) → r < 512 → P r ≡ seed r) →
+  pub start-raised : (rows : ℕ) (cells : Cells) (tables : List ℕ) (P seed : RowSet) (M : List ℕ) → M ≡ raised L 2 P → ((r : ℕ) → r < 512 → P r ≡ seed r) →
       M ≡ start (databaseOf rows cells tables) old seed
   unfolding start raised databaseOf
   start-raised rows cells tables P seed M g h =
@@ -101,7 +102,7 @@ unfolding pairsOf
 wanted-any S D h r = sym (wanted-tab S D r (h .count) (λ i. pairOf (heldAt h i)))
 
 -- from nothing, by steps for the held values
-pub start-all : (S : Scheme) (rows : ℕ) (cells tables : List ℕ) (h : Held) (L : List ℕ) → let D = databaseOf rows cells tables in
+pub start-all : (S : Scheme) (rows : ℕ) (cells : Cells) (tables : List ℕ) (h : Held) (L : List ℕ) → let D = databaseOf rows cells tables in
     L ≡ raised (replicate 512 0) 2 (λ r. any (h .count) (λ i. has D (S .filling (heldAt h i .filling) .column) (cellOf (heldAt h i .value)) r)) →
     L ≡ start D (λ _. false) (wanted S D (holdingOf h))
 unfolding start raised databaseOf

@@ -3,6 +3,7 @@ ghost use mathlib.Core.Path.{_≡_};
 ghost use Prim.Native.Nat.{_<_};
 ghost use lib.ListN.{length};
 ghost use Rattle.model.specs.Rounds.{demands};
+ghost use Rattle.state.specs.Cells.{cellsIn};
 ghost use Rattle.state.specs.Design.{InRange};
 ghost use Rattle.state.specs.Meaning.{databaseOf, schemeOf};
 ghost use Rattle.catalog.specs.Catalog.{nexts, firsts};
@@ -30,6 +31,7 @@ pub(crate) fn target_places(d: Design) -> [usize; 16]
 pub(crate) fn expand(
     d: Design,
     cells: &[u32],
+    issues: &[u8],
     tables: &[u8],
     next: &[u16; 4096],
     first: &[u16; 8192],
@@ -42,13 +44,14 @@ pub(crate) fn expand(
     end: usize,
 ) -> usize
     requires { ⌜ InRange d × (s < 512) × (1 < to) × (length (now levels) ≡ 512) ⌝ }
-    requires { ⌜ (now next ≡ nexts (databaseOf (d .rows) (now cells) (now tables)))
-        × (now first ≡ firsts (schemeOf d) (databaseOf (d .rows) (now cells) (now tables))) ⌝ }
+    requires { ⌜ (now next ≡ nexts (databaseOf (d .rows) (cellsIn (now cells) (now issues)) (now tables)))
+        × (now first ≡ firsts (schemeOf d) (databaseOf (d .rows) (cellsIn (now cells) (now issues)) (now tables))) ⌝ }
     requires { ⌜ (now places ≡ targetPlaces d) × Listed (added (now levels)) (now queue) end ⌝ }
-    requires { ⌜ Walked (databaseOf (d .rows) (now cells) (now tables)) (now walked) (now levels) ⌝ }
-    ensures { λ e. ⌜ Grown to (demands (schemeOf d) (databaseOf (d .rows) (now (cells .entry)) (now (tables .entry))) s)
+    requires { ⌜ Walked (databaseOf (d .rows) (cellsIn (now cells) (now issues)) (now tables)) (now walked) (now levels) ⌝ }
+    ensures { λ e. ⌜ Grown to (demands (schemeOf d) (databaseOf (d .rows) (cellsIn (now (cells .entry)) (now (issues .entry))) (now (tables .entry))) s)
         (now (levels .entry)) (now (queue .entry)) end (now (levels .exit)) (now (queue .exit)) e ⌝ }
-    ensures { λ _. ⌜ Walked (databaseOf (d .rows) (now (cells .entry)) (now (tables .entry))) (now (walked .exit)) (now (levels .exit)) ⌝ }
+    ensures { λ _. ⌜ Walked (databaseOf (d .rows) (cellsIn (now (cells .entry)) (now (issues .entry))) (now (tables .entry))) (now (walked .exit))
+        (now (levels .exit)) ⌝ }
 {
     let mut e = end;
     for i in 0..d.constraints {
@@ -57,6 +60,7 @@ pub(crate) fn expand(
         e = walk_once(
             d.rows,
             cells,
+            issues,
             tables,
             next,
             place,

@@ -7,6 +7,7 @@ ghost use Rattle.model.specs.Rounds as Rounds;
 ghost use Rattle.model.specs.Rounds.{addedRows, laterRounds};
 ghost use Rattle.model.specs.Holding.{wanted};
 ghost use Rattle.model.specs.Runs.{marked, reloadLevels};
+ghost use Rattle.state.specs.Cells.{cellsIn};
 ghost use Rattle.state.specs.Design.{InRange};
 ghost use Rattle.state.specs.Held.{heldAt};
 ghost use Rattle.state.specs.Meaning.{cellOf, columnOf, databaseOf, schemeOf, holdingOf};
@@ -26,10 +27,11 @@ use state::Held;
 pub fn load_value(
     d: Design,
     cells: &[u32],
+    issues: &[u8],
     tables: &[u8],
     next: &[u16; 4096],
     first: &[u16; 8192],
-    keys: &[u32; 4096],
+    keys: &[u64; 4096],
     heads: &[u16; 4096],
     starts: &[u16; 65],
     marks: &[u8],
@@ -38,16 +40,19 @@ pub fn load_value(
     levels: &mut [u16; 512],
 ) -> Growth
     requires { ⌜ InRange d × (k .table < 8) × (k .place < 8) × (512 ≤ length (now marks)) × (length (now levels) ≡ 512) ⌝ }
-    requires { ⌜ Catalogued d (now cells) (now tables) (now next) (now first) (now keys) (now heads) (now starts) ⌝ }
-    ensures { λ g. ⌜ (now (levels .exit) ≡ Rounds.load (schemeOf d) (databaseOf (d .rows) (now (cells .entry)) (now (tables .entry)))
-        (marked (now (marks .entry))) (has (databaseOf (d .rows) (now (cells .entry)) (now (tables .entry))) (columnOf k) (cellOf v)))
-        × (g .rows ≡ addedRows (databaseOf (d .rows) (now (cells .entry)) (now (tables .entry))) (now (levels .exit)))
-        × (g .rounds ≡ laterRounds (databaseOf (d .rows) (now (cells .entry)) (now (tables .entry))) (now (levels .exit))) ⌝ }
+    requires { ⌜ Catalogued d (cellsIn (now cells) (now issues)) (now tables) (now next) (now first) (now keys) (now heads) (now starts) ⌝ }
+    ensures { λ g. ⌜ (now (levels .exit) ≡ Rounds.load (schemeOf d) (databaseOf (d .rows) (cellsIn (now (cells .entry)) (now (issues .entry)))
+        (now (tables .entry))) (marked (now (marks .entry))) (has (databaseOf (d .rows) (cellsIn (now (cells .entry)) (now (issues .entry)))
+        (now (tables .entry))) (columnOf k) (cellOf v)))
+        × (g .rows ≡ addedRows (databaseOf (d .rows) (cellsIn (now (cells .entry)) (now (issues .entry))) (now (tables .entry))) (now (levels .exit)))
+        × (g .rounds ≡ laterRounds (databaseOf (d .rows) (cellsIn (now (cells .entry)) (now (issues .entry))) (now (tables .entry)))
+        (now (levels .exit))) ⌝ }
 {
     let mut queue = [0u16; 512];
     let end = start_value(
         d.rows,
         cells,
+        issues,
         tables,
         next,
         keys,
@@ -62,6 +67,7 @@ pub fn load_value(
     close(
         d,
         cells,
+        issues,
         tables,
         next,
         first,
@@ -77,10 +83,11 @@ pub fn load_value(
 pub fn load_held(
     d: Design,
     cells: &[u32],
+    issues: &[u8],
     tables: &[u8],
     next: &[u16; 4096],
     first: &[u16; 8192],
-    keys: &[u32; 4096],
+    keys: &[u64; 4096],
     heads: &[u16; 4096],
     starts: &[u16; 65],
     held: Held,
@@ -88,16 +95,18 @@ pub fn load_held(
     levels: &mut [u16; 512],
 ) -> usize
     requires { ⌜ InRange d × (held .count ≤ 64) × ((i : ℕ) → heldAt held i .filling < 8) ⌝ }
-    requires { ⌜ Catalogued d (now cells) (now tables) (now next) (now first) (now keys) (now heads) (now starts) ⌝ }
-    requires { ⌜ Within (schemeOf d) (databaseOf (d .rows) (now cells) (now tables))
-        (wanted (schemeOf d) (databaseOf (d .rows) (now cells) (now tables)) (holdingOf held)) most ⌝ }
+    requires { ⌜ Catalogued d (cellsIn (now cells) (now issues)) (now tables) (now next) (now first) (now keys) (now heads) (now starts) ⌝ }
+    requires { ⌜ Within (schemeOf d) (databaseOf (d .rows) (cellsIn (now cells) (now issues)) (now tables))
+        (wanted (schemeOf d) (databaseOf (d .rows) (cellsIn (now cells) (now issues)) (now tables)) (holdingOf held)) most ⌝ }
     ensures { λ n. ⌜ Reaches (now (levels .exit))
-        (reloadLevels (schemeOf d) (databaseOf (d .rows) (now (cells .entry)) (now (tables .entry))) (holdingOf held)) n ⌝ }
+        (reloadLevels (schemeOf d) (databaseOf (d .rows) (cellsIn (now (cells .entry)) (now (issues .entry))) (now (tables .entry)))
+        (holdingOf held)) n ⌝ }
 {
     let mut queue = [0u16; 512];
     let end = start_held(
         d,
         cells,
+        issues,
         tables,
         next,
         keys,
@@ -107,6 +116,17 @@ pub fn load_held(
         levels,
         &mut queue,
     );
-    let g = close(d, cells, tables, next, first, levels, &mut queue, end, most);
+    let g = close(
+        d,
+        cells,
+        issues,
+        tables,
+        next,
+        first,
+        levels,
+        &mut queue,
+        end,
+        most,
+    );
     g.rows
 }

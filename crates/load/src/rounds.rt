@@ -3,6 +3,7 @@ ghost use mathlib.Core.Path.{_≡_};
 ghost use Prim.Native.Nat.{ℕ, _+_, _≤_, _<_};
 ghost use lib.ListN.{length, getD};
 ghost use Rattle.model.specs.Rounds as Rounds;
+ghost use Rattle.state.specs.Cells.{cellsIn};
 ghost use Rattle.state.specs.Design.{InRange};
 ghost use Rattle.state.specs.Meaning.{databaseOf, schemeOf};
 ghost use Rattle.catalog.specs.Catalog.{nexts, firsts};
@@ -19,6 +20,7 @@ use state::Design;
 pub(crate) fn round(
     d: Design,
     cells: &[u32],
+    issues: &[u8],
     tables: &[u8],
     next: &[u16; 4096],
     first: &[u16; 8192],
@@ -31,19 +33,22 @@ pub(crate) fn round(
     end: usize,
 ) -> usize
     requires { ⌜ InRange d × (n < 512) × (length (now levels) ≡ 512) ⌝ }
-    requires { ⌜ (now next ≡ nexts (databaseOf (d .rows) (now cells) (now tables)))
-        × (now first ≡ firsts (schemeOf d) (databaseOf (d .rows) (now cells) (now tables))) ⌝ }
+    requires { ⌜ (now next ≡ nexts (databaseOf (d .rows) (cellsIn (now cells) (now issues)) (now tables)))
+        × (now first ≡ firsts (schemeOf d) (databaseOf (d .rows) (cellsIn (now cells) (now issues)) (now tables))) ⌝ }
     requires { ⌜ (now places ≡ targetPlaces d) × Listed (added (now levels)) (now queue) end × Front (n + 2) (now levels) (now queue) from end
-        × Walked (databaseOf (d .rows) (now cells) (now tables)) (now walked) (now levels) ⌝ }
-    ensures { λ _. ⌜ now (levels .exit) ≡ Rounds.next (schemeOf d) (databaseOf (d .rows) (now (cells .entry)) (now (tables .entry))) n (now (levels .entry)) ⌝ }
+        × Walked (databaseOf (d .rows) (cellsIn (now cells) (now issues)) (now tables)) (now walked) (now levels) ⌝ }
+    ensures { λ _. ⌜ now (levels .exit) ≡ Rounds.next (schemeOf d) (databaseOf (d .rows) (cellsIn (now (cells .entry)) (now (issues .entry)))
+        (now (tables .entry))) n (now (levels .entry)) ⌝ }
     ensures { λ e. ⌜ Listed (added (now (levels .exit))) (now (queue .exit)) e × Front (n + 3) (now (levels .exit)) (now (queue .exit)) end e
-        × Walked (databaseOf (d .rows) (now (cells .entry)) (now (tables .entry))) (now (walked .exit)) (now (levels .exit)) ⌝ }
+        × Walked (databaseOf (d .rows) (cellsIn (now (cells .entry)) (now (issues .entry))) (now (tables .entry))) (now (walked .exit))
+        (now (levels .exit)) ⌝ }
 {
     let mut e = end;
     for i in from..end {
         e = expand(
             d,
             cells,
+            issues,
             tables,
             next,
             first,
@@ -64,6 +69,7 @@ pub(crate) fn round(
 pub(crate) fn run(
     d: Design,
     cells: &[u32],
+    issues: &[u8],
     tables: &[u8],
     next: &[u16; 4096],
     first: &[u16; 8192],
@@ -75,12 +81,12 @@ pub(crate) fn run(
     most: usize,
 ) -> Growth
     requires { ⌜ InRange d × (length (now levels) ≡ 512) × ((r : ℕ) → getD (now levels) r 0 ≤ 2) ⌝ }
-    requires { ⌜ (now next ≡ nexts (databaseOf (d .rows) (now cells) (now tables)))
-        × (now first ≡ firsts (schemeOf d) (databaseOf (d .rows) (now cells) (now tables))) ⌝ }
+    requires { ⌜ (now next ≡ nexts (databaseOf (d .rows) (cellsIn (now cells) (now issues)) (now tables)))
+        × (now first ≡ firsts (schemeOf d) (databaseOf (d .rows) (cellsIn (now cells) (now issues)) (now tables))) ⌝ }
     requires { ⌜ (now places ≡ targetPlaces d) × Listed (added (now levels)) (now queue) end × Front 2 (now levels) (now queue) 0 end
-        × Walked (databaseOf (d .rows) (now cells) (now tables)) (now walked) (now levels) ⌝ }
-    ensures { λ g. ⌜ Ended (schemeOf d) (databaseOf (d .rows) (now (cells .entry)) (now (tables .entry))) (now (levels .entry)) most
-        (now (levels .exit)) (g .rows) (g .rounds) ⌝ }
+        × Walked (databaseOf (d .rows) (cellsIn (now cells) (now issues)) (now tables)) (now walked) (now levels) ⌝ }
+    ensures { λ g. ⌜ Ended (schemeOf d) (databaseOf (d .rows) (cellsIn (now (cells .entry)) (now (issues .entry))) (now (tables .entry)))
+        (now (levels .entry)) most (now (levels .exit)) (g .rows) (g .rounds) ⌝ }
 {
     let mut n: u16 = 0;
     let mut from: usize = 0;
@@ -95,6 +101,7 @@ pub(crate) fn run(
         let grown = round(
             d,
             cells,
+            issues,
             tables,
             next,
             first,
@@ -128,6 +135,7 @@ pub(crate) fn run(
 pub(crate) fn close(
     d: Design,
     cells: &[u32],
+    issues: &[u8],
     tables: &[u8],
     next: &[u16; 4096],
     first: &[u16; 8192],
@@ -137,10 +145,10 @@ pub(crate) fn close(
     most: usize,
 ) -> Growth
     requires { ⌜ InRange d × (length (now levels) ≡ 512) × ((r : ℕ) → getD (now levels) r 0 ≤ 2) × Listed (added (now levels)) (now queue) end ⌝ }
-    requires { ⌜ (now next ≡ nexts (databaseOf (d .rows) (now cells) (now tables)))
-        × (now first ≡ firsts (schemeOf d) (databaseOf (d .rows) (now cells) (now tables))) ⌝ }
-    ensures { λ g. ⌜ Ended (schemeOf d) (databaseOf (d .rows) (now (cells .entry)) (now (tables .entry))) (now (levels .entry)) most
-        (now (levels .exit)) (g .rows) (g .rounds) ⌝ }
+    requires { ⌜ (now next ≡ nexts (databaseOf (d .rows) (cellsIn (now cells) (now issues)) (now tables)))
+        × (now first ≡ firsts (schemeOf d) (databaseOf (d .rows) (cellsIn (now cells) (now issues)) (now tables))) ⌝ }
+    ensures { λ g. ⌜ Ended (schemeOf d) (databaseOf (d .rows) (cellsIn (now (cells .entry)) (now (issues .entry))) (now (tables .entry)))
+        (now (levels .entry)) most (now (levels .exit)) (g .rows) (g .rounds) ⌝ }
 {
     if end == 0 {
         return Growth { rows: 0, rounds: 0 };
@@ -150,6 +158,7 @@ pub(crate) fn close(
     run(
         d,
         cells,
+        issues,
         tables,
         next,
         first,

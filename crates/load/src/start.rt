@@ -9,6 +9,7 @@ ghost use Rattle.model.specs.Database.{has};
 ghost use Rattle.model.specs.Rounds.{start};
 ghost use Rattle.model.specs.Holding.{wanted};
 ghost use Rattle.model.specs.Runs.{marked};
+ghost use Rattle.state.specs.Cells.{cellsIn};
 ghost use Rattle.state.specs.Design.{InRange};
 ghost use Rattle.state.specs.Held.{heldAt};
 ghost use Rattle.state.specs.Meaning.{cellOf, columnOf, databaseOf, schemeOf, holdingOf};
@@ -43,9 +44,10 @@ pub(crate) fn cached_levels(marks: &[u8], levels: &mut [u16; 512])
 pub(crate) fn start_value(
     rows: usize,
     cells: &[u32],
+    issues: &[u8],
     tables: &[u8],
     next: &[u16; 4096],
-    keys: &[u32; 4096],
+    keys: &[u64; 4096],
     heads: &[u16; 4096],
     starts: &[u16; 65],
     marks: &[u8],
@@ -55,16 +57,29 @@ pub(crate) fn start_value(
     queue: &mut [u16; 512],
 ) -> usize
     requires { ⌜ (k .table < 8) × (k .place < 8) × (512 ≤ length (now marks)) × (length (now levels) ≡ 512) × (length (now queue) ≡ 512) ⌝ }
-    requires { ⌜ (now next ≡ nexts (databaseOf rows (now cells) (now tables)))
-        × Directory (databaseOf rows (now cells) (now tables)) (now keys) (now heads) (now starts) ⌝ }
-    ensures { λ e. ⌜ (now (levels .exit) ≡ start (databaseOf rows (now (cells .entry)) (now (tables .entry))) (marked (now (marks .entry)))
-        (has (databaseOf rows (now (cells .entry)) (now (tables .entry))) (columnOf k) (cellOf v)))
+    requires { ⌜ (now next ≡ nexts (databaseOf rows (cellsIn (now cells) (now issues)) (now tables)))
+        × Directory (databaseOf rows (cellsIn (now cells) (now issues)) (now tables)) (now keys) (now heads) (now starts) ⌝ }
+    ensures { λ e. ⌜ (now (levels .exit) ≡ start (databaseOf rows (cellsIn (now (cells .entry)) (now (issues .entry))) (now (tables .entry)))
+        (marked (now (marks .entry))) (has (databaseOf rows (cellsIn (now (cells .entry)) (now (issues .entry))) (now (tables .entry))) (columnOf k)
+        (cellOf v)))
         × Listed (added (now (levels .exit))) (now (queue .exit)) e ⌝ }
 {
     cached_levels(marks, levels);
     let r = find(keys, heads, starts, k, v);
     let place = k.place as usize;
-    walk(rows, cells, tables, next, place, r, levels, 2, queue, 0)
+    walk(
+        rows,
+        cells,
+        issues,
+        tables,
+        next,
+        place,
+        r,
+        levels,
+        2,
+        queue,
+        0,
+    )
 }
 
 // Round 0 of a load of all held values from nothing: the rows that have one of them in its filling's column; how many they are, and stand in the queue.
@@ -72,9 +87,10 @@ pub(crate) fn start_value(
 pub(crate) fn start_held(
     d: Design,
     cells: &[u32],
+    issues: &[u8],
     tables: &[u8],
     next: &[u16; 4096],
-    keys: &[u32; 4096],
+    keys: &[u64; 4096],
     heads: &[u16; 4096],
     starts: &[u16; 65],
     held: Held,
@@ -82,10 +98,11 @@ pub(crate) fn start_held(
     queue: &mut [u16; 512],
 ) -> usize
     requires { ⌜ InRange d × (held .count ≤ 64) × ((i : ℕ) → heldAt held i .filling < 8) × (length (now queue) ≡ 512) ⌝ }
-    requires { ⌜ (now next ≡ nexts (databaseOf (d .rows) (now cells) (now tables)))
-        × Directory (databaseOf (d .rows) (now cells) (now tables)) (now keys) (now heads) (now starts) ⌝ }
-    ensures { λ e. ⌜ (now (levels .exit) ≡ start (databaseOf (d .rows) (now (cells .entry)) (now (tables .entry))) (λ _. false)
-        (wanted (schemeOf d) (databaseOf (d .rows) (now (cells .entry)) (now (tables .entry))) (holdingOf held)))
+    requires { ⌜ (now next ≡ nexts (databaseOf (d .rows) (cellsIn (now cells) (now issues)) (now tables)))
+        × Directory (databaseOf (d .rows) (cellsIn (now cells) (now issues)) (now tables)) (now keys) (now heads) (now starts) ⌝ }
+    ensures { λ e. ⌜ (now (levels .exit) ≡ start (databaseOf (d .rows) (cellsIn (now (cells .entry)) (now (issues .entry))) (now (tables .entry)))
+        (λ _. false) (wanted (schemeOf d) (databaseOf (d .rows) (cellsIn (now (cells .entry)) (now (issues .entry))) (now (tables .entry)))
+        (holdingOf held)))
         × Listed (added (now (levels .exit))) (now (queue .exit)) e ⌝ }
 {
     *levels = [0u16; 512];
@@ -99,7 +116,19 @@ pub(crate) fn start_held(
         let k = f.column;
         let r = find(keys, heads, starts, k, v.value);
         let place = k.place as usize;
-        end = walk(d.rows, cells, tables, next, place, r, levels, 2, queue, end);
+        end = walk(
+            d.rows,
+            cells,
+            issues,
+            tables,
+            next,
+            place,
+            r,
+            levels,
+            2,
+            queue,
+            end,
+        );
     }
     end
 }

@@ -2,6 +2,7 @@
 ghost use mathlib.Core.Path.{_≡_};
 ghost use Prim.Native.Nat.{_<_};
 ghost use lib.ListN.{length};
+ghost use Rattle.state.specs.Cells.{cellsIn};
 ghost use Rattle.state.specs.Meaning.{databaseOf};
 ghost use Rattle.catalog.specs.Catalog.{nexts};
 ghost use Rattle.load.specs.Queue.{Listed, added, Grown};
@@ -14,6 +15,7 @@ use state::Design;
 pub(crate) fn walk(
     rows: usize,
     cells: &[u32],
+    issues: &[u8],
     tables: &[u8],
     next: &[u16; 4096],
     place: usize,
@@ -23,10 +25,10 @@ pub(crate) fn walk(
     queue: &mut [u16; 512],
     end: usize,
 ) -> usize
-    requires { ⌜ now next ≡ nexts (databaseOf rows (now cells) (now tables)) ⌝ }
-    requires { ⌜ (place < 8) × Begins (databaseOf rows (now cells) (now tables)) place from ⌝ }
+    requires { ⌜ now next ≡ nexts (databaseOf rows (cellsIn (now cells) (now issues)) (now tables)) ⌝ }
+    requires { ⌜ (place < 8) × Begins (databaseOf rows (cellsIn (now cells) (now issues)) (now tables)) place from ⌝ }
     requires { ⌜ (1 < to) × (length (now levels) ≡ 512) × Listed (added (now levels)) (now queue) end ⌝ }
-    ensures { λ e. ⌜ Grown to (along (databaseOf rows (now (cells .entry)) (now (tables .entry))) place from)
+    ensures { λ e. ⌜ Grown to (along (databaseOf rows (cellsIn (now (cells .entry)) (now (issues .entry))) (now (tables .entry))) place from)
         (now (levels .entry)) (now (queue .entry)) end (now (levels .exit)) (now (queue .exit)) e ⌝ }
 {
     let mut e = end;
@@ -43,6 +45,7 @@ pub(crate) fn walk(
 pub(crate) fn walk_once(
     rows: usize,
     cells: &[u32],
+    issues: &[u8],
     tables: &[u8],
     next: &[u16; 4096],
     place: usize,
@@ -53,13 +56,14 @@ pub(crate) fn walk_once(
     queue: &mut [u16; 512],
     end: usize,
 ) -> usize
-    requires { ⌜ now next ≡ nexts (databaseOf rows (now cells) (now tables)) ⌝ }
-    requires { ⌜ (place < 8) × Begins (databaseOf rows (now cells) (now tables)) place from ⌝ }
+    requires { ⌜ now next ≡ nexts (databaseOf rows (cellsIn (now cells) (now issues)) (now tables)) ⌝ }
+    requires { ⌜ (place < 8) × Begins (databaseOf rows (cellsIn (now cells) (now issues)) (now tables)) place from ⌝ }
     requires { ⌜ (1 < to) × (length (now levels) ≡ 512) × Listed (added (now levels)) (now queue) end
-        × Walked (databaseOf rows (now cells) (now tables)) (now walked) (now levels) ⌝ }
-    ensures { λ e. ⌜ Grown to (along (databaseOf rows (now (cells .entry)) (now (tables .entry))) place from)
+        × Walked (databaseOf rows (cellsIn (now cells) (now issues)) (now tables)) (now walked) (now levels) ⌝ }
+    ensures { λ e. ⌜ Grown to (along (databaseOf rows (cellsIn (now (cells .entry)) (now (issues .entry))) (now (tables .entry))) place from)
         (now (levels .entry)) (now (queue .entry)) end (now (levels .exit)) (now (queue .exit)) e ⌝ }
-    ensures { λ _. ⌜ Walked (databaseOf rows (now (cells .entry)) (now (tables .entry))) (now (walked .exit)) (now (levels .exit)) ⌝ }
+    ensures { λ _. ⌜ Walked (databaseOf rows (cellsIn (now (cells .entry)) (now (issues .entry))) (now (tables .entry))) (now (walked .exit))
+        (now (levels .exit)) ⌝ }
 {
     if Design::ROWS <= from {
         return end;
@@ -71,6 +75,7 @@ pub(crate) fn walk_once(
     let e = walk(
         rows,
         cells,
+        issues,
         tables,
         next,
         place,

@@ -9,7 +9,7 @@ use mathlib.Core.Bool.{Bool, true, false, not, _||_, and-eq-true-iff}
 use borrow.Author.Tests.{eqb-true, eqb-false, eq-eqb, ltb-false}
 use lib.Dec.{eqb, ltb}
 use Rattle.finite.proofs.Bools.{dec, both, clash}
-use Rattle.model.specs.Cell.{Cell, isBlank}
+use Rattle.model.specs.Cell.{Cell, numberless}
 use Rattle.model.specs.Scheme.{Column, Scheme, isColumn}
 use Rattle.model.specs.Database.{Database, Lawful}
 use Rattle.model.specs.Probe as Probe
@@ -49,7 +49,7 @@ module _ (S : Scheme) (D : Database) (c : Cache) (k : Column) (v : Cell) where
   -- THEOREM: a probe that isn't refused is sent exactly if no ground applies
   pub probe-sent-exactly : Unrefused (questionAnswer S D c (probe k v)) → (questionAnswer S D c (probe k v) ≡ sent) ↔ Groundless S D c k v
   unfolding questionAnswer
-  probe-sent-exactly = go (isColumn S k) (isBlank v) found (Probe.cachedRows D (marked (c .marks)) k v) none-found found-none
+  probe-sent-exactly = go (isColumn S k) (numberless v) found (Probe.cachedRows D (marked (c .marks)) k v) none-found found-none
     where
       go : (a b : Bool) (n m : ℕ) → (n ≡ 0 → Groundless S D c k v) → (Groundless S D c k v → n ≡ 0) →
           Unrefused (unless (not a) 5 (unless b 9 (groundOf n m))) → (unless (not a) 5 (unless b 9 (groundOf n m)) ≡ sent) ↔ Groundless S D c k v
@@ -96,11 +96,11 @@ module _ {S : Scheme} {D : Database} (l : Lawful S D) (apart : FillingsApart S) 
 
   abbrev Parts : Type 0
   Parts =
-      Tested (limitCause out) (fullAnswer S D q out) (outputFits S q out) (isBlank (q .value)) (isAnswered S D c q) (withinLimit S D q out) (queryAnswer S D c q out)
+      Tested (limitCause out) (fullAnswer S D q out) (outputFits S q out) (numberless (q .value)) (isAnswered S D c q) (withinLimit S D q out) (queryAnswer S D c q out)
 
   parted : Parts
   unfolding queryAnswer
-  parted = tests (limitCause out) (fullAnswer S D q out) (outputFits S q out) (isBlank (q .value)) (isAnswered S D c q) (withinLimit S D q out) u
+  parted = tests (limitCause out) (fullAnswer S D q out) (outputFits S q out) (numberless (q .value)) (isAnswered S D c q) (withinLimit S D q out) u
 
   full-not-sent : (a : Answer) → a ≡ fullAnswer S D q out → a ≡ sent → ⊥
   full-not-sent a e f = full-answers S D q out .0 (sym e ∙ f)
@@ -120,7 +120,7 @@ module _ {S : Scheme} {D : Database} (l : Lawful S D) (apart : FillingsApart S) 
   -- ---- one that is answered
 
   -- it has a ground afterwards
-  answered-ground : outputFits S q out ≡ true → isBlank (q .value) ≡ false → isAnswered S D c q ≡ true → withinLimit S D q out ≡ true →
+  answered-ground : outputFits S q out ≡ true → numberless (q .value) ≡ false → isAnswered S D c q ≡ true → withinLimit S D q out ≡ true →
       queryGround S D after q ≢ 0
   unfolding isAnswered answerable
   answered-ground f b y w =

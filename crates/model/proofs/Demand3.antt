@@ -7,13 +7,14 @@ use Rattle.model.specs.Cache.{Smallest}
 use Rattle.model.specs.Holding.{nothingHeld, heldIn}
 use Rattle.model.specs.Runs.{Operation, heldFrom, marked, Cache, emptyCache, cacheFrom}
 use Rattle.model.specs.Demand.{Demand3}
+use Rattle.model.proofs.CellLaws.{numbered-full}
 use Rattle.model.proofs.Exact.{exact}
 use Rattle.model.proofs.RunLaws.{Sound, empty-sound, run-sound, run-held}
 
 -- after any run from any sound cache the cached rows are the smallest set for what the run holds, and every probe is exact
 pub demand3-from : {S : Scheme} {D : Database} → Lawful S D → (c : Cache) → Sound S D c → (os : List Operation) →
     Demand3 S D (heldFrom S D (c .held) os) (marked (cacheFrom S D c os .marks))
-demand3-from {S} {D} lawful c s os = record { smallest = m; probes = λ k col v f n. exact lawful m col v f n }
+demand3-from {S} {D} lawful c s os = record { smallest = m; probes = λ k col v f n. exact lawful m col v f (numbered-full v n) }
   where
     m : Smallest S D (heldIn S (heldFrom S D (c .held) os)) (marked (cacheFrom S D c os .marks))
     m = rw (run-held c os s) at (run-sound c os s)

@@ -7,7 +7,7 @@ use borrow.Author.Tests.{eq-eqb, ne-eqb}
 use lib.Dec.{eqb, ltb}
 use lib.ListN.{getD}
 use Rattle.finite.proofs.Bools.{clash}
-use Rattle.model.specs.Cell.{isBlank}
+use Rattle.model.specs.Cell.{numberless}
 use Rattle.model.specs.Scheme.{Scheme, candidate}
 use Rattle.model.specs.Database.{Database, Lawful}
 use Rattle.model.specs.Rounds.{laterRounds}
@@ -47,6 +47,6 @@ module _ {S : Scheme} {D : Database} (lawful : Lawful S D) (even : Even S) (c : 
   unfolding answer
   refer-bound rows rounds e =
       let r : laterRounds D (referLevels S D (marked (c .marks)) p) ≡ rounds =
-      behind (not (ltb (p .filling) (S .fillings))) (isBlank (p .value)) (not (candidate (S .filling (p .filling)) (p .value))) (holds (c .held) p)
+      behind (not (ltb (p .filling) (S .fillings))) (numberless (p .value)) (not (candidate (S .filling (p .filling)) (p .value))) (holds (c .held) p)
       (not (hasRoom (c .held))) _ _ e in
       omega (arith, refer-rounds)

@@ -8,7 +8,7 @@ use borrow.Author.Tests.{ltb-true}
 use lib.Dec.{eqb, ltb}
 use lib.ListN.{length, getD}
 use Rattle.finite.specs.Finite.{any, count, tab, collect, firstOf, firstFrom}
-use Rattle.model.specs.Cell.{isBlank, equal, numbered}
+use Rattle.model.specs.Cell.{isBlank, numberless, equal, numbered}
 use Rattle.model.specs.Scheme.{Column, sameColumn, Constraint, candidate, Scheme, isColumn}
 use Rattle.model.specs.Database.{Database, has}
 use Rattle.model.specs.Probe
@@ -188,7 +188,7 @@ pub all-pass : AllPass cases
 unfolding gives cases a1 a2 a3 a4 a5 a6 a7 b1 b2 b3 b4 b5
     answer written questionAnswer cacheFrom cacheAfter emptyCache taken candidate listed samePair remove referLevels reloadLevels marks marked pairsHold one pairsWant
     load start levels next reachedFrom demands leads reached addedRows laterRounds
-    Probe.probe Probe.cachedRows Probe.demanded Probe.uniquelySeen Probe.seen has sameColumn isColumn isBlank equal
+    Probe.probe Probe.cachedRows Probe.demanded Probe.uniquelySeen Probe.seen has sameColumn isColumn isBlank numberless equal
     queryAnswer queryWords queryGround isAnswered fullAnswer fillingFor outputFits withinLimit answerable refers fullLists writtenWith hasLists shown operandsFit joinsFit unused fitting extend joinValue wordsOf
     any count tab collect firstOf firstFrom
 all-pass = refl and refl and refl and refl and refl and refl and refl and refl and refl and refl and refl and refl and end

@@ -3,7 +3,7 @@
 use Prim.Native.Nat.{ℕ, suc, _+_, _≤_, _<_}
 use native.Mathlib.Decide.{decLt}
 use native.Mathlib.Omega.{arith}
-use mathlib.Core.Path.{_≡_, refl, sym, ap, subst, _∙_}
+use mathlib.Core.Path.{_≡_, refl, sym, ap, ap₂, subst, _∙_}
 use mathlib.Core.Logic.{⊎-elim}
 use mathlib.Core.Bool.{Bool, true, false, not, cond, and-eq-true-iff}
 use mathlib.Core.List.{List, [], _∷_, _++_}
@@ -13,7 +13,7 @@ use lib.ListN.{length, getD}
 use Rattle.finite.specs.Sameness.{listed, placeOf, remove}
 use Rattle.finite.proofs.Bools.{clash, or-cases}
 use Rattle.finite.proofs.Sameness.{end-length, end-before, end-last, unlisted-at, skip, skip-rises, skip-le, remove-none, remove-length, remove-at}
-use Rattle.model.specs.Cell.{Cell, numbered, isBlank}
+use Rattle.model.specs.Cell.{Cell, numbered}
 use Rattle.model.specs.Scheme.{Column, Scheme, candidate, sameColumn}
 use Rattle.model.specs.Database.{Database}
 use Rattle.model.specs.Holding.{Pair, samePair, Holding, holds, hasRoom, one, pairsHold, heldIn}
@@ -21,7 +21,7 @@ use Rattle.model.specs.Cache.{RowSet}
 use Rattle.model.specs.Probe as Probe
 use Rattle.model.specs.Query.{Query}
 use Rattle.model.specs.Runs.{Output, Operation, refer, drop, ask, query, taken, cachedFor, pairFor, answerable, refers, heldAfter}
-use Rattle.model.proofs.CellLaws.{equal-same, equal-full}
+use Rattle.model.proofs.CellLaws.{equal-same}
 
 -- what is read past a list's end
 abbrev pub noPair : Pair
@@ -138,12 +138,13 @@ listed-fits S ps H p e =
     let q = and-eq-true-iff (eqb (pairAt ps (f .0) .filling) (p .filling)) _ .0 (f .2) in
     subst (λ (n : ℕ). n < S .fillings) (eqb-true _ _ (q .0)) (H .filling (f .0) (f .1))
 
-pub listed-full : (ps : List Pair) (p : Pair) → listed samePair p ps ≡ true → isBlank (p .value) ≡ false
+pub listed-candidate : (S : Scheme) (ps : List Pair) → PairsFit S ps → (p : Pair) → listed samePair p ps ≡ true →
+    candidate (S .filling (p .filling)) (p .value) ≡ true
 unfolding samePair
-listed-full ps p e =
+listed-candidate S ps H p e =
     let f = listed-at p ps e in
     let q = and-eq-true-iff (eqb (pairAt ps (f .0) .filling) (p .filling)) _ .0 (f .2) in
-    ap isBlank (sym (equal-same (pairAt ps (f .0) .value) (p .value) (q .1))) ∙ equal-full (pairAt ps (f .0) .value) (p .value) (q .1)
+    sym (ap₂ (λ (n : ℕ) (v : Cell). candidate (S .filling n) v) (eqb-true _ _ (q .0)) (equal-same (pairAt ps (f .0) .value) (p .value) (q .1))) ∙ H .value (f .0) (f .1)
 
 -- ---- a held value
 

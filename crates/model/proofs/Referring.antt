@@ -11,7 +11,7 @@ use lib.ListN.{length}
 use Rattle.finite.specs.Sameness.{listed}
 use Rattle.finite.proofs.Bools.{dec, both, clash, cond-true, cond-false, or-cases, or-left}
 use Rattle.finite.proofs.First.{First, first-from}
-use Rattle.model.specs.Cell.{Cell, isBlank, equal}
+use Rattle.model.specs.Cell.{Cell, numberless, equal}
 use Rattle.model.specs.Scheme.{Column, sameColumn, candidate, Scheme}
 use Rattle.model.specs.Database.{Database}
 use Rattle.model.specs.Cache.{Held}
@@ -21,7 +21,7 @@ use Rattle.model.specs.Query.{Query}
 use Rattle.model.specs.Runs.{Output, asLists, asTotal, query, taken, fillingFor, pairFor, outputFits, withinLimit, answerable, refers, marked, Cache, referred, cacheAfter}
 use Rattle.model.specs.Answers.{Answer, sent, refused, unless, orAnswer, queryGround, isAnswered, fullAnswer, limitCause, queryAnswer}
 use Rattle.model.specs.Demand.{FillingAt, FillingsApart, Unreferred, noFilling, noCandidate, full}
-use Rattle.model.proofs.CellLaws.{equal-self}
+use Rattle.model.proofs.CellLaws.{numbered-full, equal-self}
 use Rattle.model.proofs.RunLaws.{held-more}
 
 -- ---- the filling of a query's column
@@ -136,7 +136,7 @@ module _ (S : Scheme) (D : Database) (c : Cache) (q : Query) (out : Output) wher
   refers-pair a g t = cond-true refersHere _ c (both a (both (eq-eqb (queryGround S D c q) 0 g) t))
 
 -- the pair that was referred is ground 1
-pub pair-ground : (S : Scheme) (D : Database) (c : Cache) (q : Query) → taken S (c .held) (pairFor S q) ≡ true → isBlank (q .value) ≡ false →
+pub pair-ground : (S : Scheme) (D : Database) (c : Cache) (q : Query) → taken S (c .held) (pairFor S q) ≡ true → numberless (q .value) ≡ false →
     queryGround S D (referred S D c (pairFor S q)) q ≡ 1
 unfolding queryGround Probe.probe one
 pair-ground S D c q t n = rw (held ∙ or-true (heldIn S (c .held) (q .column) (q .value)))
@@ -144,7 +144,7 @@ pair-ground S D c q t n = rw (held ∙ or-true (heldIn S (c .held) (q .column) (
     held : heldIn S (withPair (c .held) (pairFor S q)) (q .column) (q .value) ≡ heldIn S (c .held) (q .column) (q .value) || true
     held =
         ap (λ (H : Held). H (q .column) (q .value)) (held-more S (c .held) (pairFor S q)) ∙
-        ap (λ (b : Bool). heldIn S (c .held) (q .column) (q .value) || b) (both (takes S (c .held) q t .filling .column) (equal-self (q .value) n))
+        ap (λ (b : Bool). heldIn S (c .held) (q .column) (q .value) || b) (both (takes S (c .held) q t .filling .column) (equal-self (q .value) (numbered-full (q .value) n)))
 
 -- ---- one that is refused
 
@@ -162,9 +162,9 @@ pub query-refused-keeps : (S : Scheme) (D : Database) (c : Cache) (q : Query) (o
     cacheAfter S D c (query q out) ≡ c
 unfolding queryAnswer answerable
 query-refused-keeps S D c q out n h =
-    go (outputFits S q out) (isBlank (q .value)) (isAnswered S D c q) (withinLimit S D q out) refl refl refl refl h
+    go (outputFits S q out) (numberless (q .value)) (isAnswered S D c q) (withinLimit S D q out) refl refl refl refl h
   where
-    go : (f b y w : Bool) → outputFits S q out ≡ f → isBlank (q .value) ≡ b → isAnswered S D c q ≡ y → withinLimit S D q out ≡ w →
+    go : (f b y w : Bool) → outputFits S q out ≡ f → numberless (q .value) ≡ b → isAnswered S D c q ≡ y → withinLimit S D q out ≡ w →
         unless (not f) 5 (unless b 9 (orAnswer (not y) sent (unless (not w) (limitCause out) (fullAnswer S D q out)))) ≡ refused n →
         cacheAfter S D c (query q out) ≡ c
     go false b y w f₁ b₁ y₁ w₁ k = refused-keeps S D c q out (rw f₁)

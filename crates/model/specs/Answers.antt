@@ -7,7 +7,7 @@ use mathlib.Core.List.{List, [], _∷_}
 use lib.Dec.{eqb, leb, ltb}
 use lib.ListN.{length}
 use Rattle.finite.specs.Finite.{count}
-use Rattle.model.specs.Cell.{isBlank}
+use Rattle.model.specs.Cell.{numberless}
 use Rattle.model.specs.Scheme.{candidate, Scheme, isColumn}
 use Rattle.model.specs.Database.{Database}
 use Rattle.model.specs.Probe
@@ -87,7 +87,7 @@ evenAnswer S = orAnswer (ltb (lowestUneven S) (S .constraints)) (uneven (lowestU
 unfoldable pub questionAnswer : Scheme → Database → Cache → Question → Answer
 questionAnswer S D c (probe k v) =
     unless (not (isColumn S k)) 5
-    (unless (isBlank v) 9
+    (unless (numberless v) 9
     (groundOf (Probe.probe S D (heldIn S (c .held)) (marked (c .marks)) k v) (Probe.cachedRows D (marked (c .marks)) k v)))
 questionAnswer S D c evenness = evenAnswer S
 
@@ -114,7 +114,7 @@ limitCause (asTotal p c) = 13
 unfoldable pub queryAnswer : Scheme → Database → Cache → Query → Output → Answer
 queryAnswer S D c q out =
     unless (not (outputFits S q out)) 5
-    (unless (isBlank (q .value)) 9
+    (unless (numberless (q .value)) 9
     (orAnswer (not (isAnswered S D c q)) sent
     (unless (not (withinLimit S D q out)) (limitCause out)
     (fullAnswer S D q out))))
@@ -131,14 +131,14 @@ queryWords S D c q out = writtenWith (queryAnswer S D c q out) (wordsOf (fullLis
 unfoldable pub answer : Scheme → Database → Cache → Operation → Answer
 answer S D c (refer p) =
     unless (not (ltb (p .filling) (S .fillings))) 5
-    (unless (isBlank (p .value)) 9
+    (unless (numberless (p .value)) 9
     (orAnswer (not (candidate (S .filling (p .filling)) (p .value))) noCandidate
     (orAnswer (holds (c .held) p) held
     (unless (not (hasRoom (c .held))) 8
     (let L = referLevels S D (marked (c .marks)) p in loaded (addedRows D L) (laterRounds D L))))))
 answer S D c (drop p) =
     unless (not (ltb (p .filling) (S .fillings))) 5
-    (unless (isBlank (p .value)) 9
+    (unless (numberless (p .value)) 9
     (unless (not (holds (c .held) p)) 10
     (let L = reloadLevels S D (withoutPair (c .held) p) in dropped (count (D .size) (λ r. marked (c .marks) r && not (reached L r))))))
 answer S D c (ask q) = questionAnswer S D c q

@@ -4,7 +4,7 @@ use mathlib.Core.Path.{_≡_}
 use mathlib.Core.Logic.{_↔_, _≢_}
 use mathlib.Core.Bool.{true, false}
 use mathlib.Core.List.{List, []}
-use Rattle.model.specs.Cell.{Cell, Fits, isBlank}
+use Rattle.model.specs.Cell.{Cell, Fits, numberless}
 use Rattle.model.specs.Scheme.{Column, sameColumn, candidate, Scheme, ColumnOf}
 use Rattle.model.specs.Database.{Database}
 use Rattle.model.specs.Cache.{RowSet, Complete, Smallest, Alike}
@@ -60,5 +60,5 @@ pub record Demand2 (S : Scheme) (D : Database) (c : Cache) (q : Query) (out : Ou
 -- yes exactly when the value is complete in every lawful database, of any number of rows, from which the same rows would have been cached
 pub record Demand3 (S : Scheme) (D : Database) (h : Holding) (X : RowSet) : Type 0 where
   pub smallest : Smallest S D (heldIn S h) X
-  pub probes : (k : Column) → ColumnOf S k → (v : Cell) → Fits v → isBlank v ≡ false →
+  pub probes : (k : Column) → ColumnOf S k → (v : Cell) → Fits v → numberless v ≡ false →
       (probe S D (heldIn S h) X k v ≢ 0) ↔ ((E : Database) → Alike S D (heldIn S h) X E → Complete E X k v)

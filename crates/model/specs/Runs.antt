@@ -6,7 +6,7 @@ use mathlib.Core.List.{List, [], _∷_}
 use lib.Dec.{eqb, leb, ltb}
 use lib.ListN.{length, getD}
 use Rattle.finite.specs.Finite.{first, tab}
-use Rattle.model.specs.Cell.{Cell, isBlank}
+use Rattle.model.specs.Cell.{Cell, numberless}
 use Rattle.model.specs.Scheme.{Column, sameColumn, candidate, Scheme}
 use Rattle.model.specs.Database.{Database, has}
 use Rattle.model.specs.Cache.{RowSet}
@@ -70,7 +70,7 @@ withinLimit S D q (asTotal p c) = ltb (fullTotal S D q p c) (2 ^ 64)
 
 -- neither 5 nor 9 nor 11 nor 13 refuses the query
 unfoldable pub answerable : Scheme → Database → Query → Output → Bool
-answerable S D q out = outputFits S q out && (not (isBlank (q .value)) && withinLimit S D q out)
+answerable S D q out = outputFits S q out && (not (numberless (q .value)) && withinLimit S D q out)
 
 -- "A QUERY without a ground whose column is a filling column and whose value is a candidate is now referred first": with h held and the rows X cached it
 -- has no ground and its pair is taken, and it isn't refused ("With 11 the reference is undone"). A total "refers as Req 02's query does"

@@ -10,7 +10,7 @@ use lib.Dec.{eqb}
 use lib.ListN.{length, drop as past}
 use lib.Seq.{sets}
 use Rattle.finite.proofs.Bools.{both}
-use Rattle.model.specs.Cell.{isBlank}
+use Rattle.model.specs.Cell.{numberless}
 use Rattle.model.specs.Scheme.{Scheme}
 use Rattle.model.specs.Database.{Database}
 use Rattle.model.specs.Query.{Query, wordsOf, fullLists, fullTotal, totalOver}
@@ -100,11 +100,11 @@ module _ (s : State) (e : sound s ≡ true) (places : length (s .held .values) �
   module _ (f : outputFits (scheme s) q out ≡ true) where
     -- ---- cause 9
 
-    pub query-blank : isBlank (q .value) ≡ true → Performed s w op (refused 9) s w
+    pub query-numberless : numberless (q .value) ≡ true → Performed s w op (refused 9) s w
     unfolding queryAnswer answerable writtenWith hasLists shown
-    query-blank b = silent (refused 9) (rw (f, b)) (refused-keeps (scheme s) (database s) (cache s) q out (rw (f, b))) (λ ws. refl)
+    query-numberless b = silent (refused 9) (rw (f, b)) (refused-keeps (scheme s) (database s) (cache s) q out (rw (f, b))) (λ ws. refl)
 
-    module _ (b : isBlank (q .value) ≡ false) where
+    module _ (b : numberless (q .value) ≡ false) where
       abbrev G : ℕ
       G = queryGround (scheme s) (database s) (cache s) q
 

@@ -5,7 +5,7 @@ use mathlib.Core.Path.{_≡_, sym, ap, _∙_}
 use mathlib.Core.Bool.{Bool, true, false}
 use mathlib.Core.List.{List}
 use lib.ListN.{length}
-use Rattle.model.specs.Cell.{isBlank}
+use Rattle.model.specs.Cell.{numberless}
 use Rattle.model.specs.Holding.{Pair}
 use Rattle.model.specs.Runs.{Output, query, taken, fillingFor, pairFor, outputFits}
 use Rattle.model.specs.Answers.{Answer, sent, queryGround}
@@ -28,7 +28,7 @@ filling-byte s e q f h = omega (arith, h, filling-few (scheme s) (columnOf (q .c
 
 -- g is the ground that is found
 module _ (s : State) (e : sound s ≡ true) (w : List ℕ) (q : Query) (out : Output) (fit : outputFits (scheme s) (queryOf q) out ≡ true)
-    (full : isBlank (cellOf (q .value)) ≡ false) (g : ℕ) (found : g ≡ groundAt s q) where
+    (full : numberless (cellOf (q .value)) ≡ false) (g : ℕ) (found : g ≡ groundAt s q) where
   is-ground : g ≡ queryGround (scheme s) (database s) (cache s) (queryOf q)
   is-ground = found ∙ ground-of s q
 

@@ -10,7 +10,7 @@ use lib.ListN.{length, getD, take, drop as past, drop-of-length-le}
 use lib.Seq.{getD-take, length-take-le, take-take}
 use Rattle.finite.proofs.Bools.{cond-true}
 use Rattle.finite.proofs.Search.{all-at, all-true}
-use Rattle.model.specs.Cell.{isBlank}
+use Rattle.model.specs.Cell.{numberless}
 use Rattle.model.specs.Database.{Lawful}
 use Rattle.model.specs.Holding.{Pair}
 use Rattle.model.specs.Query.{Query, joinsOf, operandsFit, fitting, fullLists}
@@ -45,7 +45,7 @@ module _ (s : State) (e : sound s ≡ true) where
       let p = parts s e in
       from-parts copied
       (record {
-        long = record { cells = p .long .cells; tables = p .long .tables; marks = omega (arith, copy-long) };
+        long = record { cells = p .long .cells; issues = p .long .issues; tables = p .long .tables; marks = omega (arith, copy-long) };
         design = p .design;
         rows = p .rows;
         held = p .held;
@@ -82,7 +82,7 @@ module _ (s : State) (e : sound s ≡ true) where
         (step-sound (cache s) (refer p) (lawful-says s u (and-eq-true-iff (longEnough s) (lawful s) .0 e .1) .smallest))
 
   -- the lists of the cache with the query's pair are those of the full tables
-  pub referred-lists : Stored (s .cells) → (q : Query) → operandsFit (scheme s) q ≡ true → isBlank (q .value) ≡ false →
+  pub referred-lists : Stored (s .cells) → (q : Query) → operandsFit (scheme s) q ≡ true → numberless (q .value) ≡ false →
       taken (scheme s) (cache s .held) (pairFor (scheme s) q) ≡ true →
       fitting (scheme s) (database s) (marked (referred (scheme s) (database s) (cache s) (pairFor (scheme s) q) .marks)) (q .column) (q .value) (joinsOf q) ≡
       fullLists (scheme s) (database s) q

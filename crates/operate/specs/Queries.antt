@@ -7,7 +7,7 @@ use mathlib.Core.List.{List}
 use lib.ListN.{getD}
 use lib.Seq.{sets}
 use Rattle.finite.specs.Sums.{sumOver}
-use Rattle.model.specs.Cell.{isBlank, amount}
+use Rattle.model.specs.Cell.{numberless, amount}
 use Rattle.model.specs.Database.{Database}
 use Rattle.model.specs.Query.{wordsOf}
 use Rattle.model.specs.Runs as Runs
@@ -39,7 +39,7 @@ pub record Drawn (D : Database) (ls : List (List ℕ)) (out : Runs.Output) (w w�
 -- neither 5 nor 9 applies, the probe has no ground, and a REFER would take the query's pair, which is v
 pub record Referring (s : State) (q : Query) (out : Runs.Output) (v : HeldValue) : Type 0 where
   pub fit : outputFits (scheme s) (queryOf q) out ≡ true
-  pub full : isBlank (cellOf (q .value)) ≡ false
+  pub full : numberless (cellOf (q .value)) ≡ false
   pub groundless : queryGround (scheme s) (database s) (cache s) (queryOf q) ≡ 0
   pub pair : pairOf v ≡ pairFor (scheme s) (queryOf q)
   pub taken : taken (scheme s) (holdingOf (s .held)) (pairOf v) ≡ true

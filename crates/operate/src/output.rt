@@ -5,6 +5,7 @@ ghost use Prim.Native.Nat.{ℕ, _≤_, _<_};
 ghost use lib.ListN.{length};
 ghost use Rattle.model.specs.Query.{fitting, joinsOf};
 ghost use Rattle.model.specs.Runs.{marked, outputFits};
+ghost use Rattle.state.specs.Cells.{cellsIn};
 ghost use Rattle.state.specs.Design.{Backed, InRange};
 ghost use Rattle.state.specs.Lawful.{lawfulDesign};
 ghost use Rattle.state.specs.Meaning.{answerOf, cellOf, columnOf, databaseOf, queryOf, schemeOf};
@@ -42,10 +43,11 @@ pub(crate) fn output_fits(d: Design, q: Query, output: Output) -> bool
 pub(crate) fn draw(
     d: Design,
     cells: &[u32],
+    issues: &[u8],
     tables: &[u8],
     next: &[u16; 4096],
     first: &[u16; 8192],
-    keys: &[u32; 4096],
+    keys: &[u64; 4096],
     heads: &[u16; 4096],
     starts: &[u16; 65],
     marks: &[u8],
@@ -57,11 +59,11 @@ pub(crate) fn draw(
     froms: &mut [u16; 2560],
     links: &mut [u16; 2560],
 ) -> Answer
-    requires { ⌜ InRange d × (q .column .place < 8) × Backed (now cells) (now tables)
-        × Catalogued d (now cells) (now tables) (now next) (now first) (now keys) (now heads) (now starts) × (512 ≤ length (now marks)) ⌝ }
+    requires { ⌜ InRange d × (q .column .place < 8) × Backed (cellsIn (now cells) (now issues)) (now tables)
+        × Catalogued d (cellsIn (now cells) (now issues)) (now tables) (now next) (now first) (now keys) (now heads) (now starts) × (512 ≤ length (now marks)) ⌝ }
     requires { ⌜ (lawfulDesign d ≡ true) × (outputFits (schemeOf d) (queryOf q) (outputOf output (length (now words))) ≡ true) ⌝ }
-    ensures { λ a. ⌜ Drawn (databaseOf (d .rows) (now (cells .entry)) (now (tables .entry)))
-        (fitting (schemeOf d) (databaseOf (d .rows) (now (cells .entry)) (now (tables .entry))) (marked (now (marks .entry)))
+    ensures { λ a. ⌜ Drawn (databaseOf (d .rows) (cellsIn (now (cells .entry)) (now (issues .entry))) (now (tables .entry)))
+        (fitting (schemeOf d) (databaseOf (d .rows) (cellsIn (now (cells .entry)) (now (issues .entry))) (now (tables .entry))) (marked (now (marks .entry)))
         (columnOf (q .column)) (cellOf (q .value)) (joinsOf (queryOf q)))
         (outputOf output (length (now (words .entry)))) (now (words .entry)) (now (words .exit)) (answerOf a) ⌝ }
 {
@@ -69,6 +71,7 @@ pub(crate) fn draw(
         Output::Lists => list_fitting(
             d,
             cells,
+            issues,
             tables,
             next,
             first,
@@ -86,6 +89,7 @@ pub(crate) fn draw(
         Output::Total(position, column) => total_fitting(
             d,
             cells,
+            issues,
             tables,
             next,
             first,

@@ -2,6 +2,7 @@
 ghost use mathlib.Core.Path.{_≡_};
 ghost use mathlib.Core.Bool.{true};
 ghost use lib.ListN.{length};
+ghost use Rattle.state.specs.Cells.{cellsIn};
 ghost use Rattle.state.specs.Meaning.{answerOf, operationOf};
 ghost use Rattle.state.specs.Lent.{lent, sound, Performed};
 ghost use Rattle.catalog.specs.Catalog.{Catalogued};
@@ -26,10 +27,11 @@ pub fn perform_lawful(
     op: Operation,
     design: Design,
     cells: &[u32],
+    issues: &[u8],
     tables: &[u8],
     next: &[u16; 4096],
     first: &[u16; 8192],
-    keys: &[u32; 4096],
+    keys: &[u64; 4096],
     heads: &[u16; 4096],
     starts: &[u16; 65],
     marks: &mut [u8],
@@ -40,16 +42,17 @@ pub fn perform_lawful(
     froms: &mut [u16; 2560],
     links: &mut [u16; 2560],
 ) -> Outcome
-    requires { ⌜ (sound (lent design (now cells) (now tables) (now marks) held) ≡ true)
-        × Catalogued design (now cells) (now tables) (now next) (now first) (now keys) (now heads) (now starts) ⌝ }
-    ensures { λ o. ⌜ Performed (lent design (now (cells .entry)) (now (tables .entry)) (now (marks .entry)) held) (now (words .entry))
+    requires { ⌜ (sound (lent design (cellsIn (now cells) (now issues)) (now tables) (now marks) held) ≡ true)
+        × Catalogued design (cellsIn (now cells) (now issues)) (now tables) (now next) (now first) (now keys) (now heads) (now starts) ⌝ }
+    ensures { λ o. ⌜ Performed (lent design (cellsIn (now (cells .entry)) (now (issues .entry))) (now (tables .entry)) (now (marks .entry)) held) (now (words .entry))
         (operationOf op (length (now (words .entry))))
-        (answerOf (o .answer)) (lent design (now (cells .entry)) (now (tables .entry)) (now (marks .exit)) (o .held)) (now (words .exit)) ⌝ }
+        (answerOf (o .answer)) (lent design (cellsIn (now (cells .entry)) (now (issues .entry))) (now (tables .entry)) (now (marks .exit)) (o .held)) (now (words .exit)) ⌝ }
 {
     match op {
         Operation::Refer(v) => refer_lawful(
             design,
             cells,
+            issues,
             tables,
             next,
             first,
@@ -63,6 +66,7 @@ pub fn perform_lawful(
         Operation::Drop(v) => drop_lawful(
             design,
             cells,
+            issues,
             tables,
             next,
             first,
@@ -77,6 +81,7 @@ pub fn perform_lawful(
             let answer = probe_lawful(
                 design,
                 cells,
+                issues,
                 tables,
                 next,
                 keys,
@@ -92,6 +97,7 @@ pub fn perform_lawful(
         Operation::Query(q) => query_lawful(
             design,
             cells,
+            issues,
             tables,
             next,
             first,
@@ -118,6 +124,7 @@ pub fn perform_lawful(
             query_lawful(
                 design,
                 cells,
+                issues,
                 tables,
                 next,
                 first,
@@ -144,23 +151,25 @@ pub fn perform(
     op: Operation,
     design: Design,
     cells: &[u32],
+    issues: &[u8],
     tables: &[u8],
     marks: &mut [u8],
     held: Held,
     words: &mut [u32],
 ) -> Outcome
-    ensures { λ o. ⌜ Performed (lent design (now (cells .entry)) (now (tables .entry)) (now (marks .entry)) held) (now (words .entry))
+    ensures { λ o. ⌜ Performed (lent design (cellsIn (now (cells .entry)) (now (issues .entry))) (now (tables .entry)) (now (marks .entry)) held) (now (words .entry))
         (operationOf op (length (now (words .entry))))
-        (answerOf (o .answer)) (lent design (now (cells .entry)) (now (tables .entry)) (now (marks .exit)) (o .held)) (now (words .exit)) ⌝ }
+        (answerOf (o .answer)) (lent design (cellsIn (now (cells .entry)) (now (issues .entry))) (now (tables .entry)) (now (marks .exit)) (o .held)) (now (words .exit)) ⌝ }
 {
     let mut next = [512u16; 4096];
     let mut first = [512u16; 8192];
-    let mut keys = [0u32; 4096];
+    let mut keys = [0u64; 4096];
     let mut heads = [512u16; 4096];
     let mut starts = [0u16; 65];
     let why = cause(
         design,
         cells,
+        issues,
         tables,
         &mut next,
         &mut first,
@@ -182,6 +191,7 @@ pub fn perform(
         op,
         design,
         cells,
+        issues,
         tables,
         &next,
         &first,

@@ -4,6 +4,7 @@ ghost use mathlib.Core.Path.{_≡_};
 ghost use mathlib.Core.Bool.{true};
 ghost use lib.ListN.{length};
 ghost use Rattle.model.specs.Runs as Runs;
+ghost use Rattle.state.specs.Cells.{cellsIn};
 ghost use Rattle.state.specs.Meaning.{answerOf, queryOf};
 ghost use Rattle.state.specs.Lent.{lent, sound, Performed};
 ghost use Rattle.catalog.specs.Catalog.{Catalogued};
@@ -22,7 +23,7 @@ use state::Held;
 use state::HeldValue;
 use state::Query;
 use state::copy_bytes;
-use state::is_blank;
+use state::is_numberless;
 use state::is_refusal;
 
 // Refers the query's pair v on a copy of the marks and draws the answer from the copy, so that causes 11 and 13 find nothing to undo; else the copy
@@ -30,10 +31,11 @@ use state::is_refusal;
 fn refer_and_draw(
     design: Design,
     cells: &[u32],
+    issues: &[u8],
     tables: &[u8],
     next: &[u16; 4096],
     first: &[u16; 8192],
-    keys: &[u32; 4096],
+    keys: &[u64; 4096],
     heads: &[u16; 4096],
     starts: &[u16; 65],
     marks: &mut [u8],
@@ -47,18 +49,19 @@ fn refer_and_draw(
     froms: &mut [u16; 2560],
     links: &mut [u16; 2560],
 ) -> Outcome
-    requires { ⌜ (sound (lent design (now cells) (now tables) (now marks) held) ≡ true)
-        × Catalogued design (now cells) (now tables) (now next) (now first) (now keys) (now heads) (now starts) ⌝ }
-    requires { ⌜ Referring (lent design (now cells) (now tables) (now marks) held) q (outputOf output (length (now words))) v ⌝ }
-    ensures { λ o. ⌜ Performed (lent design (now (cells .entry)) (now (tables .entry)) (now (marks .entry)) held) (now (words .entry))
+    requires { ⌜ (sound (lent design (cellsIn (now cells) (now issues)) (now tables) (now marks) held) ≡ true)
+        × Catalogued design (cellsIn (now cells) (now issues)) (now tables) (now next) (now first) (now keys) (now heads) (now starts) ⌝ }
+    requires { ⌜ Referring (lent design (cellsIn (now cells) (now issues)) (now tables) (now marks) held) q (outputOf output (length (now words))) v ⌝ }
+    ensures { λ o. ⌜ Performed (lent design (cellsIn (now (cells .entry)) (now (issues .entry))) (now (tables .entry)) (now (marks .entry)) held) (now (words .entry))
         (Runs.query (queryOf q) (outputOf output (length (now (words .entry))))) (answerOf (o .answer))
-        (lent design (now (cells .entry)) (now (tables .entry)) (now (marks .exit)) (o .held)) (now (words .exit)) ⌝ }
+        (lent design (cellsIn (now (cells .entry)) (now (issues .entry))) (now (tables .entry)) (now (marks .exit)) (o .held)) (now (words .exit)) ⌝ }
 {
     let mut copy = [0u8; 512];
-    copy_bytes(&marks[..Design::ROWS], &mut copy);
+    copy_bytes(&marks[..Design::ROWS], &mut copy, Design::ROWS);
     let o = refer_lawful(
         design,
         cells,
+        issues,
         tables,
         next,
         first,
@@ -72,6 +75,7 @@ fn refer_and_draw(
     let answer = draw(
         design,
         cells,
+        issues,
         tables,
         next,
         first,
@@ -91,7 +95,7 @@ fn refer_and_draw(
     if is_refusal(answer) {
         return Outcome { held, answer };
     }
-    copy_bytes(&copy, marks);
+    copy_bytes(&copy, marks, Design::ROWS);
     Outcome {
         held: more,
         answer: answer,
@@ -104,10 +108,11 @@ fn refer_and_draw(
 pub(crate) fn query_lawful(
     design: Design,
     cells: &[u32],
+    issues: &[u8],
     tables: &[u8],
     next: &[u16; 4096],
     first: &[u16; 8192],
-    keys: &[u32; 4096],
+    keys: &[u64; 4096],
     heads: &[u16; 4096],
     starts: &[u16; 65],
     marks: &mut [u8],
@@ -120,17 +125,17 @@ pub(crate) fn query_lawful(
     froms: &mut [u16; 2560],
     links: &mut [u16; 2560],
 ) -> Outcome
-    requires { ⌜ (sound (lent design (now cells) (now tables) (now marks) held) ≡ true)
-        × Catalogued design (now cells) (now tables) (now next) (now first) (now keys) (now heads) (now starts) ⌝ }
-    ensures { λ o. ⌜ Performed (lent design (now (cells .entry)) (now (tables .entry)) (now (marks .entry)) held) (now (words .entry))
+    requires { ⌜ (sound (lent design (cellsIn (now cells) (now issues)) (now tables) (now marks) held) ≡ true)
+        × Catalogued design (cellsIn (now cells) (now issues)) (now tables) (now next) (now first) (now keys) (now heads) (now starts) ⌝ }
+    ensures { λ o. ⌜ Performed (lent design (cellsIn (now (cells .entry)) (now (issues .entry))) (now (tables .entry)) (now (marks .entry)) held) (now (words .entry))
         (Runs.query (queryOf q) (outputOf output (length (now (words .entry))))) (answerOf (o .answer))
-        (lent design (now (cells .entry)) (now (tables .entry)) (now (marks .exit)) (o .held)) (now (words .exit)) ⌝ }
+        (lent design (cellsIn (now (cells .entry)) (now (issues .entry))) (now (tables .entry)) (now (marks .exit)) (o .held)) (now (words .exit)) ⌝ }
 {
     if !output_fits(design, q, output) {
         let answer = Answer::Refused(5);
         return Outcome { held, answer };
     }
-    if is_blank(q.value) {
+    if is_numberless(q.value) {
         let answer = Answer::Refused(9);
         return Outcome { held, answer };
     }
@@ -138,6 +143,7 @@ pub(crate) fn query_lawful(
     let found = search(
         design,
         cells,
+        issues,
         tables,
         next,
         keys,
@@ -153,6 +159,7 @@ pub(crate) fn query_lawful(
         let answer = draw(
             design,
             cells,
+            issues,
             tables,
             next,
             first,
@@ -183,6 +190,7 @@ pub(crate) fn query_lawful(
     refer_and_draw(
         design,
         cells,
+        issues,
         tables,
         next,
         first,

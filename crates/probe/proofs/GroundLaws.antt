@@ -17,6 +17,7 @@ use Rattle.model.specs.Cache.{RowSet, Held}
 use Rattle.model.specs.Probe.{seen, demanded, uniquelySeen, lowest, probe, cachedRows}
 use Rattle.model.specs.Holding.{Pair, one, pairsHold}
 use Rattle.model.specs.Runs.{marked}
+use Rattle.state.specs.Cells.{Cells}
 use Rattle.state.specs.Meaning.{databaseOf}
 
 -- ---- ground 1
@@ -72,14 +73,14 @@ unfolding marked
 marked-front m n r l = ap (λ (x : ℕ). eqb x 1) (sym (getD-take n m r 0 l))
 
 -- so a probe over lent buffers looks at the first 512 marks alone
-pub probe-front : (S : Scheme) (rows : ℕ) (cells tables m : List ℕ) (H : Held) (k : Column) (v : Cell) →
+pub probe-front : (S : Scheme) (rows : ℕ) (cells : Cells) (tables m : List ℕ) (H : Held) (k : Column) (v : Cell) →
     probe S (databaseOf rows cells tables) H (marked m) k v ≡ probe S (databaseOf rows cells tables) H (marked (take 512 m)) k v
 unfolding databaseOf
 probe-front S rows cells tables m H k v =
     probe-same (databaseOf rows cells tables) (marked m) (marked (take 512 m)) (λ r l. marked-front m 512 r l) v S H k
 
 -- ... and so does a count
-pub rows-front : (rows : ℕ) (cells tables m : List ℕ) (k : Column) (v : Cell) →
+pub rows-front : (rows : ℕ) (cells : Cells) (tables m : List ℕ) (k : Column) (v : Cell) →
     cachedRows (databaseOf rows cells tables) (marked m) k v ≡ cachedRows (databaseOf rows cells tables) (marked (take 512 m)) k v
 unfolding databaseOf
 rows-front rows cells tables m k v =

@@ -11,6 +11,7 @@ use Rattle.model.specs.Scheme.{Column}
 use Rattle.model.specs.Database.{Database, has}
 use Rattle.model.specs.Cache.{RowSet}
 use Rattle.model.specs.Probe.{seen}
+use Rattle.state.specs.Cells.{Cells}
 use Rattle.state.specs.Meaning.{databaseOf}
 use Rattle.catalog.specs.Hits.{Hit}
 use Rattle.catalog.proofs.HitLaws.{first-hit}
@@ -38,7 +39,7 @@ module _ (D : Database) (X : RowSet) (k : Column) (v : Cell) (r : ℕ) where
       }
 
 -- in the lent rows: row r is cached, and there is none left
-module _ (rows : ℕ) (cells tables : List ℕ) (X : RowSet) (k : Column) (v : Cell) (r : ℕ) (w : Seeking (databaseOf rows cells tables) X k v r) where
+module _ (rows : ℕ) (cells : Cells) (tables : List ℕ) (X : RowSet) (k : Column) (v : Cell) (r : ℕ) (w : Seeking (databaseOf rows cells tables) X k v r) where
   pub seek-found : r < 512 → X r ≡ true → true ≡ seen (databaseOf rows cells tables) X k v
   unfolding seen databaseOf
   seek-found l h = any-hit 512 r (λ i. X i && has (databaseOf rows cells tables) k v i) l (both h (w .stands .here l))

@@ -4,6 +4,7 @@ ghost use mathlib.Core.Path.{_≡_};
 ghost use lib.ListN.{length};
 ghost use Rattle.model.specs.Probe as Probe;
 ghost use Rattle.model.specs.Runs.{marked};
+ghost use Rattle.state.specs.Cells.{cellsIn};
 ghost use Rattle.state.specs.Meaning.{cellOf, columnOf, databaseOf};
 ghost use Rattle.catalog.specs.Catalog.{nexts, Directory};
 use catalog::find;
@@ -15,9 +16,10 @@ use state::Design;
 pub(crate) fn rows_with(
     rows: usize,
     cells: &[u32],
+    issues: &[u8],
     tables: &[u8],
     next: &[u16; 4096],
-    keys: &[u32; 4096],
+    keys: &[u64; 4096],
     heads: &[u16; 4096],
     starts: &[u16; 65],
     marks: &[u8],
@@ -25,9 +27,10 @@ pub(crate) fn rows_with(
     v: Cell,
 ) -> usize
     requires { ⌜ (k .table < 8) × (k .place < 8) × (512 ≤ length (now marks)) ⌝ }
-    requires { ⌜ (now next ≡ nexts (databaseOf rows (now cells) (now tables)))
-        × Directory (databaseOf rows (now cells) (now tables)) (now keys) (now heads) (now starts) ⌝ }
-    ensures { λ n. ⌜ n ≡ Probe.cachedRows (databaseOf rows (now (cells .entry)) (now (tables .entry))) (marked (now (marks .entry))) (columnOf k) (cellOf v) ⌝ }
+    requires { ⌜ (now next ≡ nexts (databaseOf rows (cellsIn (now cells) (now issues)) (now tables)))
+        × Directory (databaseOf rows (cellsIn (now cells) (now issues)) (now tables)) (now keys) (now heads) (now starts) ⌝ }
+    ensures { λ n. ⌜ n ≡ Probe.cachedRows (databaseOf rows (cellsIn (now (cells .entry)) (now (issues .entry))) (now (tables .entry)))
+        (marked (now (marks .entry))) (columnOf k) (cellOf v) ⌝ }
 {
     let mut n = 0;
     let mut r = find(keys, heads, starts, k, v);

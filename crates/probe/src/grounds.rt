@@ -7,6 +7,7 @@ ghost use Rattle.model.specs.Probe as Probe;
 ghost use Rattle.model.specs.Holding.{heldIn};
 ghost use Rattle.model.specs.Runs.{marked};
 ghost use Rattle.model.specs.Scheme.{sameColumn};
+ghost use Rattle.state.specs.Cells.{cellsIn};
 ghost use Rattle.state.specs.Design.{InRange};
 ghost use Rattle.state.specs.Held.{heldAt};
 ghost use Rattle.state.specs.Meaning.{cellOf, columnOf, constraintOf, holdingOf, schemeOf, databaseOf};
@@ -26,9 +27,10 @@ use state::same_column;
 fn is_demanded_by(
     rows: usize,
     cells: &[u32],
+    issues: &[u8],
     tables: &[u8],
     next: &[u16; 4096],
-    keys: &[u32; 4096],
+    keys: &[u64; 4096],
     heads: &[u16; 4096],
     starts: &[u16; 65],
     marks: &[u8],
@@ -37,10 +39,11 @@ fn is_demanded_by(
     v: Cell,
 ) -> bool
     requires { ⌜ (c .source .table < 8) × (c .source .place < 8) × (512 ≤ length (now marks)) ⌝ }
-    requires { ⌜ (now next ≡ nexts (databaseOf rows (now cells) (now tables)))
-        × Directory (databaseOf rows (now cells) (now tables)) (now keys) (now heads) (now starts) ⌝ }
+    requires { ⌜ (now next ≡ nexts (databaseOf rows (cellsIn (now cells) (now issues)) (now tables)))
+        × Directory (databaseOf rows (cellsIn (now cells) (now issues)) (now tables)) (now keys) (now heads) (now starts) ⌝ }
     ensures { λ b. ⌜ b ≡ sameColumn (constraintOf c .target) (columnOf k)
-        && Probe.seen (databaseOf rows (now (cells .entry)) (now (tables .entry))) (marked (now (marks .entry))) (constraintOf c .source) (cellOf v) ⌝ }
+        && Probe.seen (databaseOf rows (cellsIn (now (cells .entry)) (now (issues .entry))) (now (tables .entry))) (marked (now (marks .entry)))
+        (constraintOf c .source) (cellOf v) ⌝ }
 {
     let target = c.target;
     if !same_column(target, k) {
@@ -50,6 +53,7 @@ fn is_demanded_by(
     seen(
         rows,
         cells,
+        issues,
         tables,
         next,
         keys,
@@ -66,9 +70,10 @@ fn is_demanded_by(
 fn is_demanded(
     d: Design,
     cells: &[u32],
+    issues: &[u8],
     tables: &[u8],
     next: &[u16; 4096],
-    keys: &[u32; 4096],
+    keys: &[u64; 4096],
     heads: &[u16; 4096],
     starts: &[u16; 65],
     marks: &[u8],
@@ -76,9 +81,9 @@ fn is_demanded(
     v: Cell,
 ) -> bool
     requires { ⌜ InRange d × (512 ≤ length (now marks)) ⌝ }
-    requires { ⌜ (now next ≡ nexts (databaseOf (d .rows) (now cells) (now tables)))
-        × Directory (databaseOf (d .rows) (now cells) (now tables)) (now keys) (now heads) (now starts) ⌝ }
-    ensures { λ b. ⌜ b ≡ Probe.demanded (schemeOf d) (databaseOf (d .rows) (now (cells .entry)) (now (tables .entry)))
+    requires { ⌜ (now next ≡ nexts (databaseOf (d .rows) (cellsIn (now cells) (now issues)) (now tables)))
+        × Directory (databaseOf (d .rows) (cellsIn (now cells) (now issues)) (now tables)) (now keys) (now heads) (now starts) ⌝ }
+    ensures { λ b. ⌜ b ≡ Probe.demanded (schemeOf d) (databaseOf (d .rows) (cellsIn (now (cells .entry)) (now (issues .entry))) (now (tables .entry)))
         (marked (now (marks .entry))) (columnOf k) (cellOf v) ⌝ }
 {
     let n = d.constraints;
@@ -89,6 +94,7 @@ fn is_demanded(
         if is_demanded_by(
             d.rows,
             cells,
+            issues,
             tables,
             next,
             keys,
@@ -109,9 +115,10 @@ fn is_demanded(
 fn is_uniquely_seen(
     d: Design,
     cells: &[u32],
+    issues: &[u8],
     tables: &[u8],
     next: &[u16; 4096],
-    keys: &[u32; 4096],
+    keys: &[u64; 4096],
     heads: &[u16; 4096],
     starts: &[u16; 65],
     marks: &[u8],
@@ -119,10 +126,10 @@ fn is_uniquely_seen(
     v: Cell,
 ) -> bool
     requires { ⌜ (k .table < 8) × (k .place < 8) × (512 ≤ length (now marks)) ⌝ }
-    requires { ⌜ (now next ≡ nexts (databaseOf (d .rows) (now cells) (now tables)))
-        × Directory (databaseOf (d .rows) (now cells) (now tables)) (now keys) (now heads) (now starts) ⌝ }
-    ensures { λ b. ⌜ b ≡ Probe.uniquelySeen (schemeOf d) (databaseOf (d .rows) (now (cells .entry)) (now (tables .entry)))
-        (marked (now (marks .entry))) (columnOf k) (cellOf v) ⌝ }
+    requires { ⌜ (now next ≡ nexts (databaseOf (d .rows) (cellsIn (now cells) (now issues)) (now tables)))
+        × Directory (databaseOf (d .rows) (cellsIn (now cells) (now issues)) (now tables)) (now keys) (now heads) (now starts) ⌝ }
+    ensures { λ b. ⌜ b ≡ Probe.uniquelySeen (schemeOf d) (databaseOf (d .rows) (cellsIn (now (cells .entry)) (now (issues .entry)))
+        (now (tables .entry))) (marked (now (marks .entry))) (columnOf k) (cellOf v) ⌝ }
 {
     if !is_unique(d, k) {
         return false;
@@ -130,6 +137,7 @@ fn is_uniquely_seen(
     seen(
         d.rows,
         cells,
+        issues,
         tables,
         next,
         keys,
@@ -146,9 +154,10 @@ fn is_uniquely_seen(
 pub(crate) fn ground(
     d: Design,
     cells: &[u32],
+    issues: &[u8],
     tables: &[u8],
     next: &[u16; 4096],
-    keys: &[u32; 4096],
+    keys: &[u64; 4096],
     heads: &[u16; 4096],
     starts: &[u16; 65],
     marks: &[u8],
@@ -158,18 +167,42 @@ pub(crate) fn ground(
 ) -> u8
     requires { ⌜ InRange d × (512 ≤ length (now marks)) × (held .count ≤ 64) × (k .table < 8) × (k .place < 8)
         × ((i : ℕ) → heldAt held i .filling < 8) ⌝ }
-    requires { ⌜ (now next ≡ nexts (databaseOf (d .rows) (now cells) (now tables)))
-        × Directory (databaseOf (d .rows) (now cells) (now tables)) (now keys) (now heads) (now starts) ⌝ }
-    ensures { λ g. ⌜ g ≡ Probe.probe (schemeOf d) (databaseOf (d .rows) (now (cells .entry)) (now (tables .entry)))
+    requires { ⌜ (now next ≡ nexts (databaseOf (d .rows) (cellsIn (now cells) (now issues)) (now tables)))
+        × Directory (databaseOf (d .rows) (cellsIn (now cells) (now issues)) (now tables)) (now keys) (now heads) (now starts) ⌝ }
+    ensures { λ g. ⌜ g ≡ Probe.probe (schemeOf d) (databaseOf (d .rows) (cellsIn (now (cells .entry)) (now (issues .entry))) (now (tables .entry)))
         (heldIn (schemeOf d) (holdingOf held)) (marked (take 512 (now (marks .entry)))) (columnOf k) (cellOf v) ⌝ }
 {
     if is_held(d, held, k, v) {
         return 1;
     }
-    if is_demanded(d, cells, tables, next, keys, heads, starts, marks, k, v) {
+    if is_demanded(
+        d,
+        cells,
+        issues,
+        tables,
+        next,
+        keys,
+        heads,
+        starts,
+        marks,
+        k,
+        v,
+    ) {
         return 2;
     }
-    if is_uniquely_seen(d, cells, tables, next, keys, heads, starts, marks, k, v) {
+    if is_uniquely_seen(
+        d,
+        cells,
+        issues,
+        tables,
+        next,
+        keys,
+        heads,
+        starts,
+        marks,
+        k,
+        v,
+    ) {
         return 3;
     }
     0

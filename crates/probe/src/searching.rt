@@ -5,6 +5,7 @@ ghost use lib.ListN.{length, take};
 ghost use Rattle.model.specs.Probe as Probe;
 ghost use Rattle.model.specs.Holding.{heldIn};
 ghost use Rattle.model.specs.Runs.{marked};
+ghost use Rattle.state.specs.Cells.{cellsIn};
 ghost use Rattle.state.specs.Design.{InRange};
 ghost use Rattle.state.specs.Held.{heldAt};
 ghost use Rattle.state.specs.Meaning.{cellOf, columnOf, holdingOf, schemeOf, databaseOf};
@@ -27,9 +28,10 @@ pub struct Found {
 pub fn search(
     d: Design,
     cells: &[u32],
+    issues: &[u8],
     tables: &[u8],
     next: &[u16; 4096],
-    keys: &[u32; 4096],
+    keys: &[u64; 4096],
     heads: &[u16; 4096],
     starts: &[u16; 65],
     marks: &[u8],
@@ -39,16 +41,17 @@ pub fn search(
 ) -> Found
     requires { ⌜ InRange d × (512 ≤ length (now marks)) × (held .count ≤ 64) × (k .table < 8) × (k .place < 8)
         × ((i : ℕ) → heldAt held i .filling < 8) ⌝ }
-    requires { ⌜ (now next ≡ nexts (databaseOf (d .rows) (now cells) (now tables)))
-        × Directory (databaseOf (d .rows) (now cells) (now tables)) (now keys) (now heads) (now starts) ⌝ }
-    ensures { λ s. ⌜ (s .ground ≡ Probe.probe (schemeOf d) (databaseOf (d .rows) (now (cells .entry)) (now (tables .entry)))
-        (heldIn (schemeOf d) (holdingOf held)) (marked (take 512 (now (marks .entry)))) (columnOf k) (cellOf v))
-        × (s .rows ≡ Probe.rowsBehind (s .ground) (databaseOf (d .rows) (now (cells .entry)) (now (tables .entry)))
+    requires { ⌜ (now next ≡ nexts (databaseOf (d .rows) (cellsIn (now cells) (now issues)) (now tables)))
+        × Directory (databaseOf (d .rows) (cellsIn (now cells) (now issues)) (now tables)) (now keys) (now heads) (now starts) ⌝ }
+    ensures { λ s. ⌜ (s .ground ≡ Probe.probe (schemeOf d) (databaseOf (d .rows) (cellsIn (now (cells .entry)) (now (issues .entry)))
+        (now (tables .entry))) (heldIn (schemeOf d) (holdingOf held)) (marked (take 512 (now (marks .entry)))) (columnOf k) (cellOf v))
+        × (s .rows ≡ Probe.rowsBehind (s .ground) (databaseOf (d .rows) (cellsIn (now (cells .entry)) (now (issues .entry))) (now (tables .entry)))
         (marked (take 512 (now (marks .entry)))) (columnOf k) (cellOf v)) ⌝ }
 {
     let g = ground(
         d,
         cells,
+        issues,
         tables,
         next,
         keys,
@@ -65,6 +68,7 @@ pub fn search(
     let n = rows_with(
         d.rows,
         cells,
+        issues,
         tables,
         next,
         keys,

@@ -7,7 +7,7 @@ use mathlib.Core.Bool.{Bool, true, false, not}
 use mathlib.Core.Logic.{_↔_, _≢_}
 use lib.Dec.{ltb}
 use lib.ListN.{getD}
-use Rattle.model.specs.Cell.{Cell, isBlank}
+use Rattle.model.specs.Cell.{Cell, numberless}
 use Rattle.model.specs.Scheme.{Column, Scheme, isColumn}
 use Rattle.model.specs.Database.{Database, Lawful}
 use Rattle.model.specs.Probe as Probe
@@ -60,7 +60,7 @@ module _ (s : State) (e : sound s ≡ true) where
 carried : (S : Scheme) (D : Database) (c : Cache) (k : Column) (v : Cell) (g n : ℕ) → questionAnswer S D c (probe k v) ≡ ground g n →
     cachedRows D (marked (c .marks)) k v ≡ n
 unfolding questionAnswer shown
-carried S D c k v g n e = go (isColumn S k) (isBlank v) (ltb 0 (Probe.probe S D (heldIn S (c .held)) (marked (c .marks)) k v)) e
+carried S D c k v g n e = go (isColumn S k) (numberless v) (ltb 0 (Probe.probe S D (heldIn S (c .held)) (marked (c .marks)) k v)) e
   where
     go : (a b y : Bool) →
         unless (not a) 5 (unless b 9 (orAnswer y (ground (Probe.probe S D (heldIn S (c .held)) (marked (c .marks)) k v) (cachedRows D (marked (c .marks)) k v)) sent)) ≡ ground g n →

@@ -10,7 +10,7 @@ use mathlib.Core.Logic.{_↔_, _≢_, ⊎-elim}
 use borrow.Author.Tests.{lt-ltb}
 use lib.ListN.{take}
 use Rattle.finite.proofs.Bools.{dec}
-use Rattle.model.specs.Cell.{Cell, Fits, isBlank}
+use Rattle.model.specs.Cell.{Cell, Fits, numberless}
 use Rattle.model.specs.Scheme.{Column, Scheme, ColumnOf, isColumn}
 use Rattle.model.specs.Database.{Database}
 use Rattle.model.specs.Cache.{RowSet, Held, Complete, Alike}
@@ -18,6 +18,7 @@ use Rattle.model.specs.Probe as Probe
 use Rattle.model.specs.Holding.{Holding, nothingHeld, heldIn}
 use Rattle.model.specs.Runs.{Operation, ask, probe, heldFrom, marked}
 use Rattle.model.specs.Answers.{Answer, refused, ground, sent, orAnswer, groundOf, Yes, answer}
+use Rattle.model.proofs.CellLaws.{numbered-full}
 use Rattle.model.proofs.Exact.{exact}
 use Rattle.model.proofs.HoldingLaws.{HoldingFits, step-fit}
 use Rattle.state.specs.declared.design.Design.{Design}
@@ -26,7 +27,7 @@ use Rattle.state.specs.Lent.{State, database, cache, answerAt}
 use Rattle.lawful.proofs.DesignLaws.{column-if, column-says}
 use Rattle.lawful.proofs.HeldLaws.{holding-back}
 use Rattle.lawful.proofs.SoundState.{answer-at}
-use Rattle.cache.proofs.Answering.{probe-nowhere, probe-blank, probe-full}
+use Rattle.cache.proofs.Answering.{probe-nowhere, probe-numberless, probe-full}
 use Rattle.format.specs.Reading.{Draft}
 use Rattle.script.specs.Runs.{Buffers, rowsOf, heldWith, Called, CompleteInAll}
 use Rattle.script.proofs.SameRows.{SameRows, same-back, smallest-same, lawful-same, alike-same}
@@ -71,7 +72,7 @@ module _ (b : Buffers) (p : Draft) (i : ℕ) (w : Begun b p i) (os : List Operat
     answered = answer-at e (called .sound) (ask (probe k v)) ∙ ap (λ (d : Design). answer (schemeOf d) D (cache e) (ask (probe k v))) (called .design)
 
     -- a probe of a column of the design for a value other than blank
-    module _ (c : ColumnOf S k) (f : Fits v) (full : isBlank v ≡ false) where
+    module _ (c : ColumnOf S k) (f : Fits v) (full : numberless v ≡ false) where
       answer-is : answerAt e (ask (probe k v)) ≡ groundOf (Probe.probe S D H X k v) (Probe.cachedRows D X k v)
       answer-is =
           answered ∙ sym (probe-full S D (cache e) k v (column-if c) full) ∙
@@ -84,7 +85,7 @@ module _ (b : Buffers) (p : Draft) (i : ℕ) (w : Begun b p i) (os : List Operat
       )
         where
           here : (Probe.probe S D H X k v ≢ 0) ↔ ((E : Database) → Alike S D H X E → Complete E X k v)
-          here = exact (lawful-same same (w .lawful)) (smallest-same same (called .demand3 .smallest)) c v f full
+          here = exact (lawful-same same (w .lawful)) (smallest-same same (called .demand3 .smallest)) c v f (numbered-full v full)
 
       pub answer-exact : (x : Answer) → x ≡ answerAt e (ask (probe k v)) → Yes x ↔ CompleteInAll p (heldWith p os) X k v
       answer-exact x h = (
@@ -100,11 +101,11 @@ module _ (b : Buffers) (p : Draft) (i : ℕ) (w : Begun b p i) (os : List Operat
           (λ (q : isColumn S k ≡ false). absurd (on 5 (h ∙ answered ∙ sym (probe-nowhere S D (cache e) k v q))))
           (dec (isColumn S k))
 
-      on-full : isBlank v ≡ false
+      on-full : numberless v ≡ false
       on-full =
-          ⊎-elim (λ (q : isBlank v ≡ true). absurd (on 9 (h ∙ answered ∙ sym (probe-blank S D (cache e) k v on-column q))))
-          (λ (q : isBlank v ≡ false). q)
-          (dec (isBlank v))
+          ⊎-elim (λ (q : numberless v ≡ true). absurd (on 9 (h ∙ answered ∙ sym (probe-numberless S D (cache e) k v on-column q))))
+          (λ (q : numberless v ≡ false). q)
+          (dec (numberless v))
 
       pub unrefused-exact : Fits v → Yes x ↔ CompleteInAll p (heldWith p os) X k v
       unrefused-exact f = answer-exact (column-says S k on-column) f on-full x h

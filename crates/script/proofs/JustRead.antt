@@ -6,8 +6,8 @@ use mathlib.Core.Bool.{Bool, true, false}
 use mathlib.Core.List.{List, [], _++_}
 use mathlib.Core.Logic.{⊎-elim}
 use borrow.Author.Tests.{ltb-true, ltb-false}
-use lib.Dec.{ltb}
-use lib.ListN.{length, drop, length-append, List·getD-append, List·getD-eq-default}
+use lib.Dec.{ltb, lit<}
+use lib.ListN.{length, getD, drop, length-append, List·getD-append, List·getD-eq-default}
 use lib.Seq.{take-at}
 use Rattle.finite.specs.Finite.{tab}
 use Rattle.finite.proofs.Bools.{dec, cond-true, cond-false}
@@ -21,6 +21,7 @@ use Rattle.model.proofs.RunLaws.{held-smallest}
 use Rattle.model.proofs.HoldingLaws.{HoldingFits}
 use Rattle.model.proofs.Fresh.{Fresh}
 use Rattle.model.proofs.Marks.{marks-same}
+use Rattle.state.specs.Cells.{Cells}
 use Rattle.state.specs.declared.design.Design.{Design}
 use Rattle.state.specs.declared.held.Held.{Held}
 use Rattle.state.specs.Design.{emptyDesign}
@@ -37,8 +38,8 @@ use Rattle.format.specs.Reading.DesignRead.{accepted, refusedAt}
 use Rattle.format.proofs.Reached.{Sizes}
 use Rattle.format.proofs.Small.{Small}
 use Rattle.format.proofs.RoundTrip.{accepted-lawful}
-use Rattle.script.specs.Runs.{Buffers, readingOf, justRead, rowsOf}
-use Rattle.script.proofs.SameRows.{SameRows, same-back, lawful-same, longer-same}
+use Rattle.script.specs.Runs.{Buffers, readingOf, justRead, rowsOf, longer, pastCells}
+use Rattle.script.proofs.SameRows.{SameRows, same-back, lawful-same, longer-cell, longer-same}
 
 -- ---- nothing held, no row cached
 
@@ -63,7 +64,7 @@ pub empty-fresh : (S : Scheme) (D : Database) → Fresh S D (emptyCache D)
 unfolding emptyCache pairsHold
 empty-fresh S D = record { reloaded = marks-same D _ _ (λ r l. one-smallest (none-smallest S D) (held-smallest S D nothingHeld) r) }
 
-module _ (rows : ℕ) (cells tables : List ℕ) where
+module _ (rows : ℕ) (cells : Cells) (tables : List ℕ) where
   -- nothing held and marks that are all 0 are the empty cache
   none-cache : record { held = holdingOf noneHeld; marks = tab 512 (λ _. 0) } ≡ emptyCache (databaseOf rows cells tables)
   unfolding emptyCache marks databaseOf
@@ -80,21 +81,29 @@ module _ (rows : ℕ) (cells tables : List ℕ) where
 -- ---- an accepted design
 
 -- what lies past the cells read does not matter
-pub stored-first : (xs ys : List ℕ) → Stored (xs ++ ys) → Stored xs
-stored-first xs ys u i =
-    ⊎-elim (λ (q : ltb i (length xs) ≡ true). subst (λ (n : ℕ). n < 2 ^ 32) (List·getD-append xs ys 0 i (ltb-true i (length xs) q)) (u i))
-    (λ (q : ltb i (length xs) ≡ false). subst (λ (n : ℕ). n < 2 ^ 32) (sym (List·getD-eq-default xs 0 (ltb-false i (length xs) q))) (omega arith))
+first-below : (m : ℕ) → 0 < m → (xs ys : List ℕ) → ((i : ℕ) → getD (xs ++ ys) i 0 < m) → (i : ℕ) → getD xs i 0 < m
+first-below m z xs ys u i =
+    ⊎-elim (λ (q : ltb i (length xs) ≡ true). subst (λ (n : ℕ). n < m) (List·getD-append xs ys 0 i (ltb-true i (length xs) q)) (u i))
+    (λ (q : ltb i (length xs) ≡ false). subst (λ (n : ℕ). n < m) (sym (List·getD-eq-default xs 0 (ltb-false i (length xs) q))) z)
     (dec (ltb i (length xs)))
 
-module _ (d : Design) (cells tables more others : List ℕ) (c : length cells ≡ 4096) (t : length tables ≡ 512) where
+pub stored-first : (cells more : Cells) → Stored (longer cells more) → Stored cells
+stored-first cells more u =
+    record {
+      number = first-below (2 ^ 32) (lit< tt) (cells .numbers) (more .numbers) (u .number);
+      issue = first-below (2 ^ 8) (lit< tt) (cells .issues) (more .issues) (u .issue);
+    }
+
+module _ (d : Design) (cells more : Cells) (tables others : List ℕ) (c : length (cells .numbers) ≡ 4096) (v : length (cells .issues) ≡ 4096)
+    (t : length tables ≡ 512) where
   -- rows that are lawful stay so in longer buffers
-  longer-lawful : Stored cells → lawfulDesign d ≡ true → lawfulRows d cells tables ≡ true → lawfulRows d (cells ++ more) (tables ++ others) ≡ true
+  longer-lawful : Stored cells → lawfulDesign d ≡ true → lawfulRows d cells tables ≡ true → lawfulRows d (longer cells more) (tables ++ others) ≡ true
   longer-lawful u f e =
       rows-if
       (record {
-        database = lawful-same (longer-same (d .rows) cells tables more others c t) (w .database);
+        database = lawful-same (longer-same (d .rows) cells more tables others c v t) (w .database);
         memberRest = λ r l h. List·getD-append tables others 0 r (omega arith) ∙ w .memberRest r l h;
-        cellRest = λ r k l b h. List·getD-append cells more 0 (8 * r + k) (omega arith) ∙ w .cellRest r k l b h;
+        cellRest = λ r k l b h. sym (longer-cell (d .rows) cells more tables others c v t (8 * r + k) (omega arith)) ∙ w .cellRest r k l b h;
       })
     where
       w : LawfulRows d cells tables
@@ -136,7 +145,7 @@ module _ (s : List ℕ) (small : Small s) (b : Buffers) (p : Draft) (i : ℕ) (e
             (record {
               long = begun-long;
               design = w .0;
-              rows = longer-lawful (p .design) (p .cells) (p .tables) _ _ (z .cells) (z .tables) stored (w .0) (w .1);
+              rows = longer-lawful (p .design) (p .cells) (pastCells 4096 (b .cells)) (p .tables) _ (z .cells) (z .issues) (z .tables) stored (w .0) (w .1);
               held = none-lawful (p .design);
               marks =
                   fresh-lawful (p .design) (start .cells) (start .tables) noneHeld (tab 512 (λ _. 0)) (drop 512 (b .marks))
@@ -155,10 +164,10 @@ module _ (s : List ℕ) (small : Small s) (b : Buffers) (p : Draft) (i : ℕ) (e
       start = justRead (accepted p i) b
 
       stored : Stored (p .cells)
-      stored = stored-first (p .cells) (drop 4096 (b .cells)) u
+      stored = stored-first (p .cells) (pastCells 4096 (b .cells)) u
 
       same : SameRows (rowsOf p) (database start)
-      same = longer-same (p .design .rows) (p .cells) (p .tables) (drop 4096 (b .cells)) (drop 512 (b .tables)) (z .cells) (z .tables)
+      same = longer-same (p .design .rows) (p .cells) (pastCells 4096 (b .cells)) (p .tables) (drop 512 (b .tables)) (z .cells) (z .issues) (z .tables)
 
       long : Lengths (lent emptyDesign (b .cells) (b .tables) (b .marks) noneHeld)
       long = into-parts s b p i e .0
@@ -166,7 +175,8 @@ module _ (s : List ℕ) (small : Small s) (b : Buffers) (p : Draft) (i : ℕ) (e
       begun-long : Lengths start
       begun-long =
           record {
-            cells = omega (arith, length-append (p .cells) (drop 4096 (b .cells)), z .cells);
+            cells = omega (arith, length-append (p .cells .numbers) (drop 4096 (b .cells .numbers)), z .cells);
+            issues = omega (arith, length-append (p .cells .issues) (drop 4096 (b .cells .issues)), z .issues);
             tables = omega (arith, length-append (p .tables) (drop 512 (b .tables)), z .tables);
             marks = omega (arith, length-append (tab 512 (λ _. 0)) (drop 512 (b .marks)), length-tab {A = ℕ} 512 (λ _. 0));
           }

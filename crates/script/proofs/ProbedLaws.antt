@@ -1,14 +1,16 @@
 -- A probe behind a run: its answer on the state that the run has left, and that a yes is exact (demand 3). Assumes nothing.
 use Prim.Native.Nat.{ℕ}
 use native.Mathlib.Omega.{arith}
-use mathlib.Core.Path.{_≡_, refl, ap, subst, _∙_}
-use mathlib.Core.Bool.{true}
+use mathlib.Core.Path.{_≡_, refl, sym, ap, subst, _∙_}
+use mathlib.Core.Bool.{true, false}
+use borrow.Author.Tests.{eq-eqb}
 use mathlib.Core.List.{List}
 use denote.Laws.{Is}
 use denote.Struct.Declared.{row}
 use mir.Val.{Val}
 use lib.ListN.{length}
-use Rattle.model.specs.Cell.{Cell, Fits}
+use Rattle.finite.proofs.Bools.{clash}
+use Rattle.model.specs.Cell.{Cell, Fits, numberless}
 use Rattle.model.specs.Scheme.{Column}
 use Rattle.model.specs.Runs.{ask, probe}
 use Rattle.model.specs.Answers.{Answer, refused}
@@ -27,10 +29,11 @@ use Rattle.script.specs.Runs.{operationsAt, Buffers, readingOf, Called, 
 use Rattle.script.proofs.JustRead.{begun}
 use Rattle.script.proofs.ExactProbes.{answer-exact}
 
--- the number of a cell that a function owns is a u32
-pub cell-fits : (v : State-cell.Cell) (vs : List Val) → Is (row the-type) v vs → Fits (cellOf v)
-unfolding Fits
-cell-fits v vs g = g .1 .1 .0 .1
+-- a cell that a function owns has a u32 and a u8, and fits if it has a number
+pub cell-fits : (v : State-cell.Cell) (vs : List Val) → Is (row the-type) v vs → numberless (cellOf v) ≡ false → Fits (cellOf v)
+unfolding numberless
+cell-fits v vs g n =
+    record { number = g .1 .1 .0 .1; issue = g .1 .1 .1 .0 .1; full = λ e. absurd (clash (eq-eqb (v .number) 0 e) n) }
 
 -- the state that a run with an accepted design p leaves
 abbrev leftBehind : Draft → Buffers → Run → State
@@ -68,7 +71,7 @@ module _ (script : List ℕ) (b a : Buffers) (r : Run) (ran : Ran script b a r) 
             ap (λ (d : Design). sound (lent d (a .cells) (a .tables) (a .marks) (r .held))) (design-is p i e) ∙ ran .accepted p i e .sound
         go (refusedAt n i) e = absurd (let z : _≡_ {A = ℕ} 0 1 = cc (ran .verdict ∙ ap verdictOf e) in omega arith)
 
-    pub accepted-probed : Small script → Stored (a .cells) → (k : Column) (v : Cell) → Fits v → (x : Answer) →
+    pub accepted-probed : Small script → Stored (a .cells) → (k : Column) (v : Cell) → (numberless v ≡ false → Fits v) → (x : Answer) →
         x ≡ answerAt (lent (r .design) (a .cells) (a .tables) (a .marks) (r .held)) (ask (probe k v)) → ProbedAfter script b a r k v x
     accepted-probed small stored k v f x h =
         record {
@@ -78,7 +81,7 @@ module _ (script : List ℕ) (b a : Buffers) (r : Run) (ran : Ran script b a r) 
           exact = λ p i e c full.
               answer-exact b p i (begun script small b p i e (subst Stored (cells p i e) stored)) (operationsAt script (length (b .words)) i) (leftBehind p a r)
               (left-called script b a r p i (ran .accepted p i e) (cells p i e) (ran .tables ∙ ap (λ (R : DesignRead). tablesAfter R (b .tables)) e))
-              k v c f full x (answered p i e);
+              k v c (f full) full x (answered p i e);
         }
       where
         cells : (p : Draft) (i : ℕ) → readingOf script b ≡ accepted p i → a .cells ≡ cellsAfter (accepted p i) (b .cells)

@@ -9,6 +9,7 @@ use borrow.Author.Tests.{ltb-false}
 use lib.Dec.{ltb}
 use lib.ListN.{length}
 use Rattle.finite.proofs.Bools.{dec, cond-true}
+use Rattle.state.specs.Cells.{Cells}
 use Rattle.state.specs.declared.design.Design.{Design}
 use Rattle.state.specs.declared.held.Held.{Held}
 use Rattle.state.specs.Held.{noneHeld}
@@ -32,7 +33,7 @@ accepted-short script p i e =
     (λ (q : ltb mostBytes (length script) ≡ false). ltb-false _ _ q)
     (dec (ltb mostBytes (length script)))
 
-module _ (script : List ℕ) (b : Buffers) (r : DesignReading) (cs ts ms : List ℕ)
+module _ (script : List ℕ) (b : Buffers) (r : DesignReading) (cs : Cells) (ts ms : List ℕ)
     (read : Leaves (readingOf script b) r (b .cells) cs (b .tables) ts (b .marks) ms) (none : Held) (empty : none ≡ noneHeld) where
   -- the design is refused
   pub refused-ran : (n place : ℕ) → r .verdict ≡ Refused n place →

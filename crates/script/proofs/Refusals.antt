@@ -15,7 +15,7 @@ use Rattle.model.specs.Holding.{Pair, Holding, holds, hasRoom}
 use Rattle.model.specs.Query.{wordsOf, fullLists}
 use Rattle.model.specs.Runs.{Operation, refer, drop, ask, query, taken, cacheAfter}
 use Rattle.model.specs.Answers.{Answer, refused, shown, hasLists, answer, writtenWith, queryWords, written}
-use Rattle.model.proofs.HoldingLaws.{listed-fits, listed-full}
+use Rattle.model.proofs.HoldingLaws.{listed-fits, listed-candidate}
 use Rattle.model.proofs.Referring.{query-refused-keeps}
 use Rattle.state.specs.Meaning.{schemeOf, holdingOf}
 use Rattle.state.specs.Lent.{State, scheme, database, cache, sound, answerAt, stateAfter, wordsAt}
@@ -36,22 +36,23 @@ module _ (s : State) (e : sound s ≡ true) (n : ℕ) where
       let a = and-eq-true-iff (ltb (p .filling) (S .fillings)) _ .0 t in
       let b = and-eq-true-iff (candidate (S .filling (p .filling)) (p .value)) _ .0 (a .1) in
       let c = and-eq-true-iff (not (holds held p)) (hasRoom held) .0 (b .1) in
-      let full = low-full (s .design) (parts s e .design) (p .filling) (ltb-true _ _ (a .0)) (p .value .number) (b .0) in
+      let full = low-full (s .design) (parts s e .design) (p .filling) (ltb-true _ _ (a .0)) (p .value) (b .0) in
       let l = refer-loads S (database s) (cache s) p (a .0) full (b .0) (not-true _ (c .0)) (c .1) in
       absurd (let z : _≡_ {A = ℕ} 0 1 = cc in omega arith))
       (λ (t : taken S held p ≡ false). cond-false (taken S held p) _ (cache s) t)
       (dec (taken S held p))
 
-  -- a DROP of a listed pair drops: it has a filling and is not blank
+  -- a DROP of a listed pair drops: it has a filling and a number
   drop-keeps : (p : Pair) → answer (scheme s) (database s) (cache s) (drop p) ≡ refused n →
       cacheAfter (scheme s) (database s) (cache s) (drop p) ≡ cache s
-  unfolding cacheAfter
+  unfolding cacheAfter schemeOf
   drop-keeps p h =
       let S = scheme s in
       let held = holdingOf (s .held) in
       ⊎-elim (λ (t : holds held p ≡ true).
       let f = listed-fits S (held .pairs) (holding-fits (s .design) (s .held) (parts s e .held)) p t in
-      let l = drop-drops S (database s) (cache s) p (lt-ltb _ _ f) (listed-full (held .pairs) p t) t in
+      let k = listed-candidate S (held .pairs) (holding-fits (s .design) (s .held) (parts s e .held)) p t in
+      let l = drop-drops S (database s) (cache s) p (lt-ltb _ _ f) (low-full (s .design) (parts s e .design) (p .filling) f (p .value) k) t in
       absurd (let z : _≡_ {A = ℕ} 0 1 = cc in omega arith))
       (λ (t : holds held p ≡ false). cond-false (holds held p) _ (cache s) t)
       (dec (holds held p))

@@ -9,6 +9,7 @@ use lib.Seq.{sets}
 use Rattle.finite.proofs.Bools.{same-number}
 use Rattle.model.specs.Runs.{Operation}
 use Rattle.model.specs.Answers.{refused}
+use Rattle.state.specs.Cells.{Cells}
 use Rattle.state.specs.Lent.{State, causeAt, answerAt, stateAfter, wordsAt}
 use Rattle.lawful.proofs.SoundState.{cause-none, cause-state, cause-words}
 use Rattle.format.specs.Reading.{DesignRead, readInto, cellsAfter, tablesAfter, marksAfter}
@@ -32,13 +33,13 @@ unfolding storedWith
 write-refused s n room o h = ap (λ (w : Written). sets o 0 (storedWith w (bytesOf s))) h
 
 -- what a reading leaves of the buffers
-pub record Unread (w : DesignRead) (cs ts ms : List ℕ) : Type 0 where
+pub record Unread (w : DesignRead) (cs : Cells) (ts ms : List ℕ) : Type 0 where
   pub cells : cellsAfter w cs ≡ cs
   pub tables : tablesAfter w ts ≡ ts
   pub marks : marksAfter w ms ≡ ms
 
 -- THEOREM: `format::read_design` and `read_catalogued`, which leave the catalog's arrays as they were too (`Keeps`)
-pub read-refused : (script cells tables marks : List ℕ) (n i : ℕ) → readInto script cells tables marks ≡ refusedAt n i →
+pub read-refused : (script : List ℕ) (cells : Cells) (tables marks : List ℕ) (n i : ℕ) → readInto script cells tables marks ≡ refusedAt n i →
     Unread (readInto script cells tables marks) cells tables marks
 read-refused script cells tables marks n i h =
     record {

@@ -8,7 +8,7 @@ use mathlib.Core.List.{List, [], _∷_, _++_}
 use borrow.Author.Tests.{ltb-true}
 use lib.Dec.{eqb, leb, ltb}
 use lib.ListN.{length, getD, List·getD-append}
-use Rattle.model.specs.Cell.{Cell, Fits, numbered, blank, isBlank, equal}
+use Rattle.model.specs.Cell.{Cell, Fits, blank, numberless, equal}
 use Rattle.model.specs.Scheme.{Column, Constraint, Scheme}
 use Rattle.model.specs.Database.{Database, Has, Lawful}
 use Rattle.model.specs.Cache.{RowSet, Inside, Held, Complete, Holds, Meets, Smallest, Alike}
@@ -20,7 +20,9 @@ use Rattle.model.proofs.Loads.{one-smallest}
 use Rattle.model.proofs.RunLaws.{held-smallest}
 use Rattle.model.proofs.QueryLaws.{SameOn, operands-joins, fitting-reads, probe-reads}
 use Rattle.model.proofs.TotalLaws.{total-reads, position-within}
-use Rattle.state.specs.Meaning.{databaseOf}
+use Rattle.state.specs.Cells.{Cells}
+use Rattle.state.specs.Meaning.{cellOf, cellIn, cellAt, databaseOf}
+use Rattle.script.specs.Runs.{longer}
 
 pub record SameRows (D E : Database) : Type 0 where
   pub size : D .size ≡ E .size
@@ -131,8 +133,8 @@ module _ (S : Scheme) {D E : Database} (w : SameRows D E) where
   unfolding answerable
   answerable-same q out = go (outputFits S q out) refl
     where
-      go : (b : Bool) → outputFits S q out ≡ b → b && (not (isBlank (q .value)) && withinLimit S D q out) ≡ b && (not (isBlank (q .value)) && withinLimit S E q out)
-      go true f = ap (λ (x : Bool). not (isBlank (q .value)) && x) (within-same q out f)
+      go : (b : Bool) → outputFits S q out ≡ b → b && (not (numberless (q .value)) && withinLimit S D q out) ≡ b && (not (numberless (q .value)) && withinLimit S E q out)
+      go true f = ap (λ (x : Bool). not (numberless (q .value)) && x) (within-same q out f)
       go false f = refl
 
   refers-same : (h : Holding) (q : Query) (out : Output) → refers S D h (cachedFor S D h) q out ≡ refers S E h (cachedFor S E h) q out
@@ -154,8 +156,16 @@ module _ (S : Scheme) {D E : Database} (w : SameRows D E) where
 
 -- ---- longer buffers
 
-module _ (rows : ℕ) (cells tables more others : List ℕ) (c : length cells ≡ 4096) (t : length tables ≡ 512) where
-  pub longer-same : SameRows (databaseOf rows cells tables) (databaseOf rows (cells ++ more) (tables ++ others))
+module _ (rows : ℕ) (cells more : Cells) (tables others : List ℕ) (c : length (cells .numbers) ≡ 4096) (v : length (cells .issues) ≡ 4096)
+    (t : length tables ≡ 512) where
+  pub longer-cell : (x : ℕ) → x < 4096 → cellIn cells x ≡ cellIn (longer cells more) x
+  longer-cell x l =
+      λ i. record {
+        number = sym (List·getD-append (cells .numbers) (more .numbers) 0 x (omega arith)) i;
+        issue = sym (List·getD-append (cells .issues) (more .issues) 0 x (omega arith)) i;
+      }
+
+  pub longer-same : SameRows (databaseOf rows cells tables) (databaseOf rows (longer cells more) (tables ++ others))
   unfolding databaseOf
   longer-same =
       record {
@@ -169,6 +179,6 @@ module _ (rows : ℕ) (cells tables more others : List ℕ) (c : length cells �
       below r l = databaseOf rows cells tables .finite r l
 
       cell-same : (r k : ℕ) → r < 512 → (b : Bool) → (b ≡ true → k < 8) →
-          cond b (numbered (getD cells (8 * r + k) 0)) blank ≡ cond b (numbered (getD (cells ++ more) (8 * r + k) 0)) blank
-      cell-same r k l true h = let g = h refl in ap numbered (sym (List·getD-append cells more 0 (8 * r + k) (omega arith)))
+          cond b (cellOf (cellAt cells r k)) blank ≡ cond b (cellOf (cellAt (longer cells more) r k)) blank
+      cell-same r k l true h = let g = h refl in ap cellOf (longer-cell (8 * r + k) (omega arith))
       cell-same r k l false h = refl

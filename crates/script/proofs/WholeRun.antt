@@ -13,6 +13,7 @@ use Rattle.model.specs.Rounds.{reached}
 use Rattle.model.specs.Holding.{Holding, nothingHeld, heldIn}
 use Rattle.model.specs.Runs.{Operation, ask, probe, heldFrom, marks, marked, Cache, emptyCache, reloadLevels, cacheFrom}
 use Rattle.model.specs.Demand.{Demand3}
+use Rattle.model.proofs.CellLaws.{numbered-full}
 use Rattle.model.proofs.Exact.{exact}
 use Rattle.model.proofs.Marks.{marked-marks-is}
 use Rattle.model.proofs.RunLaws.{Sound, empty-sound, run-sound, held-smallest}
@@ -95,14 +96,14 @@ module _ (b : Buffers) (p : Draft) (i : ℕ) (w : Begun b p i) where
         record {
           held = follows .settled .held ∙ ap heldOf end-holding;
           marks = end-marks;
-          demand3 = record { smallest = least; probes = λ k col v f n. exact (w .lawful) least col v f n };
+          demand3 = record { smallest = least; probes = λ k col v f n. exact (w .lawful) least col v f (numbered-full v n) };
           design = follows .design;
           cells = follows .cells;
           tables = follows .tables;
           sound = follows .settled .sound;
         }
 
--- A design just read. A script is bytes and a cell is below 2 ^ 32, as their types say.
+-- A design just read. A script is bytes, a number is below 2 ^ 32 and an issue below 2 ^ 8, as their types say.
 module _ (script : List ℕ) (small : Small script) (b : Buffers) (p : Draft) (i : ℕ) (e : readingOf script b ≡ accepted p i)
     (stored : Stored (cellsAfter (accepted p i) (b .cells))) where
   -- THEOREM: demand 3 of what any list of calls leaves

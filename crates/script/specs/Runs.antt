@@ -7,7 +7,7 @@ use mathlib.Core.Bool.{true, false, cond}
 use mathlib.Core.List.{List, [], _∷_, _++_}
 use lib.Dec.{leb}
 use lib.ListN.{length, take, drop as past}
-use Rattle.model.specs.Cell.{Cell, Fits, isBlank}
+use Rattle.model.specs.Cell.{Cell, Fits, numberless}
 use Rattle.model.specs.Scheme.{Column, ColumnOf}
 use Rattle.model.specs.Database.{Database}
 use Rattle.model.specs.Cache.{RowSet, Complete, Alike}
@@ -15,6 +15,7 @@ use Rattle.model.specs.Holding.{Holding, nothingHeld, heldIn}
 use Rattle.model.specs.Runs.{Operation, ask, probe, heldFrom, marks, marked}
 use Rattle.model.specs.Answers.{Answer, refused, Yes}
 use Rattle.model.specs.Demand.{Demand3}
+use Rattle.state.specs.Cells.{Cells, cellsIn}
 use Rattle.state.specs.declared.cell.Cell as State-cell
 use Rattle.state.specs.declared.design.Column as State-column
 use Rattle.state.specs.declared.held.Held.{Held}
@@ -73,12 +74,12 @@ leftFrom (suc n) script s words i =
 
 -- the buffers that a run is lent
 pub record Buffers : Type 0 where
-  pub cells : List ℕ
+  pub cells : Cells
   pub tables : List ℕ
   pub marks : List ℕ
   pub words : List ℕ
 
-abbrev pub buffers : List ℕ → List ℕ → List ℕ → List ℕ → Buffers
+abbrev pub buffers : Cells → List ℕ → List ℕ → List ℕ → Buffers
 buffers cells tables marks words = record { cells = cells; tables = tables; marks = marks; words = words }
 
 -- what the script reads as
@@ -126,6 +127,16 @@ unfoldable pub stateAfterAll : State → List Operation → State
 stateAfterAll s [] = s
 stateAfterAll s (o ∷ os) = stateAfterAll (stateAfter s o) os
 
+-- the cells, and others behind them; the first n, and what lies past these
+abbrev pub longer : Cells → Cells → Cells
+longer cells more = cellsIn (cells .numbers ++ more .numbers) (cells .issues ++ more .issues)
+
+abbrev pub firstCells : ℕ → Cells → Cells
+firstCells n cells = cellsIn (take n (cells .numbers)) (take n (cells .issues))
+
+abbrev pub pastCells : ℕ → Cells → Cells
+pastCells n cells = cellsIn (past n (cells .numbers)) (past n (cells .issues))
+
 -- DEMAND 3, of any list of operations os, called on the design p just read into the buffers b: e is the state that they leave
 pub record Called (p : Draft) (b : Buffers) (os : List Operation) (e : State) : Type 0 where
   -- the held values are the list's, in order
@@ -136,7 +147,7 @@ pub record Called (p : Draft) (b : Buffers) (os : List Operation) (e : State) : 
   pub demand3 : Demand3 (schemeOf (p .design)) (rowsOf p) (heldWith p os) (marked (take 512 (e .marks)))
   -- neither the design nor its rows have changed, and what is left can be worked on
   pub design : e .design ≡ p .design
-  pub cells : e .cells ≡ p .cells ++ past 4096 (b .cells)
+  pub cells : e .cells ≡ longer (p .cells) (pastCells 4096 (b .cells))
   pub tables : e .tables ≡ p .tables ++ past 512 (b .tables)
   pub sound : sound e ≡ true
 
@@ -190,6 +201,6 @@ pub record ProbedAfter (script : List ℕ) (b a : Buffers) (r : Run) (k : Column
   pub answer : (p : Draft) (i : ℕ) → readingOf script b ≡ accepted p i →
       x ≡ answerAt (lent (p .design) (a .cells) (a .tables) (a .marks) (r .held)) (ask (probe k v))
   -- DEMAND 3, of the answer itself: a yes exactly when the value is complete in every lawful database from which the same rows would have been cached
-  pub exact : (p : Draft) (i : ℕ) → readingOf script b ≡ accepted p i → ColumnOf (schemeOf (p .design)) k → isBlank v ≡ false →
+  pub exact : (p : Draft) (i : ℕ) → readingOf script b ≡ accepted p i → ColumnOf (schemeOf (p .design)) k → numberless v ≡ false →
       Yes x ↔
       CompleteInAll p (heldBy script p (length (b .words)) i) (cachedBy a) k v

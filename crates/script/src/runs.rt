@@ -3,6 +3,7 @@ ghost use mathlib.Core.Path.{_≡_};
 ghost use mathlib.Core.Bool.{true};
 ghost use Prim.Native.Nat.{ℕ};
 ghost use lib.ListN.{length};
+ghost use Rattle.state.specs.Cells.{cellsIn};
 ghost use Rattle.state.specs.Meaning.{answerOf, cellOf, columnOf};
 ghost use Rattle.state.specs.Lent.{lent, sound};
 ghost use Rattle.catalog.specs.Catalog.{Catalogued};
@@ -28,10 +29,11 @@ pub fn run_lawful(
     at: usize,
     design: Design,
     cells: &[u32],
+    issues: &[u8],
     tables: &[u8],
     next: &[u16; 4096],
     first: &[u16; 8192],
-    keys: &[u32; 4096],
+    keys: &[u64; 4096],
     heads: &[u16; 4096],
     starts: &[u16; 65],
     marks: &mut [u8],
@@ -42,11 +44,11 @@ pub fn run_lawful(
     froms: &mut [u16; 2560],
     links: &mut [u16; 2560],
 ) -> Held
-    requires { ⌜ (sound (lent design (now cells) (now tables) (now marks) held) ≡ true)
-        × Catalogued design (now cells) (now tables) (now next) (now first) (now keys) (now heads) (now starts) ⌝ }
-    ensures { λ h. ⌜ leaving (lent design (now (cells .entry)) (now (tables .entry)) (now (marks .exit)) h) (now (words .exit))
+    requires { ⌜ (sound (lent design (cellsIn (now cells) (now issues)) (now tables) (now marks) held) ≡ true)
+        × Catalogued design (cellsIn (now cells) (now issues)) (now tables) (now next) (now first) (now keys) (now heads) (now starts) ⌝ }
+    ensures { λ h. ⌜ leaving (lent design (cellsIn (now (cells .entry)) (now (issues .entry))) (now (tables .entry)) (now (marks .exit)) h) (now (words .exit))
         ≡ leftFrom (length (now (script .entry))) (now (script .entry))
-        (lent design (now (cells .entry)) (now (tables .entry)) (now (marks .entry)) held) (now (words .entry)) at ⌝ }
+        (lent design (cellsIn (now (cells .entry)) (now (issues .entry))) (now (tables .entry)) (now (marks .entry)) held) (now (words .entry)) at ⌝ }
 {
     let mut i = at;
     let mut h = held;
@@ -56,6 +58,7 @@ pub fn run_lawful(
             i,
             design,
             cells,
+            issues,
             tables,
             next,
             first,
@@ -84,24 +87,26 @@ pub fn run_lawful(
 fn run_catalogued(
     script: &[u8],
     cells: &mut [u32],
+    issues: &mut [u8],
     tables: &mut [u8],
     next: &mut [u16; 4096],
     first: &mut [u16; 8192],
-    keys: &mut [u32; 4096],
+    keys: &mut [u64; 4096],
     heads: &mut [u16; 4096],
     starts: &mut [u16; 65],
     marks: &mut [u8],
     words: &mut [u32],
 ) -> Run
     ensures { λ r. ⌜ Ran (now (script .entry))
-        (buffers (now (cells .entry)) (now (tables .entry)) (now (marks .entry)) (now (words .entry)))
-        (buffers (now (cells .exit)) (now (tables .exit)) (now (marks .exit)) (now (words .exit))) r ⌝ }
-    ensures { λ r. ⌜ ((i : ℕ) → r .verdict ≡ Verdicts.Accepted i → Catalogued (r .design) (now (cells .exit)) (now (tables .exit))
+        (buffers (cellsIn (now (cells .entry)) (now (issues .entry))) (now (tables .entry)) (now (marks .entry)) (now (words .entry)))
+        (buffers (cellsIn (now (cells .exit)) (now (issues .exit))) (now (tables .exit)) (now (marks .exit)) (now (words .exit))) r ⌝ }
+    ensures { λ r. ⌜ ((i : ℕ) → r .verdict ≡ Verdicts.Accepted i → Catalogued (r .design) (cellsIn (now (cells .exit)) (now (issues .exit))) (now (tables .exit))
         (now (next .exit)) (now (first .exit)) (now (keys .exit)) (now (heads .exit)) (now (starts .exit))) ⌝ }
 {
     let reading = read_catalogued(
         script,
         cells,
+        issues,
         tables,
         marks,
         next,
@@ -129,6 +134,7 @@ fn run_catalogued(
         at,
         design,
         cells,
+        issues,
         tables,
         next,
         first,
@@ -154,22 +160,24 @@ fn run_catalogued(
 pub fn run(
     script: &[u8],
     cells: &mut [u32],
+    issues: &mut [u8],
     tables: &mut [u8],
     marks: &mut [u8],
     words: &mut [u32],
 ) -> Run
     ensures { λ r. ⌜ Ran (now (script .entry))
-        (buffers (now (cells .entry)) (now (tables .entry)) (now (marks .entry)) (now (words .entry)))
-        (buffers (now (cells .exit)) (now (tables .exit)) (now (marks .exit)) (now (words .exit))) r ⌝ }
+        (buffers (cellsIn (now (cells .entry)) (now (issues .entry))) (now (tables .entry)) (now (marks .entry)) (now (words .entry)))
+        (buffers (cellsIn (now (cells .exit)) (now (issues .exit))) (now (tables .exit)) (now (marks .exit)) (now (words .exit))) r ⌝ }
 {
     let mut next = [512u16; 4096];
     let mut first = [512u16; 8192];
-    let mut keys = [0u32; 4096];
+    let mut keys = [0u64; 4096];
     let mut heads = [512u16; 4096];
     let mut starts = [0u16; 65];
     run_catalogued(
         script,
         cells,
+        issues,
         tables,
         &mut next,
         &mut first,
@@ -186,6 +194,7 @@ pub fn run(
 pub fn probe_after(
     script: &[u8],
     cells: &mut [u32],
+    issues: &mut [u8],
     tables: &mut [u8],
     marks: &mut [u8],
     words: &mut [u32],
@@ -193,18 +202,19 @@ pub fn probe_after(
     v: Cell,
 ) -> ProbedRun
     ensures { λ x. ⌜ ProbedAfter (now (script .entry))
-        (buffers (now (cells .entry)) (now (tables .entry)) (now (marks .entry)) (now (words .entry)))
-        (buffers (now (cells .exit)) (now (tables .exit)) (now (marks .exit)) (now (words .exit)))
+        (buffers (cellsIn (now (cells .entry)) (now (issues .entry))) (now (tables .entry)) (now (marks .entry)) (now (words .entry)))
+        (buffers (cellsIn (now (cells .exit)) (now (issues .exit))) (now (tables .exit)) (now (marks .exit)) (now (words .exit)))
         (x .run) (columnOf k) (cellOf v) (answerOf (x .answer)) ⌝ }
 {
     let mut next = [512u16; 4096];
     let mut first = [512u16; 8192];
-    let mut keys = [0u32; 4096];
+    let mut keys = [0u64; 4096];
     let mut heads = [512u16; 4096];
     let mut starts = [0u16; 65];
     let left = run_catalogued(
         script,
         cells,
+        issues,
         tables,
         &mut next,
         &mut first,
@@ -226,6 +236,7 @@ pub fn probe_after(
     let answer = probe_lawful(
         design,
         cells,
+        issues,
         tables,
         &next,
         &keys,

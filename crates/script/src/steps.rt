@@ -2,6 +2,7 @@
 ghost use mathlib.Core.Path.{_≡_};
 ghost use mathlib.Core.Bool.{true};
 ghost use Prim.Native.Nat.{_+_, min};
+ghost use Rattle.state.specs.Cells.{cellsIn};
 ghost use Rattle.state.specs.declared.answer.Answer.the-variants as Answers;
 ghost use Rattle.state.specs.Meaning.{answerOf};
 ghost use Rattle.state.specs.Lent.{lent, sound};
@@ -83,10 +84,11 @@ fn operate_at(
     after: usize,
     design: Design,
     cells: &[u32],
+    issues: &[u8],
     tables: &[u8],
     next: &[u16; 4096],
     first: &[u16; 8192],
-    keys: &[u32; 4096],
+    keys: &[u64; 4096],
     heads: &[u16; 4096],
     starts: &[u16; 65],
     marks: &mut [u8],
@@ -97,16 +99,17 @@ fn operate_at(
     froms: &mut [u16; 2560],
     links: &mut [u16; 2560],
 ) -> Step
-    requires { ⌜ (sound (lent design (now cells) (now tables) (now marks) held) ≡ true)
-        × Catalogued design (now cells) (now tables) (now next) (now first) (now keys) (now heads) (now starts) ⌝ }
+    requires { ⌜ (sound (lent design (cellsIn (now cells) (now issues)) (now tables) (now marks) held) ≡ true)
+        × Catalogued design (cellsIn (now cells) (now issues)) (now tables) (now next) (now first) (now keys) (now heads) (now starts) ⌝ }
     ensures { λ t. ⌜ Does
-        (operated (lent design (now (cells .entry)) (now (tables .entry)) (now (marks .entry)) held) (now (words .entry)) op at after)
-        t (lent design (now (cells .entry)) (now (tables .entry)) (now (marks .exit)) (t .held)) (now (words .exit)) ⌝ }
+        (operated (lent design (cellsIn (now (cells .entry)) (now (issues .entry))) (now (tables .entry)) (now (marks .entry)) held) (now (words .entry)) op at after)
+        t (lent design (cellsIn (now (cells .entry)) (now (issues .entry))) (now (tables .entry)) (now (marks .exit)) (t .held)) (now (words .exit)) ⌝ }
 {
     let o = perform_lawful(
         op,
         design,
         cells,
+        issues,
         tables,
         next,
         first,
@@ -134,10 +137,11 @@ fn carry_out(
     command: Command,
     design: Design,
     cells: &[u32],
+    issues: &[u8],
     tables: &[u8],
     next: &[u16; 4096],
     first: &[u16; 8192],
-    keys: &[u32; 4096],
+    keys: &[u64; 4096],
     heads: &[u16; 4096],
     starts: &[u16; 65],
     marks: &mut [u8],
@@ -148,12 +152,12 @@ fn carry_out(
     froms: &mut [u16; 2560],
     links: &mut [u16; 2560],
 ) -> Step
-    requires { ⌜ (sound (lent design (now cells) (now tables) (now marks) held) ≡ true)
-        × Catalogued design (now cells) (now tables) (now next) (now first) (now keys) (now heads) (now starts) ⌝ }
+    requires { ⌜ (sound (lent design (cellsIn (now cells) (now issues)) (now tables) (now marks) held) ≡ true)
+        × Catalogued design (cellsIn (now cells) (now issues)) (now tables) (now next) (now first) (now keys) (now heads) (now starts) ⌝ }
     ensures { λ t. ⌜ Does
-        (carried (lent design (now (cells .entry)) (now (tables .entry)) (now (marks .entry)) held) (now (words .entry))
+        (carried (lent design (cellsIn (now (cells .entry)) (now (issues .entry))) (now (tables .entry)) (now (marks .entry)) held) (now (words .entry))
         (now (script .entry)) at after command)
-        t (lent design (now (cells .entry)) (now (tables .entry)) (now (marks .exit)) (t .held)) (now (words .exit)) ⌝ }
+        t (lent design (cellsIn (now (cells .entry)) (now (issues .entry))) (now (tables .entry)) (now (marks .exit)) (t .held)) (now (words .exit)) ⌝ }
 {
     match command {
         Command::Operate(op) => operate_at(
@@ -162,6 +166,7 @@ fn carry_out(
             after,
             design,
             cells,
+            issues,
             tables,
             next,
             first,
@@ -193,10 +198,11 @@ pub fn step_lawful(
     at: usize,
     design: Design,
     cells: &[u32],
+    issues: &[u8],
     tables: &[u8],
     next: &[u16; 4096],
     first: &[u16; 8192],
-    keys: &[u32; 4096],
+    keys: &[u64; 4096],
     heads: &[u16; 4096],
     starts: &[u16; 65],
     marks: &mut [u8],
@@ -207,11 +213,11 @@ pub fn step_lawful(
     froms: &mut [u16; 2560],
     links: &mut [u16; 2560],
 ) -> Step
-    requires { ⌜ (sound (lent design (now cells) (now tables) (now marks) held) ≡ true)
-        × Catalogued design (now cells) (now tables) (now next) (now first) (now keys) (now heads) (now starts) ⌝ }
+    requires { ⌜ (sound (lent design (cellsIn (now cells) (now issues)) (now tables) (now marks) held) ≡ true)
+        × Catalogued design (cellsIn (now cells) (now issues)) (now tables) (now next) (now first) (now keys) (now heads) (now starts) ⌝ }
     ensures { λ t. ⌜ Does
-        (stepAt (lent design (now (cells .entry)) (now (tables .entry)) (now (marks .entry)) held) (now (words .entry)) (now (script .entry)) at)
-        t (lent design (now (cells .entry)) (now (tables .entry)) (now (marks .exit)) (t .held)) (now (words .exit)) ⌝ }
+        (stepAt (lent design (cellsIn (now (cells .entry)) (now (issues .entry))) (now (tables .entry)) (now (marks .entry)) held) (now (words .entry)) (now (script .entry)) at)
+        t (lent design (cellsIn (now (cells .entry)) (now (issues .entry))) (now (tables .entry)) (now (marks .exit)) (t .held)) (now (words .exit)) ⌝ }
 {
     if MOST_BYTES < script.len() {
         return refusing(4, 0, at, false, held);
@@ -225,6 +231,7 @@ pub fn step_lawful(
         command,
         design,
         cells,
+        issues,
         tables,
         next,
         first,
@@ -248,23 +255,25 @@ pub fn step(
     at: usize,
     design: Design,
     cells: &[u32],
+    issues: &[u8],
     tables: &[u8],
     marks: &mut [u8],
     held: Held,
     words: &mut [u32],
 ) -> Step
     ensures { λ t. ⌜ Does
-        (stepAt (lent design (now (cells .entry)) (now (tables .entry)) (now (marks .entry)) held) (now (words .entry)) (now (script .entry)) at)
-        t (lent design (now (cells .entry)) (now (tables .entry)) (now (marks .exit)) (t .held)) (now (words .exit)) ⌝ }
+        (stepAt (lent design (cellsIn (now (cells .entry)) (now (issues .entry))) (now (tables .entry)) (now (marks .entry)) held) (now (words .entry)) (now (script .entry)) at)
+        t (lent design (cellsIn (now (cells .entry)) (now (issues .entry))) (now (tables .entry)) (now (marks .exit)) (t .held)) (now (words .exit)) ⌝ }
 {
     let mut next = [512u16; 4096];
     let mut first = [512u16; 8192];
-    let mut keys = [0u32; 4096];
+    let mut keys = [0u64; 4096];
     let mut heads = [512u16; 4096];
     let mut starts = [0u16; 65];
     let why = cause(
         design,
         cells,
+        issues,
         tables,
         &mut next,
         &mut first,
@@ -286,6 +295,7 @@ pub fn step(
         at,
         design,
         cells,
+        issues,
         tables,
         &next,
         &first,

@@ -1,4 +1,5 @@
 // Writing a lent design with its rows out, as a script that reads as it.
+ghost use Rattle.state.specs.Cells.{cellsIn};
 ghost use Rattle.state.specs.Lent.{lent};
 ghost use Rattle.script.specs.Writing.{Writes};
 use crate::outcome::Written;
@@ -13,22 +14,24 @@ use state::Held;
 pub fn write(
     design: Design,
     cells: &[u32],
+    issues: &[u8],
     tables: &[u8],
     marks: &[u8],
     held: Held,
     out: &mut [u8],
 ) -> Written
-    ensures { λ w. ⌜ Writes (lent design (now (cells .entry)) (now (tables .entry)) (now (marks .entry)) held)
+    ensures { λ w. ⌜ Writes (lent design (cellsIn (now (cells .entry)) (now (issues .entry))) (now (tables .entry)) (now (marks .entry)) held)
         w (now (out .entry)) (now (out .exit)) ⌝ }
 {
     let mut next = [512u16; 4096];
     let mut first = [512u16; 8192];
-    let mut keys = [0u32; 4096];
+    let mut keys = [0u64; 4096];
     let mut heads = [512u16; 4096];
     let mut starts = [0u16; 65];
     let why = cause(
         design,
         cells,
+        issues,
         tables,
         &mut next,
         &mut first,
@@ -41,10 +44,10 @@ pub fn write(
     if why != 0 {
         return Written::Refused(why);
     }
-    let n = design_length(design);
+    let n = design_length(design, issues);
     if out.len() < n {
         return Written::Refused(7);
     }
-    write_design(design, cells, tables, out);
+    write_design(design, cells, issues, tables, out);
     Written::Bytes(n)
 }

@@ -11,21 +11,22 @@ use Rattle.model.specs.Cell.{Cell, blank, equal}
 use Rattle.model.specs.Scheme as Model
 use Rattle.model.specs.Database.{has}
 use Rattle.state.specs.declared.cell.Cell as State
+use Rattle.state.specs.Cells.{Cells}
 use Rattle.state.specs.Meaning.{cellOf, cellAt, databaseOf}
 
 -- ---- one cell
 
-pub cell-at : (rows : ℕ) (cells tables : List ℕ) (r c : ℕ) → c < 8 → databaseOf rows cells tables .cell r c ≡ cellOf (cellAt cells r c)
+pub cell-at : (rows : ℕ) (cells : Cells) (tables : List ℕ) (r c : ℕ) → c < 8 → databaseOf rows cells tables .cell r c ≡ cellOf (cellAt cells r c)
 unfolding databaseOf
 cell-at rows cells tables r c h = ap (λ (b : Bool). cond b (cellOf (cellAt cells r c)) blank) (lt-ltb c 8 h)
 
-pub live-at : (rows : ℕ) (cells tables : List ℕ) (r : ℕ) → r < 512 → databaseOf rows cells tables .live r ≡ ltb r rows
+pub live-at : (rows : ℕ) (cells : Cells) (tables : List ℕ) (r : ℕ) → r < 512 → databaseOf rows cells tables .live r ≡ ltb r rows
 unfolding databaseOf
 live-at rows cells tables r h = ap (λ (b : Bool). b && ltb r rows) (lt-ltb r 512 h)
 
 -- ---- a row that has a value, test by test
 
-module _ (rows : ℕ) (cells tables : List ℕ) (k : Model.Column) (v : Cell) (r : ℕ) (l : r < 512) (p : k .place < 8) where
+module _ (rows : ℕ) (cells : Cells) (tables : List ℕ) (k : Model.Column) (v : Cell) (r : ℕ) (l : r < 512) (p : k .place < 8) where
   pub has-at : has (databaseOf rows cells tables) k v r ≡
       databaseOf rows cells tables .live r && (eqb (getD tables r 0) (k .table) && equal (cellOf (cellAt cells r (k .place))) v)
   unfolding has databaseOf

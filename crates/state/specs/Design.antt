@@ -8,6 +8,7 @@ use Rattle.state.specs.declared.design.Column.{Column}
 use Rattle.state.specs.declared.design.Constraint.{Constraint}
 use Rattle.state.specs.declared.design.Filling.{Filling}
 use Rattle.state.specs.declared.design.Design.{Design}
+use Rattle.state.specs.Cells.{Cells}
 
 -- what stands in an unused place
 abbrev pub noTable : Table
@@ -57,6 +58,7 @@ pub record InRange (d : Design) : Type 0 where
   pub column-table : (f : ℕ) → fillingAt d f .column .table < 8
 
 -- what inner functions ask of the buffers that hold the rows
-pub record Backed (cells tables : List ℕ) : Type 0 where
-  pub rows : 4096 ≤ length cells
+pub record Backed (cells : Cells) (tables : List ℕ) : Type 0 where
+  pub rows : 4096 ≤ length (cells .numbers)
+  pub issued : 4096 ≤ length (cells .issues)
   pub members : 512 ≤ length tables

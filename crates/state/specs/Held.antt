@@ -9,7 +9,7 @@ use Rattle.state.specs.declared.held.Held.{Held}
 
 -- what stands in an unused place
 abbrev pub noCell : Cell
-noCell = record { number = 0 }
+noCell = record { number = 0; issue = 0 }
 
 abbrev pub noValue : HeldValue
 noValue = record { filling = 0; value = noCell }

@@ -7,7 +7,7 @@ use mathlib.Core.List.{List}
 use lib.Dec.{eqb, leb, ltb}
 use lib.ListN.{getD}
 use Rattle.finite.specs.Finite.{any, all}
-use Rattle.model.specs.Cell.{isBlank}
+use Rattle.model.specs.Cell.{Cell, isBlank, numberless}
 use Rattle.model.specs.Scheme as Model
 use Rattle.model.specs.Scheme.{sameColumn, isColumn, candidate, Scheme}
 use Rattle.model.specs.Database.{Database, has}
@@ -21,6 +21,7 @@ use Rattle.state.specs.declared.design.Filling.{Filling}
 use Rattle.state.specs.declared.design.Design.{Design}
 use Rattle.state.specs.declared.held.HeldValue.{HeldValue}
 use Rattle.state.specs.declared.held.Held.{Held}
+use Rattle.state.specs.Cells.{Cells}
 use Rattle.state.specs.Design.{tableAt, constraintAt, fillingAt}
 use Rattle.state.specs.Held.{heldAt}
 use Rattle.state.specs.Meaning.{columnOf, fillingOf, pairOf, holdingOf, schemeOf, databaseOf}
@@ -77,9 +78,14 @@ lawfulDesign d =
 
 -- ---- the rows
 
--- "ROW: table .. those past the table's columns 0": row r belongs to a table, and is blank past its columns
+-- "those past the table's columns 0", and no "issue on a blank or past the columns" (02, Req 06): a cell without a number is blank, one with a number
+-- stands in one of the table's n columns
+unfoldable pub cellFits : ℕ → ℕ → Cell → Bool
+cellFits n c a = cond (numberless a) (isBlank a) (ltb c n)
+
+-- row r belongs to a table, and its cells fit
 unfoldable pub rowFits : Scheme → Database → ℕ → Bool
-rowFits S D r = ltb (D .table r) (S .tables) && all 8 (λ c. ltb c (S .columns (D .table r)) || isBlank (D .cell r c))
+rowFits S D r = ltb (D .table r) (S .tables) && all 8 (λ c. cellFits (S .columns (D .table r)) c (D .cell r c))
 
 -- an earlier row has row r's value in column c, which is unique
 unfoldable pub repeatsAt : Scheme → Database → ℕ → ℕ → Bool
@@ -95,7 +101,7 @@ repeats S D r = any 8 (repeatsAt S D r)
 unfoldable pub zeroRow : Database → ℕ → Bool
 zeroRow D r = eqb (D .table r) 0 && all 8 (λ c. isBlank (D .cell r c))
 
-unfoldable pub lawfulRows : Design → List ℕ → List ℕ → Bool
+unfoldable pub lawfulRows : Design → Cells → List ℕ → Bool
 lawfulRows d cells tables =
     let S = schemeOf d in
     let D = databaseOf (d .rows) cells tables in
@@ -119,7 +125,7 @@ lawfulHeld d h = leb (h .count) 64 && all 64 (λ i. usedOr i (h .count) (heldFit
 -- ---- the marks
 
 -- 1 on exactly the smallest row set for the held values, which a load of all of them from nothing gives, and 0 elsewhere
-unfoldable pub lawfulMarks : Design → List ℕ → List ℕ → Held → List ℕ → Bool
+unfoldable pub lawfulMarks : Design → Cells → List ℕ → Held → List ℕ → Bool
 lawfulMarks d cells tables h marks =
     let D = databaseOf (d .rows) cells tables in
     let L = reloadLevels (schemeOf d) D (holdingOf h) in

@@ -13,18 +13,19 @@ use Rattle.model.specs.Runs.{Operation, Cache, cacheAfter}
 use Rattle.model.specs.Answers.{Answer, unless, answer, written}
 use Rattle.state.specs.declared.design.Design.{Design}
 use Rattle.state.specs.declared.held.Held.{Held}
+use Rattle.state.specs.Cells.{Cells}
 use Rattle.state.specs.Meaning.{schemeOf, databaseOf, cacheOf, heldOf}
 use Rattle.state.specs.Lawful.{lawfulDesign, lawfulRows, lawfulHeld, lawfulMarks}
 
 -- everything that a caller lends an operation
 pub record State : Type 0 where
   pub design : Design
-  pub cells : List ℕ
+  pub cells : Cells
   pub tables : List ℕ
   pub marks : List ℕ
   pub held : Held
 
-abbrev pub lent : Design → List ℕ → List ℕ → List ℕ → Held → State
+abbrev pub lent : Design → Cells → List ℕ → List ℕ → Held → State
 lent d cells tables marks h = record { design = d; cells = cells; tables = tables; marks = marks; held = h }
 
 abbrev pub scheme : State → Scheme
@@ -36,9 +37,10 @@ database s = databaseOf (s .design .rows) (s .cells) (s .tables)
 abbrev pub cache : State → Cache
 cache s = cacheOf (s .held) (s .marks)
 
--- cause 7 does not apply: "4,096 cells u32, 512 row tables u8, 512 marks u8"; what lies past these sizes is neither read nor written
+-- cause 7 does not apply: "4,096 cells u32, 512 row tables u8, 512 marks u8", "4,096 issue bytes" (02, Req 06); what lies past these sizes is neither
+-- read nor written
 unfoldable pub longEnough : State → Bool
-longEnough s = leb 4096 (length (s .cells)) && (leb 512 (length (s .tables)) && leb 512 (length (s .marks)))
+longEnough s = leb 4096 (length (s .cells .numbers)) && (leb 4096 (length (s .cells .issues)) && (leb 512 (length (s .tables)) && leb 512 (length (s .marks))))
 
 -- cause 12 does not apply
 unfoldable pub lawful : State → Bool

@@ -1,5 +1,6 @@
--- Design, Held: the empty values and how places are read. Meaning: the model's scheme, database, cache and answer behind the lent values.
+-- Cells: the lent cells. Design, Held: the empty values and how places are read. Meaning: the model's scheme, database, cache and answer behind the lent values.
 -- Lawful: cause 12. Lent: a lent state, and what an operation answers and leaves, for whatever is lent.
+pub mod Cells
 pub mod Design
 pub mod Held
 pub mod Meaning

@@ -29,21 +29,26 @@ use Rattle.state.specs.declared.operation.Join.{Join}
 use Rattle.state.specs.declared.operation.Query.{Query}
 use Rattle.state.specs.declared.operation.Operation.{Operation}
 use Rattle.state.specs.declared.operation.Operation.the-variants as O
+use Rattle.state.specs.Cells.{Cells}
 use Rattle.state.specs.Design.{tableAt, constraintAt, fillingAt}
 use Rattle.state.specs.Held.{noValue, heldAt}
 
 -- ---- cells
 
 abbrev pub cellOf : Cell → Model-cell.Cell
-cellOf a = record { number = a .number }
+cellOf a = record { number = a .number; issue = a .issue }
 
 -- the cell that stands for this one
 abbrev pub cellBack : Model-cell.Cell → Cell
-cellBack a = record { number = a .number }
+cellBack a = record { number = a .number; issue = a .issue }
+
+-- cell number x of the lent cells
+abbrev pub cellIn : Cells → ℕ → Cell
+cellIn cells x = record { number = getD (cells .numbers) x 0; issue = getD (cells .issues) x 0 }
 
 -- column c of row r, whose cells begin at cell 8 times r
-abbrev pub cellAt : List ℕ → ℕ → ℕ → Cell
-cellAt cells r c = record { number = getD cells (8 * r + c) 0 }
+abbrev pub cellAt : Cells → ℕ → ℕ → Cell
+cellAt cells r c = cellIn cells (8 * r + c)
 
 -- ---- the design
 
@@ -75,7 +80,7 @@ schemeOf d =
 -- ---- the rows
 
 -- the first `rows` numbers have a row
-unfoldable pub databaseOf : ℕ → List ℕ → List ℕ → Database
+unfoldable pub databaseOf : ℕ → Cells → List ℕ → Database
 databaseOf rows cells tables =
     record {
       size = 512;

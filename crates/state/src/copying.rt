@@ -1,16 +1,15 @@
-// Copying what stands once for each row number, row tables or marks, from one buffer to another.
+// Copying bytes from one buffer to another: row tables, marks, issues.
 ghost use mathlib.Core.List.{_++_};
 ghost use mathlib.Core.Path.{_≡_};
 ghost use Prim.Native.Nat.{_≤_};
 ghost use lib.ListN.{length, drop};
-use crate::design::Design;
 
-// Copies 512 bytes; what lies past them stays. One step for each row number.
-pub fn copy_bytes(from: &[u8], to: &mut [u8])
-    requires { ⌜ (length (now from) ≡ 512) × (512 ≤ length (now to)) ⌝ }
-    ensures { λ _. ⌜ now (to .exit) ≡ now (from .entry) ++ drop 512 (now (to .entry)) ⌝ }
+// Copies n bytes; what lies past them stays. One step for each.
+pub fn copy_bytes(from: &[u8], to: &mut [u8], n: usize)
+    requires { ⌜ (length (now from) ≡ n) × (n ≤ length (now to)) ⌝ }
+    ensures { λ _. ⌜ now (to .exit) ≡ now (from .entry) ++ drop n (now (to .entry)) ⌝ }
 {
-    for i in 0..Design::ROWS {
+    for i in 0..n {
         to[i] = from[i];
     }
 }

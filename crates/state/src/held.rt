@@ -22,7 +22,10 @@ impl Held {
     {
         let v = HeldValue {
             filling: 0,
-            value: Cell { number: 0 },
+            value: Cell {
+                number: 0,
+                issue: 0,
+            },
         };
         Held {
             count: 0,

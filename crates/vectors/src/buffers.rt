@@ -40,15 +40,27 @@ pub(crate) fn are_bytes_left(bytes: &[u8], from: usize) -> bool {
 }
 
 // Everything past what an accepted design stores; or everything.
-fn are_left(cause: u8, cells: &[u32], tables: &[u8], marks: &[u8]) -> bool {
+fn are_left(cause: u8, cells: &[u32], issues: &[u8], tables: &[u8], marks: &[u8]) -> bool {
     if cause != 0 {
-        return are_cells_left(cells, 0) && are_bytes_left(tables, 0) && are_bytes_left(marks, 0);
+        return are_cells_left(cells, 0)
+            && are_bytes_left(issues, 0)
+            && are_bytes_left(tables, 0)
+            && are_bytes_left(marks, 0);
     }
-    are_cells_left(cells, 4096) && are_bytes_left(tables, 512) && are_bytes_left(marks, 512)
+    are_cells_left(cells, 4096)
+        && are_bytes_left(issues, 4096)
+        && are_bytes_left(tables, 512)
+        && are_bytes_left(marks, 512)
 }
 
-fn read_into(script: &[u8], cells: &mut [u32], tables: &mut [u8], marks: &mut [u8]) -> Outcome {
-    let r = read_design(script, cells, tables, marks);
+fn read_into(
+    script: &[u8],
+    cells: &mut [u32],
+    issues: &mut [u8],
+    tables: &mut [u8],
+    marks: &mut [u8],
+) -> Outcome {
+    let r = read_design(script, cells, issues, tables, marks);
     let v = r.verdict;
     let mut cause = 0;
     if let Verdict::Refused(n, _) = v {
@@ -56,38 +68,44 @@ fn read_into(script: &[u8], cells: &mut [u32], tables: &mut [u8], marks: &mut [u
     }
     Outcome {
         cause,
-        is_left: are_left(cause, cells, tables, marks),
+        is_left: are_left(cause, cells, issues, tables, marks),
     }
 }
 
-// Reads a design into buffers: 0 one cell, 1 one row table, 2 one mark too few; 3 longer; else just long enough.
+// Reads a design into buffers: 0 one cell, 1 one row table, 2 one mark, 4 one issue too few; 3 longer; else just long enough.
 pub(crate) fn reading(script: &[u8], kind: usize) -> Outcome {
     let mut cells = [9u32; 4096];
+    let mut issues = [9u8; 4096];
     let mut tables = [9u8; 512];
     let mut marks = [9u8; 512];
     match kind {
         0 => {
             let mut few = [9u32; 4095];
-            read_into(script, &mut few, &mut tables, &mut marks)
+            read_into(script, &mut few, &mut issues, &mut tables, &mut marks)
         }
         1 => {
             let mut few = [9u8; 511];
-            read_into(script, &mut cells, &mut few, &mut marks)
+            read_into(script, &mut cells, &mut issues, &mut few, &mut marks)
+        }
+        4 => {
+            let mut few = [9u8; 4095];
+            read_into(script, &mut cells, &mut few, &mut tables, &mut marks)
         }
         2 => {
             let mut few = [9u8; 511];
-            read_into(script, &mut cells, &mut tables, &mut few)
+            read_into(script, &mut cells, &mut issues, &mut tables, &mut few)
         }
         3 => longer(script),
-        _ => read_into(script, &mut cells, &mut tables, &mut marks),
+        _ => read_into(script, &mut cells, &mut issues, &mut tables, &mut marks),
     }
 }
 
 fn longer(script: &[u8]) -> Outcome {
     let mut cells = [9u32; 4100];
+    let mut issues = [9u8; 4101];
     let mut tables = [9u8; 514];
     let mut marks = [9u8; 514];
-    read_into(script, &mut cells, &mut tables, &mut marks)
+    read_into(script, &mut cells, &mut issues, &mut tables, &mut marks)
 }
 
 // The causes of the six operations, and whether everything that had to stay untouched did.
@@ -97,12 +115,12 @@ pub struct Tried {
 }
 
 // The six operations on buffers of 9s, of which one is too short: they leave everything.
-fn try_short(s: State, cells: &[u32], tables: &[u8], marks: &mut [u8]) -> Tried {
+fn try_short(s: State, cells: &[u32], issues: &[u8], tables: &[u8], marks: &mut [u8]) -> Tried {
     let mut words = [9u32; 8];
     let mut out = [9u8; 512];
     let d = s.design;
     let h = s.held;
-    let causes = operated(d, cells, tables, marks, h, &mut words, &mut out);
+    let causes = operated(d, cells, issues, tables, marks, h, &mut words, &mut out);
     let is_left = are_bytes_left(marks, 0) && are_cells_left(&words, 0) && are_bytes_left(&out, 0);
     Tried {
         causes,
@@ -117,56 +135,77 @@ struct Loaded {
 }
 
 // The script's design, with REFER 0 3.
-fn load_3(script: &[u8], cells: &mut [u32], tables: &mut [u8], marks: &mut [u8]) -> Loaded {
-    let r = read_design(script, cells, tables, marks);
+fn load_3(
+    script: &[u8],
+    cells: &mut [u32],
+    issues: &mut [u8],
+    tables: &mut [u8],
+    marks: &mut [u8],
+) -> Loaded {
+    let r = read_design(script, cells, issues, tables, marks);
     let design = r.design;
     let none = Held::none();
     let mut words = [0u32; 8];
     let refer = Operation::Refer(held_3());
-    let o = perform(refer, design, cells, tables, marks, none, &mut words);
+    let o = perform(
+        refer,
+        design,
+        cells,
+        issues,
+        tables,
+        marks,
+        none,
+        &mut words,
+    );
     let held = o.held;
     Loaded { design, held }
 }
 
 // The six operations on a lawful state: past the sizes they leave everything.
-fn try_long(l: Loaded, cells: &[u32], tables: &[u8], marks: &mut [u8]) -> Tried {
+fn try_long(l: Loaded, cells: &[u32], issues: &[u8], tables: &[u8], marks: &mut [u8]) -> Tried {
     let mut words = [9u32; 8];
     let mut out = [9u8; 512];
     let d = l.design;
     let h = l.held;
-    let causes = operated(d, cells, tables, marks, h, &mut words, &mut out);
+    let causes = operated(d, cells, issues, tables, marks, h, &mut words, &mut out);
     Tried {
         causes,
-        is_left: are_left(0, cells, tables, marks),
+        is_left: are_left(0, cells, issues, tables, marks),
     }
 }
 
 // The same with longer buffers lent.
 fn try_longer(script: &[u8]) -> Tried {
     let mut cells = [9u32; 4100];
+    let mut issues = [9u8; 4101];
     let mut tables = [9u8; 514];
     let mut marks = [9u8; 514];
-    let l = load_3(script, &mut cells, &mut tables, &mut marks);
-    try_long(l, &cells, &tables, &mut marks)
+    let l = load_3(script, &mut cells, &mut issues, &mut tables, &mut marks);
+    try_long(l, &cells, &issues, &tables, &mut marks)
 }
 
-// One place too short, and unlawful besides: 0 the cells, 1 the row tables, 2 the marks; else longer buffers.
+// One place too short, and unlawful besides: 0 the cells, 1 the row tables, 2 the marks, 4 the issues; else longer buffers.
 pub(crate) fn operations(script: &[u8], s: State, kind: usize) -> Tried {
     let cells = [9u32; 4096];
+    let issues = [9u8; 4096];
     let tables = [9u8; 512];
     let mut marks = [9u8; 512];
     match kind {
         0 => {
             let few = [9u32; 4095];
-            try_short(s, &few, &tables, &mut marks)
+            try_short(s, &few, &issues, &tables, &mut marks)
         }
         1 => {
             let few = [9u8; 511];
-            try_short(s, &cells, &few, &mut marks)
+            try_short(s, &cells, &issues, &few, &mut marks)
         }
         2 => {
             let mut few = [9u8; 511];
-            try_short(s, &cells, &tables, &mut few)
+            try_short(s, &cells, &issues, &tables, &mut few)
+        }
+        4 => {
+            let few = [9u8; 4095];
+            try_short(s, &cells, &few, &tables, &mut marks)
         }
         _ => try_longer(script),
     }

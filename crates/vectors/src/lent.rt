@@ -25,6 +25,7 @@ use state::same_cell;
 pub struct State {
     pub design: Design,
     pub cells: [u32; 4096],
+    pub issues: [u8; 4096],
     pub tables: [u8; 512],
     pub marks: [u8; 512],
     pub held: Held,
@@ -33,10 +34,11 @@ pub struct State {
 // The state that a script leaves behind its command with this number; the empty one if its design is refused. The cost of the operations.
 pub(crate) fn state_after(script: &[u8], number: usize) -> State {
     let mut cells = [0u32; 4096];
+    let mut issues = [0u8; 4096];
     let mut tables = [0u8; 512];
     let mut marks = [0u8; 512];
     let mut words = [0u32; 8];
-    let reading = read_design(script, &mut cells, &mut tables, &mut marks);
+    let reading = read_design(script, &mut cells, &mut issues, &mut tables, &mut marks);
     let design = reading.design;
     let verdict = reading.verdict;
     let mut held = Held::none();
@@ -46,6 +48,7 @@ pub(crate) fn state_after(script: &[u8], number: usize) -> State {
             at,
             design,
             &cells,
+            &issues,
             &tables,
             &mut marks,
             number,
@@ -57,6 +60,7 @@ pub(crate) fn state_after(script: &[u8], number: usize) -> State {
     State {
         design,
         cells,
+        issues,
         tables,
         marks,
         held,
@@ -124,9 +128,10 @@ fn with_held(mut h: Held, kind: usize, i: usize, v: usize) -> Held {
     }
     if i < Held::PLACES {
         let number = low_word(v % 1000);
+        let issue = low_byte(v / 100000);
         h.values[i] = HeldValue {
-            filling: low_byte(v / 1000),
-            value: Cell { number },
+            filling: low_byte(v / 1000 % 100),
+            value: Cell { number, issue },
         };
     }
     h
@@ -136,6 +141,12 @@ fn with_row(mut s: State, kind: usize, i: usize, v: usize) -> State {
     if kind == 0 {
         if i < Design::CELLS {
             s.cells[i] = low_word(v);
+        }
+        return s;
+    }
+    if kind == 13 {
+        if i < Design::CELLS {
+            s.issues[i] = low_byte(v);
         }
         return s;
     }
@@ -149,11 +160,11 @@ fn with_row(mut s: State, kind: usize, i: usize, v: usize) -> State {
     s
 }
 
-// Kinds: 0 a cell, 1 a row table, 2 a mark, 3 how many are held, 4 a held pair (1,000 × filling + value), 5 to 8 how many tables, constraints,
-// fillings and rows, 9 the columns of table 0, 10 those of table 7, 11 the target table of constraint 1, then from 0.0, 12 low of filling 0; any
-// other, nothing.
+// Kinds: 0 a cell, 1 a row table, 2 a mark, 3 how many are held, 4 a held pair (100,000 × issue + 1,000 × filling + value), 5 to 8 how many tables,
+// constraints, fillings and rows, 9 the columns of table 0, 10 those of table 7, 11 the target table of constraint 1, then from 0.0, 12 low of filling
+// 0, 13 a cell's issue; any other, nothing.
 pub(crate) fn changed(mut s: State, kind: usize, i: usize, v: usize) -> State {
-    if kind < 3 {
+    if kind < 3 || kind == 13 {
         return with_row(s, kind, i, v);
     }
     if kind < 5 {
@@ -202,7 +213,10 @@ fn cause_of_writing(w: Written) -> u8 {
 
 // Row 0's own value in column 1 of table 0, which filling 0 has.
 fn value_3() -> Cell {
-    Cell { number: 3 }
+    Cell {
+        number: 3,
+        issue: 0,
+    }
 }
 
 pub(crate) fn held_3() -> HeldValue {
@@ -272,12 +286,13 @@ fn ask(
     op: Operation,
     design: Design,
     cells: &[u32],
+    issues: &[u8],
     tables: &[u8],
     marks: &mut [u8],
     held: Held,
     words: &mut [u32],
 ) -> Asked {
-    let o = perform(op, design, cells, tables, marks, held, words);
+    let o = perform(op, design, cells, issues, tables, marks, held, words);
     let answer = o.answer;
     let kept = o.held;
     Asked {
@@ -286,10 +301,27 @@ fn ask(
     }
 }
 
-fn step_4(design: Design, cells: &[u32], tables: &[u8], marks: &mut [u8], held: Held) -> Asked {
+fn step_4(
+    design: Design,
+    cells: &[u32],
+    issues: &[u8],
+    tables: &[u8],
+    marks: &mut [u8],
+    held: Held,
+) -> Asked {
     let mut words = [0u32; 8];
     let script = b"\x10\x00\x04\x00\x00\x00";
-    let t = step(script, 0, design, cells, tables, marks, held, &mut words);
+    let t = step(
+        script,
+        0,
+        design,
+        cells,
+        issues,
+        tables,
+        marks,
+        held,
+        &mut words,
+    );
     let answer = t.answer;
     let kept = t.held;
     Asked {
@@ -301,29 +333,31 @@ fn step_4(design: Design, cells: &[u32], tables: &[u8], marks: &mut [u8], held: 
 fn write_out(
     design: Design,
     cells: &[u32],
+    issues: &[u8],
     tables: &[u8],
     marks: &[u8],
     held: Held,
     out: &mut [u8],
 ) -> u8 {
-    cause_of_writing(write(design, cells, tables, marks, held, out))
+    cause_of_writing(write(design, cells, issues, tables, marks, held, out))
 }
 
 // Drops 3 and refers to it again, so that the state is as before where it is lawful.
 fn drop_and_refer(
     design: Design,
     cells: &[u32],
+    issues: &[u8],
     tables: &[u8],
     marks: &mut [u8],
     held: Held,
     words: &mut [u32],
 ) -> Causes {
     let drop = Operation::Drop(held_3());
-    let o = perform(drop, design, cells, tables, marks, held, words);
+    let o = perform(drop, design, cells, issues, tables, marks, held, words);
     let a = o.answer;
     let kept = o.held;
     let refer = Operation::Refer(held_3());
-    let p = perform(refer, design, cells, tables, marks, kept, words);
+    let p = perform(refer, design, cells, issues, tables, marks, kept, words);
     let b = p.answer;
     let last = p.held;
     Causes {
@@ -342,15 +376,16 @@ fn probe_and_query(
     mut c: Causes,
     design: Design,
     cells: &[u32],
+    issues: &[u8],
     tables: &[u8],
     marks: &mut [u8],
     held: Held,
     words: &mut [u32],
 ) -> Causes {
     let probe = Operation::Probe(column_1(), value_3());
-    let p = ask(probe, design, cells, tables, marks, held, words);
+    let p = ask(probe, design, cells, issues, tables, marks, held, words);
     let query = Operation::Query(plain_query());
-    let q = ask(query, design, cells, tables, marks, held, words);
+    let q = ask(query, design, cells, issues, tables, marks, held, words);
     c.probe = p.cause;
     c.query = q.cause;
     c.is_held = c.is_held && p.is_held && q.is_held;
@@ -361,16 +396,17 @@ fn probe_and_query(
 pub(crate) fn operated(
     design: Design,
     cells: &[u32],
+    issues: &[u8],
     tables: &[u8],
     marks: &mut [u8],
     held: Held,
     words: &mut [u32],
     out: &mut [u8],
 ) -> Causes {
-    let two = drop_and_refer(design, cells, tables, marks, held, words);
-    let mut c = probe_and_query(two, design, cells, tables, marks, held, words);
-    c.write = write_out(design, cells, tables, marks, held, out);
-    let t = step_4(design, cells, tables, marks, held);
+    let two = drop_and_refer(design, cells, issues, tables, marks, held, words);
+    let mut c = probe_and_query(two, design, cells, issues, tables, marks, held, words);
+    c.write = write_out(design, cells, issues, tables, marks, held, out);
+    let t = step_4(design, cells, issues, tables, marks, held);
     c.step = t.cause;
     c.is_held = c.is_held && t.is_held;
     c

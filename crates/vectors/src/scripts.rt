@@ -35,13 +35,24 @@ pub(crate) fn step_of(
     at: usize,
     design: Design,
     cells: &[u32],
+    issues: &[u8],
     tables: &[u8],
     marks: &mut [u8],
     number: usize,
     words: &mut [u32],
 ) -> Step {
     let none = Held::none();
-    let mut t = step(script, at, design, cells, tables, marks, none, words);
+    let mut t = step(
+        script,
+        at,
+        design,
+        cells,
+        issues,
+        tables,
+        marks,
+        none,
+        words,
+    );
     let mut i: usize = 0;
     while i < MOST_COMMANDS {
         if number <= i {
@@ -49,7 +60,17 @@ pub(crate) fn step_of(
         }
         i += 1;
         let held = t.held;
-        let next = step(script, t.next, design, cells, tables, marks, held, words);
+        let next = step(
+            script,
+            t.next,
+            design,
+            cells,
+            issues,
+            tables,
+            marks,
+            held,
+            words,
+        );
         t = next;
     }
     t
@@ -73,9 +94,10 @@ fn refusal_line(cause: u8, place: usize) -> Line {
 // The line of the command with this number, with these words lent.
 pub(crate) fn line_at(script: &[u8], number: usize, words: &mut [u32]) -> Line {
     let mut cells = [0u32; 4096];
+    let mut issues = [0u8; 4096];
     let mut tables = [0u8; 512];
     let mut marks = [0u8; 512];
-    let reading = read_design(script, &mut cells, &mut tables, &mut marks);
+    let reading = read_design(script, &mut cells, &mut issues, &mut tables, &mut marks);
     let design = reading.design;
     let verdict = reading.verdict;
     match verdict {
@@ -85,6 +107,7 @@ pub(crate) fn line_at(script: &[u8], number: usize, words: &mut [u32]) -> Line {
                 at,
                 design,
                 &cells,
+                &issues,
                 &tables,
                 &mut marks,
                 number,

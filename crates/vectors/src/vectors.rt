@@ -82,6 +82,7 @@ fn reading_line(script: &[u8], kind: usize) -> Line {
 // The six operations on a state, and whether they left it, the answer words and the buffer to write into as they were.
 fn state_line(s: State) -> Line {
     let cells = s.cells;
+    let issues = s.issues;
     let tables = s.tables;
     let before = s.marks;
     let mut marks = s.marks;
@@ -92,6 +93,7 @@ fn state_line(s: State) -> Line {
     let c = operated(
         design,
         &cells,
+        &issues,
         &tables,
         &mut marks,
         held,

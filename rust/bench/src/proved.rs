@@ -17,7 +17,7 @@ const ROWS: usize = 512;
 const DESIGN_WORDS: usize = 116;
 
 /// The words that the held values take.
-const HELD_WORDS: usize = 129;
+const HELD_WORDS: usize = 193;
 
 /// The catalog's arrays: for each cell, for each row and constraint, for each
 /// different value of a column twice, and for each column.
@@ -42,11 +42,13 @@ extern "C" {
         script_length: usize,
         cells: *mut u32,
         cells_length: usize,
+        issues: *mut u8,
+        issues_length: usize,
         tables: *mut u8,
         tables_length: usize,
         next: &mut [u16; NEXT],
         first: &mut [u16; FIRST],
-        keys: &mut [u32; KEYS],
+        keys: &mut [u64; KEYS],
         heads: &mut [u16; HEADS],
         starts: &mut [u16; STARTS],
         marks: *mut u8,
@@ -63,11 +65,13 @@ extern "C" {
         at: usize,
         cells: *const u32,
         cells_length: usize,
+        issues: *const u8,
+        issues_length: usize,
         tables: *const u8,
         tables_length: usize,
         next: &[u16; NEXT],
         first: &[u16; FIRST],
-        keys: &[u32; KEYS],
+        keys: &[u64; KEYS],
         heads: &[u16; HEADS],
         starts: &[u16; STARTS],
         marks: *mut u8,
@@ -91,11 +95,13 @@ extern "C" {
         at: usize,
         cells: *const u32,
         cells_length: usize,
+        issues: *const u8,
+        issues_length: usize,
         tables: *const u8,
         tables_length: usize,
         next: &[u16; NEXT],
         first: &[u16; FIRST],
-        keys: &[u32; KEYS],
+        keys: &[u64; KEYS],
         heads: &[u16; HEADS],
         starts: &[u16; STARTS],
         marks: *mut u8,
@@ -120,11 +126,12 @@ pub struct ProvedDesk;
 /// lawful, as the last two ask.
 struct Lent {
     cells: Box<[u32; CELLS]>,
+    issues: Box<[u8; CELLS]>,
     tables: Box<[u8; ROWS]>,
     marks: Box<[u8; ROWS]>,
     next: Box<[u16; NEXT]>,
     first: Box<[u16; FIRST]>,
-    keys: Box<[u32; KEYS]>,
+    keys: Box<[u64; KEYS]>,
     heads: Box<[u16; HEADS]>,
     starts: Box<[u16; STARTS]>,
     design: Box<[u32; DESIGN_WORDS]>,
@@ -168,6 +175,8 @@ macro_rules! call {
                 0,
                 $lent.cells.as_ptr(),
                 $lent.cells.len(),
+                $lent.issues.as_ptr(),
+                $lent.issues.len(),
                 $lent.tables.as_ptr(),
                 $lent.tables.len(),
                 &$lent.next,
@@ -198,6 +207,7 @@ impl Lent {
     fn open(script: &[u8]) -> Result<Lent, u8> {
         let mut lent = Lent {
             cells: zeros(),
+            issues: zeros(),
             tables: zeros(),
             marks: zeros(),
             next: zeros(),
@@ -221,6 +231,8 @@ impl Lent {
                 script.len(),
                 lent.cells.as_mut_ptr(),
                 lent.cells.len(),
+                lent.issues.as_mut_ptr(),
+                lent.issues.len(),
                 lent.tables.as_mut_ptr(),
                 lent.tables.len(),
                 &mut lent.next,

@@ -59,6 +59,7 @@ fn request_of(piece: &Piece) -> u32 {
     match piece.bytes().first() {
         Some(0x14) => 1,
         Some(0x15) => 3,
+        Some(0x07 | 0x20..=0x23 | 0x25) => 6,
         _ => 0,
     }
 }
@@ -135,6 +136,16 @@ mod tests {
         assert_eq!(Level::before(4).script(script.clone()), script);
         let script = Level::before(3).script(script);
         assert_eq!(disassemble(&script), "table 1\nend\nprobe 0.0 = 1\n");
+    }
+
+    #[test]
+    fn commands_with_issues_are_taken_out() {
+        let text = "table 1\nfilling 0.0 1..9\nrow 0 7\nrow 0 7#1\nrow 0 8\nend\n\
+            refer 0 7#1\nprobe 0.0 = 7#0\nrefer 0 8\nbytes 0x23 0x00\n";
+        let left = "table 1\nfilling 0.0 1..9\nrow 0 7\nrow 0 8\nend\nrefer 0 8\n";
+        let script = assemble(text).expect("a right text");
+        assert_eq!(Level::before(7).script(script.clone()), script);
+        assert_eq!(disassemble(&Level::before(6).script(script)), left);
     }
 
     #[test]

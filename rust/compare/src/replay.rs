@@ -4,7 +4,7 @@
 use reference::design::Design;
 use reference::desk::{Answer, Desk};
 use reference::refusal::Cause;
-use reference::script::{read_command, Command, Query};
+use reference::script::{read_command, Command, Probe, Query};
 use reference::ANSWER_WORDS;
 
 /// A script with an accepted design, up to some command behind END.
@@ -23,6 +23,11 @@ impl Replay<'_> {
             place,
             desk: Desk::new(design, ANSWER_WORDS),
         })
+    }
+
+    /// The design.
+    pub fn design(&self) -> &Design {
+        self.desk.design()
     }
 
     /// The byte at which the next command begins.
@@ -45,7 +50,7 @@ impl Replay<'_> {
     /// or a total with right operands: nothing if it has none.
     pub fn ground(&self) -> Option<u8> {
         let Query { column, value, .. } = query_of(&self.command()?)?;
-        match self.try_out(&Command::Probe { column, value }) {
+        match self.try_out(&Command::Probe(Probe { column, value })) {
             Ok(Answer::Ground { ground, .. }) => Some(ground),
             _ => None,
         }

@@ -5,7 +5,7 @@
 //! epoch empties the cache at once.
 
 use crate::catalog::{Catalog, NO_FILLING};
-use crate::design::{Column, Design};
+use crate::design::{number, Column, Design, Value};
 use crate::desk::Answer;
 use crate::dropping::Doubt;
 use crate::{CELLS, CONSTRAINTS, NO_ROW, ROWS};
@@ -36,8 +36,8 @@ pub struct Cache {
 
 /// A filling and a value as one number.
 #[inline(always)]
-pub fn key(filling: u8, value: u32) -> u64 {
-    u64::from(filling) << 32 | u64::from(value)
+pub fn key(filling: u8, value: Value) -> u64 {
+    u64::from(filling) << 40 | value
 }
 
 impl Cache {
@@ -54,16 +54,22 @@ impl Cache {
 
     /// Whether the pair is held.
     #[inline(always)]
-    pub fn holds(&self, filling: u8, value: u32) -> bool {
+    pub fn holds(&self, filling: u8, value: Value) -> bool {
         self.held[..self.held_count].contains(&key(filling, value))
     }
 
     /// REFER.
-    pub fn refer(&mut self, design: &Design, catalog: &Catalog, filling: u8, value: u32) -> Answer {
+    pub fn refer(
+        &mut self,
+        design: &Design,
+        catalog: &Catalog,
+        filling: u8,
+        value: Value,
+    ) -> Answer {
         if usize::from(filling) >= design.fillings {
             return Answer::Refused(5);
         }
-        if value == 0 {
+        if number(value) == 0 {
             return Answer::Refused(9);
         }
         if !design.is_candidate(filling, value) {
@@ -85,7 +91,7 @@ impl Cache {
         design: &Design,
         catalog: &Catalog,
         column: Column,
-        value: u32,
+        value: Value,
     ) -> Option<u8> {
         let filling = catalog.filling[column.number()];
         if filling == NO_FILLING
@@ -99,7 +105,7 @@ impl Cache {
     }
 
     /// Holds a value from now on, for which there is room.
-    fn hold(&mut self, design: &Design, catalog: &Catalog, filling: u8, value: u32) -> Answer {
+    fn hold(&mut self, design: &Design, catalog: &Catalog, filling: u8, value: Value) -> Answer {
         let column = design.filling[usize::from(filling)].column;
         let head = catalog.find(column, value);
         self.held[self.held_count] = key(filling, value);

@@ -1,7 +1,7 @@
 //! The groups of a design's columns and the links between them, worked out once
 //! for an accepted design.
 
-use crate::design::{Column, Constraint, Design};
+use crate::design::{Column, Constraint, Design, Value};
 use crate::{CELLS, CONSTRAINTS, NO_ROW, ROWS};
 
 /// Where a filling's number could stand: none.
@@ -62,7 +62,7 @@ pub struct Catalog {
     /// For each column, the constraints that end there, bit i for constraint i.
     pub ending: [u16; 64],
     /// The values of all columns, column by column and in rising order.
-    values: [u32; CELLS * ROWS],
+    values: [Value; CELLS * ROWS],
     /// The head of each value's group.
     heads: [u16; CELLS * ROWS],
     /// The rows of all groups, group by group.
@@ -173,16 +173,16 @@ impl Catalog {
         let mut keys = [0u64; ROWS];
         let mut count = 0;
         for &row in rows {
-            let value = design.cells[CELLS * usize::from(row) + place];
+            let value = design.value(CELLS * usize::from(row) + place);
             if value != 0 {
-                keys[count] = u64::from(value) << 16 | u64::from(row);
+                keys[count] = value << 16 | u64::from(row);
                 count += 1;
             }
         }
         keys[..count].sort_unstable();
         let (mut before, mut last, mut second) = (0, 0, ROWS);
         for key in &keys[..count] {
-            let (value, row) = ((key >> 16) as u32, (key & 0xffff) as usize);
+            let (value, row) = (key >> 16, (key & 0xffff) as usize);
             if value == before {
                 self.next[CELLS * last + place] = row as u16;
                 second = second.min(row);
@@ -253,7 +253,7 @@ impl Catalog {
 
     /// The first row of the column that has the value.
     #[inline]
-    pub fn find(&self, column: Column, value: u32) -> u16 {
+    pub fn find(&self, column: Column, value: Value) -> u16 {
         self.group_of(column, value)
             .map_or(NO_ROW, |group| self.heads[group])
     }
@@ -261,7 +261,7 @@ impl Catalog {
     /// The rows of the column that have the value. They stand side by side: to
     /// look at all of them is quicker than to go from one to the next.
     #[inline]
-    pub fn members(&self, column: Column, value: u32) -> &[u16] {
+    pub fn members(&self, column: Column, value: Value) -> &[u16] {
         let Some(group) = self.group_of(column, value) else {
             return &[];
         };
@@ -271,7 +271,7 @@ impl Catalog {
 
     /// The number of the column's group that has the value.
     #[inline]
-    fn group_of(&self, column: Column, value: u32) -> Option<usize> {
+    fn group_of(&self, column: Column, value: Value) -> Option<usize> {
         let (start, end) = self.range(column);
         let values = &self.values[start..end];
         let place = values.partition_point(|&other| other < value);

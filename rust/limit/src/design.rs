@@ -8,8 +8,24 @@ use crate::{CELLS, CONSTRAINTS, ROWS, TABLES};
 const LONGEST_SCRIPT: usize = 65_536;
 const FILLINGS: usize = 8;
 
-/// The bytes of a ROW command.
+/// The bytes of a ROW command, up to its issues if it has any.
 const ROW_WIDTH: usize = 34;
+
+/// A number and an issue as one number, by which values are compared and ordered:
+/// the number comes first, then the issue. A blank is 0.
+pub type Value = u64;
+
+/// The value of a number and an issue.
+#[inline(always)]
+pub fn value(number: u32, issue: u8) -> Value {
+    u64::from(number) << 8 | u64::from(issue)
+}
+
+/// A value's number.
+#[inline(always)]
+pub fn number(value: Value) -> u32 {
+    (value >> 8) as u32
+}
 
 /// A column of a table, both by number.
 #[derive(Clone, Copy, Default, PartialEq, Eq)]
@@ -77,8 +93,10 @@ pub struct Design {
     pub rows: usize,
     /// Each row's table.
     pub row_table: [u8; ROWS],
-    /// The cells, eight for each row.
+    /// The numbers of the cells, eight for each row.
     pub cells: [u32; CELLS * ROWS],
+    /// Their issues.
+    pub issues: [u8; CELLS * ROWS],
     /// The place of the first ROW.
     first_row: usize,
 }
@@ -91,6 +109,17 @@ pub fn u32_at(bytes: &[u8], place: usize) -> u32 {
     u32::from_le_bytes(four)
 }
 
+/// The value whose number is at a place of an operation. The bytes from 0x20 on have
+/// its issue at their end.
+#[inline(always)]
+pub fn value_at(bytes: &[u8], place: usize) -> Value {
+    let issue = match bytes[0] {
+        0x20.. => bytes[bytes.len() - 1],
+        _ => 0,
+    };
+    value(u32_at(bytes, place), issue)
+}
+
 /// How many bytes the command with this first byte has; 0 if there is none.
 #[inline]
 pub fn width(command: u8) -> usize {
@@ -100,10 +129,14 @@ pub fn width(command: u8) -> usize {
         0x03 => 11,
         0x04 => ROW_WIDTH,
         0x05 | 0x14 => 1,
+        0x07 => ROW_WIDTH + CELLS,
         0x10 | 0x11 => 6,
-        0x12 => 7,
+        0x12 | 0x20 | 0x21 => 7,
         0x13 => 16,
         0x15 => 18,
+        0x22 => 8,
+        0x23 => 17,
+        0x25 => 19,
         _ => 0,
     }
 }
@@ -128,10 +161,12 @@ impl Design {
             let Some(bytes) = script.get(place..place + width) else {
                 return refused(1);
             };
-            if !(stage..=0x05).contains(&command) {
+            // Rows with and without issues are of one kind.
+            let kind = if command == 0x07 { 0x04 } else { command };
+            if !(stage..=0x05).contains(&kind) {
                 return refused(3);
             }
-            if command == 0x04 && self.rows == 0 {
+            if kind == 0x04 && self.rows == 0 {
                 self.first_row = place;
             }
             match self.add(bytes) {
@@ -139,7 +174,7 @@ impl Design {
                 cause => return refused(cause),
             }
             place += width;
-            stage = command;
+            stage = kind;
             if command == 0x05 {
                 return Ok(place);
             }
@@ -147,11 +182,12 @@ impl Design {
     }
 
     /// The refusal of a row that repeats a value of a unique column.
-    pub fn repeats(&self, row: usize) -> Refusal {
-        Refusal {
-            cause: 6,
-            place: self.first_row + ROW_WIDTH * row,
+    pub fn repeats(&self, script: &[u8], row: usize) -> Refusal {
+        let mut place = self.first_row;
+        for _ in 0..row {
+            place += width(script[place]);
         }
+        Refusal { cause: 6, place }
     }
 
     /// Whether the column's numbers name one.
@@ -167,11 +203,18 @@ impl Design {
         self.unique[usize::from(column.table)] >> column.place & 1 == 1
     }
 
-    /// Whether the value is a candidate of the filling, which is there.
+    /// Whether the value is a candidate of the filling, which is there. Candidates
+    /// go by number alone.
     #[inline(always)]
-    pub fn is_candidate(&self, filling: u8, value: u32) -> bool {
+    pub fn is_candidate(&self, filling: u8, value: Value) -> bool {
         let Filling { low, high, .. } = self.filling[usize::from(filling)];
-        (low..=high).contains(&value)
+        (low..=high).contains(&number(value))
+    }
+
+    /// The value of a cell.
+    #[inline(always)]
+    pub fn value(&self, cell: usize) -> Value {
+        value(self.cells[cell], self.issues[cell])
     }
 
     /// Adds what a design command says, or gives the cause of its refusal, or 0.
@@ -191,7 +234,7 @@ impl Design {
                 low: u32_at(bytes, 3),
                 high: u32_at(bytes, 7),
             }),
-            0x04 => self.add_row(bytes),
+            0x04 | 0x07 => self.add_row(bytes),
             _ => 0,
         }
     }
@@ -258,8 +301,23 @@ impl Design {
                 return 5;
             }
         }
+        let issues = &bytes[ROW_WIDTH..];
+        if !issues.is_empty() && !self.add_issues(issues) {
+            return 5;
+        }
         self.row_table[self.rows] = bytes[1];
         self.rows += 1;
         0
+    }
+
+    /// Adds the issues of a row whose numbers are there, unless none is used or a
+    /// blank has one. Past the columns all numbers are 0.
+    fn add_issues(&mut self, issues: &[u8]) -> bool {
+        let start = CELLS * self.rows;
+        self.issues[start..][..CELLS].copy_from_slice(issues);
+        let numbers = self.cells[start..].iter();
+        let is_used = issues.iter().any(|&issue| issue != 0);
+        let is_on_a_blank = |(&number, &issue): (&u32, &u8)| number == 0 && issue != 0;
+        is_used && !numbers.zip(issues).any(is_on_a_blank)
     }
 }

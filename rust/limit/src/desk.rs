@@ -4,7 +4,7 @@ use std::hint::black_box;
 
 use crate::cache::Cache;
 use crate::catalog::Catalog;
-use crate::design::{u32_at, width, Column, Design, Refusal};
+use crate::design::{value_at, width, Column, Design, Refusal};
 use crate::even::Evenness;
 use crate::query::Listing;
 
@@ -72,7 +72,7 @@ impl Desk {
             Err(_) => desk.catalog.repeated_row(&desk.design),
         };
         match repeated {
-            Some(row) => Err(desk.design.repeats(row)),
+            Some(row) => Err(desk.design.repeats(script, row)),
             None => read.map(|place| (desk, place)),
         }
     }
@@ -111,21 +111,25 @@ impl Desk {
         };
         let (design, catalog) = (&self.design, &self.catalog);
         let answer = match bytes[0] {
-            0x10 => self
-                .cache
-                .refer(design, catalog, bytes[1], u32_at(bytes, 2)),
-            0x11 => self.cache.drop(design, catalog, bytes[1], u32_at(bytes, 2)),
-            0x12 => {
+            0x10 | 0x20 => {
+                let value = value_at(bytes, 2);
+                self.cache.refer(design, catalog, bytes[1], value)
+            }
+            0x11 | 0x21 => {
+                let value = value_at(bytes, 2);
+                self.cache.drop(design, catalog, bytes[1], value)
+            }
+            0x12 | 0x22 => {
                 let column = Column {
                     table: bytes[1],
                     place: bytes[2],
                 };
-                let value = u32_at(bytes, 3);
+                let value = value_at(bytes, 3);
                 self.cache.probe(design, catalog, column, value)
             }
-            0x13 => self.listing.query(design, catalog, &mut self.cache, bytes),
+            0x13 | 0x23 => self.listing.query(design, catalog, &mut self.cache, bytes),
             0x14 => self.evenness.of(design),
-            0x15 => self.listing.total(design, catalog, &mut self.cache, bytes),
+            0x15 | 0x25 => self.listing.total(design, catalog, &mut self.cache, bytes),
             _ => Answer::Refused(3),
         };
         (answer, width)

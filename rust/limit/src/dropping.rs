@@ -8,7 +8,7 @@
 
 use crate::cache::{key, Cache};
 use crate::catalog::Catalog;
-use crate::design::Design;
+use crate::design::{number, Design, Value};
 use crate::desk::Answer;
 use crate::{CELLS, CONSTRAINTS, NO_ROW, ROWS};
 
@@ -34,11 +34,17 @@ pub struct Doubt {
 
 impl Cache {
     /// DROP.
-    pub fn drop(&mut self, design: &Design, catalog: &Catalog, filling: u8, value: u32) -> Answer {
+    pub fn drop(
+        &mut self,
+        design: &Design,
+        catalog: &Catalog,
+        filling: u8,
+        value: Value,
+    ) -> Answer {
         if usize::from(filling) >= design.fillings {
             return Answer::Refused(5);
         }
-        if value == 0 {
+        if number(value) == 0 {
             return Answer::Refused(9);
         }
         let mut held = self.held[..self.held_count].iter();
@@ -68,7 +74,7 @@ impl Cache {
         for at in 0..self.held_count {
             let head = self.held_head[at];
             if head < NO_ROW {
-                let filling = (self.held[at] >> 32) as usize % design.filling.len();
+                let filling = (self.held[at] >> 40) as usize % design.filling.len();
                 let place = usize::from(design.filling[filling].column.place);
                 end = self.reach(catalog, head, place, end);
             }

@@ -3,16 +3,22 @@
 
 use crate::cache::Cache;
 use crate::catalog::{Catalog, NO_FILLING};
-use crate::design::{Column, Design};
+use crate::design::{number, Column, Design, Value};
 use crate::desk::Answer;
 
 impl Cache {
     /// PROBE.
-    pub fn probe(&self, design: &Design, catalog: &Catalog, column: Column, value: u32) -> Answer {
+    pub fn probe(
+        &self,
+        design: &Design,
+        catalog: &Catalog,
+        column: Column,
+        value: Value,
+    ) -> Answer {
         if !design.has(column) {
             return Answer::Refused(5);
         }
-        if value == 0 {
+        if number(value) == 0 {
             return Answer::Refused(9);
         }
         match self.ground(design, catalog, column, value) {
@@ -26,7 +32,7 @@ impl Cache {
     }
 
     /// The lowest ground for the value in the column; 0 if there is none.
-    pub fn ground(&self, design: &Design, catalog: &Catalog, column: Column, value: u32) -> u8 {
+    pub fn ground(&self, design: &Design, catalog: &Catalog, column: Column, value: Value) -> u8 {
         let filling = catalog.filling[column.number()];
         if filling != NO_FILLING && self.holds(filling, value) {
             return 1;
@@ -47,7 +53,7 @@ impl Cache {
 
     /// Whether a cached row has the value in the column.
     #[inline]
-    fn has_value(&self, catalog: &Catalog, column: Column, value: u32) -> bool {
+    fn has_value(&self, catalog: &Catalog, column: Column, value: Value) -> bool {
         let members = catalog.members(column, value).iter();
         members.into_iter().any(|&row| self.has(usize::from(row)))
     }

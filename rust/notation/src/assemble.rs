@@ -3,7 +3,8 @@
 use std::fmt;
 
 use crate::command::{
-    Column, Command, Constraint, Filling, Join, Pair, Probe, Query, Row, Table, Total, CELLS, PAIRS,
+    Column, Command, Constraint, Filling, Join, Pair, Probe, Query, Row, Table, Total, Value,
+    CELLS, PAIRS,
 };
 use crate::token::{tokens, Token};
 
@@ -133,24 +134,22 @@ impl<'a> Operands<'a> {
 
     fn row(&mut self) -> Result<Row, Fault> {
         let table = self.u8("a table's number")?;
-        let mut cells = [0; CELLS];
-        for cell in &mut cells {
-            if self.rest.is_empty() {
-                break;
-            }
-            *cell = self.cell()?;
+        let mut cells = Vec::new();
+        while cells.len() < CELLS && !self.rest.is_empty() {
+            cells.push(self.cell()?);
         }
-        Ok(Row { table, cells })
+        Ok(Row::new(table, &cells))
     }
 
-    fn cell(&mut self) -> Result<u32, Fault> {
-        if self.take("-") {
-            return Ok(0);
+    fn cell(&mut self) -> Result<Value, Fault> {
+        let mut number = 0;
+        if !self.take("-") {
+            number = self.u32("a cell")?;
+            if number == 0 {
+                return fault(self.last.column, "a blank cell is written `-`".into());
+            }
         }
-        match self.u32("a cell")? {
-            0 => fault(self.last.column, "a blank cell is written `-`".into()),
-            value => Ok(value),
-        }
+        self.with_issue(number)
     }
 
     fn query(&mut self) -> Result<Query, Fault> {
@@ -184,15 +183,29 @@ impl<'a> Operands<'a> {
     fn pair(&mut self) -> Result<Pair, Fault> {
         Ok(Pair {
             filling: self.u8("a filling's number")?,
-            value: self.u32("a value")?,
+            value: self.value()?,
         })
     }
 
     fn probe(&mut self) -> Result<Probe, Fault> {
         let column = self.column()?;
         self.expect("=")?;
-        let value = self.u32("a value")?;
+        let value = self.value()?;
         Ok(Probe { column, value })
+    }
+
+    fn value(&mut self) -> Result<Value, Fault> {
+        let number = self.u32("a value")?;
+        self.with_issue(number)
+    }
+
+    /// The value of a number, with the issue that may follow it.
+    fn with_issue(&mut self, number: u32) -> Result<Value, Fault> {
+        let mut issue = None;
+        if self.take("#") {
+            issue = Some(self.u8("an issue")?);
+        }
+        Ok(Value { number, issue })
     }
 
     fn raw_bytes(&mut self) -> Result<Vec<u8>, Fault> {

@@ -1,5 +1,4 @@
-//! Commands and their bytes: the one place that knows command bytes and
-//! operand widths.
+//! Commands and their operands, as a script has them.
 
 /// Cells in every ROW command.
 pub const CELLS: usize = 8;
@@ -7,22 +6,39 @@ pub const CELLS: usize = 8;
 /// Pairs in every QUERY command, and in every total.
 pub const PAIRS: usize = 4;
 
-const TABLE: u8 = 0x01;
-const CONSTRAINT: u8 = 0x02;
-const FILLING: u8 = 0x03;
-const ROW: u8 = 0x04;
-const END: u8 = 0x05;
-const REFER: u8 = 0x10;
-const DROP: u8 = 0x11;
-const PROBE: u8 = 0x12;
-const QUERY: u8 = 0x13;
-const EVEN: u8 = 0x14;
-const TOTAL: u8 = 0x15;
+/// A number, and an issue if the command has a place for one. Without such a
+/// place the issue is 0.
+#[derive(Clone, Copy, Debug, PartialEq, Eq)]
+pub struct Value {
+    /// The number.
+    pub number: u32,
+    /// The issue.
+    pub issue: Option<u8>,
+}
 
-/// The bytes that begin a command.
-pub const COMMAND_BYTES: [u8; 11] = [
-    TABLE, CONSTRAINT, FILLING, ROW, END, REFER, DROP, PROBE, QUERY, EVEN, TOTAL,
-];
+impl From<u32> for Value {
+    fn from(number: u32) -> Value {
+        Value {
+            number,
+            issue: None,
+        }
+    }
+}
+
+impl Value {
+    /// A number with an issue, which takes a place only if it isn't 0.
+    pub fn new(number: u32, issue: u8) -> Value {
+        Value {
+            number,
+            issue: (issue != 0).then_some(issue),
+        }
+    }
+
+    /// The issue, whether there is a place for it or not.
+    pub fn issue(self) -> u8 {
+        self.issue.unwrap_or(0)
+    }
+}
 
 /// A column of a table, both by number.
 #[derive(Clone, Copy, Debug, PartialEq, Eq, Hash)]
@@ -67,8 +83,36 @@ pub struct Filling {
 pub struct Row {
     /// The row's table.
     pub table: u8,
-    /// The cells, 0 being blank.
+    /// The cells' numbers.
     pub cells: [u32; CELLS],
+    /// Their issues, if the command has places for them.
+    pub issues: Option<[u8; CELLS]>,
+}
+
+impl Row {
+    /// A row whose cells past the given ones are blank, with places for issues if
+    /// one of them has a place.
+    pub fn new<V: Copy + Into<Value>>(table: u8, given: &[V]) -> Row {
+        let mut row = Row {
+            table,
+            cells: [0; CELLS],
+            issues: None,
+        };
+        for (column, &value) in given.iter().enumerate() {
+            let Value { number, issue } = value.into();
+            row.cells[column] = number;
+            if let Some(issue) = issue {
+                row.issues.get_or_insert_default()[column] = issue;
+            }
+        }
+        row
+    }
+
+    /// The cell of a column.
+    pub fn cell(&self, column: usize) -> Value {
+        let issue = self.issues.map_or(0, |issues| issues[column]);
+        Value::new(self.cells[column], issue)
+    }
 }
 
 /// A filling and a value, as REFER and DROP name them.
@@ -77,7 +121,7 @@ pub struct Pair {
     /// The filling's number.
     pub filling: u8,
     /// The value.
-    pub value: u32,
+    pub value: Value,
 }
 
 /// A column and a value, as PROBE names them.
@@ -86,7 +130,7 @@ pub struct Probe {
     /// The probed column.
     pub column: Column,
     /// The probed value.
-    pub value: u32,
+    pub value: Value,
 }
 
 /// A pair of a query: an earlier position and a constraint that leads from it.
@@ -105,7 +149,7 @@ pub struct Query {
     /// The column that position 0 is looked up by.
     pub column: Column,
     /// The value looked up there.
-    pub value: u32,
+    pub value: Value,
     /// How many of the pairs are joins.
     pub joins: u8,
     /// The joins, then the unused pairs.
@@ -114,12 +158,12 @@ pub struct Query {
 
 impl Query {
     /// A query with the given joins, of which there are at most four.
-    pub fn new(column: Column, value: u32, joins: &[Join]) -> Query {
+    pub fn new(column: Column, value: impl Into<Value>, joins: &[Join]) -> Query {
         let mut pairs = [Join::default(); PAIRS];
         pairs[..joins.len()].copy_from_slice(joins);
         Query {
             column,
-            value,
+            value: value.into(),
             joins: joins.len() as u8,
             pairs,
         }
@@ -169,220 +213,4 @@ pub enum Command {
     Even,
     /// The sum of a cell over a query's lists.
     Total(Total),
-}
-
-impl Command {
-    /// The command's bytes.
-    pub fn bytes(&self) -> Vec<u8> {
-        let mut writer = Writer(Vec::new());
-        match self {
-            Command::Table(table) => writer.u8(TABLE).u8(table.columns).u8(table.unique),
-            Command::Constraint(constraint) => writer
-                .u8(CONSTRAINT)
-                .column(constraint.source)
-                .column(constraint.target),
-            Command::Filling(filling) => writer
-                .u8(FILLING)
-                .column(filling.column)
-                .u32(filling.low)
-                .u32(filling.high),
-            Command::Row(row) => writer.u8(ROW).u8(row.table).cells(&row.cells),
-            Command::End => writer.u8(END),
-            Command::Refer(pair) => writer.u8(REFER).pair(*pair),
-            Command::Drop(pair) => writer.u8(DROP).pair(*pair),
-            Command::Probe(probe) => writer.u8(PROBE).column(probe.column).u32(probe.value),
-            Command::Query(query) => writer.u8(QUERY).query(query),
-            Command::Even => writer.u8(EVEN),
-            Command::Total(total) => writer
-                .u8(TOTAL)
-                .query(&total.query)
-                .u8(total.position)
-                .u8(total.column),
-        };
-        writer.0
-    }
-
-    /// Reads the command at the head of `bytes`, and gives it with the bytes
-    /// after it. There is none if the first byte is unknown or the operands are
-    /// cut short.
-    fn read(bytes: &[u8]) -> Option<(Command, &[u8])> {
-        let mut reader = Reader(bytes);
-        let command = match reader.u8()? {
-            TABLE => Command::Table(Table {
-                columns: reader.u8()?,
-                unique: reader.u8()?,
-            }),
-            CONSTRAINT => Command::Constraint(Constraint {
-                source: reader.column()?,
-                target: reader.column()?,
-            }),
-            FILLING => Command::Filling(Filling {
-                column: reader.column()?,
-                low: reader.u32()?,
-                high: reader.u32()?,
-            }),
-            ROW => Command::Row(Row {
-                table: reader.u8()?,
-                cells: reader.cells()?,
-            }),
-            END => Command::End,
-            REFER => Command::Refer(reader.pair()?),
-            DROP => Command::Drop(reader.pair()?),
-            PROBE => Command::Probe(Probe {
-                column: reader.column()?,
-                value: reader.u32()?,
-            }),
-            QUERY => Command::Query(reader.query()?),
-            EVEN => Command::Even,
-            TOTAL => Command::Total(Total {
-                query: reader.query()?,
-                position: reader.u8()?,
-                column: reader.u8()?,
-            }),
-            _ => return None,
-        };
-        Some((command, reader.0))
-    }
-}
-
-/// The bytes of a script made of these commands.
-pub fn encode(commands: &[Command]) -> Vec<u8> {
-    commands.iter().flat_map(Command::bytes).collect()
-}
-
-/// A part of a script: a whole command, or what can't be read as one.
-#[derive(Clone, Debug, PartialEq, Eq)]
-pub enum Piece {
-    /// A whole command.
-    Command(Command),
-    /// The rest of the script from an unknown byte or a command cut short on:
-    /// nothing tells where a command would begin in it.
-    Rest(Vec<u8>),
-}
-
-impl Piece {
-    /// The piece's bytes.
-    pub fn bytes(&self) -> Vec<u8> {
-        match self {
-            Piece::Command(command) => command.bytes(),
-            Piece::Rest(bytes) => bytes.clone(),
-        }
-    }
-}
-
-/// Cuts a script into pieces; their bytes in order are the script.
-pub fn split(mut script: &[u8]) -> Vec<Piece> {
-    let mut pieces = Vec::new();
-    while !script.is_empty() {
-        match Command::read(script) {
-            Some((command, rest)) => {
-                pieces.push(Piece::Command(command));
-                script = rest;
-            }
-            None => {
-                pieces.push(Piece::Rest(script.to_vec()));
-                script = &[];
-            }
-        }
-    }
-    pieces
-}
-
-/// Puts operands one after another.
-struct Writer(Vec<u8>);
-
-impl Writer {
-    fn u8(&mut self, number: u8) -> &mut Writer {
-        self.0.push(number);
-        self
-    }
-
-    fn u32(&mut self, number: u32) -> &mut Writer {
-        self.0.extend(number.to_le_bytes());
-        self
-    }
-
-    fn column(&mut self, column: Column) -> &mut Writer {
-        self.u8(column.table).u8(column.column)
-    }
-
-    fn pair(&mut self, pair: Pair) -> &mut Writer {
-        self.u8(pair.filling).u32(pair.value)
-    }
-
-    fn cells(&mut self, cells: &[u32; CELLS]) -> &mut Writer {
-        cells.iter().fold(self, |writer, &cell| writer.u32(cell))
-    }
-
-    fn query(&mut self, query: &Query) -> &mut Writer {
-        self.column(query.column)
-            .u32(query.value)
-            .u8(query.joins)
-            .joins(&query.pairs)
-    }
-
-    fn joins(&mut self, joins: &[Join; PAIRS]) -> &mut Writer {
-        joins.iter().fold(self, |writer, join| {
-            writer.u8(join.position).u8(join.constraint)
-        })
-    }
-}
-
-/// Takes operands one after another; each is there or the command is cut short.
-struct Reader<'a>(&'a [u8]);
-
-impl Reader<'_> {
-    fn u8(&mut self) -> Option<u8> {
-        let (&byte, rest) = self.0.split_first()?;
-        self.0 = rest;
-        Some(byte)
-    }
-
-    fn u32(&mut self) -> Option<u32> {
-        let (bytes, rest) = self.0.split_first_chunk()?;
-        self.0 = rest;
-        Some(u32::from_le_bytes(*bytes))
-    }
-
-    fn column(&mut self) -> Option<Column> {
-        Some(Column {
-            table: self.u8()?,
-            column: self.u8()?,
-        })
-    }
-
-    fn pair(&mut self) -> Option<Pair> {
-        Some(Pair {
-            filling: self.u8()?,
-            value: self.u32()?,
-        })
-    }
-
-    fn cells(&mut self) -> Option<[u32; CELLS]> {
-        let mut cells = [0; CELLS];
-        for cell in &mut cells {
-            *cell = self.u32()?;
-        }
-        Some(cells)
-    }
-
-    fn query(&mut self) -> Option<Query> {
-        Some(Query {
-            column: self.column()?,
-            value: self.u32()?,
-            joins: self.u8()?,
-            pairs: self.joins()?,
-        })
-    }
-
-    fn joins(&mut self) -> Option<[Join; PAIRS]> {
-        let mut joins = [Join::default(); PAIRS];
-        for join in &mut joins {
-            *join = Join {
-                position: self.u8()?,
-                constraint: self.u8()?,
-            };
-        }
-        Some(joins)
-    }
 }

@@ -1,6 +1,6 @@
 //! A design as lists of its parts, for programs that make scripts.
 
-use crate::command::{Column, Command, Constraint, Filling, Row, Table, CELLS};
+use crate::command::{Column, Command, Constraint, Filling, Row, Table, Value};
 
 /// The parts of a design, each in script order. Nothing is checked.
 #[derive(Clone, Debug, Default, PartialEq, Eq)]
@@ -17,10 +17,8 @@ pub struct Design {
 
 impl Design {
     /// Adds a row whose cells past the given ones are blank.
-    pub fn add_row(&mut self, table: u8, given: &[u32]) {
-        let mut cells = [0; CELLS];
-        cells[..given.len()].copy_from_slice(given);
-        self.rows.push(Row { table, cells });
+    pub fn add_row<V: Copy + Into<Value>>(&mut self, table: u8, given: &[V]) {
+        self.rows.push(Row::new(table, given));
     }
 
     /// The columns of all tables.

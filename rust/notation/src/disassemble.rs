@@ -2,8 +2,9 @@
 
 use std::fmt;
 
+use crate::bytes::{split, Piece};
 use crate::command::{
-    split, Column, Command, Constraint, Filling, Join, Pair, Piece, Probe, Query, Row, Table, Total,
+    Column, Command, Constraint, Filling, Join, Pair, Probe, Query, Row, Table, Total, Value, CELLS,
 };
 
 const BYTES_ON_A_LINE: usize = 16;
@@ -60,6 +61,15 @@ impl fmt::Display for Command {
     }
 }
 
+impl fmt::Display for Value {
+    fn fmt(&self, out: &mut fmt::Formatter<'_>) -> fmt::Result {
+        match self.issue {
+            None => write!(out, "{}", self.number),
+            Some(issue) => write!(out, "{}#{issue}", self.number),
+        }
+    }
+}
+
 impl fmt::Display for Column {
     fn fmt(&self, out: &mut fmt::Formatter<'_>) -> fmt::Result {
         write!(out, "{}.{}", self.table, self.column)
@@ -78,14 +88,24 @@ fn write_table(out: &mut fmt::Formatter<'_>, table: &Table) -> fmt::Result {
     Ok(())
 }
 
+/// The cells up to the last that isn't blank. If there are places for issues and
+/// all are 0, the first cell says so.
 fn write_row(out: &mut fmt::Formatter<'_>, row: &Row) -> fmt::Result {
-    let Row { table, cells } = row;
-    write!(out, "row {table}")?;
-    let given = cells.iter().rposition(|&cell| cell != 0);
-    for cell in &cells[..given.map_or(0, |last| last + 1)] {
-        match cell {
+    write!(out, "row {}", row.table)?;
+    let blank = Value::new(0, 0);
+    let last = (0..CELLS).rposition(|column| row.cell(column) != blank);
+    let without_issue = row.issues == Some([0; CELLS]);
+    let given = last.map_or(usize::from(without_issue), |last| last + 1);
+    for column in 0..given {
+        let Value { number, issue } = row.cell(column);
+        match number {
             0 => write!(out, " -")?,
-            value => write!(out, " {value}")?,
+            number => write!(out, " {number}")?,
+        }
+        match issue {
+            None if without_issue && column == 0 => write!(out, "#0")?,
+            None => {}
+            Some(issue) => write!(out, "#{issue}")?,
         }
     }
     Ok(())

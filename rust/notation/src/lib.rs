@@ -1,16 +1,16 @@
 //! A text notation for scripts: text to bytes and back.
 //!
-//! One command stands on a line; `#` begins a comment. Numbers are decimal, or
-//! hexadecimal if they begin with `0x`. A column is written as its table, a dot
-//! and its own number.
+//! One command stands on a line; `#` begins a comment, unless it stands right
+//! between a number and an issue. Numbers are decimal, or hexadecimal if they
+//! begin with `0x`. A column is written as its table, a dot and its own number.
 //!
 //! ```text
 //! table COLUMNS [unique COLUMN ..]              table 2 unique 0
 //! constraint SOURCE -> TARGET                   constraint 0.0 -> 1.1
 //! filling COLUMN LOW..HIGH                      filling 0.1 1..99
-//! row TABLE [CELL ..]                           row 0 7 - 3
+//! row TABLE [CELL ..]                           row 0 7 - 3#1
 //! end                                           end
-//! refer FILLING VALUE                           refer 0 3
+//! refer FILLING VALUE                           refer 0 3#1
 //! drop FILLING VALUE                            drop 0 3
 //! probe COLUMN = VALUE                          probe 1.1 = 8
 //! query COLUMN = VALUE [join POSITION by CONSTRAINT ..]
@@ -22,8 +22,10 @@
 //! ```
 //!
 //! A blank cell is written `-`, and only so: a cell `0` is an error. Cells past
-//! those given are blank. The notation checks that operands fit their widths
-//! and nothing else, so that scripts which the desk refuses can be written too.
+//! those given are blank. A value or cell with an issue is written `7#1`, and then
+//! the command is the one that has a place for issues, even where it is `7#0`. The
+//! notation checks that operands fit their widths and nothing else, so that scripts
+//! which the desk refuses can be written too.
 //!
 //! [`disassemble`] is defined for every byte string, and [`assemble`] turns its
 //! text into the same bytes again. What has no words (a QUERY or a total with
@@ -33,6 +35,7 @@
 #![forbid(unsafe_code)]
 
 mod assemble;
+mod bytes;
 mod command;
 mod design;
 mod disassemble;
@@ -40,9 +43,10 @@ pub mod filter;
 mod token;
 
 pub use assemble::{assemble, Error};
+pub use bytes::{encode, split, Piece, COMMAND_BYTES};
 pub use command::{
-    encode, split, Column, Command, Constraint, Filling, Join, Pair, Piece, Probe, Query, Row,
-    Table, Total, CELLS, COMMAND_BYTES, PAIRS,
+    Column, Command, Constraint, Filling, Join, Pair, Probe, Query, Row, Table, Total, Value,
+    CELLS, PAIRS,
 };
 pub use design::Design;
 pub use disassemble::disassemble;

@@ -2,6 +2,9 @@
 
 const SIGNS: [&str; 5] = ["->", "..", ".", "=", "-"];
 
+/// The sign before an issue, which begins a comment elsewhere.
+const ISSUE: &str = "#";
+
 /// A word (letters, digits, `_`) or a sign.
 #[derive(Clone, Copy, Debug, PartialEq, Eq)]
 pub struct Token<'a> {
@@ -26,7 +29,7 @@ pub fn tokens(line: &str) -> Result<Vec<Token<'_>>, Stray> {
     let mut rest = line;
     let mut column = 1;
     while let Some(character) = rest.chars().next() {
-        if character == '#' {
+        if character == '#' && !is_issue(tokens.last(), column, rest) {
             break;
         }
         let length = match token_length(rest) {
@@ -44,6 +47,14 @@ pub fn tokens(line: &str) -> Result<Vec<Token<'_>>, Stray> {
     Ok(tokens)
 }
 
+/// Whether the sign at the head of the text stands right behind the last token, and
+/// right before a number.
+fn is_issue(last: Option<&Token>, column: usize, text: &str) -> bool {
+    let behind = last.is_some_and(|last| last.column + last.text.len() == column);
+    let issue = text.strip_prefix(ISSUE);
+    behind && issue.is_some_and(|issue| issue.starts_with(|c: char| c.is_ascii_digit()))
+}
+
 /// The length in bytes of the token at the head of the text.
 fn token_length(text: &str) -> Option<usize> {
     let word = text
@@ -52,6 +63,7 @@ fn token_length(text: &str) -> Option<usize> {
     if word > 0 {
         return Some(word);
     }
-    let sign = SIGNS.iter().find(|sign| text.starts_with(**sign));
+    let mut signs = SIGNS.iter().chain([&ISSUE]);
+    let sign = signs.find(|sign| text.starts_with(**sign));
     sign.map(|sign| sign.len())
 }

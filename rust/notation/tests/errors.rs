@@ -70,6 +70,15 @@ fn messages() {
             9,
             "a value is at most 4294967295, not 99999999999999999999999999",
         ),
+        ("refer 0 3#256", 11, "an issue is at most 255, not 256"),
+        (
+            "refer 0 3#1#2",
+            12,
+            "expected the end of the line, found `#`",
+        ),
+        ("refer 0#1 3", 8, "expected a value, found `#`"),
+        ("row 0 0#1", 7, "a blank cell is written `-`"),
+        ("row 0#1 1", 6, "expected a cell, found `#`"),
         ("probe 0.0 3", 11, "expected `=`, found `3`"),
         (
             "query 0.0 = 1 by 0",

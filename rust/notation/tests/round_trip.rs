@@ -2,7 +2,7 @@
 
 use notation::{
     assemble, disassemble, encode, Column, Command, Constraint, Filling, Join, Pair, Probe, Query,
-    Row, Table, Total,
+    Row, Table, Total, Value,
 };
 
 fn assert_round_trip(script: &[u8]) {
@@ -19,11 +19,15 @@ fn one_of_each() -> Vec<Command> {
         position: 0,
         constraint: 3,
     };
-    let pair = Pair {
+    let value = Value::from(2);
+    let issued = Value::new(2, 3);
+    let pair = Pair { filling: 1, value };
+    let issued_pair = Pair {
         filling: 1,
-        value: 2,
+        value: issued,
     };
-    let cells = [1, 0, 70_000, 0, u32::MAX, 0, 0, 0];
+    let cells = [1, 0, 70_000, 0, u32::MAX];
+    let issued_cells = [1, 0, 3].map(|number| Value::new(number, number as u8));
     vec![
         Command::Table(Table {
             columns: 3,
@@ -38,15 +42,28 @@ fn one_of_each() -> Vec<Command> {
             low: 1,
             high: 99,
         }),
-        Command::Row(Row { table: 1, cells }),
+        Command::Row(Row::new(1, &cells)),
+        Command::Row(Row::new(1, &issued_cells)),
         Command::End,
         Command::Refer(pair),
         Command::Drop(pair),
-        Command::Probe(Probe { column, value: 2 }),
-        Command::Query(Query::new(column, 2, &[join, join])),
+        Command::Refer(issued_pair),
+        Command::Drop(issued_pair),
+        Command::Probe(Probe { column, value }),
+        Command::Probe(Probe {
+            column,
+            value: issued,
+        }),
+        Command::Query(Query::new(column, value, &[join, join])),
+        Command::Query(Query::new(column, issued, &[join, join])),
         Command::Even,
         Command::Total(Total {
             query: Query::new(column, 2, &[join]),
+            position: 1,
+            column: 7,
+        }),
+        Command::Total(Total {
+            query: Query::new(column, issued, &[join]),
             position: 1,
             column: 7,
         }),

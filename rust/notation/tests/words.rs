@@ -3,7 +3,7 @@
 use notation::{assemble, disassemble};
 
 /// A command in its canonical words, and its bytes.
-const COMMANDS: [(&str, &[u8]); 18] = [
+const COMMANDS: [(&str, &[u8]); 28] = [
     ("table 2", &[1, 2, 0]),
     ("table 200 unique 0 3 7", &[1, 200, 0b1000_1001]),
     ("constraint 0.1 -> 2.3", &[2, 0, 1, 2, 3]),
@@ -33,7 +33,47 @@ const COMMANDS: [(&str, &[u8]); 18] = [
             5, 0, 0, 0, 6, 0, 0, 0, 7, 0, 0, 0, 8, 0, 0, 0,
         ],
     ),
+    (
+        "row 1 258#9 - 3 -#255",
+        &[
+            7, 1, 2, 1, 0, 0, 0, 0, 0, 0, 3, 0, 0, 0, 0, 0, 0, 0, //
+            0, 0, 0, 0, 0, 0, 0, 0, 0, 0, 0, 0, 0, 0, 0, 0, //
+            9, 0, 0, 255, 0, 0, 0, 0,
+        ],
+    ),
+    (
+        "row 1 2#0 3",
+        &[
+            7, 1, 2, 0, 0, 0, 3, 0, 0, 0, 0, 0, 0, 0, 0, 0, 0, 0, //
+            0, 0, 0, 0, 0, 0, 0, 0, 0, 0, 0, 0, 0, 0, 0, 0, //
+            0, 0, 0, 0, 0, 0, 0, 0,
+        ],
+    ),
+    (
+        "row 1 -#0",
+        &[
+            7, 1, 0, 0, 0, 0, 0, 0, 0, 0, 0, 0, 0, 0, 0, 0, 0, 0, //
+            0, 0, 0, 0, 0, 0, 0, 0, 0, 0, 0, 0, 0, 0, 0, 0, //
+            0, 0, 0, 0, 0, 0, 0, 0,
+        ],
+    ),
     ("end", &[5]),
+    ("refer 0 3#1", &[0x20, 0, 3, 0, 0, 0, 1]),
+    ("refer 0 3#0", &[0x20, 0, 3, 0, 0, 0, 0]),
+    ("drop 255 0#255", &[0x21, 255, 0, 0, 0, 0, 255]),
+    ("probe 1.2 = 65536#7", &[0x22, 1, 2, 0, 0, 1, 0, 7]),
+    (
+        "query 0.1 = 3#2",
+        &[0x23, 0, 1, 3, 0, 0, 0, 0, 0, 0, 0, 0, 0, 0, 0, 0, 2],
+    ),
+    (
+        "query 0.1 = 3#2 join 0 by 5",
+        &[0x23, 0, 1, 3, 0, 0, 0, 1, 0, 5, 0, 0, 0, 0, 0, 0, 2],
+    ),
+    (
+        "total 0.1 = 3#2 of 0 column 1",
+        &[0x25, 0, 1, 3, 0, 0, 0, 0, 0, 0, 0, 0, 0, 0, 0, 0, 0, 1, 2],
+    ),
     ("refer 0 3", &[0x10, 0, 3, 0, 0, 0]),
     ("drop 255 0", &[0x11, 255, 0, 0, 0, 0]),
     ("probe 1.2 = 65536", &[0x12, 1, 2, 0, 0, 1, 0]),
@@ -80,6 +120,23 @@ fn space_and_comments_do_not_matter() {
     assert_eq!(assemble(text).as_deref(), Ok(&bytes[..]));
 }
 
+/// The sign of an issue stands between two numbers, without space.
+#[test]
+fn an_issue_is_no_comment() {
+    let with_issue = [0x20, 0, 3, 0, 0, 0, 0x1f];
+    let without = [0x10, 0, 3, 0, 0, 0];
+    for (text, bytes) in [
+        ("refer 0 3#0x1F", &with_issue[..]),
+        ("refer 0 3#31# a comment", &with_issue),
+        ("refer 0 3 #31", &without),
+        ("refer 0 3# 31", &without),
+        ("refer 0 3#a comment", &without),
+        ("refer 0 3#", &without),
+    ] {
+        assert_eq!(assemble(text).as_deref(), Ok(bytes), "{text}");
+    }
+}
+
 #[test]
 fn queries_without_words_become_bytes() {
     let five_joins = [0x13, 0, 1, 3, 0, 0, 0, 5, 0, 0, 0, 0, 0, 0, 0, 0];
@@ -91,11 +148,15 @@ fn queries_without_words_become_bytes() {
         let text = disassemble(&[&[0x15], &query[1..], &[0, 0, 5]].concat());
         assert!(text.starts_with("bytes 0x15 0x00 0x01 "), "{text}");
         assert!(text.ends_with("\nend\n"), "{text}");
+        let text = disassemble(&[&[0x23], &query[1..], &[9, 5]].concat());
+        assert!(text.starts_with("bytes 0x23 0x00 0x01 "), "{text}");
+        assert!(text.ends_with("\nend\n"), "{text}");
     }
 }
 
 #[test]
 fn everything_after_an_unreadable_byte_is_bytes() {
+    assert_eq!(disassemble(&[5, 0x24, 5]), "end\nbytes 0x24 0x05\n");
     assert_eq!(disassemble(&[5, 6, 5]), "end\nbytes 0x06 0x05\n");
     assert_eq!(disassemble(&[5, 1, 5]), "end\nbytes 0x01 0x05\n");
 }

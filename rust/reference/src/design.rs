@@ -1,7 +1,7 @@
 //! The design with its backend rows, and how it is read from a script.
 
 use crate::refusal::{Cause, Refusal};
-use crate::script::{read_command, Column, Command, Constraint, Filling, Row, CELLS};
+use crate::script::{read_command, Column, Command, Constraint, Filling, Row, Value, BLANK, CELLS};
 
 /// The longest script, in bytes.
 pub const LONGEST_SCRIPT: usize = 65_536;
@@ -72,6 +72,7 @@ impl Design {
             Command::Constraint(constraint) => self.add_constraint(constraint),
             Command::Filling(filling) => self.add_filling(filling),
             Command::Row(row) => self.add_row(row),
+            Command::RowWithIssues(row) => self.add_row_with_issues(row),
             // END adds nothing, and operations have been refused by now.
             _ => Ok(()),
         }
@@ -107,8 +108,10 @@ impl Design {
     fn add_row(&mut self, row: Row) -> Result<(), Cause> {
         Cause::TooMany.unless(self.rows.len() < MOST_ROWS)?;
         let table = *self.tables.get(row.table).ok_or(Cause::WrongOperand)?;
-        let unused = &row.cells[table.columns..];
-        Cause::WrongOperand.unless(unused.iter().all(|&cell| cell == 0))?;
+        let (used, unused) = row.cells.split_at(table.columns);
+        Cause::WrongOperand.unless(unused.iter().all(|&cell| cell == BLANK))?;
+        let no_blank_has_an_issue = used.iter().all(|cell| cell.number != 0 || cell.issue == 0);
+        Cause::WrongOperand.unless(no_blank_has_an_issue)?;
         let twice = (0..table.columns).any(|column| {
             let cell = row.cells[column];
             let column = Column {
@@ -122,7 +125,14 @@ impl Design {
         Ok(())
     }
 
-    fn has_value(&self, column: Column, value: u32) -> bool {
+    /// Adds a row whose command is used only where an issue isn't 0.
+    fn add_row_with_issues(&mut self, row: Row) -> Result<(), Cause> {
+        Cause::TooMany.unless(self.rows.len() < MOST_ROWS)?;
+        Cause::WrongOperand.unless(row.cells.iter().any(|cell| cell.issue != 0))?;
+        self.add_row(row)
+    }
+
+    fn has_value(&self, column: Column, value: Value) -> bool {
         (0..self.rows.len()).any(|row| self.equals(row, column, value))
     }
 
@@ -140,9 +150,9 @@ impl Design {
 
     /// Whether the row is of the column's table and equals the value there. A
     /// blank equals nothing.
-    pub fn equals(&self, row: usize, column: Column, value: u32) -> bool {
+    pub fn equals(&self, row: usize, column: Column, value: Value) -> bool {
         let row = &self.rows[row];
-        value != 0 && row.table == column.table && row.cells[column.column] == value
+        value != BLANK && row.table == column.table && row.cells[column.column] == value
     }
 
     /// Whether the constraint demands the row `target` of the row `source`.
@@ -174,11 +184,11 @@ impl Stage {
             Command::Table { .. } => Some(Stage::Tables),
             Command::Constraint(_) => Some(Stage::Constraints),
             Command::Filling(_) => Some(Stage::Fillings),
-            Command::Row(_) => Some(Stage::Rows),
+            Command::Row(_) | Command::RowWithIssues(_) => Some(Stage::Rows),
             Command::End => Some(Stage::Ended),
             Command::Refer(_)
             | Command::Drop(_)
-            | Command::Probe { .. }
+            | Command::Probe(_)
             | Command::Query(_)
             | Command::Even
             | Command::Total(_) => None,

@@ -4,7 +4,7 @@
 
 use crate::design::Design;
 use crate::refusal::Cause;
-use crate::script::{Column, Command, Pair};
+use crate::script::{Column, Command, Pair, Probe, Value};
 
 const MOST_HELD: usize = 64;
 
@@ -71,12 +71,17 @@ impl Desk {
         }
     }
 
+    /// The design.
+    pub fn design(&self) -> &Design {
+        &self.design
+    }
+
     /// Carries out one command found after END.
     pub fn perform(&mut self, command: &Command) -> Result<Answer, Cause> {
         match command {
             Command::Refer(pair) => self.refer(*pair),
             Command::Drop(pair) => self.drop(*pair),
-            Command::Probe { column, value } => self.probe(*column, *value),
+            Command::Probe(Probe { column, value }) => self.probe(*column, *value),
             Command::Query(query) => self.query(query),
             Command::Even => Ok(self.design.evenness()),
             Command::Total(total) => self.total(total),
@@ -112,9 +117,9 @@ impl Desk {
         Ok(Answer::Dropped { rows })
     }
 
-    fn probe(&self, column: Column, value: u32) -> Result<Answer, Cause> {
+    fn probe(&self, column: Column, value: Value) -> Result<Answer, Cause> {
         Cause::WrongOperand.unless(self.design.has(column))?;
-        Cause::ValueZero.unless(value != 0)?;
+        Cause::ValueZero.unless(value.number != 0)?;
         Ok(self.search(column, value))
     }
 
@@ -125,7 +130,7 @@ impl Desk {
     pub(crate) fn answer_fetching(
         &mut self,
         column: Column,
-        value: u32,
+        value: Value,
         answer: impl Fn(&Desk) -> Result<Answer, Cause>,
     ) -> Result<Answer, Cause> {
         if self.search(column, value) != Answer::Sent {
@@ -145,21 +150,22 @@ impl Desk {
 
     /// The pair that a question about a value refers, if the column has a
     /// filling, the value is a candidate and fewer than 64 are held.
-    fn pair_to_refer(&self, column: Column, value: u32) -> Option<Pair> {
+    fn pair_to_refer(&self, column: Column, value: Value) -> Option<Pair> {
         let mut fillings = self.design.fillings.iter();
         let filling = fillings.position(|filling| filling.column == column)?;
         let pair = Pair { filling, value };
         (self.is_candidate(pair) && self.held.len() < MOST_HELD).then_some(pair)
     }
 
+    /// Candidates go by number alone.
     fn is_candidate(&self, pair: Pair) -> bool {
         let filling = self.design.fillings[pair.filling];
-        (filling.low..=filling.high).contains(&pair.value)
+        (filling.low..=filling.high).contains(&pair.value.number)
     }
 
     fn check_pair(&self, pair: Pair) -> Result<(), Cause> {
         Cause::WrongOperand.unless(pair.filling < self.design.fillings.len())?;
-        Cause::ValueZero.unless(pair.value != 0)
+        Cause::ValueZero.unless(pair.value.number != 0)
     }
 
     fn cached_rows(&self) -> usize {
@@ -200,7 +206,7 @@ impl Desk {
 
     /// Searches the cached rows: a yes by the lowest ground on which the value is
     /// known to be complete in the column, or "sent".
-    fn search(&self, column: Column, value: u32) -> Answer {
+    fn search(&self, column: Column, value: Value) -> Answer {
         let ground = if self.is_held(column, value) {
             1
         } else if self.is_demanded_value(column, value) {
@@ -214,24 +220,24 @@ impl Desk {
         Answer::Ground { ground, rows }
     }
 
-    fn is_held(&self, column: Column, value: u32) -> bool {
+    fn is_held(&self, column: Column, value: Value) -> bool {
         self.held
             .iter()
             .any(|held| held.value == value && self.design.fillings[held.filling].column == column)
     }
 
-    fn is_demanded_value(&self, column: Column, value: u32) -> bool {
+    fn is_demanded_value(&self, column: Column, value: Value) -> bool {
         self.design.constraints.iter().any(|constraint| {
             constraint.target == column && self.is_cached(constraint.source, value)
         })
     }
 
-    fn is_cached(&self, column: Column, value: u32) -> bool {
+    fn is_cached(&self, column: Column, value: Value) -> bool {
         self.cached_rows_with(column, value) > 0
     }
 
     /// How many cached rows have the value in the column.
-    fn cached_rows_with(&self, column: Column, value: u32) -> usize {
+    fn cached_rows_with(&self, column: Column, value: Value) -> usize {
         let has_value = |row: &usize| self.cached[*row] && self.design.equals(*row, column, value);
         (0..self.cached.len()).filter(has_value).count()
     }

@@ -41,13 +41,29 @@ pub struct Filling {
     pub high: u32,
 }
 
-/// A backend row; the cells past its table's columns are 0.
+/// A cell, or what an operation looks for in cells: a number and its issue. Two
+/// are equal only if both are.
+#[derive(Clone, Copy, Debug, PartialEq, Eq, PartialOrd, Ord)]
+pub struct Value {
+    /// The number.
+    pub number: u32,
+    /// The issue.
+    pub issue: u8,
+}
+
+/// The blank cell.
+pub const BLANK: Value = Value {
+    number: 0,
+    issue: 0,
+};
+
+/// A backend row; the cells past its table's columns are blank.
 #[derive(Clone, Copy, Debug)]
 pub struct Row {
     /// The number of the row's table.
     pub table: usize,
-    /// The cells, 0 being blank.
-    pub cells: [u32; CELLS],
+    /// The cells.
+    pub cells: [Value; CELLS],
 }
 
 /// A filling and a value: what REFER and DROP name, and what is held.
@@ -56,7 +72,16 @@ pub struct Pair {
     /// The filling's number.
     pub filling: usize,
     /// The value.
-    pub value: u32,
+    pub value: Value,
+}
+
+/// The operands of a PROBE command.
+#[derive(Clone, Copy, Debug)]
+pub struct Probe {
+    /// The probed column.
+    pub column: Column,
+    /// The probed value.
+    pub value: Value,
 }
 
 /// The join that adds one more position to a query.
@@ -74,7 +99,7 @@ pub struct Query {
     /// The column that position 0 is looked up by.
     pub column: Column,
     /// The value looked up there.
-    pub value: u32,
+    pub value: Value,
     /// How many of the pairs are joins.
     pub joins: usize,
     /// The joins, then the unused pairs.
@@ -106,8 +131,10 @@ pub enum Command {
     Constraint(Constraint),
     /// A filling.
     Filling(Filling),
-    /// A backend row.
+    /// A backend row without issues.
     Row(Row),
+    /// A backend row with issue bytes.
+    RowWithIssues(Row),
     /// The end of the design.
     End,
     /// Hold a value.
@@ -115,12 +142,7 @@ pub enum Command {
     /// Stop holding a value.
     Drop(Pair),
     /// Ask whether a value is complete in a column.
-    Probe {
-        /// The probed column.
-        column: Column,
-        /// The probed value.
-        value: u32,
-    },
+    Probe(Probe),
     /// An equality-join query.
     Query(Query),
     /// Ask whether the design is even.
@@ -149,19 +171,18 @@ pub fn read_command(script: &[u8], place: usize) -> Result<(Command, usize), Cau
         }),
         0x04 => Command::Row(reader.row()?),
         0x05 => Command::End,
+        0x07 => Command::RowWithIssues(reader.row_with_issues()?),
         0x10 => Command::Refer(reader.pair()?),
         0x11 => Command::Drop(reader.pair()?),
-        0x12 => Command::Probe {
-            column: reader.column()?,
-            value: reader.u32()?,
-        },
+        0x12 => Command::Probe(reader.probe()?),
         0x13 => Command::Query(reader.query()?),
         0x14 => Command::Even,
-        0x15 => Command::Total(Total {
-            query: reader.query()?,
-            position: reader.number()?,
-            column: reader.number()?,
-        }),
+        0x15 => Command::Total(reader.total()?),
+        0x20 => Command::Refer(reader.with_issue(Reader::pair, |pair| &mut pair.value)?),
+        0x21 => Command::Drop(reader.with_issue(Reader::pair, |pair| &mut pair.value)?),
+        0x22 => Command::Probe(reader.with_issue(Reader::probe, |probe| &mut probe.value)?),
+        0x23 => Command::Query(reader.with_issue(Reader::query, |query| &mut query.value)?),
+        0x25 => Command::Total(reader.with_issue(Reader::total, |total| &mut total.query.value)?),
         _ => return Err(Cause::UnknownCommand),
     };
     Ok((command, reader.place))
@@ -198,23 +219,65 @@ impl Reader<'_> {
 
     fn row(&mut self) -> Result<Row, Cause> {
         let table = self.number()?;
-        let mut cells = [0; CELLS];
+        let mut cells = [BLANK; CELLS];
         for cell in &mut cells {
-            *cell = self.u32()?;
+            cell.number = self.u32()?;
         }
         Ok(Row { table, cells })
+    }
+
+    fn row_with_issues(&mut self) -> Result<Row, Cause> {
+        let mut row = self.row()?;
+        for cell in &mut row.cells {
+            cell.issue = self.u8()?;
+        }
+        Ok(row)
+    }
+
+    /// Operands with an issue byte at the end, which belongs to their value.
+    fn with_issue<T>(
+        &mut self,
+        operands: impl Fn(&mut Self) -> Result<T, Cause>,
+        value: impl Fn(&mut T) -> &mut Value,
+    ) -> Result<T, Cause> {
+        let mut operands = operands(self)?;
+        value(&mut operands).issue = self.u8()?;
+        Ok(operands)
+    }
+
+    /// A value of an operation that has no issue byte.
+    fn value(&mut self) -> Result<Value, Cause> {
+        Ok(Value {
+            number: self.u32()?,
+            issue: 0,
+        })
     }
 
     fn pair(&mut self) -> Result<Pair, Cause> {
         Ok(Pair {
             filling: self.number()?,
-            value: self.u32()?,
+            value: self.value()?,
+        })
+    }
+
+    fn probe(&mut self) -> Result<Probe, Cause> {
+        Ok(Probe {
+            column: self.column()?,
+            value: self.value()?,
+        })
+    }
+
+    fn total(&mut self) -> Result<Total, Cause> {
+        Ok(Total {
+            query: self.query()?,
+            position: self.number()?,
+            column: self.number()?,
         })
     }
 
     fn query(&mut self) -> Result<Query, Cause> {
         let column = self.column()?;
-        let value = self.u32()?;
+        let value = self.value()?;
         let joins = self.number()?;
         let mut pairs = [UNUSED; PAIRS];
         for pair in &mut pairs {

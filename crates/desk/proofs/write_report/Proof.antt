@@ -6,6 +6,7 @@ use mathlib.Core.Bool.{true}
 use borrow.Author.Needs.{needs}
 use borrow.Author.Tests.{not-true, not-false}
 use lib.ListN.{length, replicate, length-take}
+use Rattle.state.specs.Cells.{cellsIn}
 use Rattle.state.specs.Lent.{lent}
 use Rattle.catalog.specs.Catalog.{Catalogued}
 use Rattle.desk.proofs.TextLaws.{turns, turns-less}
@@ -14,14 +15,14 @@ use Rattle.desk.proofs.write_report.Statement.{statement}
 use Rattle.desk.proofs.write_report.Tie as tie
 
 abbrev Inv-loop : tie.InvT-loop
-Inv-loop script cells tables marks₀ words₀ out₀ next first keys heads starts weights₀ sums₀ froms₀ links₀ design p₀ done₀ marks words out weights sums froms links p
+Inv-loop script cells issues tables marks₀ words₀ out₀ next first keys heads starts weights₀ sums₀ froms₀ links₀ design p₀ done₀ marks words out weights sums froms links p
     done =
-    Standing script (lent design cells tables marks (p .held)) words p out done ×
-    (p .more ≡ true → Catalogued design cells tables next first keys heads starts) ×
-    (length cells ≡ 4096) × (length tables ≡ 512) × (length marks ≡ 512) × (length words ≡ 4096) × (length out ≡ 65536)
+    Standing script (lent design (cellsIn cells issues) tables marks (p .held)) words p out done ×
+    (p .more ≡ true → Catalogued design (cellsIn cells issues) tables next first keys heads starts) ×
+    (length cells ≡ 4096) × (length issues ≡ 4096) × (length tables ≡ 512) × (length marks ≡ 512) × (length words ≡ 4096) × (length out ≡ 65536)
 
 abbrev μ-loop : tie.MeasureT-loop
-μ-loop script cells tables marks₀ words₀ out₀ next first keys heads starts weights₀ sums₀ froms₀ links₀ design p₀ done₀ marks words out weights sums froms links p
+μ-loop script cells issues tables marks₀ words₀ out₀ next first keys heads starts weights₀ sums₀ froms₀ links₀ design p₀ done₀ marks words out weights sums froms links p
     done = turns script p
 
 slice-aggregate-begin : tie.Need-slice-aggregate-begin Inv-loop μ-loop
@@ -36,23 +37,26 @@ slice-aggregate-begin-3 c = search needs
 slice-aggregate-begin-4 : tie.Need-slice-aggregate-begin-4 Inv-loop μ-loop
 slice-aggregate-begin-4 c = search needs
 
+slice-aggregate-begin-5 : tie.Need-slice-aggregate-begin-5 Inv-loop μ-loop
+slice-aggregate-begin-5 c = search needs
+
 begin-requires : tie.Need-begin-requires Inv-loop μ-loop
 begin-requires c κs = search needs
 
 loop-holds : tie.Need-loop-holds Inv-loop μ-loop
-loop-holds c =
-    let b = c .before .before .before .before .before .before in (
-      standing-first _ _ _ _ _ _ (b .begin .ensures .0 (replicate 4096 0)) (omega (arith, c .before .before .out2 .given)) (b .before .before .before .before .before .before .before .before .before .before .before .pre),
-      b .begin .ensures .1,
-      omega (arith, c .before .before .before .before .before .cells2 .given),
-      omega (arith, c .before .before .before .before .tables2 .given),
-      omega (arith, c .before .before .before .marks2 .given),
-      refl,
-      omega (arith, c .before .before .out2 .given),
-    )
+loop-holds c = (
+  standing-first _ _ _ _ _ _ (c .before .before .before .before .before .before .before .begin .ensures .0 (replicate 4096 0)) (omega (arith, c .before .before .out2 .given)) (c .before .before .before .before .before .before .before .before .before .before .before .before .before .before .before .before .before .before .before .pre),
+  c .before .before .before .before .before .before .before .begin .ensures .1,
+  omega (arith, c .before .before .before .before .before .before .cells2 .given),
+  omega (arith, c .before .before .before .before .before .issues2 .given),
+  omega (arith, c .before .before .before .before .tables2 .given),
+  omega (arith, c .before .before .before .marks2 .given),
+  refl,
+  omega (arith, c .before .before .out2 .given),
+)
 
 array-share-prefix-out : tie.Need-array-share-prefix-out Inv-loop μ-loop
-array-share-prefix-out c = omega (arith, c .loop .inv .0 .part .fits, c .loop .inv .6)
+array-share-prefix-out c = omega (arith, c .loop .inv .0 .part .fits, c .loop .inv .7)
 
 slice-aggregate-write-part : tie.Need-slice-aggregate-write-part Inv-loop μ-loop
 slice-aggregate-write-part c = let j = c .before .loop in omega (arith, length-take (j .p .end) (j .out), j .inv .0 .part .fits)
@@ -61,9 +65,7 @@ write-part-requires : tie.Need-write-part-requires Inv-loop μ-loop
 write-part-requires c κs = let h = c .before .loop .inv .0 in (stands _ _ _ _ _ _ h, omega (arith, h .small))
 
 returns : tie.Need-returns Inv-loop μ-loop
-returns c =
-    let h = c .before .before .write-part in
-    handed-some _ _ _ _ _ _ (c .before .before .before .before .loop .inv .0) _ (h .ensures) (not-true (h .result .well) (c .if1 .taken))
+returns c = let h = c .before .before .write-part in handed-some _ _ _ _ _ _ (c .before .before .before .before .loop .inv .0) _ (h .ensures) (not-true (h .result .well) (c .if1 .taken))
 
 returns-2 : tie.Need-returns-2 Inv-loop μ-loop
 returns-2 c =
@@ -78,44 +80,43 @@ slice-aggregate-next-part-2 : tie.Need-slice-aggregate-next-part-2 Inv-loop μ-l
 slice-aggregate-next-part-2 c = sym (c .before .before .before .before .before .before .before .before .loop .inv .3)
 
 slice-aggregate-next-part-3 : tie.Need-slice-aggregate-next-part-3 Inv-loop μ-loop
-slice-aggregate-next-part-3 c = let a = c .before .before .before .before .before .before .before in sym (a .before .before .before .before .before .before .before .loop .inv .4)
+slice-aggregate-next-part-3 c = sym (c .before .before .before .before .before .before .before .before .before .loop .inv .4)
 
 slice-aggregate-next-part-4 : tie.Need-slice-aggregate-next-part-4 Inv-loop μ-loop
-slice-aggregate-next-part-4 c = let a = c .before .before .before .before .before .before .before .before in sym (a .before .before .before .before .before .before .before .loop .inv .5)
+slice-aggregate-next-part-4 c = sym (c .before .before .before .before .before .before .before .before .before .before .before .before .before .before .before .loop .inv .5)
 
 slice-aggregate-next-part-5 : tie.Need-slice-aggregate-next-part-5 Inv-loop μ-loop
-slice-aggregate-next-part-5 c = let a = c .before .before .before .before .before .before .before .before .before .before .before .before .before in sym (a .before .before .before .before .before .before .before .loop .inv .6)
+slice-aggregate-next-part-5 c = sym (c .before .before .before .before .before .before .before .before .before .before .before .before .before .before .before .before .loop .inv .6)
+
+slice-aggregate-next-part-6 : tie.Need-slice-aggregate-next-part-6 Inv-loop μ-loop
+slice-aggregate-next-part-6 c = sym (c .before .before .before .before .before .before .before .before .before .before .before .before .before .before .before .before .before .before .before .before .before .loop .inv .7)
 
 next-part-requires : tie.Need-next-part-requires Inv-loop μ-loop
 next-part-requires c κs =
-    let t = c .before .before .before .before .before .before .before .before .before .before .before .before .before .before in
-    let j = t .before .before .before .before .before .before .loop in
-    let more = not-false (j .p .more) (t .if2 .left) in
-    ((j .inv .0 .ready more, j .inv .1 more), (omega (arith, j .inv .5), j .inv .6))
+    let j = c .before .before .before .before .before .before .before .before .before .before .before .before .before .before .before .before .before .before .before .before .before .loop in
+    let more = not-false (j .p .more) (c .before .before .before .before .before .before .before .before .before .before .before .before .before .before .before .if2 .left) in
+    ((j .inv .0 .ready more, j .inv .1 more), (omega (arith, j .inv .6), j .inv .7))
 
 loop-less : tie.Need-loop-less Inv-loop μ-loop
 loop-less c =
-    let n = c .before .before .before in
-    let t = n .before .before .before .before .before .before .before .before .before .before .before .before .before .before .before in
-    let j = t .before .before .before .before .before .before .loop in
-    let f = n .next-part .ensures in
-    turns-less _ _ _ (not-false (j .p .more) (t .if2 .left)) (λ k. (f .on k, f .ready k .at))
+    let j = c .before .before .before .before .before .before .before .before .before .before .before .before .before .before .before .before .before .before .before .before .before .before .before .before .before .loop in
+    let f = c .before .before .before .next-part .ensures in
+    turns-less _ _ _ (not-false (j .p .more) (c .before .before .before .before .before .before .before .before .before .before .before .before .before .before .before .before .before .before .before .if2 .left)) (λ k. (f .on k, f .ready k .at))
 
 loop-again : tie.Need-loop-again Inv-loop μ-loop
 loop-again c =
-    let n = c .before .before .before in
-    let t = n .before .before .before .before .before .before .before .before .before .before .before .before .before .before .before in
-    let h = t .before .before .before .before .write-part in
-    let j = t .before .before .before .before .before .before .loop in
-    let more = not-false (j .p .more) (t .if2 .left) in (
-      standing-next _ _ _ _ _ _ (j .inv .0) _ (h .ensures) (not-false (h .result .well) (t .before .before .if1 .left)) more _ _ _ _
-          (n .next-part .ensures) (omega (arith, j .inv .6, c .out5 .given)),
+    let h = c .before .before .before .before .before .before .before .before .before .before .before .before .before .before .before .before .before .before .before .before .before .before .before .write-part in
+    let j = c .before .before .before .before .before .before .before .before .before .before .before .before .before .before .before .before .before .before .before .before .before .before .before .before .before .loop in
+    let more = not-false (j .p .more) (c .before .before .before .before .before .before .before .before .before .before .before .before .before .before .before .before .before .before .before .if2 .left) in (
+      standing-next _ _ _ _ _ _ (j .inv .0) _ (h .ensures) (not-false (h .result .well) (c .before .before .before .before .before .before .before .before .before .before .before .before .before .before .before .before .before .before .before .before .before .if1 .left)) more _ _ _ _ (c .before .before .before .next-part .ensures)
+          (omega (arith, j .inv .7, c .out5 .given)),
       λ e. j .inv .1 more,
       j .inv .2,
       j .inv .3,
-      omega (arith, j .inv .4, c .before .before .marks4 .given),
-      omega (arith, j .inv .5, c .before .words2 .given),
-      omega (arith, j .inv .6, c .out5 .given),
+      j .inv .4,
+      omega (arith, j .inv .5, c .before .before .marks4 .given),
+      omega (arith, j .inv .6, c .before .words2 .given),
+      omega (arith, j .inv .7, c .out5 .given),
     )
 
 pub write-report-spec : {M : Type 1} → statement M
@@ -128,6 +129,7 @@ write-report-spec =
     slice-aggregate-begin-2
     slice-aggregate-begin-3
     slice-aggregate-begin-4
+    slice-aggregate-begin-5
     begin-requires
     loop-holds
     array-share-prefix-out
@@ -140,6 +142,7 @@ write-report-spec =
     slice-aggregate-next-part-3
     slice-aggregate-next-part-4
     slice-aggregate-next-part-5
+    slice-aggregate-next-part-6
     next-part-requires
     loop-less
     loop-again)

@@ -15,51 +15,33 @@ returns-2 c = (few-held _ _ _ _ _ _ (c .if2 .taken), few-held-kept _ _ _ _ _ _ (
 
 returns-3 : tie.Need-returns-3
 returns-3 c =
-    let r = c .before .before .before .before .before .before .before .before .before in
-    let i = r .before .before .before .before .before .before .before .before .before in
     let v = c .before .verdict .given .1 in
-    let k = r .read-catalogued .ensures .1 .1 in (
-      opened-refused _ _ _ _ _ _ (i .before .if1 .left) (i .if2 .left) _ _ _ _ (r .read-catalogued .ensures .0) _ _ v,
-      catalogs-refused _ _ _ _ _ _ (i .before .if1 .left) (i .if2 .left) _ _ _ _ (r .read-catalogued .ensures .0) _ _ v _ _
+    let k = c .before .before .before .before .before .before .before .before .before .before .before .read-catalogued .ensures .1 .1 in (
+      opened-refused _ _ _ _ _ _ (c .before .before .before .before .before .before .before .before .before .before .before .before .before .before .before .before .before .before .before .before .before .before .if1 .left) (c .before .before .before .before .before .before .before .before .before .before .before .before .before .before .before .before .before .before .before .before .before .if2 .left) _ _ _ _ (c .before .before .before .before .before .before .before .before .before .before .before .read-catalogued .ensures .0) _ _ v,
+      catalogs-refused _ _ _ _ _ _ (c .before .before .before .before .before .before .before .before .before .before .before .before .before .before .before .before .before .before .before .before .before .before .if1 .left) (c .before .before .before .before .before .before .before .before .before .before .before .before .before .before .before .before .before .before .before .before .before .if2 .left) _ _ _ _ (c .before .before .before .before .before .before .before .before .before .before .before .read-catalogued .ensures .0) _ _ v _ _
           (λ x. arrays (k .next _ _ v x) (k .first _ _ v x) (k .keys _ _ v x) (k .heads _ _ v x) (k .starts _ _ v x)),
     )
 
 put-design-requires : tie.Need-put-design-requires
 put-design-requires c κs =
-    let e = c .before .before in
-    let k = e .before .before .before .before .before .before in
-    let r = k .before .before in
-    let i = r .before .before .before .before .before .before .before .before .before in
-    let b = i .before .before .before .before .before .before .before in
-    let w = opened-lawful _ _ _ _ _ _ _ _ (r .read-catalogued .ensures .0) _ (e .enum-told .given .1)
-    (record { at = λ j. omega (arith, b .shared-slice-known .given j) }) in
-    (omega (arith, i .before .if1 .left), w .tables, w .constraints, w .fillings, w .rows)
+    let w = opened-lawful _ _ _ _ _ _ _ _ (c .before .before .before .before .before .before .before .before .before .before .before .before .read-catalogued .ensures .0) _ (c .before .before .enum-told .given .1)
+    (record { at = λ j. omega (arith, c .before .before .before .before .before .before .before .before .before .before .before .before .before .before .before .before .before .before .before .before .before .before .before .before .before .before .before .before .before .before .shared-slice-known .given j) }) in
+    (omega (arith, c .before .before .before .before .before .before .before .before .before .before .before .before .before .before .before .before .before .before .before .before .before .before .before .if1 .left), w .tables, w .constraints, w .fillings, w .rows)
 
 put-held-requires : tie.Need-put-held-requires
-put-held-requires c κs =
-    let n = c .before in
-    let r = n .before .before .before .before .before .before .before .before .before .before .before .before .before .before in
-    let i = r .before .before .before .before .before .before .before .before .before in
-    (omega (arith, i .if2 .left), none-few _ (n .none .ensures))
+put-held-requires c κs = (omega (arith, c .before .before .before .before .before .before .before .before .before .before .before .before .before .before .before .before .before .before .before .before .before .before .before .before .before .before .before .if2 .left), none-few _ (c .before .none .ensures))
 
 returns-4 : tie.Need-returns-4
 returns-4 c =
-    let h = c .before .before in
-    let n = h .before .before in
-    let d = n .before .before .before in
-    let e = d .before .before .before in
-    let r = e .before .before .before .before .before .before .before .before in
-    let i = r .before .before .before .before .before .before .before .before .before in
-    let v = e .enum-told .given .1 in (
-      opened-accepted _ _ _ _ _ _ (i .before .if1 .left) (i .if2 .left) _ _ _ _ (r .read-catalogued .ensures .0) _ v _ _ _
-          (n .none .ensures) (d .put-design .ensures) (h .put-held .ensures .0),
-      catalogs-accepted _ _ _ _ _ _ (i .before .if1 .left) (i .if2 .left) _ _ _ _ (r .read-catalogued .ensures .0) _ v _ _
-          (r .read-catalogued .ensures .1 .0 _ v),
+    let v = c .before .before .before .before .before .before .before .before .before .before .enum-told .given .1 in (
+      opened-accepted _ _ _ _ _ _ (c .before .before .before .before .before .before .before .before .before .before .before .before .before .before .before .before .before .before .before .before .before .before .before .before .before .before .before .before .before .before .before .if1 .left) (c .before .before .before .before .before .before .before .before .before .before .before .before .before .before .before .before .before .before .before .before .before .before .before .before .before .before .before .before .before .before .if2 .left) _ _ _ _ (c .before .before .before .before .before .before .before .before .before .before .before .before .before .before .before .before .before .before .before .before .read-catalogued .ensures .0) _ v _ _ _ (c .before .before .before .before .none .ensures) (c .before .before .before .before .before .before .before .put-design .ensures)
+          (c .before .before .put-held .ensures .0),
+      catalogs-accepted _ _ _ _ _ _ (c .before .before .before .before .before .before .before .before .before .before .before .before .before .before .before .before .before .before .before .before .before .before .before .before .before .before .before .before .before .before .before .if1 .left) (c .before .before .before .before .before .before .before .before .before .before .before .before .before .before .before .before .before .before .before .before .before .before .before .before .before .before .before .before .before .before .if2 .left) _ _ _ _ (c .before .before .before .before .before .before .before .before .before .before .before .before .before .before .before .before .before .before .before .before .read-catalogued .ensures .0) _ v _ _ (c .before .before .before .before .before .before .before .before .before .before .before .before .before .before .before .before .before .before .before .before .read-catalogued .ensures .1 .0 _ v),
     )
 
 pub wurzsige-open-spec : {M : Type 1} → statement M
 wurzsige-open-spec =
     tie.close
-    (tie.spec returns returns-2 (λ c κs. search needs) (λ c. search needs) (λ c. search needs) (λ c. search needs) (λ c. search needs) returns-3
-    (λ c. search needs) put-design-requires (λ c κs. search needs) put-held-requires (λ c. search needs) (λ c. search needs) (λ c. search needs)
-    (λ c. search needs) (λ c. search needs) returns-4)
+    (tie.spec returns returns-2 (λ c κs. search needs) (λ c. search needs) (λ c. search needs) (λ c. search needs) (λ c. search needs) (λ c. search needs)
+    returns-3 (λ c. search needs) put-design-requires (λ c κs. search needs) put-held-requires (λ c. search needs) (λ c. search needs) (λ c. search needs)
+    (λ c. search needs) (λ c. search needs) (λ c. search needs) returns-4)

@@ -10,7 +10,7 @@ run-lawful-requires : tie.Need-run-lawful-requires
 run-lawful-requires c κs =
     let h = c .before .before .before .before .before .before in
     let d = h .before .before in
-    let start = d .before .before .before .before .before .before .before .before in
+    let start = d .before .before .before .before .before .before .before .before .before in
     ready-lawful _ _ _ _ _ _ _ _ (d .design-from .ensures) (h .held-from .ensures) (start .pre)
 
 -- the values before and after the run are few
@@ -19,7 +19,7 @@ put-held-requires c κs =
     let s = c .before .before .before .before .before in
     let h = s .before .before .before .before .before .before .before in
     let d = h .before .before in
-    let start = d .before .before .before .before .before .before .before .before in
+    let start = d .before .before .before .before .before .before .before .before .before in
     let a = start .args in
     let before = ready-few _ _ _ _ _ _ _ _ (d .design-from .ensures) (h .held-from .ensures) (start .pre) in
     let after = run-few _ _ _ _ _ _ _ _ (d .design-from .ensures) (h .held-from .ensures) (start .pre) (now (a .words)) (now (a .script)) (a .at) _ _ _
@@ -32,10 +32,10 @@ returns c =
     let s = p .before .before .before .before .before .before in
     let h = s .before .before .before .before .before .before .before in
     let d = h .before .before in
-    let start = d .before .before .before .before .before .before .before .before in
+    let start = d .before .before .before .before .before .before .before .before .before in
     let a = start .args in
     run-made _ _ _ _ _ _ _ _ (d .design-from .ensures) (h .held-from .ensures) (start .pre) (now (a .words)) (now (a .script)) (a .at) _ _ _
-    (s .run-lawful .ensures) _ (p .put-held .ensures .0) (p .put-held .ensures .1)
+    (s .run-lawful .ensures) _ (p .put-held .ensures .0) (p .put-held .ensures .1) (p .put-held .ensures .2)
 
 pub wurzsige-run-spec : {M : Type 1} → statement M
 wurzsige-run-spec =

@@ -9,7 +9,7 @@ step-lawful-requires : tie.Need-step-lawful-requires
 step-lawful-requires c κs =
     let h = c .before .before .before .before .before .before in
     let d = h .before .before in
-    let start = d .before .before .before .before .before .before .before .before in
+    let start = d .before .before .before .before .before .before .before .before .before in
     ready-lawful _ _ _ _ _ _ _ _ (d .design-from .ensures) (h .held-from .ensures) (start .pre)
 
 -- the values before and after the step are few
@@ -18,7 +18,7 @@ put-held-requires c κs =
     let s = c .before .before .before .before .before .before in
     let h = s .before .before .before .before .before .before .before in
     let d = h .before .before in
-    let start = d .before .before .before .before .before .before .before .before in
+    let start = d .before .before .before .before .before .before .before .before .before in
     let before = ready-few _ _ _ _ _ _ _ _ (d .design-from .ensures) (h .held-from .ensures) (start .pre) in
     let after = step-few _ _ _ _ _ _ _ _ (d .design-from .ensures) (h .held-from .ensures) (start .pre) _ _ _ _ _ _ (s .step-lawful .ensures) in
     (omega (arith, start .pre .held), omega (arith, before, after))
@@ -29,9 +29,9 @@ returns c =
     let s = p .before .before .before .before .before .before .before in
     let h = s .before .before .before .before .before .before .before in
     let d = h .before .before in
-    let start = d .before .before .before .before .before .before .before .before in
+    let start = d .before .before .before .before .before .before .before .before .before in
     step-taken _ _ _ _ _ _ _ _ (d .design-from .ensures) (h .held-from .ensures) (start .pre) _ _ _ _ _ _ (s .step-lawful .ensures) _
-    (p .put-held .ensures .0) (p .put-held .ensures .1) _ _ (c .tell .ensures)
+    (p .put-held .ensures .0) (p .put-held .ensures .1) (p .put-held .ensures .2) _ _ (c .tell .ensures)
 
 pub wurzsige-step-spec : {M : Type 1} → statement M
 wurzsige-step-spec =

@@ -7,7 +7,7 @@ use std::sync::LazyLock;
 
 use compare::random::Random;
 use notation::{Column, Command, Constraint, Design, Filling, Join, Pair, Probe, Query};
-use notation::{Table, Total, CELLS, PAIRS};
+use notation::{Table, Total, Value, CELLS, PAIRS};
 
 use super::candidate::{Candidate, Kind};
 use crate::work::{self, growing::sharing_a_bucket, MOST_ROWS};
@@ -65,7 +65,7 @@ fn design(random: &mut Random) -> Design {
         add_filling(random, &mut design);
     }
     for row in 0..MOST_ROWS {
-        design.add_row((row % tables) as u8, &[]);
+        design.add_row::<u32>((row % tables) as u8, &[]);
     }
     let pattern = random.below(PATTERNS);
     for column in design.columns() {
@@ -166,7 +166,7 @@ fn pair(random: &mut Random, design: &Design) -> Pair {
     let wrong = random.percent(WRONG);
     Pair {
         filling: if wrong { u8::MAX } else { filling as u8 },
-        value: column.map_or(1, |column| value(random, design, column)),
+        value: column.map_or(1.into(), |column| value(random, design, column)),
     }
 }
 
@@ -234,14 +234,15 @@ fn total(random: &mut Random, design: &Design) -> Total {
 }
 
 /// A value of the column, one that shares a bucket, or any.
-fn value(random: &mut Random, design: &Design, column: Column) -> u32 {
+fn value(random: &mut Random, design: &Design, column: Column) -> Value {
     let row = random.pick_any(&design.rows);
     let place = usize::from(column.column) % CELLS;
     let own = row.map_or(1, |row| row.cells[place]);
-    match random.below(20) {
+    let number = match random.below(20) {
         0 => ONE_BUCKET[MOST_ROWS],
         1 => 1 + random.below(600) as u32,
         2 => u32::MAX,
         _ => own,
-    }
+    };
+    number.into()
 }

@@ -3,8 +3,8 @@
 //! has an index. Statements are prepared when a design is opened, and those of
 //! probes, queries and totals off the clock.
 //!
-//! It does what the works need and no more: operands aren't checked, held values
-//! aren't counted and neither are rounds, no total is too large, and queries and
+//! It does what the works need and no more: operands aren't checked, values have no
+//! issue, held values aren't counted and neither are rounds, no total is too large, and queries and
 //! totals don't count the rows behind their ground. Where that makes a difference,
 //! it is in SQLite's favour.
 
@@ -15,7 +15,7 @@ mod sql;
 use std::collections::HashMap;
 use std::hint::black_box;
 
-use notation::{Column, Command, Design, Join, Pair, Probe, Query, Total};
+use notation::{Column, Command, Design, Join, Pair, Probe, Query, Total, Value};
 use reference::ANSWER_WORDS;
 
 use crate::contestant::{
@@ -149,10 +149,10 @@ impl Desk {
     fn refer(&mut self, pair: Pair) -> Result<Answer, OutOfTime> {
         let number = usize::from(pair.filling);
         let filling = self.design.fillings[number];
-        if !(filling.low..=filling.high).contains(&pair.value) {
+        if !(filling.low..=filling.high).contains(&pair.value.number) {
             return Ok(Answer::NoCandidate);
         }
-        let value = i64::from(pair.value);
+        let value = i64::from(pair.value.number);
         self.hold.run(&[pair.filling.into(), value], |_| true)?;
         if self.database.changes() == 0 {
             return Ok(Answer::Held);
@@ -162,7 +162,7 @@ impl Desk {
     }
 
     fn drop(&mut self, pair: Pair) -> Result<Answer, OutOfTime> {
-        let parameters = [pair.filling.into(), pair.value.into()];
+        let parameters = [pair.filling.into(), pair.value.number.into()];
         self.release.run(&parameters, |_| true)?;
         self.unload.run(&[], |_| true)?;
         Ok(Answer::Dropped(self.database.changes()))
@@ -172,7 +172,7 @@ impl Desk {
         let statement = self.probes.get_mut(&probe.column);
         let statement = statement.expect("a statement that has been prepared");
         let mut answer = Answer::Sent;
-        statement.run(&[probe.value.into()], |row| {
+        statement.run(&[probe.value.number.into()], |row| {
             if row[0] > 0 {
                 answer = Answer::Ground(row[0] as u8, row[1] as usize);
             }
@@ -182,11 +182,11 @@ impl Desk {
     }
 
     /// Whether a value has a ground in a column.
-    fn has_ground(&mut self, column: Column, value: u32) -> Result<bool, OutOfTime> {
+    fn has_ground(&mut self, column: Column, value: Value) -> Result<bool, OutOfTime> {
         let statement = self.grounds.get_mut(&column);
         let statement = statement.expect("a statement for every column");
         let mut ground = 0;
-        statement.run(&[value.into()], |row| {
+        statement.run(&[value.number.into()], |row| {
             ground = row[0];
             false
         })?;
@@ -201,7 +201,7 @@ impl Desk {
         let statement = self.queries.get_mut(&shape(query));
         let statement = statement.expect("a statement that has been prepared");
         let mut words = Vec::new();
-        statement.run(&[query.value.into()], |row| {
+        statement.run(&[query.value.number.into()], |row| {
             words.extend(row.iter().map(|&number| number as usize));
             words.len() <= ANSWER_WORDS
         })?;
@@ -221,7 +221,7 @@ impl Desk {
         let statement = self.totals.get_mut(&total_shape(total));
         let statement = statement.expect("a statement that has been prepared");
         let mut sum = 0;
-        statement.run(&[total.query.value.into()], |row| {
+        statement.run(&[total.query.value.number.into()], |row| {
             sum = row[0] as u64;
             false
         })?;
@@ -242,10 +242,10 @@ impl Desk {
     }
 
     /// What a query without a ground refers first.
-    fn pair_to_refer(&self, column: Column, value: u32) -> Option<Pair> {
+    fn pair_to_refer(&self, column: Column, value: Value) -> Option<Pair> {
         let mut fillings = (0..).zip(&self.design.fillings);
         let (number, filling) = fillings.find(|(_, filling)| filling.column == column)?;
-        let is_candidate = (filling.low..=filling.high).contains(&value);
+        let is_candidate = (filling.low..=filling.high).contains(&value.number);
         is_candidate.then_some(Pair {
             filling: number,
             value,

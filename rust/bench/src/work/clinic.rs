@@ -114,7 +114,7 @@ fn queries(joined: bool) -> Vec<Command> {
 
 /// For each ward: the query with joins while it isn't held, and its drop.
 fn fetches() -> Vec<Command> {
-    let visit = |query: Query| [Command::Query(query), drop(0, query.value)];
+    let visit = |query: Query| [Command::Query(query), drop(0, query.value.number)];
     wards(true).flat_map(visit).collect()
 }
 

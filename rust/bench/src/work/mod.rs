@@ -96,10 +96,12 @@ fn filling(column: Column) -> Filling {
 }
 
 fn refer(filling: u8, value: u32) -> Command {
+    let value = value.into();
     Command::Refer(Pair { filling, value })
 }
 
 fn drop(filling: u8, value: u32) -> Command {
+    let value = value.into();
     Command::Drop(Pair { filling, value })
 }
 
@@ -112,6 +114,7 @@ fn load_and_drop(filling: u8, values: impl IntoIterator<Item = u32>) -> Vec<Comm
 }
 
 fn probe(column: Column, value: u32) -> Command {
+    let value = value.into();
     Command::Probe(Probe { column, value })
 }
 

@@ -3,7 +3,7 @@
 
 use std::ops::RangeInclusive;
 
-use notation::{Column, Constraint, Design, Filling, Table, CELLS};
+use notation::{Column, Constraint, Design, Filling, Table, Value, CELLS};
 
 use crate::random::Random;
 
@@ -55,37 +55,62 @@ impl Shape {
     };
 }
 
-/// The numbers that stand in a design's cells.
+/// The issues that a number may have, in order.
+pub const ISSUES: [u8; 4] = [0, 1, 255, 128];
+
+/// The values that stand in a design's cells.
 #[derive(Clone, Copy)]
 pub struct Values {
     count: usize,
     /// From 2^32 - 1 downwards instead of from 1 upwards.
     downwards: bool,
+    /// How many issues each number has: the values differ in the issue first.
+    issues: usize,
 }
 
 impl Values {
+    /// Values without issues.
     pub fn new(count: usize, downwards: bool) -> Values {
-        Values { count, downwards }
+        Values {
+            count,
+            downwards,
+            issues: 1,
+        }
+    }
+
+    /// Values of which some differ in the issue alone, in a third of the cases.
+    pub fn reissued(self, random: &mut Random) -> Values {
+        let issues = match random.below(3) {
+            0 => random.within(2..=ISSUES.len()),
+            _ => 1,
+        };
+        Values { issues, ..self }
+    }
+
+    /// Whether some values have an issue other than 0.
+    pub fn have_issues(&self) -> bool {
+        self.issues > 1
     }
 
     /// One of the values.
-    pub fn any(&self, random: &mut Random) -> u32 {
+    pub fn any(&self, random: &mut Random) -> Value {
         self.get(random.below(self.count))
     }
 
     /// The value with the given place in the sequence, even past the count.
-    pub fn get(&self, place: usize) -> u32 {
-        let place = place as u32;
-        if self.downwards {
-            u32::MAX - place
+    pub fn get(&self, place: usize) -> Value {
+        let (number, issue) = ((place / self.issues) as u32, place % self.issues);
+        let number = if self.downwards {
+            u32::MAX - number
         } else {
-            1 + place
-        }
+            1 + number
+        };
+        Value::new(number, ISSUES[issue])
     }
 
     /// The value at a place, which then moves on, but for the rare case that a
     /// value comes twice.
-    fn next(&self, random: &mut Random, place: &mut usize) -> u32 {
+    fn next(&self, random: &mut Random, place: &mut usize) -> Value {
         let value = self.get(*place);
         if random.below(TWICE) > 0 {
             *place += random.within(1..=2);
@@ -98,12 +123,12 @@ impl Values {
     fn filling(&self, random: &mut Random, column: Column) -> Filling {
         let (one, other) = match random.below(10) {
             0 => (1, u32::MAX),
-            1 => (self.any(random), self.any(random)),
+            1 => (self.any(random).number, self.any(random).number),
             2 => {
-                let value = self.any(random);
+                let value = self.any(random).number;
                 (value, value)
             }
-            _ => (self.get(0), self.get(self.count - 1)),
+            _ => (self.get(0).number, self.get(self.count - 1).number),
         };
         Filling {
             column,
@@ -135,9 +160,10 @@ impl Draft {
         shape: &Shape,
         link: impl FnOnce(&mut Random, &mut Design),
     ) -> Draft {
+        let values = Values::new(random.within(shape.values.clone()), random.percent(20));
         let mut draft = Draft {
             design: Design::default(),
-            values: Values::new(random.within(shape.values.clone()), random.percent(20)),
+            values: values.reissued(random),
         };
         for _ in 0..random.within(shape.tables.clone()) {
             draft.design.tables.push(table(random, shape));
@@ -158,7 +184,7 @@ impl Draft {
     /// A table linked to itself, whose rows form a ring. In so many of a hundred
     /// cases a row has no next one, and in as many, any other.
     pub fn ring(random: &mut Random, rows: usize, broken: usize) -> Draft {
-        let values = Values::new(rows, random.percent(20));
+        let values = Values::new(rows, random.percent(20)).reissued(random);
         let [key, next] = [0, 1].map(|column| Column { table: 0, column });
         let mut design = Design {
             tables: vec![Table {
@@ -174,7 +200,7 @@ impl Draft {
         };
         for place in 0..values.count {
             let next = match random.below(100) {
-                chance if chance < broken => 0,
+                chance if chance < broken => 0.into(),
                 chance if chance < 2 * broken => values.any(random),
                 _ => values.get((place + 1) % values.count),
             };
@@ -211,9 +237,9 @@ impl Draft {
         random: &mut Random,
         table: usize,
         places: &mut [usize; CELLS],
-    ) -> [u32; CELLS] {
+    ) -> [Value; CELLS] {
         let Table { columns, unique } = self.design.tables[table];
-        let mut cells = [0; CELLS];
+        let mut cells = [0.into(); CELLS];
         for column in 0..usize::from(columns) {
             if random.percent(BLANK) {
                 continue;

@@ -194,7 +194,7 @@ fn add_chain(design: &mut Design, steps: &[Step], values: Values) {
         }
         let own = values.get(steps.len() + 1 + place);
         for (column, value) in [(here.entry, place), (here.exit, place + 1)] {
-            let mut cells = [0; 4];
+            let mut cells = [0.into(); 4];
             cells[usize::from(here.own.column)] = own;
             cells[usize::from(column.column)] = values.get(value);
             design.add_row(here.own.table, &cells);

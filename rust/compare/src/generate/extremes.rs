@@ -2,7 +2,7 @@
 //! words, and commands.
 
 use notation::{
-    encode, Column, Command, Constraint, Design, Filling, Join, Pair, Probe, Query, Table,
+    encode, Column, Command, Constraint, Design, Filling, Join, Pair, Probe, Query, Table, Value,
 };
 
 use super::design::{Draft, Shape, Values};
@@ -143,6 +143,6 @@ pub fn every_value(column: Column) -> Filling {
     }
 }
 
-pub fn refer(value: u32) -> Command {
+pub fn refer(value: Value) -> Command {
     Command::Refer(Pair { filling: 0, value })
 }

@@ -1,6 +1,6 @@
 //! Queries and totals that refer their value first, and what may follow them.
 
-use notation::{encode, Command, Pair, Probe, Query, Total};
+use notation::{encode, Command, Pair, Probe, Query, Total, Value};
 
 use super::design::{Draft, Shape};
 use super::extremes::every_value;
@@ -53,7 +53,7 @@ pub fn last_place(random: &mut Random) -> Vec<u8> {
             column: column.column,
         })
     };
-    let mut values: Vec<u32> = (0..66).map(|place| draft.values.get(place)).collect();
+    let mut values: Vec<Value> = (0..66).map(|place| draft.values.get(place)).collect();
     random.shuffle(&mut values);
     let (held, others) = values.split_at(random.within(62..=65));
     let pair = |value| Pair { filling: 0, value };

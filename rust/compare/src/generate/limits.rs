@@ -147,7 +147,8 @@ pub fn script_length(random: &mut Random) -> Vec<u8> {
     script
 }
 
-fn refer(value: u32) -> Command {
+fn refer(number: u32) -> Command {
+    let value = number.into();
     Command::Refer(Pair { filling: 0, value })
 }
 

@@ -1,9 +1,9 @@
 //! Random operations on a design. Most name something that is there; some are
 //! spoilt on purpose.
 
-use notation::{Column, Command, Design, Join, Pair, Probe, Query, Row, Total, PAIRS};
+use notation::{Column, Command, Design, Join, Pair, Probe, Query, Total, Value, PAIRS};
 
-use super::design::{Draft, Values};
+use super::design::{Draft, Values, ISSUES};
 use super::spoil::spoil;
 use crate::random::Random;
 
@@ -44,11 +44,24 @@ impl<'a> Operator<'a> {
                 self.question(random, probe)
             }
         };
-        if random.percent(SPOILT) {
+        let operation = if random.percent(SPOILT) {
             spoil(random, self.design, operation)
         } else {
             operation
+        };
+        self.reissue(random, operation)
+    }
+
+    /// The operation, in a few cases with another issue, or with a place for issue
+    /// 0. They are more where values have issues.
+    fn reissue(&self, random: &mut Random, mut operation: Command) -> Command {
+        let chance = if self.values.have_issues() { 12 } else { 2 };
+        if let Some(value) = value_of(&mut operation) {
+            if random.percent(chance) {
+                value.issue = Some(*random.pick(&ISSUES));
+            }
         }
+        operation
     }
 
     /// A query or a total of a value that may not be held, in a filling column,
@@ -108,6 +121,7 @@ impl<'a> Operator<'a> {
             3 => Some(range.high.wrapping_add(1)),
             _ => None,
         });
+        let near_end = near_end.map(Value::from);
         Pair {
             filling: filling as u8,
             value: near_end.unwrap_or_else(|| self.values.any(random)),
@@ -143,15 +157,16 @@ impl<'a> Operator<'a> {
     }
 
     fn row_probe(&self, random: &mut Random) -> Option<Probe> {
-        let Row { table, cells } = *random.pick_any(&self.design.rows)?;
-        let columns = self.design.tables[usize::from(table)].columns;
+        let row = random.pick_any(&self.design.rows)?;
+        let columns = self.design.tables[usize::from(row.table)].columns;
         let column = random.below(usize::from(columns));
-        (cells[column] != 0).then_some(Probe {
+        let value = row.cell(column);
+        (value.number != 0).then_some(Probe {
             column: Column {
-                table,
+                table: row.table,
                 column: column as u8,
             },
-            value: cells[column],
+            value,
         })
     }
 
@@ -160,8 +175,8 @@ impl<'a> Operator<'a> {
         let constraint = random.pick_any(&self.design.constraints)?;
         let Column { table, column } = constraint.source;
         let row = random.pick_any(&self.design.rows)?;
-        let value = row.cells[usize::from(column)];
-        (row.table == table && value != 0).then_some(Probe {
+        let value = row.cell(usize::from(column));
+        (row.table == table && value.number != 0).then_some(Probe {
             column: constraint.target,
             value,
         })
@@ -221,5 +236,16 @@ impl<'a> Operator<'a> {
             }
         }
         joins
+    }
+}
+
+/// The value that an operation names.
+fn value_of(operation: &mut Command) -> Option<&mut Value> {
+    match operation {
+        Command::Refer(pair) | Command::Drop(pair) => Some(&mut pair.value),
+        Command::Probe(probe) => Some(&mut probe.value),
+        Command::Query(query) => Some(&mut query.value),
+        Command::Total(total) => Some(&mut total.query.value),
+        _ => None,
     }
 }

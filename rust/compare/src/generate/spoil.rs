@@ -60,10 +60,19 @@ fn spoil_filling(random: &mut Random, design: &Design, mut filling: Filling) -> 
 }
 
 fn spoil_row(random: &mut Random, design: &Design, mut row: Row) -> Row {
-    match random.below(3) {
+    match random.below(7) {
         0 => row.table = design.tables.len() as u8,
         1 => row.cells[random.below(CELLS)] = 1,
-        _ => row = *random.pick(&design.rows),
+        2 => row = *random.pick(&design.rows),
+        3 => row.issues = Some([0; CELLS]),
+        4 => {
+            // A blank in a column that the table has.
+            let table = design.tables.get(usize::from(row.table));
+            let column = random.below(table.map_or(CELLS, |table| table.columns.into()));
+            row.cells[column] = 0;
+            row.issues.get_or_insert_default()[column] = 1;
+        }
+        _ => row.issues.get_or_insert_default()[random.below(CELLS)] = random.byte(),
     }
     row
 }
@@ -72,7 +81,7 @@ fn spoil_pair(random: &mut Random, design: &Design, mut pair: Pair) -> Pair {
     match random.below(3) {
         0 => pair.filling = design.fillings.len() as u8,
         1 => pair.filling = random.byte(),
-        _ => pair.value = 0,
+        _ => pair.value.number = 0,
     }
     pair
 }
@@ -80,7 +89,7 @@ fn spoil_pair(random: &mut Random, design: &Design, mut pair: Pair) -> Pair {
 fn spoil_probe(random: &mut Random, design: &Design, mut probe: Probe) -> Probe {
     match random.below(2) {
         0 => probe.column = spoil_column(random, design, probe.column),
-        _ => probe.value = 0,
+        _ => probe.value.number = 0,
     }
     probe
 }
@@ -89,7 +98,7 @@ fn spoil_query(random: &mut Random, design: &Design, mut query: Query) -> Query 
     let pair = random.below(PAIRS);
     match random.below(7) {
         0 => query.column = spoil_column(random, design, query.column),
-        1 => query.value = 0,
+        1 => query.value.number = 0,
         2 => query.joins = PAIRS as u8 + 1,
         3 => query.joins = random.below(PAIRS + 1) as u8,
         4 => query.pairs[pair].position = random.below(PAIRS + 1) as u8,
@@ -108,7 +117,7 @@ fn spoil_total(random: &mut Random, design: &Design, mut total: Total) -> Total 
         5 => total.query = spoil_query(random, design, total.query),
         _ => {
             // The position is looked at before the value.
-            total.query.value = 0;
+            total.query.value.number = 0;
             total.position = total.query.joins + 1;
         }
     }

@@ -17,7 +17,7 @@ const GROUP: usize = 256;
 pub fn largest(random: &mut Random) -> Vec<u8> {
     let [asked, group, cell] = [0, 1, 2].map(|place| column(0, place));
     let target = column(1, 0);
-    let values = Values::new(3, random.percent(50));
+    let values = Values::new(3, random.percent(50)).reissued(random);
     let [key, large, small] = [0, 1, 2].map(|place| values.get(place));
     let mut design = Design {
         tables: vec![table(3), table(1)],
@@ -31,10 +31,10 @@ pub fn largest(random: &mut Random) -> Vec<u8> {
         3 => (u32::MAX, Some(1)),
         _ => (any_cell(random), Some(any_cell(random))),
     };
-    design.add_row(0, &[key, large, u32::MAX]);
-    design.add_row(0, &[key, small, second]);
+    design.add_row(0, &[key, large, u32::MAX.into()]);
+    design.add_row(0, &[key, small, second.into()]);
     if let Some(third) = third {
-        design.add_row(0, &[key, small, third]);
+        design.add_row(0, &[key, small, third.into()]);
     }
     for _ in 0..GROUP {
         design.add_row(1, &[large]);
@@ -69,7 +69,7 @@ pub fn crowd(random: &mut Random) -> Vec<u8> {
         rows: Vec::new(),
     };
     for cell in any_cells(random, rows) {
-        design.add_row(0, &[values.get(0), cell]);
+        design.add_row(0, &[values.get(0), cell.into()]);
     }
     let count = if all { PAIRS } else { any_count(random) };
     let joins = any_joins(random, count, |_| 0);
@@ -96,7 +96,7 @@ pub fn beside_a_group(random: &mut Random) -> Vec<u8> {
         rows: Vec::new(),
     };
     let leads = random.percent(30);
-    design.add_row(0, &[key, if leads { group } else { 0 }]);
+    design.add_row(0, &[key, if leads { group } else { 0.into() }]);
     let (cells, joins, position) = if random.percent(50) {
         let cells = vec![u32::MAX; random.within(257..=320)];
         let joins = [(0, 0), (1, 1), (random.within(1..=2) as u8, 1), (1, 1)];
@@ -108,7 +108,7 @@ pub fn beside_a_group(random: &mut Random) -> Vec<u8> {
         (any_cells(random, rows), joins, random.below(count + 1))
     };
     for cell in cells {
-        design.add_row(1, &[group, cell]);
+        design.add_row(1, &[group, cell.into()]);
     }
     let total = Total {
         query: Query::new(asked, key, &joins),

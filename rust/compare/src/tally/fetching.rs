@@ -4,59 +4,35 @@
 use reference::design::Design;
 use reference::desk::Answer;
 use reference::refusal::Cause;
-use reference::script::{Column, Command, Pair};
+use reference::script::{Column, Command, Pair, Value};
 
-use super::totals;
 use crate::replay::{query_of, Replay};
 
 const MOST_HELD: usize = 64;
 
-/// The outcomes of a script's queries and totals, in its order. A script whose
-/// design is refused has none.
-pub fn outcomes(script: &[u8]) -> Vec<&'static str> {
-    let design = Design::read(script).map(|(design, _)| design);
-    let (Ok(design), Some(replay)) = (design, Replay::new(script)) else {
-        return Vec::new();
-    };
-    let mut watch = Watch {
-        design,
-        replay,
-        held: Vec::new(),
-        undone: Vec::new(),
-    };
-    let mut outcomes = Vec::new();
-    while let Some(command) = watch.replay.command() {
-        if let Command::Total(total) = &command {
-            outcomes.extend(totals::outcomes(&watch.design, &watch.replay, total));
-        }
-        outcomes.extend(watch.outcome(command));
-    }
-    outcomes
-}
-
 /// A script on its way.
-struct Watch<'a> {
-    design: Design,
-    replay: Replay<'a>,
+#[derive(Default)]
+pub struct Watch {
     /// The pairs held, and whether a query or total referred them.
     held: Vec<(Pair, bool)>,
     /// The pairs whose reference was undone last, and which aren't held.
     undone: Vec<Pair>,
 }
 
-impl Watch<'_> {
-    /// Carries out the next command, and gives what came of it.
-    fn outcome(&mut self, command: Command) -> Option<&'static str> {
-        let (ground, fetches) = (self.replay.ground(), self.replay.fetches());
-        let answer = self.replay.perform()?;
-        if let Some(query) = query_of(&command) {
-            let pair = self.pair(query.column, query.value);
+impl Watch {
+    /// What comes of the next command, which is carried out.
+    pub fn perform(&mut self, replay: &mut Replay, command: &Command) -> Option<&'static str> {
+        let (ground, fetches) = (replay.ground(), replay.fetches());
+        let answer = replay.perform()?;
+        if let Some(query) = query_of(command) {
+            let pair = pair(replay.design(), query.column, query.value);
             let is_total = matches!(command, Command::Total(_));
+            let is_candidate = pair.is_some_and(|pair| is_candidate(replay.design(), pair));
             return match (&answer, pair) {
                 (_, Some(pair)) if fetches => Some(self.fetch(pair, &answer)),
-                (Ok(Answer::Sent), pair) => Some(self.sent(pair, is_total)),
-                (Ok(_), Some(pair)) if matches!(ground, Some(2 | 3)) => {
-                    self.is_candidate(pair).then_some(match is_total {
+                (Ok(Answer::Sent), pair) => Some(sent(pair.is_some(), is_candidate, is_total)),
+                (Ok(_), Some(_)) if matches!(ground, Some(2 | 3)) => {
+                    is_candidate.then_some(match is_total {
                         false => "query of a candidate by ground 2 or 3",
                         true => "total of a candidate by ground 2 or 3",
                     })
@@ -64,7 +40,7 @@ impl Watch<'_> {
                 _ => None,
             };
         }
-        match (command, answer) {
+        match (*command, answer) {
             (Command::Refer(pair), Ok(answer)) => self.refer(pair, &answer),
             (Command::Drop(pair), Ok(_)) => {
                 let place = self.held.iter().position(|(held, _)| *held == pair)?;
@@ -109,30 +85,30 @@ impl Watch<'_> {
             _ => "query referred with lists",
         }
     }
+}
 
-    /// Why a query or total was sent, of which this is the pair to refer.
-    fn sent(&self, pair: Option<Pair>, is_total: bool) -> &'static str {
-        match (pair, is_total) {
-            (None, false) => "query sent for no filling",
-            (None, true) => "total sent for no filling",
-            (Some(pair), false) if !self.is_candidate(pair) => "query sent for no candidate",
-            (Some(pair), true) if !self.is_candidate(pair) => "total sent for no candidate",
-            (Some(_), false) => "query sent at 64 held values",
-            (Some(_), true) => "total sent at 64 held values",
-        }
+/// Why a query or total was sent.
+fn sent(has_filling: bool, is_candidate: bool, is_total: bool) -> &'static str {
+    match (has_filling, is_candidate, is_total) {
+        (false, _, false) => "query sent for no filling",
+        (false, _, true) => "total sent for no filling",
+        (true, false, false) => "query sent for no candidate",
+        (true, false, true) => "total sent for no candidate",
+        (true, true, false) => "query sent at 64 held values",
+        (true, true, true) => "total sent at 64 held values",
     }
+}
 
-    /// The filling of a column, with the value.
-    fn pair(&self, column: Column, value: u32) -> Option<Pair> {
-        let mut fillings = self.design.fillings.iter();
-        let filling = fillings.position(|filling| filling.column == column)?;
-        Some(Pair { filling, value })
-    }
+/// The filling of a column, with the value.
+fn pair(design: &Design, column: Column, value: Value) -> Option<Pair> {
+    let mut fillings = design.fillings.iter();
+    let filling = fillings.position(|filling| filling.column == column)?;
+    Some(Pair { filling, value })
+}
 
-    fn is_candidate(&self, pair: Pair) -> bool {
-        let filling = self.design.fillings[pair.filling];
-        (filling.low..=filling.high).contains(&pair.value)
-    }
+fn is_candidate(design: &Design, pair: Pair) -> bool {
+    let filling = design.fillings[pair.filling];
+    (filling.low..=filling.high).contains(&pair.value.number)
 }
 
 #[cfg(test)]
@@ -145,8 +121,19 @@ mod tests {
 
     /// The outcomes of operations on a design.
     fn outcomes_of(operations: &str) -> Vec<&'static str> {
-        let script = assemble(&format!("{DESIGN}{operations}"));
-        outcomes(&script.expect("a right text"))
+        outcomes_in(&format!("{DESIGN}{operations}"))
+    }
+
+    /// The outcomes of a script, without those that are told elsewhere.
+    fn outcomes_in(text: &str) -> Vec<&'static str> {
+        let script = assemble(text).expect("a right text");
+        let mut replay = Replay::new(&script).expect("an accepted design");
+        let mut watch = Watch::default();
+        let mut outcomes = Vec::new();
+        while let Some(command) = replay.command() {
+            outcomes.extend(watch.perform(&mut replay, &command));
+        }
+        outcomes
     }
 
     #[test]
@@ -193,7 +180,7 @@ mod tests {
             "total refused 13, its reference undone",
             "load behind an undone reference",
         ];
-        assert_eq!(outcomes(&assemble(&text).expect("a right text")), expected);
+        assert_eq!(outcomes_in(&text), expected);
     }
 
     #[test]
@@ -226,6 +213,6 @@ mod tests {
             "query refused 11, its reference undone",
             "load behind an undone reference",
         ];
-        assert_eq!(outcomes(&assemble(&text).expect("a right text")), expected);
+        assert_eq!(outcomes_in(&text), expected);
     }
 }

@@ -4,11 +4,13 @@
 //! - `names` has what is counted.
 //! - `answer` takes a report apart.
 //! - `links` tells how a design's tables are linked.
+//! - `issues` tells where the issue of a value shows.
 //! - `fetching` tells what came of queries and totals that refer.
 //! - `totals` tells what a total shows beside other questions.
 
 mod answer;
 mod fetching;
+mod issues;
 mod links;
 mod names;
 mod totals;
@@ -20,6 +22,7 @@ use notation::{split, Command, Piece};
 use reference::ANSWER_WORDS;
 
 use crate::level::Level;
+use crate::replay::Replay;
 use answer::{answers, number, Answer};
 use links::{has_cycle, links, way, Link};
 use names::{kind, COMMANDS};
@@ -69,6 +72,9 @@ impl Tally {
         );
         self.count(design, 1);
         if !accepted {
+            if let Some(outcome) = refused_issues(&pieces, head) {
+                self.count(outcome.into(), 1);
+            }
             return;
         }
         for answer in &answers {
@@ -79,20 +85,17 @@ impl Tally {
             self.count("over 10,000 commands".into(), 1);
         }
         if let Some(end) = end {
+            for outcome in issues::accepted(&pieces[..end]) {
+                self.count(outcome.into(), 1);
+            }
             self.count_top_values(&pieces[..end], &pieces[end + 1..], &answers);
             self.count_evenness(head, &links(&pieces[..end]), &answers);
         }
         if answers.iter().any(Answer::is_too_long) {
             self.count_few_words_too_many(script, &answers);
         }
-        if pieces
-            .iter()
-            .map(kind)
-            .any(|kind| kind == "query" || kind == "total")
-        {
-            for outcome in fetching::outcomes(script) {
-                self.count(outcome.into(), 1);
-            }
+        for outcome in replayed(script) {
+            self.count(outcome.into(), 1);
         }
     }
 
@@ -245,6 +248,22 @@ impl fmt::Display for Tally {
     }
 }
 
+/// What comes of a script's commands behind END, as far as their answers alone
+/// don't tell.
+fn replayed(script: &[u8]) -> Vec<&'static str> {
+    let mut outcomes = Vec::new();
+    let Some(mut replay) = Replay::new(script) else {
+        return outcomes;
+    };
+    let mut fetching = fetching::Watch::default();
+    while let Some(command) = replay.command() {
+        outcomes.extend(totals::outcomes(&replay, &command));
+        outcomes.extend(issues::outcomes(&replay, &command));
+        outcomes.extend(fetching.perform(&mut replay, &command));
+    }
+    outcomes
+}
+
 /// Whether the command at a place of the script is a report.
 fn is_report(script: &[u8], place: &str) -> bool {
     let rest = number(place).and_then(|place| script.get(place..));
@@ -267,6 +286,21 @@ fn head_outcome(script: &[u8], line: &str) -> String {
     }
 }
 
+/// What a refused design shows about issues.
+fn refused_issues(pieces: &[Piece], line: &str) -> Option<&'static str> {
+    let ["refused", cause, place] = line.split(' ').collect::<Vec<_>>()[..] else {
+        return None;
+    };
+    let place = number(place)?;
+    let mut start = 0;
+    let at = pieces.iter().position(|piece| {
+        let is_here = start == place;
+        start += piece.bytes().len();
+        is_here
+    });
+    issues::refused(pieces, at?, cause)
+}
+
 /// The outcome of an operation on the largest value that did something.
 fn top_value_outcome(piece: &Piece, answer: &Answer) -> Option<&'static str> {
     let Piece::Command(command) = piece else {
@@ -285,7 +319,7 @@ fn top_value_outcome(piece: &Piece, answer: &Answer) -> Option<&'static str> {
         }
         _ => return None,
     };
-    (outcome.0 == u32::MAX).then_some(outcome.1)
+    (outcome.0.number == u32::MAX).then_some(outcome.1)
 }
 
 #[cfg(test)]

@@ -1,6 +1,6 @@
 //! The names that outcomes and commands are counted under.
 
-use notation::{Command, Piece};
+use notation::{Command, Piece, Value};
 
 /// Every answer and cause that a script can reach through the desk program, by
 /// the names that [`super::Tally`] counts under, and extremes where something might
@@ -11,7 +11,7 @@ use notation::{Command, Piece};
 /// 3. Causes 7 and 12 are about lent memory, which no script can spoil. No
 /// answer needs 4,097 words: that has no divisor from 2 to 5, and 512 rows make
 /// no more than 512 lists of one.
-pub const OUTCOMES: [(u32, &str); 77] = [
+pub const OUTCOMES: [(u32, &str); 96] = [
     (0, "design accepted"),
     (0, "design refused 1"),
     (0, "design refused 2"),
@@ -84,6 +84,25 @@ pub const OUTCOMES: [(u32, &str); 77] = [
     (3, "total of 2^64 - 1"),
     (5, "total over 2^45 lists"),
     (5, "total beside a group above 2^64 - 1"),
+    (6, "design accepted with issues"),
+    (6, "unique column with two issues of a number"),
+    (6, "design refused 5 for no issue"),
+    (6, "design refused 5 for the issue of a blank"),
+    (6, "design refused 5 for an issue past the columns"),
+    (6, "design refused 6 for an issue"),
+    (6, "issue loaded with rows"),
+    (6, "issue 255 loaded with rows"),
+    (6, "issue dropped with rows"),
+    (6, "issue of no candidate"),
+    (6, "issue probed by ground 1"),
+    (6, "issue probed by ground 2"),
+    (6, "issue probed by ground 3"),
+    (6, "issue queried with lists"),
+    (6, "issue with a total above 0"),
+    (6, "loaded beside another issue"),
+    (6, "sent beside another issue with a ground"),
+    (6, "refused 10 beside another issue"),
+    (6, "refused 9 with an issue"),
     (0, "2^32 - 1 in a row"),
     (0, "2^32 - 1 loaded with rows"),
     (0, "2^32 - 1 dropped with rows"),
@@ -92,11 +111,12 @@ pub const OUTCOMES: [(u32, &str); 77] = [
 ];
 
 /// The kinds of commands, and last what can't be read as one.
-pub const COMMANDS: [&str; 12] = [
+pub const COMMANDS: [&str; 18] = [
     "table",
     "constraint",
     "filling",
     "row",
+    "row with issues",
     "end",
     "refer",
     "drop",
@@ -104,6 +124,11 @@ pub const COMMANDS: [&str; 12] = [
     "query",
     "even",
     "total",
+    "refer with an issue",
+    "drop with an issue",
+    "probe with an issue",
+    "query with an issue",
+    "total with an issue",
     "no command",
 ];
 
@@ -112,17 +137,24 @@ pub fn kind(piece: &Piece) -> &'static str {
     let Piece::Command(command) = piece else {
         return "no command";
     };
+    let has_issue = |value: Value| value.issue.is_some();
     match command {
         Command::Table(_) => "table",
         Command::Constraint(_) => "constraint",
         Command::Filling(_) => "filling",
+        Command::Row(row) if row.issues.is_some() => "row with issues",
         Command::Row(_) => "row",
         Command::End => "end",
+        Command::Refer(pair) if has_issue(pair.value) => "refer with an issue",
         Command::Refer(_) => "refer",
+        Command::Drop(pair) if has_issue(pair.value) => "drop with an issue",
         Command::Drop(_) => "drop",
+        Command::Probe(probe) if has_issue(probe.value) => "probe with an issue",
         Command::Probe(_) => "probe",
+        Command::Query(query) if has_issue(query.value) => "query with an issue",
         Command::Query(_) => "query",
         Command::Even => "even",
+        Command::Total(total) if has_issue(total.query.value) => "total with an issue",
         Command::Total(_) => "total",
     }
 }

@@ -3,15 +3,18 @@
 use reference::design::Design;
 use reference::desk::Answer;
 use reference::refusal::Cause;
-use reference::script::{Command, Join, Query, Total, PAIRS, UNUSED};
+use reference::script::{Command, Join, Query, Total, Value, PAIRS, UNUSED};
 
 use crate::replay::Replay;
 
 /// A group of fewer rows can't come to more than 2^64 - 1 over four positions.
 const FEWEST_ROWS: usize = 256;
 
-/// The outcomes of a total, which is the next command.
-pub fn outcomes(design: &Design, replay: &Replay, total: &Total) -> Vec<&'static str> {
+/// The outcomes of the next command, if it is a total.
+pub fn outcomes(replay: &Replay, command: &Command) -> Vec<&'static str> {
+    let Command::Total(total) = command else {
+        return Vec::new();
+    };
     let listed = replay.try_out(&Command::Query(total.query));
     let answer = replay.try_out(&Command::Total(*total));
     let mut outcomes = Vec::new();
@@ -20,7 +23,7 @@ pub fn outcomes(design: &Design, replay: &Replay, total: &Total) -> Vec<&'static
             if listed == Err(Cause::AnswerTooLong) {
                 outcomes.push("total of lists that are too long for a query");
             }
-            let inner = inner_totals(design, total).into_iter();
+            let inner = inner_totals(replay.design(), total).into_iter();
             let mut inner = inner.map(|inner| replay.try_out(&Command::Total(inner)));
             if inner.any(|inner| inner == Err(Cause::TotalTooLarge)) {
                 outcomes.push("total beside a group above 2^64 - 1");
@@ -56,7 +59,7 @@ fn inner_totals(design: &Design, total: &Total) -> Vec<Total> {
     }
     let column = design.constraints[first.constraint].target;
     let cell = |row: usize| design.rows[row].cells[column.column];
-    let mut values: Vec<u32> = (0..design.rows.len()).map(cell).collect();
+    let mut values: Vec<Value> = (0..design.rows.len()).map(cell).collect();
     values.sort_unstable();
     values.dedup();
     let rows_with = |value| {
@@ -87,12 +90,8 @@ mod tests {
     fn outcomes_of(design: &str, operation: &str) -> Vec<&'static str> {
         let text = format!("{design}end\n{operation}\n");
         let script = assemble(&text).expect("a right text");
-        let (design, _) = Design::read(&script).expect("an accepted design");
         let replay = Replay::new(&script).expect("an accepted design");
-        match replay.command() {
-            Some(Command::Total(total)) => outcomes(&design, &replay, &total),
-            _ => panic!("{operation} is no total"),
-        }
+        outcomes(&replay, &replay.command().expect("a command"))
     }
 
     #[test]

@@ -3,17 +3,17 @@
 use compare::level::Level;
 use reference::design::Design;
 use reference::desk::Answer;
-use reference::script::{Column, Command};
+use reference::script::{Column, Command, Probe, Value};
 
 use crate::performing::is_found;
 
 /// Whether a desk is found that gives other rows behind the grounds of probes.
-fn is_found_with(rows: impl Fn(&Design, Column, u32, u8, usize) -> (u8, usize) + Sync) -> bool {
+fn is_found_with(rows: impl Fn(&Design, Column, Value, u8, usize) -> (u8, usize) + Sync) -> bool {
     is_found(Level::NOW, |design, desk, command| {
         let answer = desk.perform(command);
         match (command, &answer) {
             (
-                Command::Probe { column, value },
+                Command::Probe(Probe { column, value }),
                 Ok(Answer::Ground {
                     ground,
                     rows: right,
@@ -28,7 +28,7 @@ fn is_found_with(rows: impl Fn(&Design, Column, u32, u8, usize) -> (u8, usize) +
 }
 
 /// How many rows have a value in a column.
-fn rows_with(design: &Design, column: Column, value: u32) -> usize {
+fn rows_with(design: &Design, column: Column, value: Value) -> usize {
     let rows = 0..design.rows.len();
     rows.filter(|&row| design.equals(row, column, value))
         .count()

@@ -2,6 +2,7 @@
 
 mod fetching;
 mod grounds;
+mod issues;
 mod performing;
 mod totals;
 

@@ -8,7 +8,7 @@ use compare::run::{compare, Scripts, Side, SECOND_IMPLEMENTATION};
 use reference::design::Design;
 use reference::desk::{Answer, Desk};
 use reference::refusal::{Cause, Refusal};
-use reference::script::{read_command, Command, Pair, Query};
+use reference::script::{read_command, Command, Pair, Probe, Query};
 use reference::ANSWER_WORDS;
 
 /// A desk that performs commands in a way of its own, within a report that is
@@ -66,6 +66,6 @@ pub fn refer(design: &Design, desk: &mut Desk, query: &Query) {
 /// Whether a query's value has a ground, or an operand is wrong.
 pub fn has_ground(desk: &mut Desk, query: &Query) -> bool {
     let (column, value) = (query.column, query.value);
-    let probed = desk.perform(&Command::Probe { column, value });
+    let probed = desk.perform(&Command::Probe(Probe { column, value }));
     !matches!(probed, Ok(Answer::Sent))
 }

@@ -74,22 +74,58 @@ pub fn total_of(query: &[u8], cell: (u8, u8)) -> Vec<u8> {
     [&[0x15], &query[1..], &[cell.0, cell.1]].concat()
 }
 
-/// One of each command, with its name, in the order of document 01's table, and
-/// then what document 02 adds.
-pub fn one_of_each() -> [(&'static str, Vec<u8>); 11] {
-    [
+/// A cell with its issue.
+pub type Cell = (u32, u8);
+
+/// A row with issue bytes.
+pub fn row_with_issues(table: u8, cells: &[Cell]) -> Vec<u8> {
+    let numbers: Vec<u32> = cells.iter().map(|cell| cell.0).collect();
+    let mut issues = [0; 8];
+    for (issue, cell) in issues.iter_mut().zip(cells) {
+        *issue = cell.1;
+    }
+    [&[0x07], &row(table, &numbers)[1..], &issues].concat()
+}
+
+/// An operation on a value, with an issue byte at the end.
+pub fn with_issue(issue: u8, operation: &[u8]) -> Vec<u8> {
+    [&[operation[0] + 0x10], &operation[1..], &[issue]].concat()
+}
+
+/// One of each design command, with its name, in their order.
+pub fn design_commands() -> Vec<(&'static str, Vec<u8>)> {
+    vec![
         ("table", table(1, 0)),
         ("constraint", constraint((0, 0), (0, 0))),
         ("filling", filling((0, 0), 1, 2)),
         ("row", row(0, &[1])),
+        ("row with issues", row_with_issues(0, &[(1, 1)])),
         ("end", end()),
+    ]
+}
+
+/// One of each operation, with its name.
+pub fn operations() -> Vec<(&'static str, Vec<u8>)> {
+    let query = query((0, 0), 1, &[]);
+    let total = total_of(&query, (0, 0));
+    vec![
         ("refer", refer(0, 1)),
         ("drop", drop(0, 1)),
         ("probe", probe((0, 0), 1)),
-        ("query", query((0, 0), 1, &[])),
+        ("query", query.clone()),
         ("even", even()),
-        ("total", total((0, 0), 1, &[], (0, 0))),
+        ("total", total.clone()),
+        ("refer with an issue", with_issue(1, &refer(0, 1))),
+        ("drop with an issue", with_issue(1, &drop(0, 1))),
+        ("probe with an issue", with_issue(1, &probe((0, 0), 1))),
+        ("query with an issue", with_issue(1, &query)),
+        ("total with an issue", with_issue(1, &total)),
     ]
+}
+
+/// One of each command, with its name.
+pub fn one_of_each() -> Vec<(&'static str, Vec<u8>)> {
+    [design_commands(), operations()].concat()
 }
 
 /// Document 01's case A without its operations.

@@ -9,6 +9,7 @@ mod fetching;
 mod generated;
 mod grounds;
 mod inward;
+mod issues;
 mod limits;
 mod lines;
 mod operation_refusals;

@@ -46,8 +46,8 @@ fn an_unknown_byte_is_the_last() {
 
 #[test]
 fn design_commands_after_end_are_refused_and_passed_over() {
-    for (name, command) in &one_of_each()[..5] {
-        assert_refused(command.clone(), 3, name);
+    for (name, command) in design_commands() {
+        assert_refused(command, 3, name);
     }
     assert_refused(table(0, 0), 3, "a wrong table");
 }

@@ -14,39 +14,39 @@ cast-f c = search needs
 
 returns : tie.Need-returns
 returns c =
-    let s = c .before .before .before .before .before .before in
-    drop-5 _ (s .pre .0) (held-sized (s .args .held) _ (s .good .1 .1 .1 .1 .1 .1 .1 .1 .1 .0)) _ (c .if1 .taken)
+    let s = c .before .before .before .before .before .before .before in
+    drop-5 _ (s .pre .0) (held-sized (s .args .held) _ (s .good .1 .1 .1 .1 .1 .1 .1 .1 .1 .1 .0)) _ (c .if1 .taken)
 
-is-blank-requires : tie.Need-is-blank-requires
-is-blank-requires c κs = search needs
+is-numberless-requires : tie.Need-is-numberless-requires
+is-numberless-requires c κs = search needs
 
 returns-2 : tie.Need-returns-2
 returns-2 c =
-    let s = c .before .before .before .before .before .before .before .before in
-    drop-9 _ (s .pre .0) (held-sized (s .args .held) _ (s .good .1 .1 .1 .1 .1 .1 .1 .1 .1 .0)) _ (c .before .before .if1 .left) (sym (c .before .is-blank .ensures) ∙ c .if2 .taken)
+    let s = c .before .before .before .before .before .before .before .before .before in
+    drop-9 _ (s .pre .0) (held-sized (s .args .held) _ (s .good .1 .1 .1 .1 .1 .1 .1 .1 .1 .1 .0)) _ (c .before .before .if1 .left) (sym (c .before .is-numberless .ensures) ∙ c .if2 .taken)
 
 place-requires : tie.Need-place-requires
-place-requires c κs = sound-tidy _ (c .before .before .before .before .before .before .before .before .pre .0) .few
+place-requires c κs = sound-tidy _ (c .before .before .before .before .before .before .before .before .before .pre .0) .few
 
 returns-3 : tie.Need-returns-3
 returns-3 c =
     let b = c .before .before .before .before in
-    let s = b .before .before .before .before .before .before .before in
-    drop-10 _ (s .pre .0) (held-sized (s .args .held) _ (s .good .1 .1 .1 .1 .1 .1 .1 .1 .1 .0)) _ (b .before .if1 .left) (sym (b .is-blank .ensures) ∙ c .before .before .before .if2 .left)
+    let s = b .before .before .before .before .before .before .before .before in
+    drop-10 _ (s .pre .0) (held-sized (s .args .held) _ (s .good .1 .1 .1 .1 .1 .1 .1 .1 .1 .1 .0)) _ (b .before .if1 .left) (sym (b .is-numberless .ensures) ∙ c .before .before .before .if2 .left)
     (held-nowhere (s .args .held) _ _ (c .before .before .place .ensures) (c .if3 .taken))
 
 closed-requires : tie.Need-closed-requires
 closed-requires c κs =
-    let t = sound-tidy _ (c .before .before .before .before .before .before .before .before .before .before .before .pre .0) .few in
+    let t = sound-tidy _ (c .before .before .before .before .before .before .before .before .before .before .before .before .pre .0) .few in
     (omega (arith, c .if3 .left), omega (arith, t, c .if3 .left))
 
 mark-held-requires : tie.Need-mark-held-requires
 mark-held-requires c κs =
     let p = c .before .before .before .before in
     let b = p .before .before in
-    let s = b .before .before .before .before .before .before .before in
-    let long = held-sized (s .args .held) _ (s .good .1 .1 .1 .1 .1 .1 .1 .1 .1 .0) in
-    let full = sym (b .is-blank .ensures) ∙ p .before .if2 .left in
+    let s = b .before .before .before .before .before .before .before .before in
+    let long = held-sized (s .args .held) _ (s .good .1 .1 .1 .1 .1 .1 .1 .1 .1 .1 .0) in
+    let full = sym (b .is-numberless .ensures) ∙ p .before .if2 .left in
     let is = held-there (s .args .held) _ _ (p .place .ensures) (c .before .before .if3 .left) in
     let fewer = c .before .closed .ensures ∙ without-is _ (sound-tidy _ (s .pre .0)) long _ _ (p .place .ensures) (c .before .before .if3 .left) in (
       (
@@ -65,9 +65,9 @@ returns-4 : tie.Need-returns-4
 returns-4 c =
     let p = c .before .before .before .before .before .before .before in
     let b = p .before .before in
-    let s = b .before .before .before .before .before .before .before in
-    let long = held-sized (s .args .held) _ (s .good .1 .1 .1 .1 .1 .1 .1 .1 .1 .0) in
-    drop-load _ (s .pre .0) long _ (b .before .if1 .left) (sym (b .is-blank .ensures) ∙ p .before .if2 .left)
+    let s = b .before .before .before .before .before .before .before .before in
+    let long = held-sized (s .args .held) _ (s .good .1 .1 .1 .1 .1 .1 .1 .1 .1 .1 .0) in
+    drop-load _ (s .pre .0) long _ (b .before .if1 .left) (sym (b .is-numberless .ensures) ∙ p .before .if2 .left)
     (held-there (s .args .held) _ _ (p .place .ensures) (c .before .before .before .before .before .if3 .left)) _
     (c .before .before .before .before .closed .ensures ∙ without-is _ (sound-tidy _ (s .pre .0)) long _ _ (p .place .ensures) (c .before .before .before .before .before .if3 .left)) _ _ (c .before .before .mark-held .ensures)
 
@@ -77,7 +77,7 @@ drop-lawful-spec =
     (tie.spec
     cast-f
     returns
-    is-blank-requires
+    is-numberless-requires
     returns-2
     place-requires
     returns-3

@@ -11,18 +11,18 @@ use Rattle.cache.proofs.loads.mark_value.Tie as tie
 
 load-value-requires : tie.Need-load-value-requires
 load-value-requires c κs =
-    let p = c .before .before .before .before .before .pre in
+    let p = c .before .before .before .before .before .before .pre in
     ((p .0 .0, p .0 .2, p .0 .3, p .0 .1, length-replicate {A = ℕ} 512 0), p .1)
 
 settle-requires : tie.Need-settle-requires
-settle-requires c κs = let s = c .before .before .before .before .before .before .before .before in (s .pre .0 .1, value-long (s .args .design) _ _ _ _ _ _ (c .before .before .load-value .ensures .0))
+settle-requires c κs = let s = c .before .before .before .before .before .before .before .before .before in (s .pre .0 .1, value-long (s .args .design) _ _ _ _ _ _ (c .before .before .load-value .ensures .0))
 
 same-length : tie.Need-same-length
 same-length c = search needs
 
 returns : tie.Need-returns
 returns c =
-    let s = c .before .before .before .before .before .before .before .before .before .before .before in
+    let s = c .before .before .before .before .before .before .before .before .before .before .before .before in
     let u = c .before .before .before .before .before .load-value .ensures in
     let L = value-is (s .args .design) _ _ _ _ _ _ (u .0) in (
       loaded-is (s .args .design) _ _ _ _ _ _ L (u .1) (u .2),

@@ -12,18 +12,18 @@ is-column-requires : tie.Need-is-column-requires
 is-column-requires c κs = search needs
 
 returns : tie.Need-returns
-returns c = probe-5 _ (c .before .before .before .before .before .pre .0) _ _ (sym (c .before .is-column .ensures) ∙ not-true _ (c .if1 .taken))
+returns c = probe-5 _ (c .before .before .before .before .before .before .pre .0) _ _ (sym (c .before .is-column .ensures) ∙ not-true _ (c .if1 .taken))
 
-is-blank-requires : tie.Need-is-blank-requires
-is-blank-requires c κs = search needs
+is-numberless-requires : tie.Need-is-numberless-requires
+is-numberless-requires c κs = search needs
 
 returns-2 : tie.Need-returns-2
 returns-2 c =
-    probe-9 _ (c .before .before .before .before .before .before .before .pre .0) _ _ (sym (c .before .before .before .is-column .ensures) ∙ not-false _ (c .before .before .if1 .left)) (sym (c .before .is-blank .ensures) ∙ c .if2 .taken)
+    probe-9 _ (c .before .before .before .before .before .before .before .before .pre .0) _ _ (sym (c .before .before .before .is-column .ensures) ∙ not-false _ (c .before .before .if1 .left)) (sym (c .before .is-numberless .ensures) ∙ c .if2 .taken)
 
 search-requires : tie.Need-search-requires
 search-requires c κs =
-    let s = c .before .before .before .before .before .before .before in
+    let s = c .before .before .before .before .before .before .before .before in
     let k = sym (c .before .before .before .is-column .ensures) ∙ not-false _ (c .before .before .if1 .left) in (
       (
         sound-range _ (s .pre .0) (sized (s .args .design) _ (s .good .0)),
@@ -31,7 +31,7 @@ search-requires c κs =
         sound-tidy _ (s .pre .0) .few,
         sound-table _ (s .pre .0) _ k,
         sound-column _ (s .pre .0) _ k,
-        sound-filling _ (s .pre .0) (held-sized (s .args .held) _ (s .good .1 .1 .1 .1 .1 .1 .1 .1 .0)),
+        sound-filling _ (s .pre .0) (held-sized (s .args .held) _ (s .good .1 .1 .1 .1 .1 .1 .1 .1 .1 .0)),
       ),
       s .pre .1,
     )
@@ -40,16 +40,16 @@ returns-3 : tie.Need-returns-3
 returns-3 c =
     let a = c .before .before in
     let p = a .before .before .before .before in
-    probe-sent _ (p .before .before .before .before .pre .0) _ _ (sym (p .is-column .ensures) ∙ not-false _ (a .before .before .before .if1 .left)) (sym (a .before .before .is-blank .ensures) ∙ a .before .if2 .left) _ _
+    probe-sent _ (p .before .before .before .before .before .pre .0) _ _ (sym (p .is-column .ensures) ∙ not-false _ (a .before .before .before .if1 .left)) (sym (a .before .before .is-numberless .ensures) ∙ a .before .if2 .left) _ _
     (a .search .ensures .0) (a .search .ensures .1) (c .if3 .taken)
 
 returns-4 : tie.Need-returns-4
 returns-4 c =
     let a = c .before .before in
     let p = a .before .before .before .before in
-    probe-ground _ (p .before .before .before .before .pre .0) _ _ (sym (p .is-column .ensures) ∙ not-false _ (a .before .before .before .if1 .left)) (sym (a .before .before .is-blank .ensures) ∙ a .before .if2 .left) _ _
+    probe-ground _ (p .before .before .before .before .before .pre .0) _ _ (sym (p .is-column .ensures) ∙ not-false _ (a .before .before .before .if1 .left)) (sym (a .before .before .is-numberless .ensures) ∙ a .before .if2 .left) _ _
     (a .search .ensures .0) (a .search .ensures .1) (c .if3 .left)
 
 pub probe-lawful-spec : {M : Type 1} → statement M
 probe-lawful-spec =
-    tie.close (tie.spec is-column-requires returns is-blank-requires returns-2 search-requires returns-3 returns-4)
+    tie.close (tie.spec is-column-requires returns is-numberless-requires returns-2 search-requires returns-3 returns-4)

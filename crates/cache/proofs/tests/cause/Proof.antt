@@ -20,7 +20,7 @@ returns c = (sym (cond-true _ _ _ (ap not (sym (c .before .is-long-enough .ensur
 is-lawful-catalog-requires : tie.Need-is-lawful-catalog-requires
 is-lawful-catalog-requires c κs =
     let l = c .before .before .before .before .before .before in
-    let s = l .before .before .before .before in
+    let s = l .before .before .before .before .before in
     long-asked _ (sym (l .is-long-enough .ensures (s .args .design) (s .args .held)) ∙ not-false _ (c .before .before .before .before .before .if1 .left))
 
 returns-2 : tie.Need-returns-2

@@ -28,7 +28,7 @@ rows-stand-requires c κs = search needs
 returns-2 : tie.Need-returns-2
 unfolding lawful
 returns-2 c =
-    let s = c .before .before .before .before .before .before .before .args in (
+    let s = c .before .before .before .before .before .before .before .before .args in (
       and-go _ _ (sym (c .before .before .before .lawful-design .ensures) ∙ not-false _ (c .before .before .if1 .left))
           (and-stop _ _ (refute _ (λ t. clash (lawful-stand (s .design) _ _ t) (sym (c .before .rows-stand .ensures) ∙ not-true _ (c .if2 .taken))))),
       λ e. clash e refl,
@@ -43,14 +43,14 @@ returns-3 c = (held-unlawful _ (sym (c .before .lawful-held .ensures) ∙ not-tr
 build-requires : tie.Need-build-requires
 build-requires c κs =
     let p = c .before .before .before .before .before .before .before .before .before in
-    let s = p .before .before .before .before .before in
+    let s = p .before .before .before .before .before .before in
     (in-range (s .args .design) (sized (s .args .design) _ (s .good .0)) (sym (p .before .lawful-design .ensures) ∙ not-false _ (p .if1 .left)), s .pre .0)
 
 is-distinct-requires : tie.Need-is-distinct-requires
 is-distinct-requires c κs =
     let r = c .before .before .before .before .before .before .before .before .before in
     let p = r .before .before in
-    let s = p .before .before .before .before .before in
+    let s = p .before .before .before .before .before .before in
     let d = sym (p .before .lawful-design .ensures) ∙ not-false _ (p .if1 .left) in (
       s .pre .0 .members,
       stand-table (s .args .design) _ _ (sym (r .before .rows-stand .ensures) ∙ not-false _ (r .if2 .left))
@@ -63,7 +63,7 @@ returns-4 c =
     let g = c .before .before .before in
     let r = g .before .before .before .before .before .before .before .before in
     let p = r .before .before in
-    let s = p .before .before .before .before .before in (
+    let s = p .before .before .before .before .before .before in (
       and-go _ _ (sym (p .before .lawful-design .ensures) ∙ not-false _ (p .if1 .left))
           (and-stop _ _ (sym (distinct-is (s .args .design) _ _ _ (g .build .ensures .next-is) (sym (r .before .rows-stand .ensures) ∙ not-false _ (r .if2 .left))) ∙
           sym (c .before .is-distinct .ensures) ∙ not-true _ (c .if4 .taken))),
@@ -75,10 +75,10 @@ load-held-requires c κs =
     let g = c .before .before .before .before .before .before .before .before .before in
     let t = g .before .before .before .before .before .before in
     let p = t .before .before .before .before in
-    let s = p .before .before .before .before .before in
+    let s = p .before .before .before .before .before .before in
     let d = sym (p .before .lawful-design .ensures) ∙ not-false _ (p .if1 .left) in
     let h = sym (t .before .lawful-held .ensures) ∙ not-false _ (t .if3 .left) in
-    let l = held-sized (s .args .held) _ (s .good .1 .1 .1 .1 .1 .1 .1 .1 .1 .0) in (
+    let l = held-sized (s .args .held) _ (s .good .1 .1 .1 .1 .1 .1 .1 .1 .1 .1 .0) in (
       (
         in-range (s .args .design) (sized (s .args .design) _ (s .good .0)) d,
         held-count (s .args .design) (s .args .held) h,
@@ -88,7 +88,7 @@ load-held-requires c κs =
     )
 
 marks-agree-requires : tie.Need-marks-agree-requires
-marks-agree-requires c κs = (c .before .before .before .before .before .before .before .before .before .before .before .before .before .before .before .before .before .before .before .before .before .before .before .before .before .before .pre .1, c .before .load-held .ensures .long)
+marks-agree-requires c κs = (c .before .before .before .before .before .before .before .before .before .before .before .before .before .before .before .before .before .before .before .before .before .before .before .before .before .before .before .pre .1, c .before .load-held .ensures .long)
 
 returns-5 : tie.Need-returns-5
 unfolding lawful
@@ -98,7 +98,7 @@ returns-5 c =
     let t = g .before .before .before .before .before .before in
     let r = t .before .before in
     let p = r .before .before in
-    let s = p .before .before .before .before .before in (
+    let s = p .before .before .before .before .before .before in (
       and-go _ _ (sym (p .before .lawful-design .ensures) ∙ not-false _ (p .if1 .left))
           (and-go _ _ (sym (distinct-is (s .args .design) _ _ _ (g .build .ensures .next-is) (sym (r .before .rows-stand .ensures) ∙ not-false _ (r .if2 .left))) ∙
           sym (q .before .is-distinct .ensures) ∙ not-false _ (q .if4 .left))

@@ -2,6 +2,7 @@
 use Prim.Native.Nat.{_≤_, _-_}
 use native.Mathlib.Omega.{arith}
 use borrow.Author.Needs.{needs}
+use Rattle.state.specs.Cells.{cellsIn}
 use Rattle.state.specs.Meaning.{databaseOf}
 use Rattle.catalog.specs.Columns.{Columns}
 use Rattle.catalog.proofs.ColumnLaws.{columns-start, columns-room, columns-turn, columns-end}
@@ -9,26 +10,26 @@ use Rattle.catalog.proofs.columns.add_columns.Statement.{statement}
 use Rattle.catalog.proofs.columns.add_columns.Tie as tie
 
 abbrev Inv-loop : tie.InvT-loop
-Inv-loop rows cells tables keys₀ heads₀ starts₀ next₀ m₀ n₀ keys heads starts next m n = (n ≤ 64) × Columns (databaseOf rows cells tables) n m keys heads starts next
+Inv-loop rows cells issues tables keys₀ heads₀ starts₀ next₀ m₀ n₀ keys heads starts next m n = (n ≤ 64) × Columns (databaseOf rows (cellsIn cells issues) tables) n m keys heads starts next
 
 abbrev μ-loop : tie.MeasureT-loop
-μ-loop rows cells tables keys₀ heads₀ starts₀ next₀ m₀ n₀ keys heads starts next m n = 64 - n
+μ-loop rows cells issues tables keys₀ heads₀ starts₀ next₀ m₀ n₀ keys heads starts next m n = 64 - n
 
 element-write-starts : tie.Need-element-write-starts Inv-loop μ-loop
 element-write-starts c = omega arith
 
 loop-holds : tie.Need-loop-holds Inv-loop μ-loop
-loop-holds c = let b = c .before .before .pre .1 in (omega arith, columns-start _ _ _ (c .before .before .args .starts .now) _ (b .1) (b .2) (b .3) (b .4))
+loop-holds c = let b = c .before .before .before .pre .1 in (omega arith, columns-start _ _ _ (c .before .before .before .args .starts .now) _ (b .1) (b .2) (b .3) (b .4))
 
-cast-t15 : tie.Need-cast-t15 Inv-loop μ-loop
-cast-t15 c = omega arith
+cast-t16 : tie.Need-cast-t16 Inv-loop μ-loop
+cast-t16 c = omega arith
 
-cast-t17 : tie.Need-cast-t17 Inv-loop μ-loop
-cast-t17 c = omega arith
+cast-t18 : tie.Need-cast-t18 Inv-loop μ-loop
+cast-t18 c = omega arith
 
 add-column-requires : tie.Need-add-column-requires Inv-loop μ-loop
 add-column-requires c κs =
-    let s = c .before .before .before .before .before .before .before in
+    let s = c .before .before .before .before .before .before .before .before in
     let x = c .before .before .before .before .loop .inv .1 in
     (s .pre .0, ((s .pre .1 .0, omega arith, x .keys-long, x .heads-long, x .next-long), columns-room _ _ _ _ _ _ _ x (c .before .before .before .loop-test .taken)))
 
@@ -64,8 +65,8 @@ add-columns-spec =
     μ-loop
     element-write-starts
     loop-holds
-    cast-t15
-    cast-t17
+    cast-t16
+    cast-t18
     add-column-requires
     cast-starts
     add-starts

@@ -4,22 +4,23 @@ use native.Mathlib.Omega.{arith}
 use borrow.Author.Needs.{needs}
 use Rattle.finite.proofs.Stores.{Tabled, tabled-start, tabled-more, tabled-end}
 use Rattle.model.specs.Rounds.{leads}
+use Rattle.state.specs.Cells.{cellsIn}
 use Rattle.state.specs.Meaning.{constraintOf, databaseOf}
 use Rattle.finite.specs.Finite.{firstFrom}
 use Rattle.catalog.proofs.firsts.add_firsts.Statement.{statement}
 use Rattle.catalog.proofs.firsts.add_firsts.Tie as tie
 
 abbrev Inv-loop : tie.InvT-loop
-Inv-loop rows cells tables keys heads starts j i first₀ s₀ first s = (s ≤ 512) × Tabled (λ r. firstFrom 512 (leads (databaseOf rows cells tables) (constraintOf j) r) 0) first₀ (512 * i) s first
+Inv-loop rows cells issues tables keys heads starts j i first₀ s₀ first s = (s ≤ 512) × Tabled (λ r. firstFrom 512 (leads (databaseOf rows (cellsIn cells issues) tables) (constraintOf j) r) 0) first₀ (512 * i) s first
 
 abbrev μ-loop : tie.MeasureT-loop
-μ-loop rows cells tables keys heads starts j i first₀ s₀ first s = 512 - s
+μ-loop rows cells issues tables keys heads starts j i first₀ s₀ first s = 512 - s
 
 loop-holds : tie.Need-loop-holds Inv-loop μ-loop
 loop-holds c = (omega arith, tabled-start _ _ _)
 
 demanded-requires : tie.Need-demanded-requires Inv-loop μ-loop
-demanded-requires c κs = let p = c .before .before .before .before .pre in (p .0, ((c .loop-test .taken, p .1 .0 .1, p .1 .0 .2, p .1 .0 .3), p .1 .1))
+demanded-requires c κs = let p = c .before .before .before .before .before .pre in (p .0, ((c .loop-test .taken, p .1 .0 .1, p .1 .0 .2, p .1 .0 .3), p .1 .1))
 
 mul-first : tie.Need-mul-first Inv-loop μ-loop
 mul-first c = search needs

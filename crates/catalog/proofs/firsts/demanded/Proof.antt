@@ -30,11 +30,11 @@ find-requires : tie.Need-find-requires
 find-requires c κs = search needs
 
 cast-result : tie.Need-cast-result
-cast-result c = omega (arith, first-hit _ 0 (c .find .result) (c .find .ensures _ (c .before .before .before .before .before .before .before .before .before .before .before .before .pre .1 .1)) .bound)
+cast-result c = omega (arith, first-hit _ 0 (c .find .result) (c .find .ensures _ (c .before .before .before .before .before .before .before .before .before .before .before .before .before .pre .1 .1)) .bound)
 
 returns-3 : tie.Need-returns-3
 returns-3 c =
-    let p = c .before .before .before .before .before .before .before .before .before .before .before .before .pre .1 in
+    let p = c .before .before .before .before .before .before .before .before .before .before .before .before .before .pre .1 in
     demanded-value _ _ _ _ _ (sym (c .before .before .before .before .before .before .before .before .before .is-live .ensures _ _) ∙ not-false _ (c .before .before .before .before .before .before .before .before .if1 .left)) (p .0 .1) (c .before .before .before .before .if2 .left) _ (c .before .before .cell-at .ensures) _
     (c .find .ensures _ (p .1))
 

@@ -2,6 +2,7 @@
 use Prim.Native.Nat.{_≤_}
 use native.Mathlib.Omega.{arith}
 use mathlib.Core.Path.{_∙_}
+use Rattle.state.specs.Cells.{cellsIn}
 use Rattle.state.specs.Meaning.{columnOf, databaseOf}
 use Rattle.catalog.specs.Listing.{Added}
 use Rattle.catalog.proofs.PutLaws.{added-none, added-listed, added-room, added-turn, added-end}
@@ -10,20 +11,20 @@ use Rattle.catalog.proofs.listing.add_column.Statement.{statement}
 use Rattle.catalog.proofs.listing.add_column.Tie as tie
 
 abbrev Inv-loop : tie.InvT-loop
-Inv-loop rows cells tables k from keys₀ heads₀ next₀ m₀ r₀ keys heads next m r = (r ≤ rows) × Added (databaseOf rows cells tables) (columnOf k) r from keys₀ heads₀ next₀ m keys heads next
+Inv-loop rows cells issues tables k from keys₀ heads₀ next₀ m₀ r₀ keys heads next m r = (r ≤ rows) × Added (databaseOf rows (cellsIn cells issues) tables) (columnOf k) r from keys₀ heads₀ next₀ m keys heads next
 
 abbrev μ-loop : tie.MeasureT-loop
-μ-loop rows cells tables k from keys₀ heads₀ next₀ m₀ r₀ keys heads next m r = r
+μ-loop rows cells issues tables k from keys₀ heads₀ next₀ m₀ r₀ keys heads next m r = r
 
 loop-holds : tie.Need-loop-holds Inv-loop μ-loop
-loop-holds c = (omega arith, added-none _ _ _ _ _ _ _ _ (c .before .before .pre .1 .0 .0) (c .before .before .pre .1 .1) (λ s l. dead-at _ _ _ s l))
+loop-holds c = (omega arith, added-none _ _ _ _ _ _ _ _ (c .before .before .before .pre .1 .0 .0) (c .before .before .before .pre .1 .1) (λ s l. dead-at _ _ _ s l))
 
 sub-r : tie.Need-sub-r Inv-loop μ-loop
 sub-r c = omega arith
 
 put-requires : tie.Need-put-requires Inv-loop μ-loop
 put-requires c κs =
-    let s = c .before .before .before .before .before .before .before in
+    let s = c .before .before .before .before .before .before .before .before in
     let b = s .pre .1 .0 in
     let x = c .before .before .before .before .loop .inv .1 in
     let t = c .before .before .before .loop-test .taken in (
@@ -39,7 +40,7 @@ loop-less c = omega arith
 
 loop-again : tie.Need-loop-again Inv-loop μ-loop
 loop-again c =
-    let s = c .before .before .before .before .before .before .before .before in
+    let s = c .before .before .before .before .before .before .before .before .before in
     let x = c .before .before .before .before .before .loop .inv .1 in
     (omega arith, added-turn _ _ _ _ _ _ _ _ _ _ _ _ _ x (omega (arith, c .before .before .before .before .loop-test .taken)) (s .pre .1 .0 .1) _ _ _ _ (c .put .ensures))
 

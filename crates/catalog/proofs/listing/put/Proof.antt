@@ -1,6 +1,7 @@
 -- `catalog::listing::put` meets its contract, test by test. Assumes nothing.
 use mathlib.Core.Path.{sym, _∙_}
 use borrow.Author.Needs.{needs}
+use Rattle.state.specs.Cells.{cellsIn}
 use Rattle.state.specs.Meaning.{cellOf, databaseOf}
 use Rattle.catalog.proofs.PutLaws.{put-room, put-elsewhere, put-blank, put-entered}
 use Rattle.catalog.proofs.Rows.{table-at, elsewhere-at, blank-at, value-at}
@@ -11,7 +12,7 @@ shared-slice-read-if1 : tie.Need-shared-slice-read-if1
 shared-slice-read-if1 c = search needs
 
 returns : tie.Need-returns
-returns c = put-elsewhere _ _ _ _ _ _ _ _ _ (c .before .before .before .before .before .pre .1 .1 .0) (elsewhere-at _ _ _ _ _ (c .if1 .taken))
+returns c = put-elsewhere _ _ _ _ _ _ _ _ _ (c .before .before .before .before .before .before .pre .1 .1 .0) (elsewhere-at _ _ _ _ _ (c .if1 .taken))
 
 cast-c : tie.Need-cast-c
 cast-c c = search needs
@@ -36,7 +37,7 @@ element-write-next c = search needs
 
 returns-2 : tie.Need-returns-2
 returns-2 c =
-    let s = c .before .before .before .before .before .before .before .before .before in
+    let s = c .before .before .before .before .before .before .before .before .before .before in
     let b = s .pre .1 .0 in
     put-blank _ _ _ _ _ _ _ _ _ (s .pre .1 .1 .0) (b .2) (b .0) (b .5) (table-at _ _ _ _ _ (c .before .before .before .before .if1 .left))
     (blank-at _ _ _ _ _ (b .0) _ (c .before .before .cell-at .ensures) (sym (c .before .is-blank .ensures) ∙ c .if2 .taken))
@@ -46,10 +47,10 @@ key-of-requires c κs = search needs
 
 enter-requires : tie.Need-enter-requires
 enter-requires c κs =
-    let s = c .before .before .before .before .before .before .before .before .before .before .before .before in
+    let s = c .before .before .before .before .before .before .before .before .before .before .before .before .before in
     let b = s .pre .1 .0 in
     let l = s .pre .1 .1 .0 in
-    let D = databaseOf (s .args .rows) (s .args .cells .now) (s .args .tables .now) in
+    let D = databaseOf (s .args .rows) (cellsIn (s .args .cells .now) (s .args .issues .now)) (s .args .tables .now) in
     (l .order, put-room D _ _ _ (table-at _ _ _ _ _ (c .before .before .before .before .before .before .before .if1 .left)) (s .pre .1 .1 .1), b .2, b .3, b .4, l .falls)
 
 mul-next-2 : tie.Need-mul-next-2
@@ -60,7 +61,7 @@ element-write-next-2 c = search needs
 
 returns-3 : tie.Need-returns-3
 returns-3 c =
-    let s = c .before .before .before .before .before .before .before .before .before .before .before .before .before in
+    let s = c .before .before .before .before .before .before .before .before .before .before .before .before .before .before in
     let b = s .pre .1 .0 in
     put-entered _ _ _ _ _ _ _ _ _ (s .pre .1 .1 .0) (b .2) (b .0) (b .5) (table-at _ _ _ _ _ (c .before .before .before .before .before .before .before .before .if1 .left)) (cellOf (c .before .before .before .before .before .before .cell-at .result)) _ _ _ _ _
     (c .before .key-of .ensures)

@@ -11,7 +11,7 @@ settle-requires : tie.Need-settle-requires
 settle-requires c κs = search needs
 
 make-firsts-requires : tie.Need-make-firsts-requires
-make-firsts-requires c κs = (c .before .before .before .before .before .before .before .before .before .before .before .before .before .before .before .before .before .pre, columns-directory _ _ _ _ _ _ (c .before .before .before .before .before .before .add-columns .ensures .1))
+make-firsts-requires c κs = (c .before .before .before .before .before .before .before .before .before .before .before .before .before .before .before .before .before .before .pre, columns-directory _ _ _ _ _ _ (c .before .before .before .before .before .before .add-columns .ensures .1))
 
 returns : tie.Need-returns
 returns c =

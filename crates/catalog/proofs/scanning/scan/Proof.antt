@@ -4,6 +4,7 @@ use native.Mathlib.Omega.{arith}
 use mathlib.Core.Path.{_≡_, refl, sym, _∙_}
 use borrow.Author.Needs.{needs}
 use Rattle.model.specs.Database.{has}
+use Rattle.state.specs.Cells.{cellsIn}
 use Rattle.state.specs.Meaning.{cellOf, columnOf, databaseOf}
 use Rattle.finite.specs.Finite.{firstFrom}
 use Rattle.finite.proofs.First.{first-here, first-skip, first-end}
@@ -11,10 +12,10 @@ use Rattle.catalog.proofs.scanning.scan.Statement.{statement}
 use Rattle.catalog.proofs.scanning.scan.Tie as tie
 
 abbrev Inv-loop : tie.InvT-loop
-Inv-loop rows cells tables k v from r₀ r = (r ≤ 512) × (firstFrom 512 (has (databaseOf rows cells tables) (columnOf k) (cellOf v)) r ≡ firstFrom 512 (has (databaseOf rows cells tables) (columnOf k) (cellOf v)) from)
+Inv-loop rows cells issues tables k v from r₀ r = (r ≤ 512) × (firstFrom 512 (has (databaseOf rows (cellsIn cells issues) tables) (columnOf k) (cellOf v)) r ≡ firstFrom 512 (has (databaseOf rows (cellsIn cells issues) tables) (columnOf k) (cellOf v)) from)
 
 abbrev μ-loop : tie.MeasureT-loop
-μ-loop rows cells tables k v from r₀ r = 512 - r
+μ-loop rows cells issues tables k v from r₀ r = 512 - r
 
 loop-holds : tie.Need-loop-holds Inv-loop μ-loop
 loop-holds c = (omega arith, refl)

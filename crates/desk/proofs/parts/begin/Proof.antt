@@ -23,15 +23,19 @@ same-length-3 c = search needs
 same-length-4 : tie.Need-same-length-4
 same-length-4 c = search needs
 
+same-length-5 : tie.Need-same-length-5
+same-length-5 c = search needs
+
 returns : tie.Need-returns
 returns c =
-    let r = c .before .before .before .before .before .before .before .before .before .before .before in
-    let b = r .before .before .before .before .before .before .before .before .before .before .before .before .before in
     let first = c .before .before .put-first .ensures in (
-      λ w. begins _ _ _ _ w _ _ _ _ (r .read-catalogued .ensures .0) _ _ _ first
-          (record { at = λ j. omega (arith, b .shared-slice-known .given j) })
-          (λ j. omega (arith, c .before .before .before .before .before .before .before .before .before .slice-known5 .given j)) (omega (arith, b .before .pre)),
-      λ m. let a = accepted-more _ _ _ _ _ _ first m in r .read-catalogued .ensures .1 .0 (a .0) (a .1),
+      λ w. begins _ _ _ _ w _ _ _ _ (c .before .before .before .before .before .before .before .before .before .before .before .before .before .read-catalogued .ensures .0) _ _ _ first
+          (record { at = λ j. omega (arith, c .before .before .before .before .before .before .before .before .before .before .before .before .before .before .before .before .before .before .before .before .before .before .before .before .before .before .before .before .shared-slice-known .given j) })
+          (record {
+            number = λ j. omega (arith, c .before .before .before .before .before .before .before .before .before .before .before .slice-known6 .given j);
+            issue = λ j. omega (arith, c .before .before .before .before .before .before .before .before .before .slice-known7 .given j);
+          }) (omega (arith, c .before .before .before .before .before .before .before .before .before .before .before .before .before .before .before .before .before .before .before .before .before .before .before .before .before .before .before .before .before .pre)),
+      λ m. let a = accepted-more _ _ _ _ _ _ first m in c .before .before .before .before .before .before .before .before .before .before .before .before .before .read-catalogued .ensures .1 .0 (a .0) (a .1),
     )
 
 pub begin-spec : {M : Type 1} → statement M
@@ -44,4 +48,5 @@ begin-spec =
     same-length-2
     same-length-3
     same-length-4
+    same-length-5
     returns)

@@ -8,7 +8,7 @@ use Rattle.desk.proofs.parts.next_part.Tie as tie
 
 fill-requires : tie.Need-fill-requires
 fill-requires c κs =
-    let s = c .before .before .before .before .before .before .before .before .before .before .before .before .before in (
+    let s = c .before .before .before .before .before .before .before .before .before .before .before .before .before .before in (
       (s .pre .0 .0 .sound, s .pre .0 .1),
       (λ e. (s .pre .0 .0 .at, s .pre .0 .0 .number), s .pre .1 .0, omega arith, s .pre .1 .1),
     )
@@ -26,7 +26,7 @@ returns : tie.Need-returns
 returns c =
     let b = c .before .before .before .before .before .before in
     let f = b .fill .ensures in
-    continues _ _ _ _ _ _ _ _ _ _ refl refl refl refl (f .0) (omega (arith, f .1 .0, b .before .before .before .before .before .before .before .before .before .before .before .before .before .before .pre .1 .1)) (f .1 .1)
+    continues _ _ _ _ _ _ _ _ _ _ refl refl refl refl (f .0) (omega (arith, f .1 .0, b .before .before .before .before .before .before .before .before .before .before .before .before .before .before .before .pre .1 .1)) (f .1 .1)
 
 pub next-part-spec : {M : Type 1} → statement M
 next-part-spec = tie.close (tie.spec fill-requires same-length same-length-2 same-length-3 returns)

@@ -7,6 +7,7 @@ use mathlib.Core.Logic.{_⊎_, inl, inr, ⊎-elim}
 use borrow.Author.Tests.{not-true, not-false}
 use lib.ListN.{length}
 use Rattle.finite.proofs.Bools.{clash}
+use Rattle.state.specs.Cells.{cellsIn}
 use Rattle.state.specs.Lent.{lent}
 use Rattle.desk.specs.Printed.{Printed}
 use Rattle.desk.proofs.TextLaws.{turns, turns-less, printed-none, printed-then}
@@ -14,17 +15,17 @@ use Rattle.desk.proofs.reporting.fill.Statement.{statement}
 use Rattle.desk.proofs.reporting.fill.Tie as tie
 
 abbrev Inv-loop : tie.InvT-loop
-Inv-loop script design cells tables next first keys heads starts marks₀ words₀ weights₀ sums₀ froms₀ links₀ out₀ p₀ marks words weights sums froms links out p =
-    Printed script (lent design cells tables marks₀ (p₀ .held)) words₀ p₀ out₀ out marks words p ×
+Inv-loop script design cells issues tables next first keys heads starts marks₀ words₀ weights₀ sums₀ froms₀ links₀ out₀ p₀ marks words weights sums froms links out p =
+    Printed script (lent design (cellsIn cells issues) tables marks₀ (p₀ .held)) words₀ p₀ out₀ out marks words p ×
     (p .more ≡ true → (p .at < length script) × (p .number ≤ p .at)) × (p .more ≡ true → (p₀ .at < p .at) ⊎ ((p .at ≡ p₀ .at) × (p .end ≤ 16384))) ×
     (p .end ≤ 61537) × (length words ≤ 4096) × (length out ≡ 65536) × (length marks ≡ length marks₀) × (length words ≡ length words₀) × (length out ≡ length out₀)
 
 abbrev μ-loop : tie.MeasureT-loop
-μ-loop script design cells tables next first keys heads starts marks₀ words₀ weights₀ sums₀ froms₀ links₀ out₀ p₀ marks words weights sums froms links out p = turns script p
+μ-loop script design cells issues tables next first keys heads starts marks₀ words₀ weights₀ sums₀ froms₀ links₀ out₀ p₀ marks words weights sums froms links out p = turns script p
 
 loop-holds : tie.Need-loop-holds Inv-loop μ-loop
 loop-holds c =
-    let start = c .before .before .before .before .before .before in
+    let start = c .before .before .before .before .before .before .before in
     (printed-none _ _ _ _ _ (start .pre .0 .0) refl, start .pre .1 .0, λ e. inr (refl, start .pre .1 .2), omega arith, start .pre .1 .1, start .pre .1 .3, refl, refl, refl)
 
 same-length : tie.Need-same-length Inv-loop μ-loop
@@ -66,7 +67,7 @@ report-step-requires : tie.Need-report-step-requires Inv-loop μ-loop
 report-step-requires c κs =
     let j = c .before .before .before .before .before .before .before .before .before .before .before .loop in
     let more = not-false (j .p .more) (c .before .before .before .before .before .before .before .before .before .if1 .left) in (
-      (j .inv .0 .sound, c .before .before .before .before .before .before .before .before .before .before .before .before .before .before .before .before .before .before .pre .0 .1),
+      (j .inv .0 .sound, c .before .before .before .before .before .before .before .before .before .before .before .before .before .before .before .before .before .before .before .pre .0 .1),
       (more, j .inv .1 more .0, j .inv .1 more .1, j .inv .4, omega (arith, j .inv .5, c .before .before .before .before .before .before .before .if2 .left)),
     )
 

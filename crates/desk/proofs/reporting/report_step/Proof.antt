@@ -8,17 +8,17 @@ use Rattle.desk.proofs.reporting.report_step.Statement.{statement}
 use Rattle.desk.proofs.reporting.report_step.Tie as tie
 
 step-lawful-requires : tie.Need-step-lawful-requires
-step-lawful-requires c κs = c .before .before .before .before .before .before .before .before .before .before .before .before .before .pre .0
+step-lawful-requires c κs = c .before .before .before .before .before .before .before .before .before .before .before .before .before .before .pre .0
 
 put-command-line-requires : tie.Need-put-command-line-requires
-put-command-line-requires c κs = omega (arith, c .before .before .before .before .before .before .before .before .before .before .before .before .before .before .before .before .before .before .before .pre .1 .4)
+put-command-line-requires c κs = omega (arith, c .before .before .before .before .before .before .before .before .before .before .before .before .before .before .before .before .before .before .before .before .pre .1 .4)
 
 positions-at-requires : tie.Need-positions-at-requires
-positions-at-requires c κs = c .before .before .before .before .before .before .before .before .before .before .before .before .before .before .before .before .before .before .before .before .before .before .pre .1 .1
+positions-at-requires c κs = c .before .before .before .before .before .before .before .before .before .before .before .before .before .before .before .before .before .before .before .before .before .before .before .pre .1 .1
 
 put-lists-requires : tie.Need-put-lists-requires
 put-lists-requires c κs =
-    let start = c .before .before .before .before .before .before .before .before .before .before .before .before .before .before .before .before .before .before .before .before .before .before .before .before .before in
+    let start = c .before .before .before .before .before .before .before .before .before .before .before .before .before .before .before .before .before .before .before .before .before .before .before .before .before .before in
     let step = c .before .before .before .before .before .before .before .before .before .before .before .step-lawful .ensures in
     let line = command-line-reach _ _ _ _ _ _ _ (c .before .before .before .before .before .put-command-line .ensures) in
     let places = c .before .before .positions-at .ensures in (
@@ -29,8 +29,8 @@ put-lists-requires c κs =
 goes-on-requires : tie.Need-goes-on-requires
 goes-on-requires c κs = search needs
 
-add-t41 : tie.Need-add-t41
-add-t41 c = let start = c .before .before .before .before .before .before .before .before .before .before .before .before .before .before .before .before .before .before .before .before .before .before .before .before .before .before .before .before .before .before .before in omega (arith, start .pre .1 .1, start .pre .1 .2)
+add-t42 : tie.Need-add-t42
+add-t42 c = let start = c .before .before .before .before .before .before .before .before .before .before .before .before .before .before .before .before .before .before .before .before .before .before .before .before .before .before .before .before .before .before .before .before in omega (arith, start .pre .1 .1, start .pre .1 .2)
 
 same-length : tie.Need-same-length
 same-length c = search needs
@@ -43,7 +43,7 @@ same-length-3 c = search needs
 
 returns : tie.Need-returns
 returns c =
-    let start = c .before .before .before .before .before .before .before .before .before .before .before .before .before .before .before .before .before .before .before .before .before .before .before .before .before .before .before .before .before .before .before in
+    let start = c .before .before .before .before .before .before .before .before .before .before .before .before .before .before .before .before .before .before .before .before .before .before .before .before .before .before .before .before .before .before .before .before in
     let step = c .before .before .before .before .before .before .before .before .before .before .before .before .before .before .before .before .before .step-lawful .ensures in
     let line = c .before .before .before .before .before .before .before .before .before .before .before .put-command-line .ensures in
     let lists = lists-at _ _ _ _ (c .before .before .before .before .before .before .before .before .positions-at .ensures) (c .before .before .before .before .before .put-lists .ensures) in
@@ -64,7 +64,7 @@ report-step-spec =
     positions-at-requires
     put-lists-requires
     goes-on-requires
-    add-t41
+    add-t42
     same-length
     same-length-2
     same-length-3

@@ -3,8 +3,10 @@ use borrow.Author.Needs.{needs}
 use Rattle.foreign.proofs.from_words.value_from.Statement.{statement}
 use Rattle.foreign.proofs.from_words.value_from.Tie as tie
 
+returns : tie.Need-returns
+returns c = cc (c .before .before .byte-at .ensures, c .byte-at2 .ensures)
+
 pub value-from-spec : {M : Type 1} → statement M
 value-from-spec =
     tie.close
-    (tie.spec (λ c κs. search needs) (λ c. search needs) (λ c. search needs) (λ c. search needs)
-    (λ c. cc (c .before .byte-at .ensures)))
+    (tie.spec (λ c κs. search needs) (λ c. search needs) (λ c. search needs) (λ c. search needs) (λ c. search needs) (λ c κs. search needs) returns)

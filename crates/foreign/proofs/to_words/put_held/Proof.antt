@@ -17,7 +17,7 @@ returns : tie.Need-returns
 returns c =
     let p = c .before .before in
     let start = p .before .before .before .before .before in
-    (stored-held (start .args .h) _ _ (p .put-values .ensures), held-sized (start .args .h) _ (start .good .0))
+    (stored-held (start .args .h) _ _ (p .put-values .ensures .0), held-sized (start .args .h) _ (start .good .0), p .put-values .ensures .1)
 
 pub put-held-spec : {M : Type 1} → statement M
 put-held-spec =

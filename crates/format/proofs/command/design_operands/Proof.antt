@@ -2,7 +2,7 @@
 use native.Mathlib.Omega.{arith}
 use mathlib.Core.Path.{ap}
 use borrow.Author.Needs.{needs}
-use Rattle.format.proofs.CommandLaws.{command-table, command-constraint, command-filling, command-row, command-end, is-end}
+use Rattle.format.proofs.CommandLaws.{command-table, command-constraint, command-filling, command-row, command-end, row-width, is-row}
 use Rattle.format.specs.Commands.{designWidth}
 use Rattle.format.proofs.command.design_operands.Statement.{statement}
 use Rattle.format.proofs.command.design_operands.Tie as tie
@@ -28,18 +28,17 @@ filling-operands-requires c κs = omega (arith, ap designWidth (c .if3 .taken))
 returns-3 : tie.Need-returns-3
 returns-3 c = command-filling _ _ _ _ (c .filling-operands .ensures) (c .before .if3 .taken)
 
+returns-4 : tie.Need-returns-4
+returns-4 c = command-end _ _ _ (c .if4 .taken)
+
 add-t8 : tie.Need-add-t8
 add-t8 c = search needs
 
 shared-slice-read-t10 : tie.Need-shared-slice-read-t10
-unfolding designWidth
-shared-slice-read-t10 c = omega (arith, ap designWidth (c .before .if4 .taken))
-
-returns-4 : tie.Need-returns-4
-returns-4 c = command-row _ _ _ (c .before .if4 .taken)
+shared-slice-read-t10 c = omega (arith, row-width (is-row _ (c .before .before .before .before .before .before .pre .0) (c .before .before .before .before .if1 .left) (c .before .before .before .if2 .left) (c .before .before .if3 .left) (c .before .if4 .left)))
 
 returns-5 : tie.Need-returns-5
-returns-5 c = command-end _ _ _ (is-end _ (c .before .before .before .before .before .pre .0) (c .before .before .before .if1 .left) (c .before .before .if2 .left) (c .before .if3 .left) (c .if4 .left))
+returns-5 c = command-row _ _ _ _ (is-row _ (c .before .before .before .before .before .before .pre .0) (c .before .before .before .before .if1 .left) (c .before .before .before .if2 .left) (c .before .before .if3 .left) (c .before .if4 .left))
 
 pub design-operands-spec : {M : Type 1} → statement M
 design-operands-spec =
@@ -51,7 +50,7 @@ design-operands-spec =
     returns-2
     filling-operands-requires
     returns-3
+    returns-4
     add-t8
     shared-slice-read-t10
-    returns-4
     returns-5)

@@ -26,7 +26,11 @@ unfolding designWidth
 returns-5 c = sym (ap designWidth (c .match .keys5))
 
 returns-6 : tie.Need-returns-6
-returns-6 c = let r = c .match .rest in sym (design-width-none _ (r .0 .0 .0 .0 .1) (r .0 .0 .0 .1) (r .0 .0 .1) (r .0 .1) (r .1))
+unfolding designWidth
+returns-6 c = sym (ap designWidth (c .match .keys6))
+
+returns-7 : tie.Need-returns-7
+returns-7 c = let r = c .match .rest in sym (design-width-none _ (r .0 .0 .0 .0 .0 .1) (r .0 .0 .0 .0 .1) (r .0 .0 .0 .1) (r .0 .0 .1) (r .0 .1) (r .1))
 
 pub design-width-spec : {M : Type 1} → statement M
-design-width-spec = tie.close (tie.spec returns returns-2 returns-3 returns-4 returns-5 returns-6)
+design-width-spec = tie.close (tie.spec returns returns-2 returns-3 returns-4 returns-5 returns-6 returns-7)

@@ -3,11 +3,11 @@ use borrow.Author.Needs.{needs}
 use Rattle.format.proofs.command.held_value_at.Statement.{statement}
 use Rattle.format.proofs.command.held_value_at.Tie as tie
 
-add-t3 : tie.Need-add-t3
-add-t3 c = search needs
+add-t4 : tie.Need-add-t4
+add-t4 c = search needs
 
-shared-slice-read-t5 : tie.Need-shared-slice-read-t5
-shared-slice-read-t5 c = search needs
+shared-slice-read-t6 : tie.Need-shared-slice-read-t6
+shared-slice-read-t6 c = search needs
 
 add-value-at : tie.Need-add-value-at
 add-value-at c = search needs
@@ -19,4 +19,5 @@ returns : tie.Need-returns
 returns c = cc
 
 pub held-value-at-spec : {M : Type 1} → statement M
-held-value-at-spec = tie.close (tie.spec add-t3 shared-slice-read-t5 add-value-at value-at-requires returns)
+held-value-at-spec =
+    tie.close (tie.spec add-t4 shared-slice-read-t6 add-value-at value-at-requires returns)

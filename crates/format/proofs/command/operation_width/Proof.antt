@@ -30,9 +30,31 @@ unfolding operationWidth
 returns-6 c = sym (ap operationWidth (c .match .keys6))
 
 returns-7 : tie.Need-returns-7
-returns-7 c =
+unfolding operationWidth
+returns-7 c = sym (ap operationWidth (c .match .keys7))
+
+returns-8 : tie.Need-returns-8
+unfolding operationWidth
+returns-8 c = sym (ap operationWidth (c .match .keys8))
+
+returns-9 : tie.Need-returns-9
+unfolding operationWidth
+returns-9 c = sym (ap operationWidth (c .match .keys9))
+
+returns-10 : tie.Need-returns-10
+unfolding operationWidth
+returns-10 c = sym (ap operationWidth (c .match .keys10))
+
+returns-11 : tie.Need-returns-11
+unfolding operationWidth
+returns-11 c = sym (ap operationWidth (c .match .keys11))
+
+returns-12 : tie.Need-returns-12
+returns-12 c =
     let r = c .match .rest in
-    sym (operation-width-none _ (r .0 .0 .0 .0 .0 .1) (r .0 .0 .0 .0 .1) (r .0 .0 .0 .1) (r .0 .0 .1) (r .0 .1) (r .1))
+    sym (operation-width-none _ (r .0 .0 .0 .0 .0 .0 .0 .0 .0 .0 .1) (r .0 .0 .0 .0 .0 .0 .0 .0 .0 .1) (r .0 .0 .0 .0 .0 .0 .0 .0 .1) (r .0 .0 .0 .0 .0 .0 .0 .1) (r .0 .0 .0 .0 .0 .0 .1) (r .0 .0 .0 .0 .0 .1) (r .0 .0 .0 .0 .1) (r .0 .0 .0 .1) (r .0 .0 .1) (r .0 .1) (r .1))
 
 pub operation-width-spec : {M : Type 1} → statement M
-operation-width-spec = tie.close (tie.spec returns returns-2 returns-3 returns-4 returns-5 returns-6 returns-7)
+operation-width-spec =
+    tie.close
+    (tie.spec returns returns-2 returns-3 returns-4 returns-5 returns-6 returns-7 returns-8 returns-9 returns-10 returns-11 returns-12)

@@ -15,11 +15,11 @@ add-value-at c = search needs
 value-at-requires : tie.Need-value-at-requires
 value-at-requires c κs = search needs
 
-add-t7 : tie.Need-add-t7
-add-t7 c = search needs
+add-t8 : tie.Need-add-t8
+add-t8 c = search needs
 
-shared-slice-read-t9 : tie.Need-shared-slice-read-t9
-shared-slice-read-t9 c = search needs
+shared-slice-read-t10 : tie.Need-shared-slice-read-t10
+shared-slice-read-t10 c = search needs
 
 add-join-at : tie.Need-add-join-at
 add-join-at c = search needs
@@ -56,8 +56,8 @@ query-at-spec =
     column-at-requires
     add-value-at
     value-at-requires
-    add-t7
-    shared-slice-read-t9
+    add-t8
+    shared-slice-read-t10
     add-join-at
     join-at-requires
     add-join-at-2

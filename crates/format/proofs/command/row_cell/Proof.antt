@@ -1,25 +1,24 @@
 -- `format::command::row_cell` meets its contract. Assumes nothing.
-use mathlib.Core.Path.{ap}
 use borrow.Author.Needs.{needs}
 use Rattle.format.specs.Commands.{rowCellAt}
 use Rattle.format.proofs.command.row_cell.Statement.{statement}
 use Rattle.format.proofs.command.row_cell.Tie as tie
 
-add-value-at : tie.Need-add-value-at
-add-value-at c = search needs
+add-u32-at : tie.Need-add-u32-at
+add-u32-at c = search needs
 
-mul-value-at : tie.Need-mul-value-at
-mul-value-at c = search needs
+mul-u32-at : tie.Need-mul-u32-at
+mul-u32-at c = search needs
 
-add-value-at-2 : tie.Need-add-value-at-2
-add-value-at-2 c = search needs
+add-u32-at-2 : tie.Need-add-u32-at-2
+add-u32-at-2 c = search needs
 
-value-at-requires : tie.Need-value-at-requires
-value-at-requires c κs = search needs
+u32-at-requires : tie.Need-u32-at-requires
+u32-at-requires c κs = search needs
 
 returns : tie.Need-returns
 unfolding rowCellAt
-returns c = ap (λ x. x .number) (c .value-at .ensures)
+returns c = c .u32-at .ensures
 
 pub row-cell-spec : {M : Type 1} → statement M
-row-cell-spec = tie.close (tie.spec add-value-at mul-value-at add-value-at-2 value-at-requires returns)
+row-cell-spec = tie.close (tie.spec add-u32-at mul-u32-at add-u32-at-2 u32-at-requires returns)

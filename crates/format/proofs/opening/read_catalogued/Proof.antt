@@ -24,11 +24,17 @@ same-length-2 c = search needs
 same-length-3 : tie.Need-same-length-3
 same-length-3 c = search needs
 
-returns : tie.Need-returns
-returns c = (c .before .before .before .before .before .before .before .before .read-lent .ensures .0, (opens-refused _ _ _ (c .enum-told2 .given .1) _ _ _ _ _ _ _, record { next = λ n i e. refl; first = λ n i e. refl; keys = λ n i e. refl; heads = λ n i e. refl; starts = λ n i e. refl }))
-
 same-length-4 : tie.Need-same-length-4
 same-length-4 c = search needs
+
+returns : tie.Need-returns
+returns c = (
+  c .before .before .before .before .before .before .before .before .before .before .read-lent .ensures .0,
+  (
+    opens-refused _ _ _ (c .enum-told2 .given .1) _ _ _ _ _ _ _,
+    record { next = λ n i e. refl; first = λ n i e. refl; keys = λ n i e. refl; heads = λ n i e. refl; starts = λ n i e. refl },
+  ),
+)
 
 same-length-5 : tie.Need-same-length-5
 same-length-5 c = search needs
@@ -36,8 +42,17 @@ same-length-5 c = search needs
 same-length-6 : tie.Need-same-length-6
 same-length-6 c = search needs
 
+same-length-7 : tie.Need-same-length-7
+same-length-7 c = search needs
+
+same-length-8 : tie.Need-same-length-8
+same-length-8 c = search needs
+
 returns-2 : tie.Need-returns-2
-returns-2 c = (c .before .before .before .before .before .before .before .before .read-lent .ensures .0, (c .before .before .before .before .before .before .before .before .read-lent .ensures .1, keeps-accepted _ _ (c .enum-told .given .1) _ _ _ _ _ _ _ _ _ _))
+returns-2 c = (
+  c .before .before .before .before .before .before .before .before .before .before .read-lent .ensures .0,
+  (c .before .before .before .before .before .before .before .before .before .before .read-lent .ensures .1, keeps-accepted _ _ (c .enum-told .given .1) _ _ _ _ _ _ _ _ _ _),
+)
 
 pub read-catalogued-spec : {M : Type 1} → statement M
 read-catalogued-spec =
@@ -49,8 +64,10 @@ read-catalogued-spec =
     same-length
     same-length-2
     same-length-3
-    returns
     same-length-4
+    returns
     same-length-5
     same-length-6
+    same-length-7
+    same-length-8
     returns-2)

@@ -1,5 +1,6 @@
 -- `format::opening::read_into` meets its contract: a refusal writes no row, an accepted design is copied out. Assumes nothing.
 use mathlib.Core.Path.{refl}
+use native.Mathlib.Omega.{arith}
 use Rattle.format.proofs.Lent.{from-zeros, leaves-refused, leaves-accepted}
 use Rattle.format.proofs.Verdicts.{opens-refused, opens-copied}
 use borrow.Author.Needs.{needs}
@@ -12,6 +13,9 @@ slice-aggregate-read-rows c = search needs
 slice-aggregate-read-rows-2 : tie.Need-slice-aggregate-read-rows-2
 slice-aggregate-read-rows-2 c = search needs
 
+slice-aggregate-read-rows-3 : tie.Need-slice-aggregate-read-rows-3
+slice-aggregate-read-rows-3 c = search needs
+
 read-rows-requires : tie.Need-read-rows-requires
 read-rows-requires c κs = search needs
 
@@ -22,7 +26,10 @@ enum-told-2 : tie.Need-enum-told-2
 enum-told-2 c = search needs
 
 returns : tie.Need-returns
-returns c = (leaves-refused _ _ (from-zeros _ _) _ _ _ (c .before .before .before .before .read-rows .ensures .0) _ _ _ _ _ (c .enum-told2 .given .1), opens-refused _ _ _ (c .enum-told2 .given .1) _ _ _ _ _ _ _)
+returns c = (
+  leaves-refused _ _ (from-zeros _ _) _ _ _ (c .before .before .before .before .before .read-rows .ensures .0) _ _ _ _ _ (c .enum-told2 .given .1),
+  opens-refused _ _ _ (c .enum-told2 .given .1) _ _ _ _ _ _ _,
+)
 
 slice-aggregate-copy-cells : tie.Need-slice-aggregate-copy-cells
 slice-aggregate-copy-cells c = search needs
@@ -34,13 +41,19 @@ slice-aggregate-copy-bytes : tie.Need-slice-aggregate-copy-bytes
 slice-aggregate-copy-bytes c = search needs
 
 copy-bytes-requires : tie.Need-copy-bytes-requires
-copy-bytes-requires c κs = search needs
+copy-bytes-requires c κs = (omega (arith, c .before .before .before .before .before .before .before .before .before .before .v2 .given), c .before .before .before .before .before .before .before .before .before .before .before .before .before .before .before .before .before .before .before .before .before .before .before .before .before .before .pre .1)
 
 slice-aggregate-copy-bytes-2 : tie.Need-slice-aggregate-copy-bytes-2
 slice-aggregate-copy-bytes-2 c = search needs
 
 copy-bytes-requires-2 : tie.Need-copy-bytes-requires-2
-copy-bytes-requires-2 c κs = (refl, c .before .before .before .before .before .before .before .before .before .before .before .before .before .before .before .before .before .before .before .before .before .before .before .before .before .before .before .before .pre .2)
+copy-bytes-requires-2 c κs = (omega (arith, c .before .before .before .before .before .before .before .before .before .before .before .before .before .before .y2 .given), c .before .before .before .before .before .before .before .before .before .before .before .before .before .before .before .before .before .before .before .before .before .before .before .before .before .before .before .before .before .before .before .pre .2)
+
+slice-aggregate-copy-bytes-3 : tie.Need-slice-aggregate-copy-bytes-3
+slice-aggregate-copy-bytes-3 c = search needs
+
+copy-bytes-requires-3 : tie.Need-copy-bytes-requires-3
+copy-bytes-requires-3 c κs = (refl, c .before .before .before .before .before .before .before .before .before .before .before .before .before .before .before .before .before .before .before .before .before .before .before .before .before .before .before .before .before .before .before .before .before .before .before .before .pre .3)
 
 same-length : tie.Need-same-length
 same-length c = search needs
@@ -51,12 +64,16 @@ same-length-2 c = search needs
 same-length-3 : tie.Need-same-length-3
 same-length-3 c = search needs
 
+same-length-4 : tie.Need-same-length-4
+same-length-4 c = search needs
+
 returns-2 : tie.Need-returns-2
 returns-2 c = (
-  leaves-accepted _ _ (from-zeros _ _) _ _ _ (c .before .before .before .before .before .before .before .before .before .before .before .before .before .before .before .before .before .before .before .read-rows .ensures .0) _ _ _ _ (c .before .before .before .before .before .before .before .before .before .before .before .before .before .before .before .enum-told .given .1) _ _ _
-      (c .before .before .before .before .before .before .before .before .before .before .before .before .copy-cells .ensures) (c .before .before .before .before .before .before .before .copy-bytes .ensures) (c .before .before .copy-bytes2 .ensures),
-  opens-copied _ _ _ _ _ _ _ _ (c .before .before .before .before .before .before .before .before .before .before .before .before .before .before .before .before .before .before .before .read-rows .ensures .1) (copy-cells-requires (c .before .before .before .before .before .before .before .before .before .before .before .before .before) (c .before .before .before .before .before .before .before .before .before .before .before .before .copy-cells .lifetimes) .0)
-      (copy-bytes-requires (c .before .before .before .before .before .before .before .before) (c .before .before .before .before .before .before .before .copy-bytes .lifetimes) .0) _ _ _ _ (c .before .before .before .before .before .before .before .before .before .before .before .before .copy-cells .ensures) (c .before .before .before .before .before .before .before .copy-bytes .ensures),
+  leaves-accepted _ _ (from-zeros _ _) _ _ _ (c .before .before .before .before .before .before .before .before .before .before .before .before .before .before .before .before .before .before .before .before .before .before .before .before .before .read-rows .ensures .0) _ _ _ _ (c .before .before .before .before .before .before .before .before .before .before .before .before .before .before .before .before .before .before .before .before .enum-told .given .1) _ _ _ _ (c .before .before .before .before .before .before .before .before .before .before .before .before .before .before .before .before .before .copy-cells .ensures) (c .before .before .before .before .before .before .before .before .before .before .before .before .copy-bytes .ensures)
+      (c .before .before .before .before .before .before .before .copy-bytes2 .ensures) (c .before .before .copy-bytes3 .ensures),
+  opens-copied _ _ _ _ _ _ _ _ (c .before .before .before .before .before .before .before .before .before .before .before .before .before .before .before .before .before .before .before .before .before .before .before .before .before .read-rows .ensures .1) (copy-cells-requires (c .before .before .before .before .before .before .before .before .before .before .before .before .before .before .before .before .before .before) (c .before .before .before .before .before .before .before .before .before .before .before .before .before .before .before .before .before .copy-cells .lifetimes) .0)
+      (copy-bytes-requires (c .before .before .before .before .before .before .before .before .before .before .before .before .before) (c .before .before .before .before .before .before .before .before .before .before .before .before .copy-bytes .lifetimes) .0) (copy-bytes-requires-2 (c .before .before .before .before .before .before .before .before) (c .before .before .before .before .before .before .before .copy-bytes2 .lifetimes) .0) _ _ _ _ _ _
+      (c .before .before .before .before .before .before .before .before .before .before .before .before .before .before .before .before .before .copy-cells .ensures) (c .before .before .before .before .before .before .before .before .before .before .before .before .copy-bytes .ensures) (c .before .before .before .before .before .before .before .copy-bytes2 .ensures),
 )
 
 pub read-into-spec : {M : Type 1} → statement M
@@ -65,6 +82,7 @@ read-into-spec =
     (tie.spec
     slice-aggregate-read-rows
     slice-aggregate-read-rows-2
+    slice-aggregate-read-rows-3
     read-rows-requires
     enum-told
     enum-told-2
@@ -75,7 +93,10 @@ read-into-spec =
     copy-bytes-requires
     slice-aggregate-copy-bytes-2
     copy-bytes-requires-2
+    slice-aggregate-copy-bytes-3
+    copy-bytes-requires-3
     same-length
     same-length-2
     same-length-3
+    same-length-4
     returns-2)

@@ -28,7 +28,7 @@ enum-known-c-4 : tie.Need-enum-known-c-4
 enum-known-c-4 c = search needs
 
 take-row-requires : tie.Need-take-row-requires
-take-row-requires c κs = (row-whole _ _ _ (sym (c .before .before .before .before .before .before .before .before .pre .0) ∙ c .before .before .before .c4 .given .1), c .before .before .before .before .before .before .before .before .pre .1, c .before .before .before .before .before .before .before .before .pre .2)
+take-row-requires c κs = let h = row-whole _ _ _ (sym (c .before .before .before .before .before .before .before .before .before .before .pre .0) ∙ c .before .before .before .before .c4 .given .1) in (h .0, h .1, c .before .before .before .before .before .before .before .before .before .before .pre .1, c .before .before .before .before .before .before .before .before .before .before .pre .2, c .before .before .before .before .before .before .before .before .before .before .pre .3)
 
 enum-told : tie.Need-enum-told
 enum-told c = search needs
@@ -66,8 +66,11 @@ same-length c = search needs
 same-length-2 : tie.Need-same-length-2
 same-length-2 c = search needs
 
+same-length-3 : tie.Need-same-length-3
+same-length-3 c = search needs
+
 returns-4 : tie.Need-returns-4
-returns-4 c = advances-as _ _ _ _ _ _ _ _ (c .before .before .before .before .before .before .before .before .c4 .given .1) (c .before .before .before .before .take-row .ensures)
+returns-4 c = advances-as _ _ _ _ _ _ _ _ (c .before .before .before .before .before .before .before .before .before .before .before .c4 .given .1) (c .before .before .before .before .before .before .take-row .ensures)
 
 returns-5 : tie.Need-returns-5
 returns-5 c = advances-as _ _ _ _ _ _ _ _ (c .enum-told .given .1) (advances-complete _ _ _ _ _ _ _ refl refl (end-admitted _ _ _))
@@ -105,6 +108,7 @@ take-spec =
     returns-3
     same-length
     same-length-2
+    same-length-3
     returns-4
     returns-5
     returns-6

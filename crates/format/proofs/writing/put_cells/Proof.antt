@@ -3,32 +3,33 @@ use Prim.Native.Nat.{_-_, _≤_}
 use native.Mathlib.Omega.{arith}
 use borrow.Author.Needs.{needs}
 use Rattle.finite.proofs.Stores.{Pieces, pieces-start, pieces-more, pieces-end}
+use Rattle.state.specs.Cells.{cellsIn}
 use Rattle.state.specs.Meaning.{cellAt}
-use Rattle.format.specs.Writing.{valueBytes, cellsBytes}
+use Rattle.format.specs.Writing.{numberBytes, cellsBytes}
 use Rattle.format.proofs.WritingLaws.{length-u32, stored-value}
 use Rattle.format.proofs.writing.put_cells.Statement.{statement}
 use Rattle.format.proofs.writing.put_cells.Tie as tie
 
 abbrev Inv-loop : tie.InvT-loop
-Inv-loop out₀ at cells r c₀ out c = (c ≤ 8) × Pieces (λ j. valueBytes (cellAt cells r j)) out₀ at c out
+Inv-loop out₀ at cells issues r c₀ out c = (c ≤ 8) × Pieces (λ j. numberBytes (cellAt (cellsIn cells issues) r j)) out₀ at c out
 
 abbrev μ-loop : tie.MeasureT-loop
-μ-loop out₀ at cells r c₀ out c = 8 - c
+μ-loop out₀ at cells issues r c₀ out c = 8 - c
 
 loop-holds : tie.Need-loop-holds Inv-loop μ-loop
 loop-holds c = (omega arith, pieces-start _ _ _)
 
-mul-put-value : tie.Need-mul-put-value Inv-loop μ-loop
-mul-put-value c = search needs
+mul-put-number : tie.Need-mul-put-number Inv-loop μ-loop
+mul-put-number c = search needs
 
-add-put-value : tie.Need-add-put-value Inv-loop μ-loop
-add-put-value c = omega arith
+add-put-number : tie.Need-add-put-number Inv-loop μ-loop
+add-put-number c = omega arith
 
 cell-at-requires : tie.Need-cell-at-requires Inv-loop μ-loop
 cell-at-requires c κs = omega arith
 
-put-value-requires : tie.Need-put-value-requires Inv-loop μ-loop
-put-value-requires c κs = omega arith
+put-number-requires : tie.Need-put-number-requires Inv-loop μ-loop
+put-number-requires c κs = omega arith
 
 add-c : tie.Need-add-c Inv-loop μ-loop
 add-c c = omega arith
@@ -38,7 +39,7 @@ loop-less c = omega arith
 
 loop-again : tie.Need-loop-again Inv-loop μ-loop
 loop-again c =
-    (omega arith, pieces-more _ _ _ 4 (λ j. length-u32 _) _ _ _ (c .before .before .before .before .before .before .loop .inv .1) (stored-value _ _ _ _ _ (c .before .before .put-value .ensures) (c .before .before .before .cell-at .ensures)))
+    (omega arith, pieces-more _ _ _ 4 (λ j. length-u32 _) _ _ _ (c .before .before .before .before .before .before .loop .inv .1) (stored-value _ _ _ _ _ (c .before .before .put-number .ensures) (c .before .before .before .cell-at .ensures)))
 
 same-length : tie.Need-same-length Inv-loop μ-loop
 same-length c = omega arith
@@ -54,10 +55,10 @@ put-cells-spec =
     Inv-loop
     μ-loop
     loop-holds
-    mul-put-value
-    add-put-value
+    mul-put-number
+    add-put-number
     cell-at-requires
-    put-value-requires
+    put-number-requires
     add-c
     loop-less
     loop-again

@@ -1,44 +1,45 @@
 -- `format::writing::put_item` meets its contract: the byte tells the kind. Assumes nothing.
 use native.Mathlib.Omega.{arith}
+use mathlib.Core.Path.{refl}
 use borrow.Author.Needs.{needs}
 use Rattle.format.proofs.KindLaws.{tables-few, constraints-few, fillings-few, rows-few}
-use Rattle.format.proofs.WritingLaws.{length-table, length-constraint, length-filling, length-row, table-is, constraint-is, filling-is, row-is, room-is, wrote-is}
+use Rattle.format.proofs.WritingLaws.{length-table, length-constraint, length-filling, table-is, constraint-is, filling-is, row-is, room-is, wrote-is}
 use Rattle.format.proofs.writing.put_item.Statement.{statement}
 use Rattle.format.proofs.writing.put_item.Tie as tie
 
 mul-put-table : tie.Need-mul-put-table
-mul-put-table c = omega (arith, tables-few _ (c .before .before .before .before .before .pre .1) _ _ (c .before .before .before .before .before .pre .0) (c .before .match .keys1))
+mul-put-table c = omega (arith, tables-few _ (c .before .before .before .before .before .before .pre .1) _ _ (c .before .before .before .before .before .before .pre .0) (c .before .match .keys1))
 
 element-copy-out-put-table : tie.Need-element-copy-out-put-table
-element-copy-out-put-table c = omega (arith, tables-few _ (c .before .before .before .before .before .pre .1) _ _ (c .before .before .before .before .before .pre .0) (c .before .match .keys1))
+element-copy-out-put-table c = omega (arith, tables-few _ (c .before .before .before .before .before .before .pre .1) _ _ (c .before .before .before .before .before .before .pre .0) (c .before .match .keys1))
 
 put-table-requires : tie.Need-put-table-requires
-put-table-requires c κs = room-is _ _ 3 _ _ (table-is _ _ _ _ _ (c .before .before .match .keys1)) (length-table _) (c .before .before .before .before .before .before .pre .3)
+put-table-requires c κs = room-is _ _ 3 _ _ (table-is _ _ _ _ _ (c .before .before .match .keys1)) (length-table _) (c .before .before .before .before .before .before .before .pre .3)
 
 mul-put-constraint : tie.Need-mul-put-constraint
-mul-put-constraint c = omega (arith, constraints-few _ (c .before .before .before .before .before .pre .1) _ _ (c .before .before .before .before .before .pre .0) (c .before .match .keys2))
+mul-put-constraint c = omega (arith, constraints-few _ (c .before .before .before .before .before .before .pre .1) _ _ (c .before .before .before .before .before .before .pre .0) (c .before .match .keys2))
 
 element-copy-out-put-constraint : tie.Need-element-copy-out-put-constraint
-element-copy-out-put-constraint c = omega (arith, constraints-few _ (c .before .before .before .before .before .pre .1) _ _ (c .before .before .before .before .before .pre .0) (c .before .match .keys2))
+element-copy-out-put-constraint c = omega (arith, constraints-few _ (c .before .before .before .before .before .before .pre .1) _ _ (c .before .before .before .before .before .before .pre .0) (c .before .match .keys2))
 
 put-constraint-requires : tie.Need-put-constraint-requires
-put-constraint-requires c κs = room-is _ _ 5 _ _ (constraint-is _ _ _ _ _ (c .before .before .match .keys2)) (length-constraint _) (c .before .before .before .before .before .before .pre .3)
+put-constraint-requires c κs = room-is _ _ 5 _ _ (constraint-is _ _ _ _ _ (c .before .before .match .keys2)) (length-constraint _) (c .before .before .before .before .before .before .before .pre .3)
 
 mul-put-filling : tie.Need-mul-put-filling
-mul-put-filling c = omega (arith, fillings-few _ (c .before .before .before .before .before .pre .1) _ _ (c .before .before .before .before .before .pre .0) (c .before .match .keys3))
+mul-put-filling c = omega (arith, fillings-few _ (c .before .before .before .before .before .before .pre .1) _ _ (c .before .before .before .before .before .before .pre .0) (c .before .match .keys3))
 
 element-copy-out-put-filling : tie.Need-element-copy-out-put-filling
-element-copy-out-put-filling c = omega (arith, fillings-few _ (c .before .before .before .before .before .pre .1) _ _ (c .before .before .before .before .before .pre .0) (c .before .match .keys3))
+element-copy-out-put-filling c = omega (arith, fillings-few _ (c .before .before .before .before .before .before .pre .1) _ _ (c .before .before .before .before .before .before .pre .0) (c .before .match .keys3))
 
 put-filling-requires : tie.Need-put-filling-requires
-put-filling-requires c κs = room-is _ _ 11 _ _ (filling-is _ _ _ _ _ (c .before .before .match .keys3)) (length-filling _) (c .before .before .before .before .before .before .pre .3)
+put-filling-requires c κs = room-is _ _ 11 _ _ (filling-is _ _ _ _ _ (c .before .before .match .keys3)) (length-filling _) (c .before .before .before .before .before .before .before .pre .3)
 
 put-row-requires : tie.Need-put-row-requires
 put-row-requires c κs =
     let r = c .before .match .rest in (
-      rows-few _ (c .before .before .before .before .before .pre .1) _ _ (c .before .before .before .before .before .pre .0) (r .0 .0 .1) (r .0 .1) (r .1),
-      c .before .before .before .before .before .pre .2,
-      room-is _ _ 34 _ _ (row-is _ _ _ _ _ (r .0 .0 .1) (r .0 .1) (r .1)) (length-row _ _ _) (c .before .before .before .before .before .pre .3),
+      rows-few _ (c .before .before .before .before .before .before .pre .1) _ _ (c .before .before .before .before .before .before .pre .0) (r .0 .0 .1) (r .0 .1) (r .1),
+      c .before .before .before .before .before .before .pre .2,
+      room-is _ _ _ _ _ (row-is _ _ _ _ _ (r .0 .0 .1) (r .0 .1) (r .1)) refl (c .before .before .before .before .before .before .pre .3),
     )
 
 same-length : tie.Need-same-length

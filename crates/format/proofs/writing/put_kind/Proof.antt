@@ -3,6 +3,7 @@ use Prim.Native.Nat.{_-_, _≤_}
 use native.Mathlib.Omega.{arith}
 use mathlib.Core.Bool.{true}
 use borrow.Author.Needs.{needs}
+use Rattle.state.specs.Cells.{cellsIn}
 use Rattle.finite.specs.Finite.{collect}
 use Rattle.finite.specs.Writing.{Wrote}
 use Rattle.finite.proofs.Writing.{written-none, written-more, written-end, wrote-long}
@@ -12,10 +13,10 @@ use Rattle.format.proofs.writing.put_kind.Statement.{statement}
 use Rattle.format.proofs.writing.put_kind.Tie as tie
 
 abbrev Inv-loop : tie.InvT-loop
-Inv-loop d cells tables b out₀ at place₀ i₀ i-end out place i = (i ≤ i-end) × Wrote out₀ out at place (collect i (λ _. true) (itemBytes d cells tables b))
+Inv-loop d cells issues tables b out₀ at place₀ i₀ i-end out place i = (i ≤ i-end) × Wrote out₀ out at place (collect i (λ _. true) (itemBytes d (cellsIn cells issues) tables b))
 
 abbrev μ-loop : tie.MeasureT-loop
-μ-loop d cells tables b out₀ at place₀ i₀ i-end out place i = i-end - i
+μ-loop d cells issues tables b out₀ at place₀ i₀ i-end out place i = i-end - i
 
 count-of-requires : tie.Need-count-of-requires Inv-loop μ-loop
 count-of-requires c κs = search needs
@@ -25,7 +26,7 @@ loop-holds c = (omega arith, written-none _ _ _)
 
 put-item-requires : tie.Need-put-item-requires Inv-loop μ-loop
 put-item-requires c κs =
-    (omega (arith, c .before .before .before .count-of .ensures), c .before .before .before .before .before .before .before .pre .0, c .before .before .before .before .before .before .before .pre .1, next-room _ _ _ _ _ _ _ (omega (arith, c .before .before .before .count-of .ensures)) (c .before .before .before .before .before .before .before .pre .2) (c .before .before .loop .inv .1))
+    (omega (arith, c .before .before .before .count-of .ensures), c .before .before .before .before .before .before .before .before .pre .0, c .before .before .before .before .before .before .before .before .pre .1, next-room _ _ _ _ _ _ _ (omega (arith, c .before .before .before .count-of .ensures)) (c .before .before .before .before .before .before .before .before .pre .2) (c .before .before .loop .inv .1))
 
 add-i : tie.Need-add-i Inv-loop μ-loop
 add-i c = omega arith

@@ -1,48 +1,66 @@
--- `format::writing::put_row` meets its contract: two stores and the cells. Assumes nothing.
+-- `format::writing::put_row` meets its contract: as 0x04, or as 0x07 with the issues behind. Assumes nothing.
 use native.Mathlib.Omega.{arith}
+use mathlib.Core.Path.{sym, _∙_}
 use borrow.Author.Needs.{needs}
-use lib.ListN.{length-set}
-use Rattle.format.proofs.WritingLaws.{wrote-row}
+use borrow.Author.Tests.{not-true, not-false}
+use Rattle.format.proofs.WritingLaws.{room-plain, room-issued, wrote-plain, wrote-issued}
 use Rattle.format.proofs.writing.put_row.Statement.{statement}
 use Rattle.format.proofs.writing.put_row.Tie as tie
 
-slice-write-out : tie.Need-slice-write-out
-slice-write-out c = search needs
+is-issued-requires : tie.Need-is-issued-requires
+is-issued-requires c κs = (c .before .before .before .before .pre .0, c .before .before .before .before .pre .1 .issued)
 
-shared-slice-read-out : tie.Need-shared-slice-read-out
-shared-slice-read-out c = search needs
-
-add-out : tie.Need-add-out
-add-out c = search needs
-
-slice-write-out-2 : tie.Need-slice-write-out-2
-slice-write-out-2 c = simp length-set (omega arith)
-
-add-put-cells : tie.Need-add-put-cells
-add-put-cells c = search needs
-
-put-cells-requires : tie.Need-put-cells-requires
-put-cells-requires c κs = simp length-set (omega arith)
+put-front-requires : tie.Need-put-front-requires
+put-front-requires c κs =
+    (c .before .before .before .before .before .before .before .pre .0, c .before .before .before .before .before .before .before .pre .1, room-plain _ _ _ _ _ (c .before .before .before .before .before .before .before .pre .2) (sym (c .before .before .is-issued .ensures _) ∙ not-true _ (c .before .if1 .taken)))
 
 add-result : tie.Need-add-result
-add-result c = search needs
+add-result c =
+    let l = room-plain _ _ _ _ _ (c .before .before .before .before .before .before .before .before .before .before .pre .2) (sym (c .before .before .before .before .before .is-issued .ensures _) ∙ not-true _ (c .before .before .before .before .if1 .taken)) in omega (arith, l)
 
 same-length : tie.Need-same-length
-same-length c = simp length-set at (c .before .before .put-cells .kept .0)
+same-length c = search needs
 
 returns : tie.Need-returns
-returns c = wrote-row (c .before .before .before .before .before .before .before .before .args .out .now) _ _ (c .before .before .before .before .before .before .before .before .args .tables .now) (c .before .before .before .before .before .before .before .before .args .at) _ (c .before .before .put-cells .ensures)
+returns c = wrote-plain _ _ _ _ _ _ (sym (c .before .before .before .before .before .is-issued .ensures _) ∙ not-true _ (c .before .before .before .before .if1 .taken)) (c .before .before .put-front .ensures)
+
+put-front-requires-2 : tie.Need-put-front-requires-2
+put-front-requires-2 c κs =
+    let l = room-issued _ _ _ _ _ (c .before .before .before .before .before .before .before .pre .2) (sym (c .before .before .is-issued .ensures _) ∙ not-false _ (c .before .if1 .left)) in
+    (c .before .before .before .before .before .before .before .pre .0, c .before .before .before .before .before .before .before .pre .1, omega (arith, l))
+
+add-put-issues : tie.Need-add-put-issues
+add-put-issues c =
+    let l = room-issued _ _ _ _ _ (c .before .before .before .before .before .before .before .before .before .before .before .pre .2) (sym (c .before .before .before .before .before .before .is-issued .ensures _) ∙ not-false _ (c .before .before .before .before .before .if1 .left)) in omega (arith, l)
+
+put-issues-requires : tie.Need-put-issues-requires
+put-issues-requires c κs =
+    let l = room-issued _ _ _ _ _ (c .before .before .before .before .before .before .before .before .before .before .before .pre .2) (sym (c .before .before .before .before .before .before .is-issued .ensures _) ∙ not-false _ (c .before .before .before .before .before .if1 .left)) in
+    (c .before .before .before .before .before .before .before .before .before .before .before .pre .0, c .before .before .before .before .before .before .before .before .before .before .before .pre .1 .issued, omega (arith, l, c .before .before .before .put-front2 .kept .0))
+
+add-result-2 : tie.Need-add-result-2
+add-result-2 c =
+    let l = room-issued _ _ _ _ _ (c .before .before .before .before .before .before .before .before .before .before .before .before .before .before .pre .2) (sym (c .before .before .before .before .before .before .before .before .before .is-issued .ensures _) ∙ not-false _ (c .before .before .before .before .before .before .before .before .if1 .left)) in omega (arith, l)
+
+same-length-2 : tie.Need-same-length-2
+same-length-2 c = search needs
+
+returns-2 : tie.Need-returns-2
+returns-2 c =
+    wrote-issued _ _ _ _ _ _ _ (sym (c .before .before .before .before .before .before .before .before .before .is-issued .ensures _) ∙ not-false _ (c .before .before .before .before .before .before .before .before .if1 .left)) (c .before .before .before .before .before .before .put-front2 .ensures) (c .before .before .put-issues .ensures _)
 
 pub put-row-spec : {M : Type 1} → statement M
 put-row-spec =
     tie.close
     (tie.spec
-    slice-write-out
-    shared-slice-read-out
-    add-out
-    slice-write-out-2
-    add-put-cells
-    put-cells-requires
+    is-issued-requires
+    put-front-requires
     add-result
     same-length
-    returns)
+    returns
+    put-front-requires-2
+    add-put-issues
+    put-issues-requires
+    add-result-2
+    same-length-2
+    returns-2)

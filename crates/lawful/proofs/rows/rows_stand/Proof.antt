@@ -4,6 +4,7 @@ use native.Mathlib.Omega.{arith}
 use mathlib.Core.Bool.{true}
 use mathlib.Core.Path.{_∙_, _≡_, sym}
 use borrow.Author.Tests.{not-false, not-true}
+use Rattle.state.specs.Cells.{cellsIn}
 use Rattle.finite.proofs.Search.{all-end, all-more, all-start, all-stop}
 use Rattle.finite.specs.Finite.{all}
 use Rattle.lawful.specs.Parts.{rowStands, rowsStand}
@@ -11,16 +12,16 @@ use Rattle.lawful.proofs.rows.rows_stand.Statement.{statement}
 use Rattle.lawful.proofs.rows.rows_stand.Tie as tie
 
 abbrev Inv-loop : tie.InvT-loop
-Inv-loop d cells tables r₀ r = (r ≤ 512) × (all r (rowStands d cells tables) ≡ true)
+Inv-loop d cells issues tables r₀ r = (r ≤ 512) × (all r (rowStands d (cellsIn cells issues) tables) ≡ true)
 
 abbrev μ-loop : tie.MeasureT-loop
-μ-loop d cells tables r₀ r = 512 - r
+μ-loop d cells issues tables r₀ r = 512 - r
 
 loop-holds : tie.Need-loop-holds Inv-loop μ-loop
 loop-holds c = (omega arith, all-start _)
 
 row-stands-requires : tie.Need-row-stands-requires Inv-loop μ-loop
-row-stands-requires c κs = (omega arith, c .before .before .before .before .pre)
+row-stands-requires c κs = (omega arith, c .before .before .before .before .before .pre)
 
 returns : tie.Need-returns Inv-loop μ-loop
 unfolding rowsStand

@@ -11,11 +11,11 @@ shared-slice-read-if1 c = search needs
 returns : tie.Need-returns
 returns c = zero-member _ _ _ _ (c .if1 .taken)
 
-blank-from-requires : tie.Need-blank-from-requires
-blank-from-requires c κs = search needs
+cells-fit-requires : tie.Need-cells-fit-requires
+cells-fit-requires c κs = search needs
 
 returns-2 : tie.Need-returns-2
-returns-2 c = c .blank-from .ensures ∙ zero-cells _ _ _ _ (c .before .if1 .left)
+returns-2 c = c .cells-fit .ensures ∙ zero-cells _ _ _ _ (c .before .if1 .left)
 
 pub zero-row-spec : {M : Type 1} → statement M
-zero-row-spec = tie.close (tie.spec shared-slice-read-if1 returns blank-from-requires returns-2)
+zero-row-spec = tie.close (tie.spec shared-slice-read-if1 returns cells-fit-requires returns-2)

@@ -4,6 +4,7 @@ use native.Mathlib.Omega.{arith}
 use Rattle.finite.specs.Finite.{any}
 use Rattle.finite.proofs.Search.{any-start}
 use Rattle.model.specs.Rounds.{demands, leads}
+use Rattle.state.specs.Cells.{cellsIn}
 use Rattle.state.specs.Design.{constraintAt}
 use Rattle.state.specs.Meaning.{constraintOf, databaseOf, schemeOf}
 use Rattle.catalog.proofs.HitLaws.{first-hit}
@@ -16,39 +17,39 @@ use Rattle.load.proofs.expanding.expand.Statement.{statement}
 use Rattle.load.proofs.expanding.expand.Tie as tie
 
 abbrev Inv-loop : tie.InvT-loop
-Inv-loop d cells tables next first places s walked₀ levels₀ to queue₀ end e₀ i₀ i-end walked levels queue e i =
+Inv-loop d cells issues tables next first places s walked₀ levels₀ to queue₀ end e₀ i₀ i-end walked levels queue e i =
     (i ≤ d .constraints) ×
-    Grown to (λ r. any i (λ j. leads (databaseOf (d .rows) cells tables) (constraintOf (constraintAt d j)) s r)) levels₀ queue₀ end levels queue e ×
-    Walked (databaseOf (d .rows) cells tables) walked levels
+    Grown to (λ r. any i (λ j. leads (databaseOf (d .rows) (cellsIn cells issues) tables) (constraintOf (constraintAt d j)) s r)) levels₀ queue₀ end levels queue e ×
+    Walked (databaseOf (d .rows) (cellsIn cells issues) tables) walked levels
 
 abbrev μ-loop : tie.MeasureT-loop
-μ-loop d cells tables next first places s walked₀ levels₀ to queue₀ end e₀ i₀ i-end walked levels queue e i = d .constraints - i
+μ-loop d cells issues tables next first places s walked₀ levels₀ to queue₀ end e₀ i₀ i-end walked levels queue e i = d .constraints - i
 
 loop-holds : tie.Need-loop-holds Inv-loop μ-loop
-loop-holds c = let p = c .before .before .pre in (omega arith, grown-start _ _ _ _ _ 0 (p .0 .3) (p .1 .1 .0 .1) (λ r l. any-start _), p .1 .1 .1)
+loop-holds c = let p = c .before .before .before .pre in (omega arith, grown-start _ _ _ _ _ 0 (p .0 .3) (p .1 .1 .0 .1) (λ r l. any-start _), p .1 .1 .1)
 
 mul-place : tie.Need-mul-place Inv-loop μ-loop
-mul-place c = omega (arith, c .before .before .before .before .pre .0 .0 .constraints, c .loop-test .taken)
+mul-place c = omega (arith, c .before .before .before .before .before .pre .0 .0 .constraints, c .loop-test .taken)
 
 element-copy-out-place : tie.Need-element-copy-out-place Inv-loop μ-loop
-element-copy-out-place c = omega (arith, c .before .before .before .before .pre .0 .0 .constraints, c .loop-test .taken)
+element-copy-out-place c = omega (arith, c .before .before .before .before .before .pre .0 .0 .constraints, c .loop-test .taken)
 
 mul-r : tie.Need-mul-r Inv-loop μ-loop
-mul-r c = omega (arith, c .before .before .before .before .before .pre .0 .0 .constraints, c .before .loop-test .taken)
+mul-r c = omega (arith, c .before .before .before .before .before .before .pre .0 .0 .constraints, c .before .loop-test .taken)
 
 add-r : tie.Need-add-r Inv-loop μ-loop
-add-r c = let p = c .before .before .before .before .before .pre .0 in omega (arith, p .0 .constraints, p .1, c .before .loop-test .taken)
+add-r c = let p = c .before .before .before .before .before .before .pre .0 in omega (arith, p .0 .constraints, p .1, c .before .loop-test .taken)
 
 mul-r-2 : tie.Need-mul-r-2 Inv-loop μ-loop
-mul-r-2 c = let p = c .before .before .before .before .before .pre .0 in omega (arith, p .0 .constraints, p .1, c .before .loop-test .taken)
+mul-r-2 c = let p = c .before .before .before .before .before .before .pre .0 in omega (arith, p .0 .constraints, p .1, c .before .loop-test .taken)
 
 element-copy-out-r : tie.Need-element-copy-out-r Inv-loop μ-loop
-element-copy-out-r c = let p = c .before .before .before .before .before .pre .0 in omega (arith, p .0 .constraints, p .1, c .before .loop-test .taken)
+element-copy-out-r c = let p = c .before .before .before .before .before .before .pre .0 in omega (arith, p .0 .constraints, p .1, c .before .loop-test .taken)
 
 cast-r : tie.Need-cast-r Inv-loop μ-loop
 cast-r c =
     let w = c .before .before in
-    let p = w .before .before .before .before .pre in
+    let p = w .before .before .before .before .before .pre in
     let f = demanded-at _ _ _ (p .1 .0 .1) (p .0 .0) _ _ (w .loop-test .taken) (p .0 .1) in
     omega (arith, first-hit _ _ _ f .bound)
 
@@ -56,16 +57,16 @@ walk-once-requires : tie.Need-walk-once-requires Inv-loop μ-loop
 walk-once-requires c κs =
     let w = c .before .before .before .before .before in
     let h = w .before .loop in
-    let p = w .before .before .before .before .pre in
+    let p = w .before .before .before .before .before .pre in
     let f = demanded-at _ _ _ (p .1 .0 .1) (p .0 .0) _ _ (w .loop-test .taken) (p .0 .1) in
-    let at = target-at (w .before .before .before .before .args .d) _ (p .1 .1 .0 .0) (h .i) (omega (arith, p .0 .0 .constraints, w .loop-test .taken)) in
+    let at = target-at (w .before .before .before .before .before .args .d) _ (p .1 .1 .0 .0) (h .i) (omega (arith, p .0 .0 .constraints, w .loop-test .taken)) in
     let g = h .inv .1 in
     (p .1 .0 .0, ((omega (arith, at, p .0 .0 .target (h .i)), begins-leads _ _ _ _ f _ at), (p .0 .2, g .long, g .queue, h .inv .2)))
 
 add-i : tie.Need-add-i Inv-loop μ-loop
 add-i c =
     let w = c .before .before .before .before .before .before in
-    omega (arith, w .before .before .before .before .pre .0 .0 .constraints, w .loop-test .taken)
+    omega (arith, w .before .before .before .before .before .pre .0 .0 .constraints, w .loop-test .taken)
 
 loop-less : tie.Need-loop-less Inv-loop μ-loop
 loop-less c = omega (arith, c .before .before .before .before .before .before .loop-test .taken)
@@ -74,10 +75,10 @@ loop-again : tie.Need-loop-again Inv-loop μ-loop
 loop-again c =
     let w = c .before .before .before .before .before .before in
     let h = w .before .loop in
-    let p = w .before .before .before .before .pre in
+    let p = w .before .before .before .before .before .pre in
     let t = w .loop-test .taken in
     let f = demanded-at _ _ _ (p .1 .0 .1) (p .0 .0) _ _ t (p .0 .1) in
-    let at = target-at (w .before .before .before .before .args .d) _ (p .1 .1 .0 .0) (h .i) (omega (arith, p .0 .0 .constraints, t)) in
+    let at = target-at (w .before .before .before .before .before .args .d) _ (p .1 .1 .0 .0) (h .i) (omega (arith, p .0 .0 .constraints, t)) in
     let u = c .walk-once .ensures in
     (omega (arith, t), grown-turn _ _ _ _ _ _ _ _ _ _ _ _ _ (omega (arith, p .0 .2)) (h .inv .1) (u .0) (along-leads _ _ _ _ f _ at), u .1)
 

@@ -9,7 +9,7 @@ use Rattle.load.proofs.loading.load_value.Tie as tie
 
 start-value-requires : tie.Need-start-value-requires
 start-value-requires c κs =
-    let p = c .before .before .before .before .before .pre in
+    let p = c .before .before .before .before .before .before .pre in
     ((p .0 .1, p .0 .2, p .0 .3, p .0 .4, length-replicate {A = ℕ} 512 0), (p .1 .next-is, p .1 .directory))
 
 add-close : tie.Need-add-close
@@ -17,7 +17,7 @@ add-close c = search needs
 
 close-requires : tie.Need-close-requires
 close-requires c κs =
-    let p = c .before .before .before .before .before .before .before .before .pre in
+    let p = c .before .before .before .before .before .before .before .before .before .pre in
     let u = c .before .before .start-value .ensures in
     ((p .0 .0, started-long _ _ _ _ _ _ (u .0), started-low _ _ _ _ _ _ (u .0), u .1), (p .1 .next-is, p .1 .first-is))
 

@@ -12,7 +12,7 @@ use Rattle.load.proofs.rounds.close.Tie as tie
 returns : tie.Need-returns
 unfolding databaseOf
 returns c =
-    let p = c .before .before .before .pre .0 in
+    let p = c .before .before .before .before .pre .0 in
     let z = c .if1 .taken in
     ended-whole _ _ _ _ _ _ _ (sym z ∙ p .3 .size) (running-none _ _ _ (p .1) (queue-empty _ _ _ (p .3) z))
 
@@ -21,7 +21,7 @@ target-places-requires c κs = search needs
 
 run-requires : tie.Need-run-requires
 run-requires c κs =
-    let p = c .before .before .before .before .before .before .before .before .pre in
+    let p = c .before .before .before .before .before .before .before .before .before .pre in
     let u = p .0 .3 in
     ((p .0 .0, p .0 .1, p .0 .2), (p .1, (c .before .before .before .before .target-places .ensures, u, front-start _ _ _ u (p .0 .2), walked-none _ _)))
 

@@ -3,6 +3,7 @@ use Prim.Native.Nat.{_+_, _-_, _≤_}
 use native.Mathlib.Omega.{arith}
 use Rattle.finite.specs.Finite.{any}
 use Rattle.model.specs.Rounds.{demands}
+use Rattle.state.specs.Cells.{cellsIn}
 use Rattle.state.specs.Meaning.{databaseOf, schemeOf}
 use Rattle.load.specs.Queue.{Grown}
 use Rattle.load.specs.Walked.{Walked}
@@ -12,25 +13,25 @@ use Rattle.load.proofs.rounds.round.Statement.{statement}
 use Rattle.load.proofs.rounds.round.Tie as tie
 
 abbrev Inv-loop : tie.InvT-loop
-Inv-loop d cells tables next first places walked₀ levels₀ n queue₀ from end e₀ i₀ walked levels queue e i =
+Inv-loop d cells issues tables next first places walked₀ levels₀ n queue₀ from end e₀ i₀ walked levels queue e i =
     (from ≤ i) ×
     (i ≤ end) ×
-    Grown (n + 3) (λ r. any i (λ j. asks (demands (schemeOf d) (databaseOf (d .rows) cells tables)) from queue₀ j r)) levels₀ queue₀ end levels queue e ×
-    Walked (databaseOf (d .rows) cells tables) walked levels
+    Grown (n + 3) (λ r. any i (λ j. asks (demands (schemeOf d) (databaseOf (d .rows) (cellsIn cells issues) tables)) from queue₀ j r)) levels₀ queue₀ end levels queue e ×
+    Walked (databaseOf (d .rows) (cellsIn cells issues) tables) walked levels
 
 abbrev μ-loop : tie.MeasureT-loop
-μ-loop d cells tables next first places walked₀ levels₀ n queue₀ from end e₀ i₀ walked levels queue e i = end - i
+μ-loop d cells issues tables next first places walked₀ levels₀ n queue₀ from end e₀ i₀ walked levels queue e i = end - i
 
 loop-holds : tie.Need-loop-holds Inv-loop μ-loop
 loop-holds c =
-    let p = c .before .before .pre in
+    let p = c .before .before .before .pre in
     (omega arith, p .1 .1 .2 .order, grown-start _ _ _ _ _ _ (p .0 .2) (p .1 .1 .1) (λ r l. asks-none _ _ _ r), p .1 .1 .3)
 
 mul-expand : tie.Need-mul-expand Inv-loop μ-loop
-mul-expand c = omega (arith, listed-most _ _ _ (c .before .before .before .before .pre .1 .1 .1), c .loop-test .taken)
+mul-expand c = omega (arith, listed-most _ _ _ (c .before .before .before .before .before .pre .1 .1 .1), c .loop-test .taken)
 
 element-copy-out-expand : tie.Need-element-copy-out-expand Inv-loop μ-loop
-element-copy-out-expand c = omega (arith, listed-most _ _ _ (c .before .before .before .before .pre .1 .1 .1), c .loop-test .taken)
+element-copy-out-expand c = omega (arith, listed-most _ _ _ (c .before .before .before .before .before .pre .1 .1 .1), c .loop-test .taken)
 
 cast-expand : tie.Need-cast-expand Inv-loop μ-loop
 cast-expand c =
@@ -38,11 +39,11 @@ cast-expand c =
     omega (arith, g .queue .row (c .before .before .loop .i) (omega (arith, c .before .loop-test .taken, g .longer)))
 
 add-expand : tie.Need-add-expand Inv-loop μ-loop
-add-expand c = omega (arith, c .before .before .before .before .before .before .before .pre .0 .1)
+add-expand c = omega (arith, c .before .before .before .before .before .before .before .before .pre .0 .1)
 
 expand-requires : tie.Need-expand-requires Inv-loop μ-loop
 expand-requires c κs =
-    let p = c .before .before .before .before .before .before .before .before .pre in
+    let p = c .before .before .before .before .before .before .before .before .before .pre in
     let h = c .before .before .before .before .before .loop in
     let g = h .inv .2 in
     let s = g .queue .row (h .i) (omega (arith, c .before .before .before .before .loop-test .taken, g .longer)) in
@@ -51,7 +52,7 @@ expand-requires c κs =
 add-i : tie.Need-add-i Inv-loop μ-loop
 add-i c =
     let w = c .before .before .before .before .before in
-    omega (arith, listed-most _ _ _ (w .before .before .before .before .pre .1 .1 .1), w .loop-test .taken)
+    omega (arith, listed-most _ _ _ (w .before .before .before .before .before .pre .1 .1 .1), w .loop-test .taken)
 
 loop-less : tie.Need-loop-less Inv-loop μ-loop
 loop-less c = omega (arith, c .before .before .before .before .before .loop-test .taken)
@@ -62,7 +63,7 @@ loop-again c =
     let h = w .loop in
     let g = h .inv .2 in
     let t = c .before .before .before .before .before .loop-test .taken in
-    let q = w .before .before .before .args .queue .now in
+    let q = w .before .before .before .before .args .queue .now in
     let e = c .expand .ensures in (
       omega (arith, h .inv .0),
       omega (arith, t),
@@ -72,7 +73,7 @@ loop-again c =
 
 returns : tie.Need-returns Inv-loop μ-loop
 returns c =
-    let p = c .before .before .before .before .pre .1 .1 in
+    let p = c .before .before .before .before .before .pre .1 .1 in
     let g = grown-end _ _ _ _ _ _ _ _ _ _ (c .before .loop .inv .1) (c .loop-test .left) (c .before .loop .inv .2) in (
       front-round _ _ _ _ _ _ _ _ _ (p .1) (p .2) _ (g .levels),
       (g .queue, front-next _ _ _ _ _ (p .1) (p .2) _ (omega arith) _ _ _ _ g, c .before .loop .inv .3),

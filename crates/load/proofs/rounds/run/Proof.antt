@@ -3,6 +3,7 @@ use Prim.Native.Nat.{_+_, _-_, _≤_}
 use native.Mathlib.Omega.{arith}
 use mathlib.Core.Path.{_≡_, sym, _∙_}
 use lib.ListN.{length}
+use Rattle.state.specs.Cells.{cellsIn}
 use Rattle.state.specs.Meaning.{databaseOf, schemeOf}
 use Rattle.load.specs.Queue.{Front, Listed, added}
 use Rattle.load.specs.Walked.{Walked}
@@ -13,25 +14,25 @@ use Rattle.load.proofs.rounds.run.Statement.{statement}
 use Rattle.load.proofs.rounds.run.Tie as tie
 
 abbrev Inv-loop : tie.InvT-loop
-Inv-loop d cells tables next first places walked₀ levels₀ queue₀ end most n₀ from₀ to₀ walked levels queue n from to =
+Inv-loop d cells issues tables next first places walked₀ levels₀ queue₀ end most n₀ from₀ to₀ walked levels queue n from to =
     (n ≤ 512) ×
     (length levels ≡ 512) ×
-    Running (schemeOf d) (databaseOf (d .rows) cells tables) levels₀ n levels ×
+    Running (schemeOf d) (databaseOf (d .rows) (cellsIn cells issues) tables) levels₀ n levels ×
     Listed (added levels) queue to ×
     Front (n + 2) levels queue from to ×
-    Walked (databaseOf (d .rows) cells tables) walked levels
+    Walked (databaseOf (d .rows) (cellsIn cells issues) tables) walked levels
 
 abbrev μ-loop : tie.MeasureT-loop
-μ-loop d cells tables next first places walked₀ levels₀ queue₀ end most n₀ from₀ to₀ walked levels queue n from to = 512 - n
+μ-loop d cells issues tables next first places walked₀ levels₀ queue₀ end most n₀ from₀ to₀ walked levels queue n from to = 512 - n
 
 loop-holds : tie.Need-loop-holds Inv-loop μ-loop
 unfolding databaseOf
 loop-holds c =
-    let p = c .before .before .pre in
+    let p = c .before .before .before .pre in
     (omega arith, p .0 .1, running-start _ _ _ (p .0 .1) (p .0 .2), p .1 .1 .1, p .1 .1 .2, p .1 .1 .3)
 
-cast-t17 : tie.Need-cast-t17 Inv-loop μ-loop
-cast-t17 c = omega (arith, c .before .loop-test .taken)
+cast-t18 : tie.Need-cast-t18 Inv-loop μ-loop
+cast-t18 c = omega (arith, c .before .loop-test .taken)
 
 returns : tie.Need-returns Inv-loop μ-loop
 returns c =
@@ -40,12 +41,12 @@ returns c =
 
 round-requires : tie.Need-round-requires Inv-loop μ-loop
 round-requires c κs =
-    let p = c .before .before .before .before .before .before .before .before .pre in
+    let p = c .before .before .before .before .before .before .before .before .before .pre in
     let v = c .before .before .before .before .before .loop .inv in
     ((p .0 .0, c .before .before .before .before .loop-test .taken, v .1), (p .1 .0, (p .1 .1 .0, v .3, v .4, v .5)))
 
-cast-t21 : tie.Need-cast-t21 Inv-loop μ-loop
-cast-t21 c = omega (arith, c .before .before .before .before .before .before .loop-test .taken)
+cast-t22 : tie.Need-cast-t22 Inv-loop μ-loop
+cast-t22 c = omega (arith, c .before .before .before .before .before .before .loop-test .taken)
 
 returns-2 : tie.Need-returns-2 Inv-loop μ-loop
 unfolding someAt databaseOf
@@ -70,8 +71,8 @@ loop-again c =
     let t = running-next _ _ _ _ _ _ (w .before .loop .inv .2) (e .0) s in
     (omega (arith, w .loop-test .taken), t .long, t, e .1 .0, front-at _ _ _ _ _ _ (omega arith) (e .1 .1), e .1 .2)
 
-cast-t22 : tie.Need-cast-t22 Inv-loop μ-loop
-cast-t22 c = omega (arith, c .before .loop .inv .0)
+cast-t23 : tie.Need-cast-t23 Inv-loop μ-loop
+cast-t23 c = omega (arith, c .before .loop .inv .0)
 
 returns-3 : tie.Need-returns-3 Inv-loop μ-loop
 unfolding databaseOf
@@ -86,13 +87,13 @@ run-spec =
     Inv-loop
     μ-loop
     loop-holds
-    cast-t17
+    cast-t18
     returns
     round-requires
-    cast-t21
+    cast-t22
     returns-2
     add-n
     loop-less
     loop-again
-    cast-t22
+    cast-t23
     returns-3)

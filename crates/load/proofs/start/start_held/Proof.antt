@@ -6,6 +6,7 @@ use lib.ListN.{getD, length-replicate}
 use Rattle.finite.specs.Finite.{any}
 use Rattle.finite.proofs.Search.{any-start}
 use Rattle.model.specs.Database.{has}
+use Rattle.state.specs.Cells.{cellsIn}
 use Rattle.state.specs.Design.{fillingAt}
 use Rattle.state.specs.Held.{noValue}
 use Rattle.state.specs.Meaning.{cellOf, columnOf, databaseOf, schemeOf}
@@ -17,38 +18,38 @@ use Rattle.load.proofs.start.start_held.Statement.{statement}
 use Rattle.load.proofs.start.start_held.Tie as tie
 
 abbrev Inv-loop : tie.InvT-loop
-Inv-loop d cells tables next keys heads starts levels₀ queue₀ end₀ values filling i₀ i-end levels queue end i =
+Inv-loop d cells issues tables next keys heads starts levels₀ queue₀ end₀ values filling i₀ i-end levels queue end i =
     (i ≤ i-end) ×
     Grown 2
-    (λ r. any i (λ j. has (databaseOf (d .rows) cells tables) (columnOf (fillingAt d (getD values j noValue .filling) .column))
+    (λ r. any i (λ j. has (databaseOf (d .rows) (cellsIn cells issues) tables) (columnOf (fillingAt d (getD values j noValue .filling) .column))
     (cellOf (getD values j noValue .value)) r)) levels₀ queue₀ end₀ levels queue end
 
 abbrev μ-loop : tie.MeasureT-loop
-μ-loop d cells tables next keys heads starts levels₀ queue₀ end₀ values filling i₀ i-end levels queue end i = i-end - i
+μ-loop d cells issues tables next keys heads starts levels₀ queue₀ end₀ values filling i₀ i-end levels queue end i = i-end - i
 
 loop-holds : tie.Need-loop-holds Inv-loop μ-loop
 loop-holds c =
-    let p = c .before .before .before .before .before .pre .0 in
+    let p = c .before .before .before .before .before .before .pre .0 in
     (omega arith, grown-start _ _ _ _ _ 0 (length-replicate {A = ℕ} 512 0) (none-added _ (p .3)) (λ r l. any-start _))
 
 mul-v : tie.Need-mul-v Inv-loop μ-loop
-mul-v c = omega (arith, c .before .before .before .before .before .before .before .pre .0 .1, c .loop-test .taken)
+mul-v c = omega (arith, c .before .before .before .before .before .before .before .before .pre .0 .1, c .loop-test .taken)
 
 array-copy-out-v : tie.Need-array-copy-out-v Inv-loop μ-loop
-array-copy-out-v c = omega (arith, c .before .before .before .before .before .before .before .pre .0 .1, c .loop-test .taken)
+array-copy-out-v c = omega (arith, c .before .before .before .before .before .before .before .before .pre .0 .1, c .loop-test .taken)
 
 cast-f : tie.Need-cast-f Inv-loop μ-loop
 cast-f c = search needs
 
 mul-f : tie.Need-mul-f Inv-loop μ-loop
-mul-f c = let w = c .before .before .before in omega (arith, w .before .before .before .before .before .before .pre .0 .2 (w .loop .i))
+mul-f c = let w = c .before .before .before in omega (arith, w .before .before .before .before .before .before .before .pre .0 .2 (w .loop .i))
 
 array-copy-out-f : tie.Need-array-copy-out-f Inv-loop μ-loop
-array-copy-out-f c = let w = c .before .before .before in omega (arith, w .before .before .before .before .before .before .pre .0 .2 (w .loop .i))
+array-copy-out-f c = let w = c .before .before .before in omega (arith, w .before .before .before .before .before .before .before .pre .0 .2 (w .loop .i))
 
 find-requires : tie.Need-find-requires Inv-loop μ-loop
 find-requires c κs =
-    let p = c .before .before .before .before .before .before .before .before .before .before .before .pre .0 .0 in
+    let p = c .before .before .before .before .before .before .before .before .before .before .before .before .pre .0 .0 in
     (p .column-table _, p .column _)
 
 cast-place : tie.Need-cast-place Inv-loop μ-loop
@@ -57,14 +58,14 @@ cast-place c = search needs
 walk-requires : tie.Need-walk-requires Inv-loop μ-loop
 walk-requires c κs =
     let w = c .before .before .before in
-    let p = w .before .before .before .before .before .before .before .before .before .before .before .before .pre in
+    let p = w .before .before .before .before .before .before .before .before .before .before .before .before .before .pre in
     let g = w .before .before .before .before .before .before .loop .inv .1 in
     (p .1 .0, ((p .0 .0 .column _, begins-has _ _ _ _ (w .find .ensures _ (p .1 .1))), (omega arith, g .long, g .queue)))
 
 add-i : tie.Need-add-i Inv-loop μ-loop
 add-i c =
     let w = c .before .before .before .before .before .before .before .before .before in
-    omega (arith, w .before .before .before .before .before .before .before .pre .0 .1, w .loop-test .taken)
+    omega (arith, w .before .before .before .before .before .before .before .before .pre .0 .1, w .loop-test .taken)
 
 loop-less : tie.Need-loop-less Inv-loop μ-loop
 loop-less c = omega (arith, c .before .before .before .before .before .before .before .before .before .loop-test .taken)
@@ -73,7 +74,7 @@ loop-again : tie.Need-loop-again Inv-loop μ-loop
 loop-again c =
     let w = c .before .before .before .before in
     let t = w .before .before .before .before .before in
-    let f = w .find .ensures _ (t .before .before .before .before .before .before .before .pre .1 .1) in
+    let f = w .find .ensures _ (t .before .before .before .before .before .before .before .before .pre .1 .1) in
     let g = grown-turn _ _ _ _ _ _ _ _ _ _ _ _ _ (omega arith) (t .before .loop .inv .1) (c .walk .ensures) (along-has _ _ _ _ f) in
     (omega (arith, t .loop-test .taken), g)
 

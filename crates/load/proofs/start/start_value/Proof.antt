@@ -8,17 +8,17 @@ use Rattle.load.proofs.start.start_value.Statement.{statement}
 use Rattle.load.proofs.start.start_value.Tie as tie
 
 cached-levels-requires : tie.Need-cached-levels-requires
-cached-levels-requires c κs = let p = c .before .before .before .before .pre .0 in (p .2, p .3)
+cached-levels-requires c κs = let p = c .before .before .before .before .before .pre .0 in (p .2, p .3)
 
 find-requires : tie.Need-find-requires
-find-requires c κs = let p = c .before .before .before .before .before .pre in (p .0 .0, p .0 .1)
+find-requires c κs = let p = c .before .before .before .before .before .before .pre in (p .0 .0, p .0 .1)
 
 cast-place : tie.Need-cast-place
 cast-place c = search needs
 
 walk-requires : tie.Need-walk-requires
 walk-requires c κs =
-    let s = c .before .before .before .before .before .before .before .before .before in
+    let s = c .before .before .before .before .before .before .before .before .before .before in
     let p = s .pre in
     let e = c .before .before .before .before .cached-levels .ensures in
     let X = marked (s .args .marks .now) in (
@@ -32,7 +32,7 @@ walk-requires c κs =
 returns : tie.Need-returns
 returns c =
     let w = c .before .before .before .before in
-    let f = w .find .ensures _ (w .before .before .before .before .before .before .pre .1 .1) in
+    let f = w .find .ensures _ (w .before .before .before .before .before .before .before .pre .1 .1) in
     (start-raised _ _ (w .before .cached-levels .ensures) _ _ _ _ _ _ (c .walk .ensures .levels) (along-has _ _ _ _ f), c .walk .ensures .queue)
 
 pub start-value-spec : {M : Type 1} → statement M

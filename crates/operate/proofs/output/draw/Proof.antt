@@ -11,7 +11,7 @@ enum-told c = search needs
 
 list-fitting-requires : tie.Need-list-fitting-requires
 list-fitting-requires c κs =
-    let s = c .before .before .before .before .before .before .before .before .before .before .before in
+    let s = c .before .before .before .before .before .before .before .before .before .before .before .before in
     let p = s .pre .0 in
     (p .0, p .1, listed (s .args .d) (s .args .q) _ _ (c .before .before .before .before .before .enum-told .given .1) (s .pre .1 .1), p .2, p .3, p .4)
 
@@ -20,7 +20,7 @@ enum-known-output c = search needs
 
 total-fitting-requires : tie.Need-total-fitting-requires
 total-fitting-requires c κs =
-    let s = c .before .before .before .before .before .before .before .before .before .before .before in
+    let s = c .before .before .before .before .before .before .before .before .before .before .before .before in
     let p = s .pre .0 in
     let t = totals (s .args .d) (s .args .q) (s .pre .1 .0) (sized (s .args .d) _ (s .good .0)) _ _ _ _ (c .before .before .before .before .before .output .given .1) (s .pre .1 .1) in
     (p .0, p .1, t .operands, p .2, p .3, p .4, t .position, t .column)

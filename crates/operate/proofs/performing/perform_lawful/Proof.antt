@@ -35,7 +35,7 @@ enum-told c = search needs
 
 evenness-requires : tie.Need-evenness-requires
 evenness-requires c κs =
-    let b = c .before .before .before .before .before .before in sound-range _ (b .pre .0) (sized (b .args .design) _ (b .good .1 .0))
+    let b = c .before .before .before .before .before .before .before in sound-range _ (b .pre .0) (sized (b .args .design) _ (b .good .1 .0))
 
 enum-known-op-5 : tie.Need-enum-known-op-5
 enum-known-op-5 c = search needs
@@ -47,21 +47,21 @@ same-length : tie.Need-same-length
 same-length c = search needs
 
 returns : tie.Need-returns
-returns c = in-case _ _ _ _ _ _ _ _ (c .before .before .before .before .before .op .given .1) (refer-performs _ (c .before .before .before .before .before .before .before .before .before .before .before .pre .0) _ _ _ _ (c .before .before .refer-lawful .ensures))
+returns c = in-case _ _ _ _ _ _ _ _ (c .before .before .before .before .before .op .given .1) (refer-performs _ (c .before .before .before .before .before .before .before .before .before .before .before .before .pre .0) _ _ _ _ (c .before .before .refer-lawful .ensures))
 
 same-length-2 : tie.Need-same-length-2
 same-length-2 c = search needs
 
 returns-2 : tie.Need-returns-2
-returns-2 c = in-case _ _ _ _ _ _ _ _ (c .before .before .before .before .before .op2 .given .1) (drop-performs _ (c .before .before .before .before .before .before .before .before .before .before .before .pre .0) _ _ _ _ (c .before .before .drop-lawful .ensures))
+returns-2 c = in-case _ _ _ _ _ _ _ _ (c .before .before .before .before .before .op2 .given .1) (drop-performs _ (c .before .before .before .before .before .before .before .before .before .before .before .before .pre .0) _ _ _ _ (c .before .before .drop-lawful .ensures))
 
 same-length-3 : tie.Need-same-length-3
 same-length-3 c = search needs
 
 returns-3 : tie.Need-returns-3
 returns-3 c =
-    let b = c .before .before .before .before .before .before .before .before .before in
-    in-case _ _ _ _ _ _ _ _ (c .before .before .before .op3 .given .1) (ask-performs _ (b .pre .0) _ (held-sized (b .args .held) _ (b .good .1 .1 .1 .1 .1 .1 .1 .1 .1 .1 .0)) _ _ (c .probe-lawful .ensures))
+    let b = c .before .before .before .before .before .before .before .before .before .before in
+    in-case _ _ _ _ _ _ _ _ (c .before .before .before .op3 .given .1) (ask-performs _ (b .pre .0) _ (held-sized (b .args .held) _ (b .good .1 .1 .1 .1 .1 .1 .1 .1 .1 .1 .1 .0)) _ _ (c .probe-lawful .ensures))
 
 same-length-4 : tie.Need-same-length-4
 same-length-4 c = search needs
@@ -74,9 +74,9 @@ returns-4 c = in-case _ _ _ _ _ _ _ _ (c .before .before .before .before .before
 
 returns-5 : tie.Need-returns-5
 returns-5 c =
-    let b = c .before .before .before .before .before .before .before in
+    let b = c .before .before .before .before .before .before .before .before in
     in-case _ _ _ _ _ _ _ _ (c .before .enum-told .given .1)
-    (ask-performs _ (b .pre .0) _ (held-sized (b .args .held) _ (b .good .1 .1 .1 .1 .1 .1 .1 .1 .1 .1 .0)) _ _ (even-answers _ (b .pre .0) _ (c .evenness .ensures)))
+    (ask-performs _ (b .pre .0) _ (held-sized (b .args .held) _ (b .good .1 .1 .1 .1 .1 .1 .1 .1 .1 .1 .1 .0)) _ _ (even-answers _ (b .pre .0) _ (c .evenness .ensures)))
 
 same-length-6 : tie.Need-same-length-6
 same-length-6 c = search needs

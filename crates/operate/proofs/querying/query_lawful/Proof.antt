@@ -10,30 +10,30 @@ use Rattle.lawful.proofs.Asked.{sound-range, sound-backed, sound-marks, sound-t
 use Rattle.lawful.proofs.SoundState.{parts}
 use Rattle.query.proofs.PlanLaws.{column-fits}
 use Rattle.operate.proofs.QueryLists.{sound-place}
-use Rattle.operate.proofs.QueryCases.{query-misfit, query-blank}
+use Rattle.operate.proofs.QueryCases.{query-misfit, query-numberless}
 use Rattle.operate.proofs.QuerySteps.{filling-byte, step-drawn, step-sent, step-refers}
 use Rattle.operate.proofs.querying.query_lawful.Statement.{statement}
 use Rattle.operate.proofs.querying.query_lawful.Tie as tie
 
 output-fits-requires : tie.Need-output-fits-requires
-output-fits-requires c κs = let s = c .before .before .before .before in sound-range _ (s .pre .0) (sized (s .args .design) _ (s .good .0))
+output-fits-requires c κs = let s = c .before .before .before .before .before in sound-range _ (s .pre .0) (sized (s .args .design) _ (s .good .0))
 
 returns : tie.Need-returns
 returns c =
-    let s = c .before .before .before .before .before .before in
-    query-misfit _ (s .pre .0) (held-sized (s .args .held) _ (s .good .1 .1 .1 .1 .1 .1 .1 .1 .1 .0)) _ _ _ (sym (c .before .output-fits .ensures _) ∙ not-true _ (c .if1 .taken))
+    let s = c .before .before .before .before .before .before .before in
+    query-misfit _ (s .pre .0) (held-sized (s .args .held) _ (s .good .1 .1 .1 .1 .1 .1 .1 .1 .1 .1 .0)) _ _ _ (sym (c .before .output-fits .ensures _) ∙ not-true _ (c .if1 .taken))
 
-is-blank-requires : tie.Need-is-blank-requires
-is-blank-requires c κs = search needs
+is-numberless-requires : tie.Need-is-numberless-requires
+is-numberless-requires c κs = search needs
 
 returns-2 : tie.Need-returns-2
 returns-2 c =
-    let s = c .before .before .before .before .before .before .before .before in
-    query-blank _ (s .pre .0) (held-sized (s .args .held) _ (s .good .1 .1 .1 .1 .1 .1 .1 .1 .1 .0)) _ _ _ (sym (c .before .before .before .output-fits .ensures _) ∙ not-false _ (c .before .before .if1 .left)) (sym (c .before .is-blank .ensures) ∙ c .if2 .taken)
+    let s = c .before .before .before .before .before .before .before .before .before in
+    query-numberless _ (s .pre .0) (held-sized (s .args .held) _ (s .good .1 .1 .1 .1 .1 .1 .1 .1 .1 .1 .0)) _ _ _ (sym (c .before .before .before .output-fits .ensures _) ∙ not-false _ (c .before .before .if1 .left)) (sym (c .before .is-numberless .ensures) ∙ c .if2 .taken)
 
 search-requires : tie.Need-search-requires
 search-requires c κs =
-    let s = c .before .before .before .before .before .before .before .before .before .before in
+    let s = c .before .before .before .before .before .before .before .before .before .before .before in
     let f = fits-operands _ _ _ (sym (c .before .before .before .before .before .output-fits .ensures 0) ∙ not-false _ (c .before .before .before .before .if1 .left)) in
     let r = sound-range _ (s .pre .0) (sized (s .args .design) _ (s .good .0)) in (
       (
@@ -42,14 +42,14 @@ search-requires c κs =
         sound-tidy _ (s .pre .0) .few,
         column-fits _ (s .args .q) r f,
         sound-place _ (s .pre .0) (s .args .q) f,
-        sound-filling _ (s .pre .0) (held-sized (s .args .held) _ (s .good .1 .1 .1 .1 .1 .1 .1 .1 .1 .0)),
+        sound-filling _ (s .pre .0) (held-sized (s .args .held) _ (s .good .1 .1 .1 .1 .1 .1 .1 .1 .1 .1 .0)),
       ),
       (s .pre .1 .next-is, s .pre .1 .directory),
     )
 
 draw-requires : tie.Need-draw-requires
 draw-requires c κs =
-    let s = c .before .before .before .before .before .before .before .before .before .before .before .before .before .before .before .before .before .before in
+    let s = c .before .before .before .before .before .before .before .before .before .before .before .before .before .before .before .before .before .before .before in
     let f = sym (c .before .before .before .before .before .before .before .before .before .before .before .before .before .output-fits .ensures _) ∙ not-false _ (c .before .before .before .before .before .before .before .before .before .before .before .before .if1 .left) in (
       (
         sound-range _ (s .pre .0) (sized (s .args .design) _ (s .good .0)),
@@ -69,33 +69,33 @@ same-length-2 c = search needs
 
 returns-3 : tie.Need-returns-3
 returns-3 c =
-    let s = c .before .before .before .before .before .before .before .before .before .before .before .before .before .before .before .before .before .before .before .before .before in
-    step-drawn _ (s .pre .0) _ (s .args .q) _ (sym (c .before .before .before .before .before .before .before .before .before .before .before .before .before .before .before .before .output-fits .ensures _) ∙ not-false _ (c .before .before .before .before .before .before .before .before .before .before .before .before .before .before .before .if1 .left)) (sym (c .before .before .before .before .before .before .before .before .before .before .before .before .before .before .is-blank .ensures) ∙ c .before .before .before .before .before .before .before .before .before .before .before .before .before .if2 .left) _
-    (c .before .before .before .before .before .before .before .before .before .before .search .ensures .0) (held-sized (s .args .held) _ (s .good .1 .1 .1 .1 .1 .1 .1 .1 .1 .0)) (λ i. omega (arith, c .before .before .before .before .before .before .before .before .before .before .before .before .before .before .before .before .before .before .before .before .shared-slice-known .given i)) (c .before .before .before .before .before .before .before .before .before .if3 .taken) _ _ (c .before .before .draw .ensures)
+    let s = c .before .before .before .before .before .before .before .before .before .before .before .before .before .before .before .before .before .before .before .before .before .before in
+    step-drawn _ (s .pre .0) _ (s .args .q) _ (sym (c .before .before .before .before .before .before .before .before .before .before .before .before .before .before .before .before .output-fits .ensures _) ∙ not-false _ (c .before .before .before .before .before .before .before .before .before .before .before .before .before .before .before .if1 .left)) (sym (c .before .before .before .before .before .before .before .before .before .before .before .before .before .before .is-numberless .ensures) ∙ c .before .before .before .before .before .before .before .before .before .before .before .before .before .if2 .left) _
+    (c .before .before .before .before .before .before .before .before .before .before .search .ensures .0) (held-sized (s .args .held) _ (s .good .1 .1 .1 .1 .1 .1 .1 .1 .1 .1 .0)) (record { number = λ i. omega (arith, c .before .before .before .before .before .before .before .before .before .before .before .before .before .before .before .before .before .before .before .before .before .shared-slice-known .given i); issue = λ i. omega (arith, c .before .before .before .before .before .before .before .before .before .before .before .before .before .before .before .before .before .before .before .before .shared-slice-known2 .given i) }) (c .before .before .before .before .before .before .before .before .before .if3 .taken) _ _ (c .before .before .draw .ensures)
 
 filling-for-requires : tie.Need-filling-for-requires
-filling-for-requires c κs = sound-fillings _ (c .before .before .before .before .before .before .before .before .before .before .before .before .pre .0)
+filling-for-requires c κs = sound-fillings _ (c .before .before .before .before .before .before .before .before .before .before .before .before .before .pre .0)
 
-cast-t41 : tie.Need-cast-t41
-cast-t41 c = omega (arith, filling-byte _ (c .before .before .before .before .before .before .before .before .before .before .before .before .before .before .pre .0) (c .before .before .before .before .before .before .before .before .before .before .before .before .before .before .args .q) _ (c .before .filling-for .ensures))
+cast-t42 : tie.Need-cast-t42
+cast-t42 c = omega (arith, filling-byte _ (c .before .before .before .before .before .before .before .before .before .before .before .before .before .before .before .pre .0) (c .before .before .before .before .before .before .before .before .before .before .before .before .before .before .before .args .q) _ (c .before .filling-for .ensures))
 
 takes-requires : tie.Need-takes-requires
-takes-requires c κs = (sound-fillings _ (c .before .before .before .before .before .before .before .before .before .before .before .before .before .before .pre .0), sound-tidy _ (c .before .before .before .before .before .before .before .before .before .before .before .before .before .before .pre .0) .few)
+takes-requires c κs = (sound-fillings _ (c .before .before .before .before .before .before .before .before .before .before .before .before .before .before .before .pre .0), sound-tidy _ (c .before .before .before .before .before .before .before .before .before .before .before .before .before .before .before .pre .0) .few)
 
 same-length-3 : tie.Need-same-length-3
 same-length-3 c = search needs
 
 returns-4 : tie.Need-returns-4
 returns-4 c =
-    let s = c .before .before .before .before .before .before .before .before .before .before .before .before .before .before .before .before in
-    step-sent _ (s .pre .0) _ (s .args .q) _ (sym (c .before .before .before .before .before .before .before .before .before .before .before .output-fits .ensures _) ∙ not-false _ (c .before .before .before .before .before .before .before .before .before .before .if1 .left)) (sym (c .before .before .before .before .before .before .before .before .before .is-blank .ensures) ∙ c .before .before .before .before .before .before .before .before .if2 .left) _ (c .before .before .before .before .before .search .ensures .0)
-    (c .before .before .before .before .if3 .left) _ (c .before .before .before .filling-for .ensures) (held-sized (s .args .held) _ (s .good .1 .1 .1 .1 .1 .1 .1 .1 .1 .0)) (sym (c .before .takes .ensures) ∙ not-true _ (c .if4 .taken))
+    let s = c .before .before .before .before .before .before .before .before .before .before .before .before .before .before .before .before .before in
+    step-sent _ (s .pre .0) _ (s .args .q) _ (sym (c .before .before .before .before .before .before .before .before .before .before .before .output-fits .ensures _) ∙ not-false _ (c .before .before .before .before .before .before .before .before .before .before .if1 .left)) (sym (c .before .before .before .before .before .before .before .before .before .is-numberless .ensures) ∙ c .before .before .before .before .before .before .before .before .if2 .left) _ (c .before .before .before .before .before .search .ensures .0)
+    (c .before .before .before .before .if3 .left) _ (c .before .before .before .filling-for .ensures) (held-sized (s .args .held) _ (s .good .1 .1 .1 .1 .1 .1 .1 .1 .1 .1 .0)) (sym (c .before .takes .ensures) ∙ not-true _ (c .if4 .taken))
 
 refer-and-draw-requires : tie.Need-refer-and-draw-requires
 refer-and-draw-requires c κs =
-    let s = c .before .before .before .before .before .before .before .before .before .before .before .before .before .before .before .before .before .before .before .before .before .before in (
+    let s = c .before .before .before .before .before .before .before .before .before .before .before .before .before .before .before .before .before .before .before .before .before .before .before in (
       (s .pre .0, s .pre .1),
-      step-refers _ (s .pre .0) [] (s .args .q) _ (sym (c .before .before .before .before .before .before .before .before .before .before .before .before .before .before .before .before .before .output-fits .ensures _) ∙ not-false _ (c .before .before .before .before .before .before .before .before .before .before .before .before .before .before .before .before .if1 .left)) (sym (c .before .before .before .before .before .before .before .before .before .before .before .before .before .before .before .is-blank .ensures) ∙ c .before .before .before .before .before .before .before .before .before .before .before .before .before .before .if2 .left) _ (c .before .before .before .before .before .before .before .before .before .before .before .search .ensures .0)
+      step-refers _ (s .pre .0) [] (s .args .q) _ (sym (c .before .before .before .before .before .before .before .before .before .before .before .before .before .before .before .before .before .output-fits .ensures _) ∙ not-false _ (c .before .before .before .before .before .before .before .before .before .before .before .before .before .before .before .before .if1 .left)) (sym (c .before .before .before .before .before .before .before .before .before .before .before .before .before .before .before .is-numberless .ensures) ∙ c .before .before .before .before .before .before .before .before .before .before .before .before .before .before .if2 .left) _ (c .before .before .before .before .before .before .before .before .before .before .before .search .ensures .0)
           (c .before .before .before .before .before .before .before .before .before .before .if3 .left) _ (c .before .before .before .before .before .before .before .before .before .filling-for .ensures) (sym (c .before .before .before .before .before .before .before .takes .ensures) ∙ not-false _ (c .before .before .before .before .before .before .if4 .left)),
     )
 
@@ -114,7 +114,7 @@ query-lawful-spec =
     (tie.spec
     output-fits-requires
     returns
-    is-blank-requires
+    is-numberless-requires
     returns-2
     search-requires
     draw-requires
@@ -122,7 +122,7 @@ query-lawful-spec =
     same-length-2
     returns-3
     filling-for-requires
-    cast-t41
+    cast-t42
     takes-requires
     same-length-3
     returns-4

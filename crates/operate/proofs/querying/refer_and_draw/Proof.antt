@@ -13,29 +13,29 @@ use Rattle.operate.proofs.querying.refer_and_draw.Statement.{statement}
 use Rattle.operate.proofs.querying.refer_and_draw.Tie as tie
 
 slice-reshare-prefix-copy-bytes : tie.Need-slice-reshare-prefix-copy-bytes
-slice-reshare-prefix-copy-bytes c = sound-marks _ (c .before .before .before .before .pre .0 .0)
+slice-reshare-prefix-copy-bytes c = sound-marks _ (c .before .before .before .before .before .pre .0 .0)
 
 slice-aggregate-copy-bytes : tie.Need-slice-aggregate-copy-bytes
-slice-aggregate-copy-bytes c = sym (length-take-le 512 (c .before .before .before .before .before .args .marks .now) (sound-marks _ (c .before .before .before .before .before .pre .0 .0)))
+slice-aggregate-copy-bytes c = sym (length-take-le 512 (c .before .before .before .before .before .before .args .marks .now) (sound-marks _ (c .before .before .before .before .before .before .pre .0 .0)))
 
 slice-aggregate-copy-bytes-2 : tie.Need-slice-aggregate-copy-bytes-2
 slice-aggregate-copy-bytes-2 c = search needs
 
 copy-bytes-requires : tie.Need-copy-bytes-requires
-copy-bytes-requires c κs = (length-take-le 512 (c .before .before .before .before .before .before .args .marks .now) (sound-marks _ (c .before .before .before .before .before .before .pre .0 .0)), omega arith)
+copy-bytes-requires c κs = (length-take-le 512 (c .before .before .before .before .before .before .before .args .marks .now) (sound-marks _ (c .before .before .before .before .before .before .before .pre .0 .0)), omega arith)
 
 slice-aggregate-refer-lawful : tie.Need-slice-aggregate-refer-lawful
 slice-aggregate-refer-lawful c = search needs
 
 refer-lawful-requires : tie.Need-refer-lawful-requires
-refer-lawful-requires c κs = let s = c .before .before .before .before .before .before .before .before .before in (copied-sound _ (s .pre .0 .0) _ _ refl (c .before .before .copy-bytes .ensures), s .pre .0 .1)
+refer-lawful-requires c κs = let s = c .before .before .before .before .before .before .before .before .before .before in (copied-sound _ (s .pre .0 .0) _ _ refl (c .before .before .copy-bytes .ensures), s .pre .0 .1)
 
 slice-aggregate-draw : tie.Need-slice-aggregate-draw
 slice-aggregate-draw c = search needs
 
 draw-requires : tie.Need-draw-requires
 draw-requires c κs =
-    let s = c .before .before .before .before .before .before .before .before .before .before .before .before .before .before .before .before .before in (
+    let s = c .before .before .before .before .before .before .before .before .before .before .before .before .before .before .before .before .before .before in (
       (
         sound-range _ (s .pre .0 .0) (sized (s .args .design) _ (s .good .0)),
         sound-place _ (s .pre .0 .0) (s .args .q) (fits-operands _ _ _ (s .pre .1 .fit)),
@@ -43,7 +43,7 @@ draw-requires c κs =
         s .pre .0 .1,
         omega (
           arith,
-          marks-long _ (s .pre .0 .0) _ _ refl (c .before .before .before .before .before .before .before .before .before .before .copy-bytes .ensures) (λ i. omega (arith, c .before .before .before .before .before .before .before .before .before .before .before .before .before .before .before .before .shared-slice-known .given i)) (s .args .q) (s .args .v) _ (s .pre .1) _ _ _ (c .before .before .before .before .before .before .before .refer-lawful .ensures),
+          marks-long _ (s .pre .0 .0) _ _ refl (c .before .before .before .before .before .before .before .before .before .before .copy-bytes .ensures) (record { number = λ i. omega (arith, c .before .before .before .before .before .before .before .before .before .before .before .before .before .before .before .before .before .shared-slice-known .given i); issue = λ i. omega (arith, c .before .before .before .before .before .before .before .before .before .before .before .before .before .before .before .before .shared-slice-known2 .given i) }) (s .args .q) (s .args .v) _ (s .pre .1) _ _ _ (c .before .before .before .before .before .before .before .refer-lawful .ensures),
         ),
       ),
       (parts _ (s .pre .0 .0) .design, s .pre .1 .fit),
@@ -60,17 +60,17 @@ same-length-2 c = search needs
 
 returns : tie.Need-returns
 returns c =
-    let s = c .before .before .before .before .before .before .before .before .before .before .before .before .before .before .before .before .before .before .before .before .before .before .before in
-    left-alone _ (s .pre .0 .0) _ _ refl (c .before .before .before .before .before .before .before .before .before .before .before .before .before .before .before .before .copy-bytes .ensures) (λ i. omega (arith, c .before .before .before .before .before .before .before .before .before .before .before .before .before .before .before .before .before .before .before .before .before .before .shared-slice-known .given i)) (s .args .q) (s .args .v) _ (s .pre .1) _ _ _ (c .before .before .before .before .before .before .before .before .before .before .before .before .before .refer-lawful .ensures) _ _ _
-    (c .before .before .before .before .before .draw .ensures) (held-sized (s .args .held) _ (s .good .1 .1 .1 .1 .1 .1 .1 .1 .1 .0)) (sym (c .before .is-refusal .ensures) ∙ c .if1 .taken)
+    let s = c .before .before .before .before .before .before .before .before .before .before .before .before .before .before .before .before .before .before .before .before .before .before .before .before in
+    left-alone _ (s .pre .0 .0) _ _ refl (c .before .before .before .before .before .before .before .before .before .before .before .before .before .before .before .before .copy-bytes .ensures) (record { number = λ i. omega (arith, c .before .before .before .before .before .before .before .before .before .before .before .before .before .before .before .before .before .before .before .before .before .before .before .shared-slice-known .given i); issue = λ i. omega (arith, c .before .before .before .before .before .before .before .before .before .before .before .before .before .before .before .before .before .before .before .before .before .before .shared-slice-known2 .given i) }) (s .args .q) (s .args .v) _ (s .pre .1) _ _ _ (c .before .before .before .before .before .before .before .before .before .before .before .before .before .refer-lawful .ensures) _ _ _
+    (c .before .before .before .before .before .draw .ensures) (held-sized (s .args .held) _ (s .good .1 .1 .1 .1 .1 .1 .1 .1 .1 .1 .0)) (sym (c .before .is-refusal .ensures) ∙ c .if1 .taken)
 
 slice-aggregate-copy-bytes-3 : tie.Need-slice-aggregate-copy-bytes-3
 slice-aggregate-copy-bytes-3 c = search needs
 
 copy-bytes-requires-2 : tie.Need-copy-bytes-requires-2
 copy-bytes-requires-2 c κs =
-    let s = c .before .before .before .before .before .before .before .before .before .before .before .before .before .before .before .before .before .before .before .before .before .before .before .before .before in (
-      marks-long _ (s .pre .0 .0) _ _ refl (c .before .before .before .before .before .before .before .before .before .before .before .before .before .before .before .before .before .before .copy-bytes .ensures) (λ i. omega (arith, c .before .before .before .before .before .before .before .before .before .before .before .before .before .before .before .before .before .before .before .before .before .before .before .before .shared-slice-known .given i)) (s .args .q) (s .args .v) _ (s .pre .1) _ _ _ (c .before .before .before .before .before .before .before .before .before .before .before .before .before .before .before .refer-lawful .ensures),
+    let s = c .before .before .before .before .before .before .before .before .before .before .before .before .before .before .before .before .before .before .before .before .before .before .before .before .before .before in (
+      marks-long _ (s .pre .0 .0) _ _ refl (c .before .before .before .before .before .before .before .before .before .before .before .before .before .before .before .before .before .before .copy-bytes .ensures) (record { number = λ i. omega (arith, c .before .before .before .before .before .before .before .before .before .before .before .before .before .before .before .before .before .before .before .before .before .before .before .before .before .shared-slice-known .given i); issue = λ i. omega (arith, c .before .before .before .before .before .before .before .before .before .before .before .before .before .before .before .before .before .before .before .before .before .before .before .before .shared-slice-known2 .given i) }) (s .args .q) (s .args .v) _ (s .pre .1) _ _ _ (c .before .before .before .before .before .before .before .before .before .before .before .before .before .before .before .refer-lawful .ensures),
       sound-marks _ (s .pre .0 .0),
     )
 
@@ -82,9 +82,9 @@ same-length-4 c = search needs
 
 returns-2 : tie.Need-returns-2
 returns-2 c =
-    let s = c .before .before .before .before .before .before .before .before .before .before .before .before .before .before .before .before .before .before .before .before .before .before .before .before .before .before .before .before in
-    taken-over _ (s .pre .0 .0) _ _ refl (c .before .before .before .before .before .before .before .before .before .before .before .before .before .before .before .before .before .before .before .before .before .copy-bytes .ensures) (λ i. omega (arith, c .before .before .before .before .before .before .before .before .before .before .before .before .before .before .before .before .before .before .before .before .before .before .before .before .before .before .before .shared-slice-known .given i)) (s .args .q) (s .args .v) _ (s .pre .1) _ _ _ (c .before .before .before .before .before .before .before .before .before .before .before .before .before .before .before .before .before .before .refer-lawful .ensures) _ _ _
-    (c .before .before .before .before .before .before .before .before .before .before .draw .ensures) (held-sized (s .args .held) _ (s .good .1 .1 .1 .1 .1 .1 .1 .1 .1 .0)) (sym (c .before .before .before .before .before .before .is-refusal .ensures) ∙ c .before .before .before .before .before .if1 .left) _ (c .before .before .copy-bytes2 .ensures)
+    let s = c .before .before .before .before .before .before .before .before .before .before .before .before .before .before .before .before .before .before .before .before .before .before .before .before .before .before .before .before .before in
+    taken-over _ (s .pre .0 .0) _ _ refl (c .before .before .before .before .before .before .before .before .before .before .before .before .before .before .before .before .before .before .before .before .before .copy-bytes .ensures) (record { number = λ i. omega (arith, c .before .before .before .before .before .before .before .before .before .before .before .before .before .before .before .before .before .before .before .before .before .before .before .before .before .before .before .before .shared-slice-known .given i); issue = λ i. omega (arith, c .before .before .before .before .before .before .before .before .before .before .before .before .before .before .before .before .before .before .before .before .before .before .before .before .before .before .before .shared-slice-known2 .given i) }) (s .args .q) (s .args .v) _ (s .pre .1) _ _ _ (c .before .before .before .before .before .before .before .before .before .before .before .before .before .before .before .before .before .before .refer-lawful .ensures) _ _ _
+    (c .before .before .before .before .before .before .before .before .before .before .draw .ensures) (held-sized (s .args .held) _ (s .good .1 .1 .1 .1 .1 .1 .1 .1 .1 .1 .0)) (sym (c .before .before .before .before .before .before .is-refusal .ensures) ∙ c .before .before .before .before .before .if1 .left) _ (c .before .before .copy-bytes2 .ensures)
 
 pub refer-and-draw-spec : {M : Type 1} → statement M
 refer-and-draw-spec =

@@ -11,7 +11,7 @@ is-held-requires c κs = search needs
 returns : tie.Need-returns
 returns c =
     ground-first _ _ _ _ _ _ (sym (c .before .is-held .ensures) ∙ c .if1 .taken) ∙
-    probe-front _ _ _ _ (c .before .before .before .before .before .args .marks .now) _ _ _
+    probe-front _ _ _ _ (c .before .before .before .before .before .before .args .marks .now) _ _ _
 
 is-demanded-requires : tie.Need-is-demanded-requires
 is-demanded-requires c κs = search needs

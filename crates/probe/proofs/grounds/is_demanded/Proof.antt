@@ -9,6 +9,7 @@ use Rattle.finite.proofs.Search.{any-start, any-more, any-hit, any-end}
 use Rattle.model.specs.Probe.{seen, demanded}
 use Rattle.model.specs.Runs.{marked}
 use Rattle.model.specs.Scheme.{sameColumn}
+use Rattle.state.specs.Cells.{Cells, cellsIn}
 use Rattle.state.specs.declared.cell.Cell.{Cell}
 use Rattle.state.specs.declared.design.Design.{Design}
 use Rattle.state.specs.declared.design.Column.{Column}
@@ -18,16 +19,16 @@ use Rattle.probe.proofs.grounds.is_demanded.Statement.{statement}
 use Rattle.probe.proofs.grounds.is_demanded.Tie as tie
 
 -- constraint i demands v in column k
-abbrev by : Design → List ℕ → List ℕ → List ℕ → Column → Cell → ℕ → Bool
+abbrev by : Design → Cells → List ℕ → List ℕ → Column → Cell → ℕ → Bool
 by d cells tables marks k v i =
     sameColumn (constraintOf (constraintAt d i) .target) (columnOf k) &&
     seen (databaseOf (d .rows) cells tables) (marked marks) (constraintOf (constraintAt d i) .source) (cellOf v)
 
 abbrev Inv-loop : tie.InvT-loop
-Inv-loop d cells tables next keys heads starts marks k v n constraint i₀ i = (i ≤ n) × (any i (by d cells tables marks k v) ≡ false)
+Inv-loop d cells issues tables next keys heads starts marks k v n constraint i₀ i = (i ≤ n) × (any i (by d (cellsIn cells issues) tables marks k v) ≡ false)
 
 abbrev μ-loop : tie.MeasureT-loop
-μ-loop d cells tables next keys heads starts marks k v n constraint i₀ i = n - i
+μ-loop d cells issues tables next keys heads starts marks k v n constraint i₀ i = n - i
 
 loop-holds : tie.Need-loop-holds Inv-loop μ-loop
 loop-holds c = (omega arith, any-start _)
@@ -40,7 +41,7 @@ array-copy-out-c c = omega arith
 
 is-demanded-by-requires : tie.Need-is-demanded-by-requires Inv-loop μ-loop
 is-demanded-by-requires c κs =
-    let p = c .before .before .before .before .before .before .before .pre in
+    let p = c .before .before .before .before .before .before .before .before .pre in
     let i = c .before .before .loop .i in
     ((p .0 .0 .source-table i, p .0 .0 .source i, p .0 .1), p .1)
 

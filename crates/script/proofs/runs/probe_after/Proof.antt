@@ -23,21 +23,19 @@ same-length-3 c = search needs
 same-length-4 : tie.Need-same-length-4
 same-length-4 c = search needs
 
+same-length-5 : tie.Need-same-length-5
+same-length-5 c = search needs
+
 returns : tie.Need-returns
-returns c = refused-probed _ _ _ _ (c .before .before .before .before .before .before .before .before .before .before .before .before .before .run-catalogued .ensures .0) _ _ (c .before .verdict .given .1) _ _
+returns c = refused-probed _ _ _ _ (c .before .before .before .before .before .before .before .before .before .before .before .before .before .before .before .run-catalogued .ensures .0) _ _ (c .before .verdict .given .1) _ _
 
 enum-told : tie.Need-enum-told
 enum-told c = search needs
 
 probe-lawful-requires : tie.Need-probe-lawful-requires
 probe-lawful-requires c κs =
-    let v = c .before .before .before .before .before .before .before in
-    let r = v .before .before .before .before .before .before .before .before .before .before .before .before in
-    let k = r .run-catalogued .ensures .1 _ (v .enum-told .given .1) in
-    (behind-sound _ _ _ _ (r .run-catalogued .ensures .0) _ (v .enum-told .given .1), (k .next-is, k .directory))
-
-same-length-5 : tie.Need-same-length-5
-same-length-5 c = search needs
+    let k = c .before .before .before .before .before .before .before .before .before .before .before .before .before .before .before .before .before .before .before .before .before .before .run-catalogued .ensures .1 _ (c .before .before .before .before .before .before .before .before .enum-told .given .1) in
+    (behind-sound _ _ _ _ (c .before .before .before .before .before .before .before .before .before .before .before .before .before .before .before .before .before .before .before .before .before .before .run-catalogued .ensures .0) _ (c .before .before .before .before .before .before .before .before .enum-told .given .1), (k .next-is, k .directory))
 
 same-length-6 : tie.Need-same-length-6
 same-length-6 c = search needs
@@ -48,15 +46,18 @@ same-length-7 c = search needs
 same-length-8 : tie.Need-same-length-8
 same-length-8 c = search needs
 
+same-length-9 : tie.Need-same-length-9
+same-length-9 c = search needs
+
+same-length-10 : tie.Need-same-length-10
+same-length-10 c = search needs
+
 returns-2 : tie.Need-returns-2
 returns-2 c =
-    let v = c .before .before .before .before .before .before .before .before in
-    let k = v .before .before .before .before .before .before .before .before .before .before in
-    let r = k .before .before in
-    let b = r .before .before .before .before .before .before .before .before .before .before .before .before .before .before in
-    accepted-probed _ _ _ _ (r .run-catalogued .ensures .0) _ (v .enum-told .given .1)
-    (record { at = λ j. omega (arith, b .shared-slice-known .given j) }) (λ j. omega (arith, k .slice-known5 .given j)) _ _
-    (cell-fits (b .before .args .v) _ (b .before .good .1 .1 .1 .1 .1 .1 .0)) _ (c .probe-lawful .ensures)
+    let s = c .before .before .before .before .before .before .before .before .before .before .before .before .before .before .before .before .before .before .before .before .before .before .before .before .before .before .before .before .before .before .before .before .before .before .before .before .before .before .before .before in
+    accepted-probed _ _ _ _ (c .before .before .before .before .before .before .before .before .before .before .before .before .before .before .before .before .before .before .before .before .before .before .before .run-catalogued .ensures .0) _ (c .before .before .before .before .before .before .before .before .before .enum-told .given .1) (record { at = λ j. omega (arith, c .before .before .before .before .before .before .before .before .before .before .before .before .before .before .before .before .before .before .before .before .before .before .before .before .before .before .before .before .before .before .before .before .before .before .before .before .before .before .before .shared-slice-known .given j) })
+    (record { number = λ j. omega (arith, c .before .before .before .before .before .before .before .before .before .before .before .before .before .before .before .before .before .before .before .before .before .slice-known6 .given j); issue = λ j. omega (arith, c .before .before .before .before .before .before .before .before .before .before .before .before .before .before .before .before .before .before .before .slice-known7 .given j) }) _ _
+    (cell-fits (s .args .v) _ (s .good .1 .1 .1 .1 .1 .1 .1 .0)) _ (c .probe-lawful .ensures)
 
 pub probe-after-spec : {M : Type 1} → statement M
 probe-after-spec =
@@ -68,11 +69,13 @@ probe-after-spec =
     same-length-2
     same-length-3
     same-length-4
+    same-length-5
     returns
     enum-told
     probe-lawful-requires
-    same-length-5
     same-length-6
     same-length-7
     same-length-8
+    same-length-9
+    same-length-10
     returns-2)

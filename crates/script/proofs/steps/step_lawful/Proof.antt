@@ -10,7 +10,7 @@ refusing-requires c κs = search needs
 
 returns : tie.Need-returns
 returns c =
-    let s = c .before .before .before .before .before .before .before in
+    let s = c .before .before .before .before .before .before .before .before in
     step-case _ _ _ _ _ (step-overlong _ _ _ _ (s .pre .0) (c .before .if1 .taken)) (refusing-does _ _ _ _ _ _ _ (c .refusing .ensures))
 
 place-after-requires : tie.Need-place-after-requires
@@ -32,7 +32,7 @@ returns-2 : tie.Need-returns-2
 returns-2 c =
     let d = c .before .before .before .before in
     let p = d .before .before .before .before .before .before .before .before in
-    let s = p .before .before .before .before .before .before .before in
+    let s = p .before .before .before .before .before .before .before .before in
     step-is _ (s .pre .0) _ _ _ (p .before .if1 .left) _ (p .place-after .ensures) _ (d .before .before .before .before .before .before .before .command-at .ensures) _ _ _
     (d .carry-out .ensures)
 

@@ -18,20 +18,21 @@ returns c = caused-writes _ _ _ (c .before .cause .ensures .0) (c .if1 .taken)
 
 design-length-requires : tie.Need-design-length-requires
 design-length-requires c κs =
-    let s = c .before .before .before .before .before .before .before .before .before .before .before in
-    sound-range _ (cause-none _ (sym (c .before .cause .ensures .0) ∙ c .if1 .left)) (sized (s .args .design) _ (s .good .0))
+    let s = c .before .before .before .before .before .before .before .before .before .before .before .before in
+    let e = cause-none _ (sym (c .before .cause .ensures .0) ∙ c .if1 .left) in
+    (sound-range _ e (sized (s .args .design) _ (s .good .0)), sound-backed _ e .issued)
 
 returns-2 : tie.Need-returns-2
 returns-2 c =
     let k = c .before .before in
-    let s = k .before .before .before .before .before .before .before .before .before .before .before in
+    let s = k .before .before .before .before .before .before .before .before .before .before .before .before in
     cramped-writes _ _ (cause-none _ (sym (k .before .cause .ensures .0) ∙ k .if1 .left))
     (omega (arith, c .before .design-length .ensures (now (s .args .cells)) (now (s .args .tables))))
 
 write-design-requires : tie.Need-write-design-requires
 write-design-requires c κs =
     let k = c .before .before .before in
-    let s = k .before .before .before .before .before .before .before .before .before .before .before in
+    let s = k .before .before .before .before .before .before .before .before .before .before .before .before in
     let e = cause-none _ (sym (k .before .cause .ensures .0) ∙ k .if1 .left) in (
       sound-range _ e (sized (s .args .design) _ (s .good .0)),
       sound-backed _ e,
@@ -45,7 +46,7 @@ returns-3 : tie.Need-returns-3
 returns-3 c =
     let n = c .before .before .before .before .before in
     let k = n .before in
-    let s = k .before .before .before .before .before .before .before .before .before .before .before in
+    let s = k .before .before .before .before .before .before .before .before .before .before .before .before in
     stored-writes _ _ (cause-none _ (sym (k .before .cause .ensures .0) ∙ k .if1 .left))
     (omega (arith, n .design-length .ensures (now (s .args .cells)) (now (s .args .tables)))) _ _
     (n .design-length .ensures _ _) (c .before .before .write-design .ensures .1)

@@ -8,10 +8,10 @@ use Rattle.state.proofs.copying.copy_bytes.Statement.{statement}
 use Rattle.state.proofs.copying.copy_bytes.Tie as tie
 
 abbrev Inv-loop : tie.InvT-loop
-Inv-loop from to₀ i₀ to i = (i ≤ 512) × Upto 0 (length to₀) i (λ r. getD from r 0) (λ r. getD to₀ r 0) to
+Inv-loop from to₀ n i₀ to i = (i ≤ n) × Upto 0 (length to₀) i (λ r. getD from r 0) (λ r. getD to₀ r 0) to
 
 abbrev μ-loop : tie.MeasureT-loop
-μ-loop from to₀ i₀ to i = 512 - i
+μ-loop from to₀ n i₀ to i = n - i
 
 loop-holds : tie.Need-loop-holds Inv-loop μ-loop
 loop-holds c = (omega arith, upto-start 0 _ _ _ refl)
@@ -35,7 +35,7 @@ same-length : tie.Need-same-length Inv-loop μ-loop
 same-length c = omega arith
 
 returns : tie.Need-returns Inv-loop μ-loop
-returns c = upto-copied 0 512 _ (c .before .before .args .from .now) (c .before .before .args .to .now) _ (c .before .loop .inv .1) (c .before .loop .inv .0) (c .loop-test .left) (c .before .before .pre .1) (c .before .before .pre .0)
+returns c = upto-copied 0 _ _ (c .before .before .args .from .now) (c .before .before .args .to .now) _ (c .before .loop .inv .1) (c .before .loop .inv .0) (c .loop-test .left) (c .before .before .pre .1) (c .before .before .pre .0)
 
 pub copy-bytes-spec : {M : Type 1} → statement M
 copy-bytes-spec =

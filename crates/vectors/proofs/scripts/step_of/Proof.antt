@@ -8,10 +8,10 @@ use Rattle.vectors.proofs.scripts.step_of.Statement.{statement}
 use Rattle.vectors.proofs.scripts.step_of.Tie as tie
 
 abbrev Inv-loop : tie.InvT-loop
-Inv-loop script at design cells tables marks₀ number words₀ t₀ i₀ marks words t i = (length marks ≡ length marks₀) × (length words ≡ length words₀)
+Inv-loop script at design cells issues tables marks₀ number words₀ t₀ i₀ marks words t i = (length marks ≡ length marks₀) × (length words ≡ length words₀)
 
 abbrev μ-loop : tie.MeasureT-loop
-μ-loop script at design cells tables marks₀ number words₀ t₀ i₀ marks words t i = 65537 - i
+μ-loop script at design cells issues tables marks₀ number words₀ t₀ i₀ marks words t i = 65537 - i
 
 none-requires : tie.Need-none-requires Inv-loop μ-loop
 none-requires c κs = search needs

@@ -1,0 +1,79 @@
+-- `format::command::issued_at` meets its contract: the byte tells the operation and its width. Assumes nothing.
+use native.Mathlib.Omega.{arith}
+use mathlib.Core.Path.{ap}
+use borrow.Author.Needs.{needs}
+use Rattle.format.specs.Commands.{operationWidth}
+use Rattle.format.proofs.CommandLaws.{operation-refer, operation-drop, operation-probe, operation-evenness, operation-total, operation-query, is-query}
+use Rattle.format.proofs.command.issued_at.Statement.{statement}
+use Rattle.format.proofs.command.issued_at.Tie as tie
+
+held-value-at-requires : tie.Need-held-value-at-requires
+unfolding operationWidth
+held-value-at-requires c κs = omega (arith, ap operationWidth (c .match .keys1))
+
+held-value-at-requires-2 : tie.Need-held-value-at-requires-2
+unfolding operationWidth
+held-value-at-requires-2 c κs = omega (arith, ap operationWidth (c .match .keys2))
+
+add-column-at : tie.Need-add-column-at
+add-column-at c = search needs
+
+column-at-requires : tie.Need-column-at-requires
+unfolding operationWidth
+column-at-requires c κs = omega (arith, ap operationWidth (c .match .keys3))
+
+add-value-at : tie.Need-add-value-at
+add-value-at c = search needs
+
+value-at-requires : tie.Need-value-at-requires
+unfolding operationWidth
+value-at-requires c κs = omega (arith, ap operationWidth (c .before .match .keys3))
+
+total-at-requires : tie.Need-total-at-requires
+unfolding operationWidth
+total-at-requires c κs = omega (arith, ap operationWidth (c .match .keys5))
+
+query-at-requires : tie.Need-query-at-requires
+unfolding operationWidth
+query-at-requires c κs =
+    let r = c .match .rest in
+    omega (arith, ap operationWidth (is-query _ (c .before .before .pre .0) (c .before .before .pre .1) (r .0 .0 .0 .0 .1) (r .0 .0 .0 .1) (r .0 .0 .1) (r .0 .1) (r .1)))
+
+returns : tie.Need-returns
+returns c = operation-refer _ _ _ _ _ (c .held-value-at .ensures) (c .before .match .keys1)
+
+returns-2 : tie.Need-returns-2
+returns-2 c = operation-drop _ _ _ _ _ (c .held-value-at2 .ensures) (c .before .match .keys2)
+
+returns-3 : tie.Need-returns-3
+returns-3 c = operation-probe _ _ _ _ _ _ (c .before .column-at .ensures) (c .value-at .ensures) (c .before .before .match .keys3)
+
+returns-4 : tie.Need-returns-4
+returns-4 c = operation-evenness _ _ _ _ (c .match .keys4)
+
+returns-5 : tie.Need-returns-5
+returns-5 c = operation-total _ _ _ _ _ (c .total-at .ensures) (c .before .match .keys5)
+
+returns-6 : tie.Need-returns-6
+returns-6 c =
+    let r = c .before .match .rest in
+    operation-query _ _ _ _ _ (c .query-at .ensures) (is-query _ (c .before .before .before .pre .0) (c .before .before .before .pre .1) (r .0 .0 .0 .0 .1) (r .0 .0 .0 .1) (r .0 .0 .1) (r .0 .1) (r .1))
+
+pub issued-at-spec : {M : Type 1} → statement M
+issued-at-spec =
+    tie.close
+    (tie.spec
+    held-value-at-requires
+    held-value-at-requires-2
+    add-column-at
+    column-at-requires
+    add-value-at
+    value-at-requires
+    total-at-requires
+    query-at-requires
+    returns
+    returns-2
+    returns-3
+    returns-4
+    returns-5
+    returns-6)
