@@ -14,10 +14,11 @@ use Rattle.model.specs.Database.{Database}
 use Rattle.model.specs.Probe
 use Rattle.model.specs.Holding.{Pair, holds, hasRoom, heldIn}
 use Rattle.model.specs.Even.{lowestUneven}
-use Rattle.model.specs.Runs.{Question, probe, evenness, asLists, asTotal, refer, drop, outputFits, withinLimit, marked, Cache}
+use Rattle.model.specs.Knot.{isUnevenScheme}
+use Rattle.model.specs.Runs.{Question, probe, evenness, smallestKnot, asLists, asTotal, refer, drop, outputFits, withinLimit, marked, Cache}
 use Rattle.model.specs.Query as Q
 use Rattle.model.specs.Query.{joinsOf, operandsFit, wordsOf, fullLists, fullTotal, mostJoins}
-use Rattle.model.specs.Answers.{Answer, held, noCandidate, ground, sent, lists, even, uneven, evenAnswer, shown, hasLists, unless, orAnswer, questionAnswer, isAnswered, fullAnswer, queryAnswer, answer}
+use Rattle.model.specs.Answers.{Answer, held, noCandidate, ground, sent, lists, even, uneven, knot, evenAnswer, knotAnswer, shown, hasLists, unless, orAnswer, questionAnswer, isAnswered, fullAnswer, queryAnswer, answer}
 use Rattle.model.proofs.ListLaws.{fitting-words}
 use Rattle.state.specs.declared.design.Table as State-table
 use Rattle.state.specs.declared.design.Constraint as State-constraint
@@ -73,11 +74,12 @@ module _ (p room : ℕ) where
         unless-within (not (holds (c .held) x)) 10 _ (λ _ h. clash h refl)))
 
     question-within : (q : Question) → Within (questionAnswer S D c q)
-    unfolding questionAnswer evenAnswer hasLists shown
+    unfolding questionAnswer evenAnswer knotAnswer hasLists shown
     question-within (probe k v) =
         let g = Probe.probe S D (heldIn S (c .held)) (marked (c .marks)) k v in
         unless-within (not (isColumn S k)) 5 _ (λ _. unless-within (numberless v) 9 _ (λ _. or-within (ltb 0 g) (ground g (Probe.cachedRows D (marked (c .marks)) k v)) sent (λ h. clash h refl) (λ h. clash h refl)))
     question-within evenness = or-within (ltb (lowestUneven S) (S .constraints)) (uneven _ _) even (λ h. clash h refl) (λ h. clash h refl)
+    question-within smallestKnot = or-within (isUnevenScheme S) (knot _) even (λ h. clash h refl) (λ h. clash h refl)
 
     module _ (q : Q.Query) (four : length (q .pairs) ≡ 4) (positions : q .joins + 1 ≡ p) where
       -- as many lists as there are
@@ -126,24 +128,26 @@ module _ (s : State) (words script : List ℕ) (i : ℕ) where
   -- the operation at place i of the byte b, whose value has the issue w
   issued-within : (b w : ℕ) → Here (answerAt s (operationOf (issuedAt b script w i) (length words)))
   unfolding answerAt answer issuedAt
-  issued-within b w = go (eqb b 0x10) (eqb b 0x11) (eqb b 0x12) (eqb b 0x14) (eqb b 0x15)
+  issued-within b w = go (eqb b 0x10) (eqb b 0x11) (eqb b 0x12) (eqb b 0x14) (eqb b 0x15) (eqb b 0x1C)
     where
-      op : Bool → Bool → Bool → Bool → Bool → Operation
-      op x y z v t =
+      op : Bool → Bool → Bool → Bool → Bool → Bool → Operation
+      op x y z v t k =
           cond x (O.Refer (heldValueAt script w i))
           (cond y (O.Drop (heldValueAt script w i))
           (cond z (O.Probe (columnAt script (i + 1)) (valueAt script w (i + 3)))
           (cond v O.Evenness
           (cond t (O.Total (totalAt script w i))
-          (O.Query (queryAt script w i))))))
+          (cond k O.SmallestKnot
+          (O.Query (queryAt script w i)))))))
 
-      go : (x y z v t : Bool) → Here (answerAt s (operationOf (op x y z v t) (length words)))
-      go true y z v t = guarded-within _ (refer-within _ _ (scheme s) (database s) (cache s) _)
-      go false true z v t = guarded-within _ (drop-within _ _ (scheme s) (database s) (cache s) _)
-      go false false true v t = guarded-within _ (question-within _ _ (scheme s) (database s) (cache s) _)
-      go false false false true t = guarded-within _ (question-within _ _ (scheme s) (database s) (cache s) _)
-      go false false false false true = guarded-within _ (total-within _ _ (scheme s) (database s) (cache s) _ _ _)
-      go false false false false false = guarded-within _ (query-within _ _ (scheme s) (database s) (cache s) _ refl refl)
+      go : (x y z v t k : Bool) → Here (answerAt s (operationOf (op x y z v t k) (length words)))
+      go true y z v t k = guarded-within _ (refer-within _ _ (scheme s) (database s) (cache s) _)
+      go false true z v t k = guarded-within _ (drop-within _ _ (scheme s) (database s) (cache s) _)
+      go false false true v t k = guarded-within _ (question-within _ _ (scheme s) (database s) (cache s) _)
+      go false false false true t k = guarded-within _ (question-within _ _ (scheme s) (database s) (cache s) _)
+      go false false false false true k = guarded-within _ (total-within _ _ (scheme s) (database s) (cache s) _ _ _)
+      go false false false false false true = guarded-within _ (question-within _ _ (scheme s) (database s) (cache s) _)
+      go false false false false false false = guarded-within _ (query-within _ _ (scheme s) (database s) (cache s) _ refl refl)
 
   -- the operation at place i, whose byte is b
   operation-within : (b : ℕ) → Here (answerAt s (operationOf (operationAt b script i) (length words)))

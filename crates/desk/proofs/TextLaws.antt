@@ -3,15 +3,15 @@ use Prim.Native.Nat.{ℕ, zero, suc, _+_, _-_, _*_, _^_, _≤_, _<_}
 use native.Mathlib.Omega.{arith}
 use mathlib.Core.Path.{_≡_, refl, sym, ap, subst, _∙_}
 use mathlib.Core.Bool.{Bool, true, false, cond, _&&_}
-use mathlib.Core.List.{List, [], _∷_, _++_, append-assoc}
+use mathlib.Core.List.{List, [], _++_, append-assoc}
 use mathlib.Core.Logic.{⊎-elim}
 use borrow.Author.Tests.{leb-true, leb-false, le-leb, lt-leb, ltb-true, ltb-false}
 use lib.Dec.{leb, ltb}
-use lib.ListN.{length, getD, take}
+use lib.ListN.{length, getD}
 use Rattle.finite.specs.Writing.{Wrote}
 use Rattle.finite.proofs.Bools.{dec, clash, cond-true, cond-false}
+use Rattle.finite.proofs.Tables.{tab-at}
 use Rattle.finite.proofs.Writing.{wrote-none, wrote-then, wrote-as}
-use Rattle.model.specs.Answers as Model
 use Rattle.model.specs.Answers.{Answer, shown, hasLists}
 use Rattle.state.specs.declared.answer.Shown.{Shown}
 use Rattle.state.specs.Meaning.{answerOf, shownOf}
@@ -27,24 +27,9 @@ use Rattle.desk.proofs.ListsFit.{Within, step-within}
 
 -- ---- answers
 
--- the first number of an answer: where there is none, and where there is one
-module _ (s : Shown) where
-  abbrev firstOf : ℕ → ℕ
-  firstOf n = getD (take n (s .first ∷ s .second ∷ [])) 0 0
-
-  pub number-none : s .numbers ≡ 0 → 0 ≡ firstOf (s .numbers)
-  number-none e = sym (ap firstOf e)
-
-  pub number-first : (s .numbers ≡ 0 → ⊥) → s .first ≡ firstOf (s .numbers)
-  number-first = go (s .numbers)
-    where
-      go : (n : ℕ) → (n ≡ 0 → ⊥) → s .first ≡ firstOf n
-      go zero h = absurd (h refl)
-      go (suc n) h = refl
-
 -- what is shown of the answer a is s: the first number is that of its lists
-pub number-lists : (s : Shown) (a : Answer) (n : ℕ) → n ≡ getD (shownOf s .numbers) 0 0 → shownOf s ≡ shown a → n ≡ listsIn a
-number-lists s a n e f = e ∙ ap (λ (x : Model.Shown). getD (x .numbers) 0 0) f
+pub number-lists : (s : Shown) (a : Answer) (n : ℕ) → n ≡ getD (s .numbers) 0 0 → s ≡ shownOf (shown a) → n ≡ listsIn a
+number-lists s a n e f = e ∙ ap (λ (x : Shown). getD (x .numbers) 0 0) f ∙ tab-at 0 16 (λ i. getD (shown a .numbers) i 0) 0 (omega arith)
 
 module _ (a : Answer) (words : List ℕ) (p : ℕ) where
   -- an answer without lists, and one with lists
@@ -209,7 +194,7 @@ printed-then script s words p o o′ m w q o″ m′ w′ z a b =
 -- ---- room
 
 -- n lists of p words fit the words and the buffer
-pub room-for : (n p p′ words words′ end z room : ℕ) → p ≡ p′ → n * p′ ≤ words → words ≤ words′ → words ≤ 4096 → z ≤ end + 97 → end + 45162 ≤ room →
+pub room-for : (n p p′ words words′ end z room : ℕ) → p ≡ p′ → n * p′ ≤ words → words ≤ words′ → words ≤ 4096 → z ≤ end + 391 → end + 45456 ≤ room →
     (n * p ≤ words′) × (z + 11 * (n * p) + 9 ≤ room)
 room-for n p p′ words words′ end z room e f l m a b =
     let g : n * p ≤ words = subst (λ (x : ℕ). n * x ≤ words) (sym e) f in

@@ -8,7 +8,7 @@ ghost use lib.ListN.{length, getD};
 ghost use Rattle.finite.specs.Writing.{Wrote};
 ghost use Rattle.model.specs.Answers.{hasLists};
 ghost use Rattle.state.specs.Cells.{cellsIn};
-ghost use Rattle.state.specs.Meaning.{answerOf, shownOf};
+ghost use Rattle.state.specs.Meaning.{answerOf};
 ghost use Rattle.state.specs.Lent.{lent, sound};
 ghost use Rattle.catalog.specs.Catalog.{Catalogued};
 ghost use Rattle.desk.specs.Printed.{listsIn, listsText, positionsAt, Printed};
@@ -44,12 +44,9 @@ fn positions_at(script: &[u8], at: usize) -> usize
 
 // The first number behind an answer's word; 0 where there is none. Constant time.
 fn first_number(shown: Shown) -> u64
-    ensures { λ n. ⌜ n ≡ getD (shownOf shown .numbers) 0 0 ⌝ }
+    ensures { λ n. ⌜ n ≡ getD (shown .numbers) 0 0 ⌝ }
 {
-    if shown.numbers == 0 {
-        return 0;
-    }
-    shown.first
+    shown.numbers[0]
 }
 
 // Writes the lists that go with an answer, p row numbers to a line. At most 11 bytes for each number.
@@ -75,7 +72,7 @@ fn goes_on(script: &[u8], more: bool, after: usize) -> bool
     after < script.len()
 }
 
-// One step, and its lines: at most 97 bytes, and 11 for each of 4,096 words; there must be 9 more. The cost of the operation, and of its lines.
+// One step, and its lines: at most 391 bytes, and 11 for each of 4,096 words; there must be 9 more. The cost of the operation, and of its lines.
 fn report_step(
     script: &[u8],
     from: Progress,
@@ -99,10 +96,10 @@ fn report_step(
     requires { ⌜ (sound (lent design (cellsIn (now cells) (now issues)) (now tables) (now marks) (from .held)) ≡ true)
         × Catalogued design (cellsIn (now cells) (now issues)) (now tables) (now next) (now first) (now keys) (now heads) (now starts) ⌝ }
     requires { ⌜ (from .more ≡ true) × (from .at < length (now script)) × (from .number ≤ from .at) × (length (now words) ≤ 4096)
-        × (from .end + 45162 ≤ length (now out)) ⌝ }
+        × (from .end + 45456 ≤ length (now out)) ⌝ }
     ensures { λ q. ⌜ Printed (now (script .entry)) (lent design (cellsIn (now (cells .entry)) (now (issues .entry))) (now (tables .entry)) (now (marks .entry)) (from .held))
         (now (words .entry)) from (now (out .entry)) (now (out .exit)) (now (marks .exit)) (now (words .exit)) q ⌝ }
-    ensures { λ q. ⌜ (q .end ≤ from .end + 45153)
+    ensures { λ q. ⌜ (q .end ≤ from .end + 45447)
         × (q .more ≡ true → (from .at < q .at) × (q .at < length (now (script .entry))) × (q .number ≤ q .at)) ⌝ }
 {
     let at = from.at;

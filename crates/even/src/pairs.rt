@@ -11,7 +11,7 @@ use state::Answer;
 use state::Design;
 
 // Whether constraints i and j make the design uneven, where m tells which tables reach which. Constant time.
-fn is_uneven(d: Design, m: [[bool; 8]; 8], i: usize, j: usize) -> bool
+pub(crate) fn is_uneven(d: Design, m: [[bool; 8]; 8], i: usize, j: usize) -> bool
     requires { ⌜ InRange d × (i < 16) × (j < 16) × (m ≡ square (reaches (schemeOf d))) ⌝ }
     ensures { λ b. ⌜ b ≡ isUneven (schemeOf d) i j ⌝ }
 {
@@ -27,7 +27,7 @@ fn is_uneven(d: Design, m: [[bool; 8]; 8], i: usize, j: usize) -> bool
 }
 
 // The lowest j with which constraint i makes the design uneven; the number of constraints if there is none. One look at each constraint.
-fn uneven_from(d: Design, m: [[bool; 8]; 8], i: usize) -> usize
+pub(crate) fn uneven_from(d: Design, m: [[bool; 8]; 8], i: usize) -> usize
     requires { ⌜ InRange d × (i < 16) × (m ≡ square (reaches (schemeOf d))) ⌝ }
     ensures { λ j. ⌜ j ≡ unevenFrom (schemeOf d) i ⌝ }
 {

@@ -94,11 +94,11 @@ module _ (ds : List ℕ) (cs : Cells) (ts ms hs : List ℕ) (k : Arrays) (d : De
       step-few = left-few (R .state) (R .words) R-sound ms′ ws′ (t .held) step-left
 
       pub step-taken : (hs′ : List ℕ) → hs′ ≡ sets hs 0 (heldWords (t .held)) → length (t .held .values) ≡ 64 →
-          ((j : ℕ) → j < 64 → heldAt (t .held) j .value .issue < 256) → (n : ℕ) (ns′ : List ℕ) →
-          Told (answerOf (t .answer)) n ns′ → StepTaken R n ns′ ds cs ts k ms′ ws′ hs hs′
-      step-taken hs′ stored long issues n ns′ told =
+          ((j : ℕ) → j < 64 → heldAt (t .held) j .value .issue < 256) → (n : ℕ) (ns′ : List ℕ) (q′ : ℕ) →
+          Told (answerOf (t .answer)) n ns′ q′ → StepTaken R n ns′ q′ ds cs ts k ms′ ws′ hs hs′
+      step-taken hs′ stored long issues n ns′ q′ told =
           record {
-            told = subst (λ (a : Answer). Told a n ns′) (does .answer ∙ ap (λ (Q : Stepped). Q .answer) R-is) told;
+            told = subst (λ (a : Answer). Told a n ns′ q′) (does .answer ∙ ap (λ (Q : Stepped). Q .answer) R-is) told;
             kept = left-kept (R .state) (R .words) R-sound ms′ ws′ (t .held) step-left hs′ stored long issues;
           }
 

@@ -1,40 +1,45 @@
--- What a call tells of an answer determines it: the caller reads it off the word's number and the buffer, whatever the answer. And how the code finds the
--- buffer. Assumes nothing.
-use Prim.Native.Nat.{ℕ, zero, suc}
+-- What a call tells of an answer determines it: the caller reads it off the word's number, the buffer and the count, whatever the answer. Assumes nothing.
+use Prim.Native.Nat.{ℕ, _≤_}
 use native.Mathlib.Omega.{arith}
-use mathlib.Core.Path.{_≡_, refl, sym, ap, ap₂, _∙_}
-use mathlib.Core.List.{List, [], _∷_}
-use lib.ListN.{take}
-use Rattle.model.specs.Answers.{Answer, loaded, held, noCandidate, dropped, ground, sent, lists, refused, even, uneven, total, shown}
-use Rattle.foreign.specs.Told.{numbersIn, Told, answerIn}
+use mathlib.Core.Path.{_≡_, refl, sym, ap, _∙_}
+use mathlib.Core.List.{List}
+use lib.ListN.{length, getD, take, length-take}
+use lib.Seq.{getD-take}
+use Rattle.finite.specs.Finite.{tab}
+use Rattle.finite.proofs.Tables.{length-tab, tab-at, tab-of}
+use Rattle.model.specs.Answers.{Answer, loaded, held, noCandidate, dropped, ground, sent, lists, refused, even, uneven, total, knot, shown}
+use Rattle.state.specs.Meaning.{sixteen}
+use Rattle.foreign.specs.Told.{Told, answerIn}
+
+-- the first numbers of the buffer are the answer's
+numbers-back : (ns : List ℕ) → length ns ≤ 16 → take (length ns) (sixteen ns) ≡ ns
+numbers-back ns l =
+    let f : ℕ → ℕ = λ i. getD ns i 0 in
+    tab-of 0 (length ns) f (take (length ns) (sixteen ns)) (omega (arith, length-take (length ns) (sixteen ns), length-tab 16 f))
+    (λ i h. getD-take (length ns) (sixteen ns) i 0 h ∙ tab-at 0 16 f i (omega arith)) ∙
+    sym (tab-of 0 (length ns) f ns refl (λ i _. refl))
 
 -- the reader reads each answer back
-read-back : (a : Answer) → answerIn (shown a .word) (numbersIn (shown a .numbers)) ≡ a
-unfolding shown
-read-back (loaded rows rounds) = refl
-read-back held = refl
-read-back noCandidate = refl
-read-back (dropped rows) = refl
-read-back (ground g rows) = refl
-read-back sent = refl
-read-back (lists n) = refl
-read-back (refused n) = refl
-read-back even = refl
-read-back (uneven i j) = refl
-read-back (total n) = refl
+read-back : (a : Answer) → length (shown a .numbers) ≤ 16 → answerIn (shown a .word) (sixteen (shown a .numbers)) (length (shown a .numbers)) ≡ a
+unfolding shown tab
+read-back (loaded rows rounds) l = refl
+read-back held l = refl
+read-back noCandidate l = refl
+read-back (dropped rows) l = refl
+read-back (ground g rows) l = refl
+read-back sent l = refl
+read-back (lists n) l = refl
+read-back (refused n) l = refl
+read-back even l = refl
+read-back (uneven i j) l = refl
+read-back (total n) l = refl
+read-back (knot ks) l = ap knot (numbers-back ks l)
 
-module _ (a : Answer) (n : ℕ) (ns : List ℕ) (t : Told a n ns) where
+module _ (a : Answer) (n : ℕ) (ns : List ℕ) (k : ℕ) (t : Told a n ns k) where
   -- THEOREM: what is told is the answer that a caller reads off it ..
-  pub told-read : answerIn n ns ≡ a
-  told-read = ap₂ answerIn (t .number) (t .numbers) ∙ read-back a
+  pub told-read : answerIn n ns k ≡ a
+  told-read = (λ x. answerIn (t .number x) (t .numbers x) (t .count x)) ∙ read-back a (t .few)
 
   -- .. so no two answers are told alike
-  pub told-once : (b : Answer) → Told b n ns → a ≡ b
-  told-once b u = sym told-read ∙ ap₂ answerIn (u .number) (u .numbers) ∙ read-back b
-
--- ---- the buffer, by how many numbers there are
-
-pub two-numbers : (n a b : ℕ) → (n ≡ 0 → ⊥) → (n ≡ 1 → ⊥) → a ∷ b ∷ [] ≡ numbersIn (take n (a ∷ b ∷ []))
-two-numbers zero a b p q = absurd (p refl)
-two-numbers (suc zero) a b p q = absurd (q refl)
-two-numbers (suc (suc n)) a b p q = refl
+  pub told-once : (b : Answer) → Told b n ns k → a ≡ b
+  told-once b u = sym told-read ∙ (λ x. answerIn (u .number x) (u .numbers x) (u .count x)) ∙ read-back b (u .few)

@@ -88,9 +88,9 @@ pub record Kept (s : State) (w ds : List ℕ) (cs : Cells) (ts : List ℕ) (k : 
   pub held : hs′ ≡ sets hs 0 (heldWords (s .held))
   pub ready : Ready ds cs ts k ms′ hs′
 
--- the step R was taken: the number n and the buffer ns′ tell its answer, and what it leaves is kept
-pub record StepTaken (R : Stepped) (n : ℕ) (ns′ ds : List ℕ) (cs : Cells) (ts : List ℕ) (k : Arrays) (ms′ ws′ hs hs′ : List ℕ) : Type 0 where
-  pub told : Told (R .answer) n ns′
+-- the step R was taken: the number n, the buffer ns′ and the count q′ tell its answer, and what it leaves is kept
+pub record StepTaken (R : Stepped) (n : ℕ) (ns′ : List ℕ) (q′ : ℕ) (ds : List ℕ) (cs : Cells) (ts : List ℕ) (k : Arrays) (ms′ ws′ hs hs′ : List ℕ) : Type 0 where
+  pub told : Told (R .answer) n ns′ q′
   pub kept : Kept (R .state) (R .words) ds cs ts k ms′ ws′ hs hs′
 
 -- ---- wurzsige_run

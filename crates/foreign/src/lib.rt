@@ -1,6 +1,6 @@
 // The desk for programs in C or Rust, which lend it all of its memory: reading a design, one step of a script, and all steps from a place on. A design
 // and the held values are structs in Rattle, so they go across as lists of u32 words (specs/Words.antt), and an answer as the number of its word, with the
-// numbers behind the word in a lent buffer (specs/Told.antt). That buffer, the catalog of a design's rows and the working memory of a query are arrays of
+// numbers behind the word in a lent buffer, with how many there are (specs/Told.antt). That buffer, the catalog of a design's rows and the working memory of a query are arrays of
 // fixed length, each a plain pointer.
 ghost use lib.ListN.{length};
 ghost use Rattle.script.specs.Step.{stepAt};
@@ -83,8 +83,8 @@ pub extern "C" fn wurzsige_open(
     0
 }
 
-// The step at place `at` of a script, over a state known sound with the catalog of its rows: the number of its answer's word, and in `numbers` the numbers
-// behind the word, 0 where there are fewer than two. A caller keeps to memory that only these functions write: what `wurzsige_open` leaves with number 0
+// The step at place `at` of a script, over a state known sound with the catalog of its rows: the number of its answer's word, in `numbers` the numbers
+// behind the word, 0 behind the last of them, and in `count` how many there are. A caller keeps to memory that only these functions write: what `wurzsige_open` leaves with number 0
 // is ready (proofs/OpenedSound.antt), and each step leaves it so, so the `requires` holds from call to call. The four arrays before `numbers` are working
 // memory, whatever stands in them. The cost of the command's operation, and a copy of the design's and the held values' words.
 #[no_mangle]
@@ -107,13 +107,14 @@ pub extern "C" fn wurzsige_step(
     sums: &mut [u64; 2560],
     froms: &mut [u16; 2560],
     links: &mut [u16; 2560],
-    numbers: &mut [u64; 2],
+    numbers: &mut [u64; 16],
+    count: &mut u8,
 ) -> u8
     requires { ⌜ Ready (now design) (cellsIn (now cells) (now issues)) (now tables) (arrays (now next) (now first) (now keys) (now heads) (now starts)) (now marks) (now held) ⌝ }
     ensures { λ n. ⌜ StepTaken
         (stepAt (wordsState (now (design .entry)) (cellsIn (now (cells .entry)) (now (issues .entry))) (now (tables .entry)) (now (marks .entry)) (now (held .entry)))
         (now (words .entry)) (now (script .entry)) at)
-        n (now (numbers .exit)) (now (design .entry)) (cellsIn (now (cells .entry)) (now (issues .entry))) (now (tables .entry))
+        n (now (numbers .exit)) (now (count .exit)) (now (design .entry)) (cellsIn (now (cells .entry)) (now (issues .entry))) (now (tables .entry))
         (arrays (now (next .entry)) (now (first .entry)) (now (keys .entry)) (now (heads .entry)) (now (starts .entry)))
         (now (marks .exit)) (now (words .exit)) (now (held .entry)) (now (held .exit)) ⌝ }
 {
@@ -142,7 +143,7 @@ pub extern "C" fn wurzsige_step(
     let kept = t.held;
     put_held(kept, held);
     let a = t.answer;
-    tell(a, numbers)
+    tell(a, numbers, count)
 }
 
 // All steps from place `at` of a script on, until it ends or cause 1, 2 or 4 stops it, over a state as `wurzsige_step` asks for; no answer is told, and

@@ -22,7 +22,7 @@ abbrev pub Few : Scheme → Type 0
 Few S = (i : ℕ) → i < S .constraints → S .constraint i .target .table < 8
 
 module _ (S : Scheme) where
-  uneven-says : (i j : ℕ) → i < S .constraints → j < S .constraints → isUneven S i j ≡ true → Uneven S i j
+  pub uneven-says : (i j : ℕ) → i < S .constraints → j < S .constraints → isUneven S i j ≡ true → Uneven S i j
   unfolding isUneven
   uneven-says i j l m e =
       let a = and-eq-true-iff (eqb (S .constraint i .target .table) (S .constraint j .source .table)) _ .0 e in
@@ -32,7 +32,7 @@ module _ (S : Scheme) where
         apart = eqb-false _ _ (not-true _ (b .0));
       }
 
-  uneven-if : Few S → (i j : ℕ) → Uneven S i j → isUneven S i j ≡ true
+  pub uneven-if : Few S → (i j : ℕ) → Uneven S i j → isUneven S i j ≡ true
   unfolding isUneven
   uneven-if few i j u =
       both (eq-eqb _ _ (u .cyclic .meet)) (both (ap not (ne-eqb _ _ (u .apart))) (Reaches-reaches S few _ _ (u .cyclic .back)))

@@ -1,5 +1,5 @@
 -- CellLaws, DatabaseLaws, ProbeLaws: the tests say what they are named for. Closed, RoundsLaws, Loads: rounds reach the smallest row set.
--- Exact: the probe. Marks, HoldingLaws, RunLaws, Fresh, Demand3: runs. QueryLaws, ListLaws, TotalLaws, Referring, Demand2, CountedRows: queries. Examples: the worked
+-- ReachLaws, EvenRounds, EvenLaws, EvenRefers: even designs. KnotOrder, KnotLaws: the smallest knot. Exact: the probe. Marks, HoldingLaws, RunLaws, Fresh, Demand3: runs. QueryLaws, ListLaws, TotalLaws, Referring, Demand2, CountedRows: queries. Examples: the worked
 -- cases.
 pub mod CellLaws
 pub mod DatabaseLaws
@@ -13,6 +13,8 @@ pub mod HoldingLaws
 pub mod ReachLaws
 pub mod EvenRounds
 pub mod EvenLaws
+pub mod KnotOrder
+pub mod KnotLaws
 pub mod RunLaws
 pub mod EvenRefers
 pub mod Fresh

@@ -13,12 +13,13 @@ use Rattle.model.specs.Database.{Database}
 use Rattle.model.specs.Probe
 use Rattle.model.specs.Rounds.{addedRows, laterRounds, reached}
 use Rattle.model.specs.Even.{unevenFrom, lowestUneven}
+use Rattle.model.specs.Knot.{isUnevenScheme, knotOf}
 use Rattle.model.specs.Holding.{holds, hasRoom, withoutPair, heldIn}
-use Rattle.model.specs.Runs.{Question, probe, evenness, Output, asLists, asTotal, Operation, refer, drop, ask, query, taken, pairFor, outputFits, withinLimit, marked, Cache, referLevels, reloadLevels}
+use Rattle.model.specs.Runs.{Question, probe, evenness, smallestKnot, Output, asLists, asTotal, Operation, refer, drop, ask, query, taken, pairFor, outputFits, withinLimit, marked, Cache, referLevels, reloadLevels}
 use Rattle.model.specs.Query.{Query, wordsOf, fullLists, fullTotal}
 
 -- `loaded` rows rounds, `held`, `no candidate`, `dropped` rows, `ground` g rows, `sent`, `answer` lists, `refused` number; `even`, `uneven` i j (02, Req 01);
--- `total` n (02, Req 03)
+-- `total` n (02, Req 03); `knot` constraints (02, Req 11)
 pub data Answer : Type 0 where
   loaded : ℕ → ℕ → Answer
   held noCandidate : Answer
@@ -30,6 +31,7 @@ pub data Answer : Type 0 where
   even : Answer
   uneven : ℕ → ℕ → Answer
   total : ℕ → Answer
+  knot : List ℕ → Answer
 
 -- an answer as the report shows it: its word, by number, and the numbers behind it. Whatever depends on what an answer is goes through this
 pub record Shown : Type 0 where
@@ -54,6 +56,7 @@ shown (refused n) = record { word = refusedWord; numbers = n ∷ [] }
 shown even = record { word = 8; numbers = [] }
 shown (uneven i j) = record { word = 9; numbers = i ∷ j ∷ [] }
 shown (total n) = record { word = 10; numbers = n ∷ [] }
+shown (knot ks) = record { word = 11; numbers = ks }
 
 -- the answer has lists; the answer is a refusal
 unfoldable pub hasLists : Answer → Bool
@@ -83,6 +86,10 @@ Yes a = (g : ℕ) × (rows : ℕ) × (a ≡ ground g rows)
 unfoldable pub evenAnswer : Scheme → Answer
 evenAnswer S = orAnswer (ltb (lowestUneven S) (S .constraints)) (uneven (lowestUneven S) (unevenFrom S (lowestUneven S))) even
 
+-- "`knot` and, rising, the numbers"; "`even` for an even design" (02, Req 11)
+unfoldable pub knotAnswer : Scheme → Answer
+knotAnswer S = orAnswer (isUnevenScheme S) (knot (knotOf S)) even
+
 -- what a question answers
 unfoldable pub questionAnswer : Scheme → Database → Cache → Question → Answer
 questionAnswer S D c (probe k v) =
@@ -90,6 +97,7 @@ questionAnswer S D c (probe k v) =
     (unless (numberless v) 9
     (groundOf (Probe.probe S D (heldIn S (c .held)) (marked (c .marks)) k v) (Probe.cachedRows D (marked (c .marks)) k v)))
 questionAnswer S D c evenness = evenAnswer S
+questionAnswer S D c smallestKnot = knotAnswer S
 
 -- ---- queries
 

@@ -6,6 +6,7 @@ pub mod Cache
 pub mod Probe
 pub mod Rounds
 pub mod Even
+pub mod Knot
 pub mod Holding
 pub mod Query
 pub mod Runs

@@ -20,6 +20,8 @@ pub data Question : Type 0 where
   probe : Column → Cell → Question
   -- whether the design is even
   evenness : Question
+  -- its smallest knot
+  smallestKnot : Question
 
 -- what a query is asked for: its lists, with how many answer words are lent, or the total of a position's column (02, Req 03)
 pub data Output : Type 0 where

@@ -7,8 +7,8 @@ use mathlib.Core.List.{List, []}
 use lib.ListN.{length}
 use lib.Seq.{sets}
 use Rattle.model.specs.Holding.{Pair}
-use Rattle.model.specs.Runs.{Question, evenness, Operation, refer, drop, ask, cacheAfter}
-use Rattle.model.specs.Answers.{Answer, refused, evenAnswer, questionAnswer, answer, written}
+use Rattle.model.specs.Runs.{Question, evenness, smallestKnot, Operation, refer, drop, ask, cacheAfter}
+use Rattle.model.specs.Answers.{Answer, refused, evenAnswer, knotAnswer, questionAnswer, answer, written}
 use Rattle.state.specs.declared.operation.Operation as State-operation
 use Rattle.state.specs.Meaning.{operationOf}
 use Rattle.state.specs.Lent.{State, cache, scheme, database, sound, causeAt, answerAt, wordsAt, Answered, Performed}
@@ -43,6 +43,11 @@ module _ (s : State) (e : sound s ≡ true) (w : List ℕ) where
 pub even-answers : (s : State) → sound s ≡ true → (a : Answer) → a ≡ evenAnswer (scheme s) → a ≡ answerAt s (ask evenness)
 unfolding answer questionAnswer
 even-answers s e a h = h ∙ sym (answer-at s e (ask evenness))
+
+-- and so does its smallest knot
+pub knot-answers : (s : State) → sound s ≡ true → (a : Answer) → a ≡ knotAnswer (scheme s) → a ≡ answerAt s (ask smallestKnot)
+unfolding answer questionAnswer
+knot-answers s e a h = h ∙ sym (answer-at s e (ask smallestKnot))
 
 -- ---- whatever is lent
 

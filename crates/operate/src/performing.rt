@@ -14,6 +14,7 @@ use cache::drop_lawful;
 use cache::probe_lawful;
 use cache::refer_lawful;
 use even::evenness;
+use even::smallest_knot;
 use state::Answer;
 use state::Design;
 use state::Held;
@@ -141,6 +142,10 @@ pub fn perform_lawful(
                 froms,
                 links,
             )
+        }
+        Operation::SmallestKnot => {
+            let answer = smallest_knot(design);
+            Outcome { held, answer }
         }
     }
 }

@@ -1,23 +1,21 @@
--- An answer's text: its word, its numbers, and the place of a refusal; and a refused design's line as an answer. Assumes nothing.
+-- An answer's text: its word, its numbers, and the place of a refusal. Assumes nothing.
 use Prim.Native.Nat.{ℕ, _+_, _≤_}
 use native.Mathlib.Omega.{arith}
 use mathlib.Core.Path.{_≡_, refl, sym, ap, subst, _∙_}
 use mathlib.Core.Bool.{Bool, true, false, cond}
-use mathlib.Core.List.{List, [], _∷_, _++_, append-assoc, append-nil}
-use lib.ListN.{length, take, getD, List·getD-eq-default}
-use lib.Seq.{take-all}
+use mathlib.Core.List.{List, [], _++_, append-assoc, append-nil}
+use lib.ListN.{length, getD, List·getD-eq-default}
+use Rattle.finite.specs.Finite.{collect}
 use Rattle.finite.specs.Writing.{Wrote}
+use Rattle.finite.proofs.Collecting.{collect-same}
+use Rattle.finite.proofs.Tables.{tab-at}
 use Rattle.finite.proofs.Writing.{wrote-none, wrote-as}
+use Rattle.state.specs.declared.answer.Answer.{Answer}
 use Rattle.state.specs.declared.answer.Shown.{Shown}
-use Rattle.state.specs.Meaning.{shownOf}
-use Rattle.model.specs.Answers as Model
-use Rattle.model.specs.Answers.{Answer, refused, shown, isRefusal}
-use Rattle.report.specs.Report.{newline, spaced, answer-words, wordText, numbersText, answerText, refusalLine}
-
--- a refused design is reported as a refused command, without a number
-pub refusal-line : (n place : ℕ) → answerText (refused n) place ++ (newline ∷ []) ≡ refusalLine n place
-unfolding answerText refusalLine wordText numbersText shown isRefusal
-refusal-line n place = simp append-assoc
+use Rattle.state.specs.Meaning.{answerOf, sixteen, shownOf}
+use Rattle.state.proofs.AnswerLaws.{few-numbers}
+use Rattle.model.specs.Answers.{shown, isRefusal}
+use Rattle.report.specs.Report.{spaced, answer-words, wordText, numbersText, answerText}
 
 -- the word with number w, which is k
 pub in-word : {o o′ : List ℕ} {n z : ℕ} {w k : ℕ} → w ≡ k → Wrote o o′ n z (wordText k) → Wrote o o′ n z (wordText w)
@@ -31,44 +29,43 @@ next : (w n : ℕ) → (w ≡ n → ⊥) → n ≤ w → n + 1 ≤ w
 next w n m l = omega arith
 
 pub past-words : (w : ℕ) → (w ≡ 0 → ⊥) → (w ≡ 1 → ⊥) → (w ≡ 2 → ⊥) → (w ≡ 3 → ⊥) → (w ≡ 4 → ⊥) → (w ≡ 5 → ⊥) → (w ≡ 6 → ⊥) → (w ≡ 7 → ⊥) →
-    (w ≡ 8 → ⊥) → (w ≡ 9 → ⊥) → (w ≡ 10 → ⊥) → 11 ≤ w
-past-words w a b c d e f g h i j k =
-    next w 10 k (next w 9 j (next w 8 i (next w 7 h (next w 6 g (next w 5 f (next w 4 e (next w 3 d (next w 2 c (next w 1 b (next w 0 a (least w)))))))))))
+    (w ≡ 8 → ⊥) → (w ≡ 9 → ⊥) → (w ≡ 10 → ⊥) → (w ≡ 11 → ⊥) → 12 ≤ w
+past-words w a b c d e f g h i j k l =
+    next w 11 l (next w 10 k (next w 9 j (next w 8 i (next w 7 h (next w 6 g (next w 5 f (next w 4 e (next w 3 d (next w 2 c (next w 1 b (next w 0 a (least w))))))))))))
 
-pub no-word : (o : List ℕ) (n w : ℕ) → 11 ≤ w → Wrote o o n n (wordText w)
+pub no-word : (o : List ℕ) (n w : ℕ) → 12 ≤ w → Wrote o o n n (wordText w)
 unfolding wordText
 no-word o n w l = wrote-as o o n n n [] (wordText w) refl (sym (List·getD-eq-default answer-words [] l)) (wrote-none o n)
 
--- ---- the numbers of an answer: none, one, two
-
-module _ (s : Shown) where
-  pub no-numbers : s .numbers ≡ 0 → numbersText (shownOf s .numbers) ≡ []
-  unfolding numbersText
-  no-numbers e = ap (λ (k : ℕ). numbersText (take k (s .first ∷ s .second ∷ []))) e
-
-  pub one-number : s .numbers ≡ 1 → numbersText (shownOf s .numbers) ≡ spaced (s .first)
-  unfolding numbersText
-  one-number e = ap (λ (k : ℕ). numbersText (take k (s .first ∷ s .second ∷ []))) e ∙ append-nil (spaced (s .first))
-
-  pub two-numbers : (s .numbers ≡ 0 → ⊥) → (s .numbers ≡ 1 → ⊥) → numbersText (shownOf s .numbers) ≡ spaced (s .first) ++ spaced (s .second)
-  unfolding numbersText
-  two-numbers a b =
-      ap numbersText (take-all (s .numbers) (s .first ∷ s .second ∷ []) (omega arith)) ∙
-      ap (λ (xs : List ℕ). spaced (s .first) ++ xs) (append-nil (spaced (s .second)))
-
 -- ---- a word, its numbers, and the place of a refusal
 
-module _ (s : Shown) (a : Answer) (place : ℕ) (e : shownOf s ≡ shown a) where
-  pub plain-text : isRefusal a ≡ false → wordText (s .word) ++ numbersText (shownOf s .numbers) ≡ answerText a place
+-- what is shown of the answer a
+module _ (s : Shown) (a : Answer) (place : ℕ) (e : s ≡ shownOf (shown (answerOf a))) where
+  abbrev word : List ℕ
+  word = wordText (s .word)
+
+  abbrev numbers : List ℕ
+  numbers = collect (s .count) (λ _. true) (λ i. spaced (getD (s .numbers) i 0))
+
+  numbers-are : numbers ≡ numbersText (shown (answerOf a) .numbers)
+  unfolding numbersText
+  numbers-are =
+      let ns = shown (answerOf a) .numbers in
+      ap (λ (x : Shown). collect (x .count) (λ _. true) (λ i. spaced (getD (x .numbers) i 0))) e ∙
+      collect-same (length ns) (λ _. true) (λ _. true) (λ i. spaced (getD (sixteen ns) i 0)) (λ i. spaced (getD ns i 0)) (λ _ _. refl)
+      (λ i l _. ap spaced (tab-at 0 16 (λ j. getD ns j 0) i (omega (arith, few-numbers a))))
+
+  abbrev text : Bool → List ℕ
+  text b = wordText (shown (answerOf a) .word) ++ (numbersText (shown (answerOf a) .numbers) ++ cond b (spaced place) [])
+
+  pub plain-text : isRefusal (answerOf a) ≡ false → word ++ numbers ≡ answerText (answerOf a) place
   unfolding answerText
   plain-text t =
-      ap (λ (x : Model.Shown). wordText (x .word) ++ numbersText (x .numbers)) e ∙
-      ap (λ (xs : List ℕ). wordText (shown a .word) ++ xs) (sym (append-nil (numbersText (shown a .numbers)))) ∙
-      ap (λ (b : Bool). wordText (shown a .word) ++ (numbersText (shown a .numbers) ++ cond b (spaced place) [])) (sym t)
+      ap (λ (x : Shown). wordText (x .word) ++ numbers) e ∙ ap (λ (xs : List ℕ). wordText (shown (answerOf a) .word) ++ xs) (numbers-are ∙ sym (append-nil _)) ∙
+      ap text (sym t)
 
-  pub refusal-text : isRefusal a ≡ true → (wordText (s .word) ++ numbersText (shownOf s .numbers)) ++ spaced place ≡ answerText a place
+  pub refusal-text : isRefusal (answerOf a) ≡ true → (word ++ numbers) ++ spaced place ≡ answerText (answerOf a) place
   unfolding answerText
   refusal-text t =
-      append-assoc (wordText (s .word)) (numbersText (shownOf s .numbers)) (spaced place) ∙
-      ap (λ (x : Model.Shown). wordText (x .word) ++ (numbersText (x .numbers) ++ spaced place)) e ∙
-      ap (λ (b : Bool). wordText (shown a .word) ++ (numbersText (shown a .numbers) ++ cond b (spaced place) [])) (sym t)
+      append-assoc word numbers (spaced place) ∙ ap (λ (x : Shown). wordText (x .word) ++ (numbers ++ spaced place)) e ∙
+      ap (λ (xs : List ℕ). wordText (shown (answerOf a) .word) ++ (xs ++ spaced place)) numbers-are ∙ ap text (sym t)

@@ -4,18 +4,19 @@ use native.Mathlib.Nat.{suc-mul, mul-add, mul-comm, mul-one, mul-le-mul-left}
 use native.Mathlib.Omega.{arith}
 use mathlib.Core.Path.{_≡_, ap, _∙_}
 use mathlib.Core.Bool.{Bool, true, false, cond}
-use mathlib.Core.List.{List, [], _∷_}
+use mathlib.Core.List.{List, []}
 use lib.ListN.{length, length-append, length-take, take, getD}
 use Rattle.finite.specs.Finite.{collect}
 use Rattle.finite.specs.Writing.{Wrote}
+use Rattle.finite.proofs.Collecting.{collect-most}
 use Rattle.finite.proofs.Writing.{reach}
 use Rattle.state.specs.declared.design.Design.{Design}
-use Rattle.state.specs.declared.answer.Shown.{Shown}
-use Rattle.state.specs.Meaning.{shownOf}
-use Rattle.model.specs.Answers.{Answer, loaded, held, noCandidate, dropped, ground, sent, lists, refused, even, uneven, total, shown, isRefusal}
-use Rattle.report.specs.Report.{newline, decimal, spaced, wordText, numbersText, answerText, commandLine, designLine, refusalLine, listLine, listLines}
+use Rattle.state.specs.declared.answer.Answer.{Answer}
+use Rattle.state.specs.Meaning.{answerOf}
+use Rattle.state.proofs.AnswerLaws.{few-numbers}
+use Rattle.model.specs.Answers.{shown, isRefusal}
+use Rattle.report.specs.Report.{decimal, spaced, wordText, numbersText, answerText, commandLine, designLine, refusalLine, listLine, listLines}
 use Rattle.report.proofs.Decimals.{decimal-short, decimal-short-32}
-use Rattle.report.proofs.Answers.{refusal-line}
 
 -- ---- how long
 
@@ -32,41 +33,28 @@ word-short (suc (suc (suc (suc (suc (suc (suc zero))))))) = omega arith
 word-short (suc (suc (suc (suc (suc (suc (suc (suc zero)))))))) = omega arith
 word-short (suc (suc (suc (suc (suc (suc (suc (suc (suc zero))))))))) = omega arith
 word-short (suc (suc (suc (suc (suc (suc (suc (suc (suc (suc zero)))))))))) = omega arith
-word-short (suc (suc (suc (suc (suc (suc (suc (suc (suc (suc (suc w))))))))))) = omega arith
+word-short (suc (suc (suc (suc (suc (suc (suc (suc (suc (suc (suc zero))))))))))) = omega arith
+word-short (suc (suc (suc (suc (suc (suc (suc (suc (suc (suc (suc (suc w)))))))))))) = omega arith
 
-numbers-within : (ns : List ℕ) → length (numbersText ns) ≤ 21 * length ns
+-- numbers, each behind a space
+spaced-short : (k : ℕ) (f : ℕ → ℕ) → length (collect k (λ _. true) (λ i. spaced (f i))) ≤ 21 * k
+spaced-short k f = omega (arith, collect-most k 21 (λ _. true) (λ i. spaced (f i)) (λ i. omega (arith, decimal-short (f i))), mul-comm k 21)
+
+numbers-short : (ns : List ℕ) → length (numbersText ns) ≤ 21 * length ns
 unfolding numbersText
-numbers-within [] = omega arith
-numbers-within (n ∷ ns) = simp length-append (omega (arith, decimal-short n, numbers-within ns))
+numbers-short ns = spaced-short (length ns) (λ i. getD ns i 0)
 
-numbers-short : (s : Shown) → length (numbersText (shownOf s .numbers)) ≤ 42
-numbers-short s = omega (arith, numbers-within (shownOf s .numbers), length-take (s .numbers) (s .first ∷ s .second ∷ []))
-
--- an answer has at most two numbers
-few-numbers : (a : Answer) → length (shown a .numbers) ≤ 2
-unfolding shown
-few-numbers (loaded rows rounds) = omega arith
-few-numbers held = omega arith
-few-numbers noCandidate = omega arith
-few-numbers (dropped rows) = omega arith
-few-numbers (ground g rows) = omega arith
-few-numbers sent = omega arith
-few-numbers (lists n) = omega arith
-few-numbers (refused n) = omega arith
-few-numbers even = omega arith
-few-numbers (uneven i j) = omega arith
-few-numbers (total n) = omega arith
-
-answer-short : (a : Answer) (place : ℕ) → length (answerText a place) ≤ 75
+answer-short : (a : Answer) (place : ℕ) → length (answerText (answerOf a) place) ≤ 369
 unfolding answerText
 answer-short a place =
-    simp length-append (omega (arith, word-short (shown a .word), numbers-within (shown a .numbers), few-numbers a, place-short (isRefusal a)))
+    let s = shown (answerOf a) in
+    simp length-append (omega (arith, word-short (s .word), numbers-short (s .numbers), few-numbers a, place-short (isRefusal (answerOf a))))
   where
     place-short : (b : Bool) → length (cond b (spaced place) []) ≤ 21
     place-short true = omega (arith, decimal-short place)
     place-short false = omega arith
 
-pub command-line-short : (number : ℕ) (a : Answer) (place : ℕ) → length (commandLine number a place) ≤ 97
+pub command-line-short : (number : ℕ) (a : Answer) (place : ℕ) → length (commandLine number (answerOf a) place) ≤ 391
 unfolding commandLine
 command-line-short number a place = simp length-append (omega (arith, decimal-short number, answer-short a place))
 
@@ -75,9 +63,9 @@ unfolding designLine
 design-line-short d =
     simp length-append (omega (arith, decimal-short (d .tables), decimal-short (d .constraints), decimal-short (d .fillings), decimal-short (d .rows)))
 
-pub refusal-line-short : (n place : ℕ) → length (refusalLine n place) ≤ 76
-refusal-line-short n place =
-    omega (arith, answer-short (refused n) place, length-append (answerText (refused n) place) (newline ∷ []), ap length (refusal-line n place))
+pub refusal-line-short : (n place : ℕ) → length (refusalLine n place) ≤ 50
+unfolding refusalLine
+refusal-line-short n place = simp length-append (omega (arith, decimal-short n, decimal-short place))
 
 -- lists of words, each below 2 ^ 32
 module _ (words : List ℕ) (small : (i : ℕ) → getD words i 0 < 2 ^ 32) where
@@ -121,20 +109,20 @@ module _ (o o′ : List ℕ) (n z : ℕ) where
   pub word-reach : (w : ℕ) → Wrote o o′ n z (wordText w) → z ≤ n + 12
   word-reach w = reach o o′ n z (wordText w) 12 (word-short w)
 
-  pub numbers-reach : (s : Shown) → Wrote o o′ n z (numbersText (shownOf s .numbers)) → z ≤ n + 42
-  numbers-reach s = reach o o′ n z (numbersText (shownOf s .numbers)) 42 (numbers-short s)
+  pub numbers-reach : (k : ℕ) (ns : List ℕ) → Wrote o o′ n z (collect k (λ _. true) (λ i. spaced (getD ns i 0))) → z ≤ n + 21 * k
+  numbers-reach k ns = reach o o′ n z _ (21 * k) (spaced-short k (λ i. getD ns i 0))
 
-  pub answer-reach : (a : Answer) (place : ℕ) → Wrote o o′ n z (answerText a place) → z ≤ n + 75
-  answer-reach a place = reach o o′ n z (answerText a place) 75 (answer-short a place)
+  pub answer-reach : (a : Answer) (place : ℕ) → Wrote o o′ n z (answerText (answerOf a) place) → z ≤ n + 369
+  answer-reach a place = reach o o′ n z (answerText (answerOf a) place) 369 (answer-short a place)
 
-  pub command-line-reach : (number : ℕ) (a : Answer) (place : ℕ) → Wrote o o′ n z (commandLine number a place) → z ≤ n + 97
-  command-line-reach number a place = reach o o′ n z (commandLine number a place) 97 (command-line-short number a place)
+  pub command-line-reach : (number : ℕ) (a : Answer) (place : ℕ) → Wrote o o′ n z (commandLine number (answerOf a) place) → z ≤ n + 391
+  command-line-reach number a place = reach o o′ n z (commandLine number (answerOf a) place) 391 (command-line-short number a place)
 
   pub design-line-reach : (d : Design) → Wrote o o′ n z (designLine d) → z ≤ n + 91
   design-line-reach d = reach o o′ n z (designLine d) 91 (design-line-short d)
 
-  pub refusal-line-reach : (cause place : ℕ) → Wrote o o′ n z (refusalLine cause place) → z ≤ n + 76
-  refusal-line-reach cause place = reach o o′ n z (refusalLine cause place) 76 (refusal-line-short cause place)
+  pub refusal-line-reach : (cause place : ℕ) → Wrote o o′ n z (refusalLine cause place) → z ≤ n + 50
+  refusal-line-reach cause place = reach o o′ n z (refusalLine cause place) 50 (refusal-line-short cause place)
 
   module _ (words : List ℕ) (small : (i : ℕ) → getD words i 0 < 2 ^ 32) where
     pub words-reach : (w k : ℕ) → Wrote o o′ n z (collect k (λ _. true) (λ j. spaced (getD words (w + j) 0))) → z ≤ n + 11 * k

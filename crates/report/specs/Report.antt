@@ -3,7 +3,7 @@ use Prim.Native.Nat.{ℕ, zero, suc, _+_, _-_, _*_, _/_, _%_}
 use mathlib.Core.Bool.{true, cond}
 use mathlib.Core.List.{List, [], _∷_, _++_}
 use lib.Dec.{ltb}
-use lib.ListN.{getD}
+use lib.ListN.{length, getD}
 use Rattle.finite.specs.Finite.{collect}
 use Rattle.state.specs.declared.design.Design.{Design}
 use Rattle.model.specs.Answers.{Answer, shown, isRefusal}
@@ -31,7 +31,7 @@ decimal n = decimalBy 20 n
 abbrev pub spaced : ℕ → List ℕ
 spaced n = space ∷ decimal n
 
--- "loaded", "held", "no candidate", "dropped", "ground", "sent", "answer", "refused", "even", "uneven", "total", "design"
+-- "loaded", "held", "no candidate", "dropped", "ground", "sent", "answer", "refused", "even", "uneven", "total", "knot", "design"
 abbrev pub loaded-word : List ℕ
 loaded-word = 108 ∷ 111 ∷ 97 ∷ 100 ∷ 101 ∷ 100 ∷ []
 
@@ -65,20 +65,22 @@ uneven-word = 117 ∷ 110 ∷ 101 ∷ 118 ∷ 101 ∷ 110 ∷ []
 abbrev pub total-word : List ℕ
 total-word = 116 ∷ 111 ∷ 116 ∷ 97 ∷ 108 ∷ []
 
+abbrev pub knot-word : List ℕ
+knot-word = 107 ∷ 110 ∷ 111 ∷ 116 ∷ []
+
 abbrev pub design-word : List ℕ
 design-word = 100 ∷ 101 ∷ 115 ∷ 105 ∷ 103 ∷ 110 ∷ []
 
 -- the words of the answers, in the order of their numbers (`shown`)
 abbrev pub answer-words : List (List ℕ)
-answer-words = loaded-word ∷ held-word ∷ no-candidate-words ∷ dropped-word ∷ ground-word ∷ sent-word ∷ answer-word ∷ refused-word ∷ even-word ∷ uneven-word ∷ total-word ∷ []
+answer-words = loaded-word ∷ held-word ∷ no-candidate-words ∷ dropped-word ∷ ground-word ∷ sent-word ∷ answer-word ∷ refused-word ∷ even-word ∷ uneven-word ∷ total-word ∷ knot-word ∷ []
 
 unfoldable pub wordText : ℕ → List ℕ
 wordText w = getD answer-words w []
 
 -- numbers, each behind a space
 unfoldable pub numbersText : List ℕ → List ℕ
-numbersText [] = []
-numbersText (n ∷ ns) = spaced n ++ numbersText ns
+numbersText ns = collect (length ns) (λ _. true) (λ i. spaced (getD ns i 0))
 
 -- an answer in words; the place goes with a refusal
 unfoldable pub answerText : Answer → ℕ → List ℕ

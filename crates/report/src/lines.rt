@@ -4,8 +4,8 @@ ghost use mathlib.Core.Bool.{true};
 ghost use lib.ListN.{length, getD};
 ghost use Rattle.finite.specs.Finite.{collect};
 ghost use Rattle.finite.specs.Writing.{Wrote};
-ghost use Rattle.state.specs.Meaning.{answerOf, shownOf};
-ghost use Rattle.report.specs.Report.{spaced, wordText, numbersText, answerText, commandLine, designLine, refusalLine, listLine, listLines};
+ghost use Rattle.state.specs.Meaning.{answerOf};
+ghost use Rattle.report.specs.Report.{spaced, wordText, answerText, commandLine, designLine, refusalLine, listLine, listLines};
 use crate::text::put_byte;
 use crate::text::put_bytes;
 use crate::text::put_decimal;
@@ -33,28 +33,29 @@ fn put_word(out: &mut [u8], at: usize, word: u8) -> usize
         8 => put_bytes(out, at, b"even", 4),
         9 => put_bytes(out, at, b"uneven", 6),
         10 => put_bytes(out, at, b"total", 5),
+        11 => put_bytes(out, at, b"knot", 4),
         _ => at,
     }
 }
 
-// Writes the numbers of an answer: at most 42 bytes.
+// Writes the numbers of an answer, each behind a space: at most 21 bytes for each.
 fn put_numbers(out: &mut [u8], at: usize, shown: Shown) -> usize
-    requires { ⌜ at + 42 ≤ length (now out) ⌝ }
-    ensures { λ z. ⌜ Wrote (now (out .entry)) (now (out .exit)) at z (numbersText (shownOf shown .numbers)) ⌝ }
+    requires { ⌜ (shown .count ≤ 16) × (at + 21 * shown .count ≤ length (now out)) ⌝ }
+    ensures { λ z. ⌜ Wrote (now (out .entry)) (now (out .exit)) at z (collect (shown .count) (λ _. true) (λ i. spaced (getD (shown .numbers) i 0))) ⌝ }
 {
-    if shown.numbers == 0 {
-        return at;
+    let n = shown.count as usize;
+    let mut z = at;
+    let mut i: usize = 0;
+    while i < n {
+        z = put_spaced(out, z, shown.numbers[i]);
+        i += 1;
     }
-    let z = put_spaced(out, at, shown.first);
-    if shown.numbers == 1 {
-        return z;
-    }
-    put_spaced(out, z, shown.second)
+    z
 }
 
-// Writes an answer in words; the place goes with a refusal. At most 75 bytes.
+// Writes an answer in words; the place goes with a refusal. At most 369 bytes.
 fn put_answer(out: &mut [u8], at: usize, answer: Answer, place: usize) -> usize
-    requires { ⌜ at + 75 ≤ length (now out) ⌝ }
+    requires { ⌜ at + 369 ≤ length (now out) ⌝ }
     ensures { λ z. ⌜ Wrote (now (out .entry)) (now (out .exit)) at z (answerText (answerOf answer) place) ⌝ }
 {
     let s = show(answer);
@@ -66,7 +67,7 @@ fn put_answer(out: &mut [u8], at: usize, answer: Answer, place: usize) -> usize
     put_spaced(out, y, place as u64)
 }
 
-// Writes a command's line: its number, and its answer. At most 97 bytes.
+// Writes a command's line: its number, and its answer. At most 391 bytes.
 pub fn put_command_line(
     out: &mut [u8],
     at: usize,
@@ -74,7 +75,7 @@ pub fn put_command_line(
     answer: Answer,
     place: usize,
 ) -> usize
-    requires { ⌜ at + 97 ≤ length (now out) ⌝ }
+    requires { ⌜ at + 391 ≤ length (now out) ⌝ }
     ensures { λ z. ⌜ Wrote (now (out .entry)) (now (out .exit)) at z (commandLine number (answerOf answer) place) ⌝ }
 {
     let z = put_decimal(out, at, number as u64);
@@ -96,13 +97,15 @@ pub fn put_design_line(out: &mut [u8], at: usize, d: Design) -> usize
     put_byte(out, v, 10)
 }
 
-// Writes a refused design's line: the cause's number and the place. At most 76 bytes.
+// Writes a refused design's line: the cause's number and the place. At most 50 bytes.
 pub fn put_refusal_line(out: &mut [u8], at: usize, cause: u8, place: usize) -> usize
-    requires { ⌜ at + 76 ≤ length (now out) ⌝ }
+    requires { ⌜ at + 50 ≤ length (now out) ⌝ }
     ensures { λ z. ⌜ Wrote (now (out .entry)) (now (out .exit)) at z (refusalLine cause place) ⌝ }
 {
-    let z = put_answer(out, at, Answer::Refused(cause), place);
-    put_byte(out, z, 10)
+    let z = put_bytes(out, at, b"refused", 7);
+    let y = put_spaced(out, z, cause as u64);
+    let x = put_spaced(out, y, place as u64);
+    put_byte(out, x, 10)
 }
 
 // Writes n words from word w on, each behind a space: at most 11 bytes for each.

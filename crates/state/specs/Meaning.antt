@@ -1,11 +1,11 @@
 -- What the lent values mean in the model: nothing above this file looks at buffers. Assumes nothing.
-use Prim.Native.Nat.{ℕ, _+_, _*_, _/_, _%_, _^_}
+use Prim.Native.Nat.{ℕ, _+_, _-_, _*_, _/_, _%_, _^_}
 use mathlib.Core.Bool.{Bool, cond, _&&_, and-eq-true-iff}
 use mathlib.Core.List.{List, [], _∷_}
 use borrow.Author.Tests.{ltb-true}
 use lib.Dec.{eqb, ltb}
 use lib.ListN.{length, getD, take}
-use Rattle.finite.specs.Finite.{tab}
+use Rattle.finite.specs.Finite.{tab, collect}
 use Rattle.model.specs.Cell as Model-cell
 use Rattle.model.specs.Cell.{blank}
 use Rattle.model.specs.Scheme as Model
@@ -137,7 +137,14 @@ operationOf (O.Drop v) room = Runs.drop (pairOf v)
 operationOf (O.Probe k v) room = Runs.ask (Runs.probe (columnOf k) (cellOf v))
 operationOf (O.Query q) room = Runs.query (queryOf q) (Runs.asLists room)
 operationOf O.Evenness room = Runs.ask Runs.evenness
+operationOf O.SmallestKnot room = Runs.ask Runs.smallestKnot
 operationOf (O.Total t) room = Runs.query (queryOf (t .query)) (Runs.asTotal (t .position) (t .column))
+
+-- ---- sets of constraints
+
+-- the members of a mask, rising: constraint 0 has the highest of sixteen bits
+abbrev pub maskMembers : ℕ → List ℕ
+maskMembers mask = collect 16 (λ e. bit mask (15 - e)) (λ e. e ∷ [])
 
 -- ---- answers: document 01's word, number and values for each case
 
@@ -153,7 +160,12 @@ answerOf (A.Refused n) = Answers.refused n
 answerOf A.Even = Answers.even
 answerOf (A.Uneven i j) = Answers.uneven i j
 answerOf (A.Total n) = Answers.total n
+answerOf (A.Knot mask) = Answers.knot (maskMembers mask)
 
--- a word with its numbers
-abbrev pub shownOf : Shown → Answers.Shown
-shownOf s = record { word = s .word; numbers = take (s .numbers) (s .first ∷ s .second ∷ []) }
+-- an array of sixteen numbers, 0 behind the last
+abbrev pub sixteen : List ℕ → List ℕ
+sixteen ns = tab 16 (λ i. getD ns i 0)
+
+-- the value that shows a word with its numbers, of which an answer has at most sixteen
+abbrev pub shownOf : Answers.Shown → Shown
+shownOf s = record { word = s .word; count = length (s .numbers); numbers = sixteen (s .numbers) }

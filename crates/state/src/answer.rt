@@ -1,7 +1,12 @@
 // What an operation answers. specs/Meaning.antt sets out document 01's word, number and values for each case (`answerOf`).
 ghost use mathlib.Core.Path.{_≡_};
+ghost use Prim.Native.Nat.{_+_, _-_, _<_};
+ghost use mathlib.Core.Bool.{cond};
+ghost use mathlib.Core.List.{[], _∷_};
+ghost use lib.ListN.{set};
 ghost use Rattle.model.specs.Answers as Model;
-ghost use Rattle.state.specs.Meaning.{answerOf, shownOf};
+ghost use Rattle.state.specs.Meaning.{answerOf, bit, maskMembers, shownOf, sixteen};
+use crate::design::Design;
 
 pub enum Answer {
     // rows added, later rounds that added a row
@@ -22,31 +27,70 @@ pub enum Answer {
     Uneven(u8, u8),
     // the sum of a cell over all lists
     Total(u64),
+    // the constraints of the smallest knot, as a mask: constraint 0 has the highest of sixteen bits
+    Knot(u16),
 }
 
-// An answer as the report shows it: its word, by number, how many numbers stand behind it, and these, 0 where there are fewer.
+// An answer as the report shows it: its word, by number, how many numbers stand behind it, and these, 0 behind the last.
 pub struct Shown {
     pub word: u8,
-    pub numbers: u8,
-    pub first: u64,
-    pub second: u64,
+    pub count: u8,
+    pub numbers: [u64; 16],
 }
 
-// A word with its numbers. Constant time, as are the next three.
-fn words(word: u8, numbers: u8, first: u64, second: u64) -> Shown
-    ensures { λ s. ⌜ s ≡ record { word = word; numbers = numbers; first = first; second = second } ⌝ }
+// A word with its numbers, of which there are at most two. Constant time, as are the other functions but `members`.
+fn words(word: u8, count: u8, first: u64, second: u64) -> Shown
+    ensures { λ s. ⌜ s ≡ record { word = word; count = count; numbers = sixteen (first ∷ second ∷ []) } ⌝ }
 {
+    let mut numbers = [0u64; 16];
+    numbers[0] = first;
+    numbers[1] = second;
     Shown {
         word,
+        count,
         numbers,
-        first,
-        second,
     }
+}
+
+// Whether the mask has constraint e.
+fn has_constraint(mask: u16, e: usize) -> bool
+    requires { ⌜ e < 16 ⌝ }
+    ensures { λ b. ⌜ b ≡ bit mask (15 - e) ⌝ }
+{
+    (mask >> (15 - e)) % 2 == 1
+}
+
+// One more number behind the others, where the mask has constraint e.
+fn with_constraint(s: Shown, mask: u16, e: usize) -> Shown
+    requires { ⌜ (s .count < 16) × (e < 16) ⌝ }
+    ensures { λ r. ⌜ r ≡ cond (bit mask (15 - e)) (record { word = s .word; count = s .count + 1; numbers = set (s .numbers) (s .count) e }) s ⌝ }
+{
+    if !has_constraint(mask, e) {
+        return s;
+    }
+    let mut r = s;
+    let n = s.count;
+    let at = n as usize;
+    r.numbers[at] = e as u64;
+    r.count = n + 1;
+    r
+}
+
+// A word with the constraints of a mask. One step for each of sixteen.
+fn members(word: u8, mask: u16) -> Shown
+    ensures { λ s. ⌜ s ≡ shownOf (record { word = word; numbers = maskMembers mask }) ⌝ }
+{
+    let mut s = words(word, 0, 0, 0);
+    for e in 0..Design::CONSTRAINTS {
+        let t = with_constraint(s, mask, e);
+        s = t;
+    }
+    s
 }
 
 // The one function by cases: a new answer has one line here.
 pub fn show(answer: Answer) -> Shown
-    ensures { λ s. ⌜ shownOf s ≡ Model.shown (answerOf answer) ⌝ }
+    ensures { λ s. ⌜ s ≡ shownOf (Model.shown (answerOf answer)) ⌝ }
 {
     match answer {
         Answer::Loaded(rows, rounds) => words(0, 2, rows as u64, rounds as u64),
@@ -60,6 +104,7 @@ pub fn show(answer: Answer) -> Shown
         Answer::Even => words(8, 0, 0, 0),
         Answer::Uneven(i, j) => words(9, 2, i as u64, j as u64),
         Answer::Total(n) => words(10, 1, n, 0),
+        Answer::Knot(mask) => members(11, mask),
     }
 }
 

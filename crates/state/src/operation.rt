@@ -35,4 +35,6 @@ pub enum Operation {
     // whether the design is even
     Evenness,
     Total(Total),
+    // the smallest knot
+    SmallestKnot,
 }

@@ -10,12 +10,12 @@ use state::Held;
 
 // A line, with how many bytes it has without its end.
 pub struct Line {
-    pub bytes: [u8; 128],
+    pub bytes: [u8; 512],
     pub length: usize,
 }
 
 // A line of so many bytes, the last of which ends it. Constant time.
-fn line_of(bytes: [u8; 128], n: usize) -> Line {
+fn line_of(bytes: [u8; 512], n: usize) -> Line {
     if n == 0 {
         return Line { bytes, length: 0 };
     }
@@ -78,7 +78,7 @@ pub(crate) fn step_of(
 
 // A command's line.
 fn command_line(number: usize, t: Step) -> Line {
-    let mut bytes = [0u8; 128];
+    let mut bytes = [0u8; 512];
     let answer = t.answer;
     let n = put_command_line(&mut bytes, 0, number, answer, t.place);
     line_of(bytes, n)
@@ -86,7 +86,7 @@ fn command_line(number: usize, t: Step) -> Line {
 
 // A refused design's line.
 fn refusal_line(cause: u8, place: usize) -> Line {
-    let mut bytes = [0u8; 128];
+    let mut bytes = [0u8; 512];
     let n = put_refusal_line(&mut bytes, 0, cause, place);
     line_of(bytes, n)
 }

@@ -60,7 +60,7 @@ fn put_left(bytes: &mut [u8], at: usize, is_left: bool) -> usize {
 
 // The causes of the six operations, then l if everything was left as it was, and c if something was changed.
 fn causes_line(c: Causes, is_left: bool) -> Line {
-    let mut bytes = [0u8; 128];
+    let mut bytes = [0u8; 512];
     let n = put_cause(&mut bytes, 0, c.refer);
     let n = put_cause(&mut bytes, n, c.drop);
     let n = put_cause(&mut bytes, n, c.probe);
@@ -73,7 +73,7 @@ fn causes_line(c: Causes, is_left: bool) -> Line {
 
 fn reading_line(script: &[u8], kind: usize) -> Line {
     let o = reading(script, kind);
-    let mut bytes = [0u8; 128];
+    let mut bytes = [0u8; 512];
     let n = put_cause(&mut bytes, 0, o.cause);
     let length = put_left(&mut bytes, n, o.is_left);
     Line { bytes, length }
@@ -135,7 +135,7 @@ fn low_digits(w: u32) -> u8 {
 }
 
 fn words_text(words: &[u32]) -> Line {
-    let mut bytes = [0u8; 128];
+    let mut bytes = [0u8; 512];
     let length = put_words(words, &mut bytes);
     Line { bytes, length }
 }

@@ -123,6 +123,8 @@ pub enum Answer {
     Uneven(usize, usize),
     /// The sum of a cell over a query's lists.
     Total(u64),
+    /// The fewest constraints that are uneven.
+    Knot(Vec<usize>),
     /// A cause of refusal.
     Refused(u8),
     /// Given up after [`TIME_LIMIT`].

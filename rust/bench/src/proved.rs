@@ -31,7 +31,7 @@ const STARTS: usize = 65;
 const POSITIONS: usize = 2_560;
 
 /// The numbers that an answer can have at most.
-const NUMBERS: usize = 2;
+const NUMBERS: usize = 16;
 
 // A Rattle slice goes across as a pointer and a length, and an array of a fixed
 // size as a pointer, which is what a reference to an array is in Rust.
@@ -87,6 +87,7 @@ extern "C" {
         froms: &mut [u16; POSITIONS],
         links: &mut [u16; POSITIONS],
         numbers: &mut [u64; NUMBERS],
+        count: &mut u8,
     ) -> u8;
 
     fn wurzsige_run(
@@ -163,9 +164,9 @@ impl Contestant for ProvedDesk {
 }
 
 /// A call of `wurzsige_step` or `wurzsige_run`, which take the same operands; a
-/// step takes the place for its answer's numbers behind them.
+/// step takes the places for its answer's numbers and their count behind them.
 macro_rules! call {
-    ($function:ident, $lent:expr, $script:expr $(, $numbers:expr)?) => {
+    ($function:ident, $lent:expr, $script:expr $(, $told:expr)*) => {
         // SAFETY: each pointer goes with its slice's length, the slices and
         // arrays don't overlap, and the state is as the last call left it.
         unsafe {
@@ -196,7 +197,7 @@ macro_rules! call {
                 &mut $lent.sums,
                 &mut $lent.froms,
                 &mut $lent.links,
-                $($numbers,)?
+                $($told,)*
             )
         }
     };
@@ -258,7 +259,14 @@ impl Lent {
 impl OpenDesk for Lent {
     fn answer(&mut self, operation: &Operation) -> Answer {
         let mut numbers = [0; NUMBERS];
-        let word = call!(wurzsige_step, self, operation.bytes, &mut numbers);
+        let mut count = 0;
+        let word = call!(
+            wurzsige_step,
+            self,
+            operation.bytes,
+            &mut numbers,
+            &mut count
+        );
         let number = numbers[0];
         match word {
             0 => Answer::Loaded(number as usize),
@@ -277,6 +285,10 @@ impl OpenDesk for Lent {
             8 => Answer::Even,
             9 => Answer::Uneven(number as usize, numbers[1] as usize),
             10 => Answer::Total(number),
+            11 => {
+                let constraints = &numbers[..usize::from(count)];
+                Answer::Knot(constraints.iter().map(|&number| number as usize).collect())
+            }
             word => unreachable!("no answer has the word {word}"),
         }
     }

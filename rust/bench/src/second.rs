@@ -61,5 +61,6 @@ fn answered(answer: ReferenceAnswer) -> Answer {
         ReferenceAnswer::Even => Answer::Even,
         ReferenceAnswer::Uneven { i, j } => Answer::Uneven(i, j),
         ReferenceAnswer::Total(total) => Answer::Total(total),
+        ReferenceAnswer::Knot(knot) => Answer::Knot(knot),
     }
 }

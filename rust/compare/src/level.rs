@@ -60,6 +60,7 @@ fn request_of(piece: &Piece) -> u32 {
         Some(0x14) => 1,
         Some(0x15) => 3,
         Some(0x07 | 0x20..=0x23 | 0x25) => 6,
+        Some(0x1c) => 11,
         _ => 0,
     }
 }
@@ -146,6 +147,15 @@ mod tests {
         let script = assemble(text).expect("a right text");
         assert_eq!(Level::before(7).script(script.clone()), script);
         assert_eq!(disassemble(&Level::before(6).script(script)), left);
+    }
+
+    #[test]
+    fn reports_are_taken_out_by_their_requests() {
+        let script = assemble("end\neven\nknot\nend\n").expect("a right text");
+        for (request, left) in [(12, "even\nknot\n"), (11, "even\n"), (1, "")] {
+            let script = Level::before(request).script(script.clone());
+            assert_eq!(disassemble(&script), format!("end\n{left}end\n"));
+        }
     }
 
     #[test]

@@ -6,6 +6,7 @@ use crate::cache::Cache;
 use crate::catalog::Catalog;
 use crate::design::{value_at, width, Column, Design, Refusal};
 use crate::even::Evenness;
+use crate::knot::Knot;
 use crate::query::Listing;
 
 /// What a command answers.
@@ -46,6 +47,9 @@ pub enum Answer {
     },
     /// The sum of a cell over a query's lists.
     Total(u64),
+    /// The fewest constraints that are uneven without the others, bit i for
+    /// constraint i.
+    Knot(u16),
     /// A cause of refusal.
     Refused(u8),
 }
@@ -57,6 +61,7 @@ pub struct Desk {
     cache: Cache,
     listing: Listing,
     evenness: Evenness,
+    knot: Knot,
 }
 
 impl Desk {
@@ -129,6 +134,7 @@ impl Desk {
             }
             0x13 | 0x23 => self.listing.query(design, catalog, &mut self.cache, bytes),
             0x14 => self.evenness.of(design),
+            0x1c => self.knot.of(design),
             0x15 | 0x25 => self.listing.total(design, catalog, &mut self.cache, bytes),
             _ => Answer::Refused(3),
         };

@@ -11,7 +11,7 @@
 //! - [`catalog`] has the groups and the links between them.
 //! - [`cache`] has the cached rows and loads values.
 //! - [`dropping`] drops them.
-//! - [`probe`], [`query`], [`total`] and [`even`] answer.
+//! - [`probe`], [`query`], [`total`], [`even`] and [`knot`] answer.
 //! - [`desk`] carries out a script's commands.
 //! - [`mod@report`] prints.
 //!
@@ -26,6 +26,7 @@ pub mod design;
 pub mod desk;
 pub mod dropping;
 pub mod even;
+pub mod knot;
 pub mod probe;
 pub mod query;
 pub mod report;

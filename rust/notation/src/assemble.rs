@@ -89,6 +89,7 @@ impl<'a> Operands<'a> {
             "query" => Command::Query(self.query()?),
             "even" => Command::Even,
             "total" => Command::Total(self.total()?),
+            "knot" => Command::Knot,
             "bytes" => return self.raw_bytes(),
             other => return fault(name.column, format!("`{other}` is no command")),
         };

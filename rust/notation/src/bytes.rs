@@ -17,6 +17,7 @@ const QUERY: u8 = 0x13;
 const EVEN: u8 = 0x14;
 const TOTAL: u8 = 0x15;
 const ROW_WITH_ISSUES: u8 = 0x07;
+const KNOT: u8 = 0x1c;
 
 /// The operations that name a value.
 const WITH_VALUE: [u8; 5] = [REFER, DROP, PROBE, QUERY, TOTAL];
@@ -25,7 +26,7 @@ const WITH_VALUE: [u8; 5] = [REFER, DROP, PROBE, QUERY, TOTAL];
 const WITH_ISSUE: u8 = 0x10;
 
 /// The bytes that begin a command.
-pub const COMMAND_BYTES: [u8; 17] = [
+pub const COMMAND_BYTES: [u8; 18] = [
     TABLE,
     CONSTRAINT,
     FILLING,
@@ -43,6 +44,7 @@ pub const COMMAND_BYTES: [u8; 17] = [
     PROBE + WITH_ISSUE,
     QUERY + WITH_ISSUE,
     TOTAL + WITH_ISSUE,
+    KNOT,
 ];
 
 impl Command {
@@ -72,6 +74,7 @@ impl Command {
             Command::Total(total) => writer.operation(TOTAL, total.query.value, |w| {
                 w.query(&total.query).u8(total.position).u8(total.column)
             }),
+            Command::Knot => writer.u8(KNOT),
         };
         writer.0
     }
@@ -255,6 +258,7 @@ impl Reader<'_> {
                 position: self.u8()?,
                 column: self.u8()?,
             }),
+            KNOT => Command::Knot,
             _ => return None,
         })
     }

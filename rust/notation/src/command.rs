@@ -213,4 +213,6 @@ pub enum Command {
     Even,
     /// The sum of a cell over a query's lists.
     Total(Total),
+    /// Ask for the fewest constraints that are uneven.
+    Knot,
 }

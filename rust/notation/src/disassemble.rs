@@ -57,6 +57,7 @@ impl fmt::Display for Command {
                 }
                 None => write_bytes(out, &self.bytes()),
             },
+            Command::Knot => write!(out, "knot"),
         }
     }
 }

@@ -18,6 +18,7 @@
 //! even                                          even
 //! total COLUMN = VALUE [join ..] of POSITION column NUMBER
 //!                                               total 0.1 = 3 join 0 by 0 of 1 column 2
+//! knot                                          knot
 //! bytes BYTE ..                                 bytes 0xff 0x01
 //! ```
 //!

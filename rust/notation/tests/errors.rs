@@ -92,6 +92,7 @@ fn messages() {
             "expected the end of the line, found `join`",
         ),
         ("even 1", 6, "expected the end of the line, found `1`"),
+        ("knot 1", 6, "expected the end of the line, found `1`"),
         ("uneven", 1, "`uneven` is no command"),
         (
             "total 0.0 = 1",

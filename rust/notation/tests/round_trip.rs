@@ -67,6 +67,7 @@ fn one_of_each() -> Vec<Command> {
             position: 1,
             column: 7,
         }),
+        Command::Knot,
     ]
 }
 

@@ -3,7 +3,7 @@
 use notation::{assemble, disassemble};
 
 /// A command in its canonical words, and its bytes.
-const COMMANDS: [(&str, &[u8]); 28] = [
+const COMMANDS: [(&str, &[u8]); 29] = [
     ("table 2", &[1, 2, 0]),
     ("table 200 unique 0 3 7", &[1, 200, 0b1000_1001]),
     ("constraint 0.1 -> 2.3", &[2, 0, 1, 2, 3]),
@@ -94,6 +94,7 @@ const COMMANDS: [(&str, &[u8]); 28] = [
         "total 0.1 = 3 join 0 by 0 join 1 by 2 join 0 by 0 join 9 by 8 of 4 column 7",
         &[0x15, 0, 1, 3, 0, 0, 0, 4, 0, 0, 1, 2, 0, 0, 9, 8, 4, 7],
     ),
+    ("knot", &[0x1c]),
     ("bytes 0xff 0x01", &[0xff, 0x01]),
 ];
 

@@ -191,7 +191,8 @@ impl Stage {
             | Command::Probe(_)
             | Command::Query(_)
             | Command::Even
-            | Command::Total(_) => None,
+            | Command::Total(_)
+            | Command::Knot => None,
         }
     }
 }

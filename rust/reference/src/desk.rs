@@ -1,6 +1,6 @@
 //! The operations: loads, drops and probes, and how a question refers its value
-//! first (queries and totals are in [`crate::query`], the report on even designs
-//! in [`crate::even`]).
+//! first (queries and totals are in [`crate::query`], the reports on designs in
+//! [`crate::even`] and [`crate::knot`]).
 
 use crate::design::Design;
 use crate::refusal::Cause;
@@ -15,6 +15,8 @@ pub struct Desk {
     pub(crate) cached: Vec<bool>,
     held: Vec<Pair>,
     pub(crate) answer_words: usize,
+    /// What the report on knots says, once it has been asked for.
+    knot: Option<Answer>,
 }
 
 /// What an operation answers.
@@ -58,6 +60,8 @@ pub enum Answer {
     },
     /// The sum of a cell over a query's lists.
     Total(u64),
+    /// The fewest constraints that are uneven without the others.
+    Knot(Vec<usize>),
 }
 
 impl Desk {
@@ -68,6 +72,7 @@ impl Desk {
             design,
             held: Vec::new(),
             answer_words,
+            knot: None,
         }
     }
 
@@ -85,8 +90,16 @@ impl Desk {
             Command::Query(query) => self.query(query),
             Command::Even => Ok(self.design.evenness()),
             Command::Total(total) => self.total(total),
+            Command::Knot => Ok(self.knot()),
             _ => Err(Cause::OutOfOrder),
         }
+    }
+
+    /// The report on knots, which is worked out once: operations leave the design
+    /// as it is.
+    fn knot(&mut self) -> Answer {
+        let design = &self.design;
+        self.knot.get_or_insert_with(|| design.knot()).clone()
     }
 
     fn refer(&mut self, pair: Pair) -> Result<Answer, Cause> {

@@ -5,13 +5,14 @@
 //! or with the script notation, and looks up rows by walking over all of them.
 //! Its one refinement is in [`query`]: lists are counted before they are
 //! written, and a total without writing them, so that neither takes exponential
-//! time.
+//! time. A knot is looked for among all sets of constraints, but once only.
 
 #![forbid(unsafe_code)]
 
 pub mod design;
 pub mod desk;
 pub mod even;
+pub mod knot;
 pub mod query;
 pub mod refusal;
 pub mod report;

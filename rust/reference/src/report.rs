@@ -67,6 +67,7 @@ impl fmt::Display for Answer {
             Answer::Even => write!(out, "even"),
             Answer::Uneven { i, j } => write!(out, "uneven {i} {j}"),
             Answer::Total(total) => write!(out, "total {total}"),
+            Answer::Knot(knot) => write!(out, "knot {}", numbers(knot)),
         }
     }
 }
@@ -74,8 +75,13 @@ impl fmt::Display for Answer {
 fn write_lists(out: &mut fmt::Formatter<'_>, lists: &[Vec<usize>]) -> fmt::Result {
     write!(out, "answer {}", lists.len())?;
     for list in lists {
-        let rows: Vec<String> = list.iter().map(usize::to_string).collect();
-        write!(out, "\n{}", rows.join(" "))?;
+        write!(out, "\n{}", numbers(list))?;
     }
     Ok(())
+}
+
+/// Numbers with blanks between them.
+fn numbers(numbers: &[usize]) -> String {
+    let numbers: Vec<String> = numbers.iter().map(usize::to_string).collect();
+    numbers.join(" ")
 }

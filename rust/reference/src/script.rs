@@ -149,6 +149,8 @@ pub enum Command {
     Even,
     /// The sum of a cell over a query's lists.
     Total(Total),
+    /// Ask for the fewest constraints that are uneven.
+    Knot,
 }
 
 /// Reads the command that begins at `place`, and gives it with the place after
@@ -178,6 +180,7 @@ pub fn read_command(script: &[u8], place: usize) -> Result<(Command, usize), Cau
         0x13 => Command::Query(reader.query()?),
         0x14 => Command::Even,
         0x15 => Command::Total(reader.total()?),
+        0x1c => Command::Knot,
         0x20 => Command::Refer(reader.with_issue(Reader::pair, |pair| &mut pair.value)?),
         0x21 => Command::Drop(reader.with_issue(Reader::pair, |pair| &mut pair.value)?),
         0x22 => Command::Probe(reader.with_issue(Reader::probe, |probe| &mut probe.value)?),

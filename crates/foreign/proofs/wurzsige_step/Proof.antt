@@ -25,13 +25,13 @@ put-held-requires c κs =
 
 returns : tie.Need-returns
 returns c =
-    let p = c .before .before .before .before in
+    let p = c .before .before .before .before .before in
     let s = p .before .before .before .before .before .before .before in
     let h = s .before .before .before .before .before .before .before in
     let d = h .before .before in
     let start = d .before .before .before .before .before .before .before .before .before in
     step-taken _ _ _ _ _ _ _ _ (d .design-from .ensures) (h .held-from .ensures) (start .pre) _ _ _ _ _ _ (s .step-lawful .ensures) _
-    (p .put-held .ensures .0) (p .put-held .ensures .1) (p .put-held .ensures .2) _ _ (c .tell .ensures)
+    (p .put-held .ensures .0) (p .put-held .ensures .1) (p .put-held .ensures .2) _ _ _ (c .tell .ensures)
 
 pub wurzsige-step-spec : {M : Type 1} → statement M
 wurzsige-step-spec =

@@ -27,7 +27,7 @@ pub fn cycles(random: &mut Random) -> Vec<u8> {
             link_once_more(random, design);
         }
     });
-    let commands = [draft.design.commands(), vec![Command::Even]].concat();
+    let commands = [draft.design.commands(), both_reports()].concat();
     with_operations(random, &draft, commands, 10)
 }
 
@@ -93,7 +93,7 @@ pub fn two_rings(random: &mut Random) -> Vec<u8> {
         ..Shape::SPARSE
     };
     let draft = Draft::linked(random, &shape, link_two_rings);
-    let commands = [draft.design.commands(), vec![Command::Even]].concat();
+    let commands = [draft.design.commands(), both_reports()].concat();
     with_operations(random, &draft, commands, 5)
 }
 
@@ -120,6 +120,63 @@ fn link_two_rings(random: &mut Random, design: &mut Design) {
     if random.percent(30) {
         design.constraints.pop();
     }
+}
+
+/// Several rings of which each turns at one of its tables, by ending there at
+/// another column than it starts from: each is a knot, and among those of one length
+/// their order decides. Other constraints stand among them.
+pub fn several_rings(random: &mut Random) -> Vec<u8> {
+    let shape = Shape {
+        tables: 4..=8,
+        columns: 2..=3,
+        rows: 0..=12,
+        ..Shape::SPARSE
+    };
+    let fewest = random.within(1..=4);
+    let draft = Draft::linked(random, &shape, |random, design| {
+        for _ in 0..random.within(2..=4) {
+            let tables = random.within(fewest..=4);
+            link_ring(random, design, tables);
+        }
+        random.shuffle(&mut design.constraints);
+        design.constraints.truncate(CONSTRAINTS);
+        if random.percent(40) {
+            link_once_more(random, design);
+        }
+    });
+    let commands = [draft.design.commands(), both_reports()].concat();
+    with_operations(random, &draft, commands, 3)
+}
+
+/// Adds a ring through so many tables, which turns at the first of them in most
+/// cases.
+fn link_ring(random: &mut Random, design: &mut Design, count: usize) {
+    let mut tables: Vec<usize> = (0..design.tables.len()).collect();
+    random.shuffle(&mut tables);
+    tables.truncate(count);
+    let mut places: Vec<Column> = tables.iter().map(|&table| column(table, 0)).collect();
+    let turned = usize::from(random.percent(80));
+    places.push(column(tables[0], turned));
+    let link = |pair: &[Column]| Constraint {
+        source: pair[0],
+        target: pair[1],
+    };
+    let mut links: Vec<Constraint> = places.windows(2).map(link).collect();
+    if random.percent(60) {
+        // The same step to another column makes a second knot of this length.
+        let mut other = *random.pick(&links);
+        other.target.column = 1;
+        links.push(other);
+    }
+    for constraint in links {
+        if !design.constraints.contains(&constraint) {
+            design.constraints.push(constraint);
+        }
+    }
+}
+
+fn both_reports() -> Vec<Command> {
+    vec![Command::Even, Command::Knot]
 }
 
 /// A table of a chain: the column that leads to itself, the one that the table
@@ -263,6 +320,17 @@ mod tests {
                 );
             }
         }
+    }
+
+    #[test]
+    fn several_rings_have_knots_of_all_sizes() {
+        let knots = reports(several_rings).filter_map(|report| {
+            let line = report.lines().find(|line| line.starts_with("1 knot "))?;
+            Some(line.split(' ').count() - 2)
+        });
+        let mut sizes = [0; 17];
+        knots.for_each(|size| sizes[size] += 1);
+        assert!(sizes[1..=4].iter().all(|&count| count > 20), "{sizes:?}");
     }
 
     #[test]

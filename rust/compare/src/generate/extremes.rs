@@ -7,6 +7,7 @@ use notation::{
 
 use super::design::{Draft, Shape, Values};
 use super::fetching::around;
+use super::operations::report;
 use super::with_operations;
 use crate::random::Random;
 
@@ -107,7 +108,7 @@ pub fn many_commands(random: &mut Random) -> Vec<u8> {
         };
         let command = match random.below(20) {
             0 => Command::End,
-            1 => Command::Even,
+            1 => report(random),
             2..=10 => Command::Refer(pair),
             _ => Command::Drop(pair),
         };

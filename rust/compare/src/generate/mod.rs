@@ -15,13 +15,13 @@ use notation::{encode, Command};
 
 use crate::random::Random;
 use design::{Draft, Shape};
-use operations::Operator;
+use operations::{report, Operator};
 use spoil::spoil;
 
 /// A way to make a script, with its share among all scripts.
 type Kind = (usize, fn(&mut Random) -> Vec<u8>);
 
-const KINDS: [Kind; 24] = [
+const KINDS: [Kind; 25] = [
     (40, |random| ordinary(random, &Shape::SPARSE)),
     (25, |random| ordinary(random, &Shape::DENSE)),
     (15, |random| worked(random, Draft::chain)),
@@ -40,6 +40,7 @@ const KINDS: [Kind; 24] = [
     (3, extremes::many_commands),
     (12, even::cycles),
     (6, even::two_rings),
+    (12, even::several_rings),
     (6, even::most_rounds),
     (20, fetching::visits),
     (10, fetching::last_place),
@@ -85,7 +86,7 @@ fn early(random: &mut Random) -> Vec<u8> {
     let draft = Draft::random(random, &Shape::SPARSE);
     let mut commands = draft.design.commands();
     let operation = if random.percent(50) {
-        Command::Even
+        report(random)
     } else {
         Operator::new(&draft).operation(random)
     };

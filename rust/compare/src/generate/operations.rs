@@ -38,7 +38,7 @@ impl<'a> Operator<'a> {
             0..=6 => Command::Refer(self.refer(random)),
             7..=10 => Command::Drop(self.drop(random)),
             11..=14 => Command::Probe(self.probe(random)),
-            15 => Command::Even,
+            15 => report(random),
             _ => {
                 let probe = self.probe(random);
                 self.question(random, probe)
@@ -237,6 +237,11 @@ impl<'a> Operator<'a> {
         }
         joins
     }
+}
+
+/// A report on the design.
+pub fn report(random: &mut Random) -> Command {
+    *random.pick(&[Command::Even, Command::Knot])
 }
 
 /// The value that an operation names.

@@ -53,6 +53,12 @@ impl Answer<'_> {
                 Ordering::Less => "uneven with i < j".into(),
                 Ordering::Greater => "uneven with i > j".into(),
             },
+            ["knot", _] => "knot of 1 constraint".into(),
+            ["knot", ref numbers @ ..] if numbers.len() < 4 => {
+                format!("knot of {} constraints", numbers.len())
+            }
+            ["knot", ref numbers @ ..] if numbers.len() < 9 => "knot of 4 to 8 constraints".into(),
+            ["knot", ..] => "knot of 9 constraints".into(),
             ["total", "0"] => "total of 0".into(),
             ["total", _] => "total above 0".into(),
             ["refused", cause, _] => format!("refused {cause}"),

@@ -3,12 +3,14 @@
 //!
 //! - `names` has what is counted.
 //! - `answer` takes a report apart.
-//! - `links` tells how a design's tables are linked.
+//! - `links` tells how a design's tables are linked, and `evenness` what is rare among
+//!   designs that a report is on.
 //! - `issues` tells where the issue of a value shows.
 //! - `fetching` tells what came of queries and totals that refer.
 //! - `totals` tells what a total shows beside other questions.
 
 mod answer;
+mod evenness;
 mod fetching;
 mod issues;
 mod links;
@@ -24,7 +26,6 @@ use reference::ANSWER_WORDS;
 use crate::level::Level;
 use crate::replay::Replay;
 use answer::{answers, number, Answer};
-use links::{has_cycle, links, way, Link};
 use names::{kind, COMMANDS};
 
 pub use names::OUTCOMES;
@@ -89,7 +90,9 @@ impl Tally {
                 self.count(outcome.into(), 1);
             }
             self.count_top_values(&pieces[..end], &pieces[end + 1..], &answers);
-            self.count_evenness(head, &links(&pieces[..end]), &answers);
+            for outcome in evenness::outcomes(script, head, &pieces[..end], &answers) {
+                self.count(outcome.into(), 1);
+            }
         }
         if answers.iter().any(Answer::is_too_long) {
             self.count_few_words_too_many(script, &answers);
@@ -190,33 +193,6 @@ impl Tally {
         }
     }
 
-    /// Counts what is rare among designs that a report is on: uneven ones with a
-    /// way through eight tables, and even ones with a cycle, or with a load of as
-    /// many rounds as eight tables allow.
-    fn count_evenness(&mut self, head: &str, links: &[Link], answers: &[Answer]) {
-        let is_report = |answer: &&Answer| matches!(answer.words()[0], "even" | "uneven");
-        let Some(report) = answers.iter().find(is_report) else {
-            return;
-        };
-        if let ["uneven", i, j] = report.words()[..] {
-            if way(links, number(i), number(j)) == Some(7) {
-                self.count("uneven by a way of 7 steps".into(), 1);
-            }
-            return;
-        }
-        if has_cycle(links) {
-            self.count("even with a cycle".into(), 1);
-        }
-        let most_rounds = |answer: &&Answer| match answer.words()[..] {
-            ["loaded", _, rounds] => rounds == "15",
-            _ => false,
-        };
-        let loads = answers.iter().filter(most_rounds).count() as u64;
-        if head.starts_with("design 8 ") && loads > 0 {
-            self.count("loaded in 15 rounds, 8 tables, even".into(), loads);
-        }
-    }
-
     /// Counts the answers that two more words would have been enough for.
     fn count_few_words_too_many(&mut self, script: &[u8], expected: &[Answer]) {
         let report = reference::report_lending(script, TOO_MANY_WORDS);
@@ -268,7 +244,8 @@ fn replayed(script: &[u8]) -> Vec<&'static str> {
 fn is_report(script: &[u8], place: &str) -> bool {
     let rest = number(place).and_then(|place| script.get(place..));
     let pieces = rest.map(split).unwrap_or_default();
-    pieces.first() == Some(&Piece::Command(Command::Even))
+    let report = [Command::Even, Command::Knot].map(Piece::Command);
+    pieces.first().is_some_and(|piece| report.contains(piece))
 }
 
 /// The outcome that a report's first line shows. Only an over-long script is

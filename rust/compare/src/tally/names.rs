@@ -11,7 +11,7 @@ use notation::{Command, Piece, Value};
 /// 3. Causes 7 and 12 are about lent memory, which no script can spoil. No
 /// answer needs 4,097 words: that has no divisor from 2 to 5, and 512 rows make
 /// no more than 512 lists of one.
-pub const OUTCOMES: [(u32, &str); 96] = [
+pub const OUTCOMES: [(u32, &str); 104] = [
     (0, "design accepted"),
     (0, "design refused 1"),
     (0, "design refused 2"),
@@ -63,6 +63,14 @@ pub const OUTCOMES: [(u32, &str); 96] = [
     (1, "uneven with i < j"),
     (1, "uneven with i > j"),
     (1, "uneven by a way of 7 steps"),
+    (11, "knot of 1 constraint"),
+    (11, "knot of 2 constraints"),
+    (11, "knot of 3 constraints"),
+    (11, "knot of 4 to 8 constraints"),
+    (11, "knot of 9 constraints"),
+    (11, "knot without the lowest pair"),
+    (11, "knot beside another of its size"),
+    (11, "knot told from another by a later number"),
     (0, "refused 1"),
     (0, "refused 2"),
     (0, "refused 3"),
@@ -111,7 +119,7 @@ pub const OUTCOMES: [(u32, &str); 96] = [
 ];
 
 /// The kinds of commands, and last what can't be read as one.
-pub const COMMANDS: [&str; 18] = [
+pub const COMMANDS: [&str; 19] = [
     "table",
     "constraint",
     "filling",
@@ -129,6 +137,7 @@ pub const COMMANDS: [&str; 18] = [
     "probe with an issue",
     "query with an issue",
     "total with an issue",
+    "knot",
     "no command",
 ];
 
@@ -156,5 +165,6 @@ pub fn kind(piece: &Piece) -> &'static str {
         Command::Even => "even",
         Command::Total(total) if has_issue(total.query.value) => "total with an issue",
         Command::Total(_) => "total",
+        Command::Knot => "knot",
     }
 }

@@ -3,6 +3,7 @@
 mod fetching;
 mod grounds;
 mod issues;
+mod knots;
 mod performing;
 mod totals;
 

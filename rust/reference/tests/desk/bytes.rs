@@ -74,6 +74,10 @@ pub fn total_of(query: &[u8], cell: (u8, u8)) -> Vec<u8> {
     [&[0x15], &query[1..], &[cell.0, cell.1]].concat()
 }
 
+pub fn knot() -> Vec<u8> {
+    vec![0x1c]
+}
+
 /// A cell with its issue.
 pub type Cell = (u32, u8);
 
@@ -115,6 +119,7 @@ pub fn operations() -> Vec<(&'static str, Vec<u8>)> {
         ("query", query.clone()),
         ("even", even()),
         ("total", total.clone()),
+        ("knot", knot()),
         ("refer with an issue", with_issue(1, &refer(0, 1))),
         ("drop with an issue", with_issue(1, &drop(0, 1))),
         ("probe with an issue", with_issue(1, &probe((0, 0), 1))),

@@ -5,10 +5,10 @@ use crate::bytes::*;
 use reference::report;
 
 /// The constraints of a design, each from a source to a target.
-type Links<'a> = &'a [(Column, Column)];
+pub type Links<'a> = &'a [(Column, Column)];
 
 /// Tables of so many columns and constraints, without END.
-fn linked(columns: &[u8], links: Links) -> Vec<u8> {
+pub fn linked(columns: &[u8], links: Links) -> Vec<u8> {
     let tables = columns.iter().flat_map(|&columns| table(columns, 0));
     let links = links
         .iter()
@@ -26,7 +26,7 @@ fn evenness(columns: &[u8], links: Links) -> String {
 }
 
 /// Tables in a ring, of which each leads to the next at column 0.
-fn ring(tables: u8) -> Vec<(Column, Column)> {
+pub fn ring(tables: u8) -> Vec<(Column, Column)> {
     let links = (0..tables).map(|table| ((table, 0), ((table + 1) % tables, 0)));
     links.collect()
 }

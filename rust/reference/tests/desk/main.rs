@@ -10,6 +10,7 @@ mod generated;
 mod grounds;
 mod inward;
 mod issues;
+mod knots;
 mod limits;
 mod lines;
 mod operation_refusals;

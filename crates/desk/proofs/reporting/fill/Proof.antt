@@ -18,7 +18,7 @@ abbrev Inv-loop : tie.InvT-loop
 Inv-loop script design cells issues tables next first keys heads starts marks₀ words₀ weights₀ sums₀ froms₀ links₀ out₀ p₀ marks words weights sums froms links out p =
     Printed script (lent design (cellsIn cells issues) tables marks₀ (p₀ .held)) words₀ p₀ out₀ out marks words p ×
     (p .more ≡ true → (p .at < length script) × (p .number ≤ p .at)) × (p .more ≡ true → (p₀ .at < p .at) ⊎ ((p .at ≡ p₀ .at) × (p .end ≤ 16384))) ×
-    (p .end ≤ 61537) × (length words ≤ 4096) × (length out ≡ 65536) × (length marks ≡ length marks₀) × (length words ≡ length words₀) × (length out ≡ length out₀)
+    (p .end ≤ 61831) × (length words ≤ 4096) × (length out ≡ 65536) × (length marks ≡ length marks₀) × (length words ≡ length words₀) × (length out ≡ length out₀)
 
 abbrev μ-loop : tie.MeasureT-loop
 μ-loop script design cells issues tables next first keys heads starts marks₀ words₀ weights₀ sums₀ froms₀ links₀ out₀ p₀ marks words weights sums froms links out p = turns script p

@@ -20,7 +20,7 @@ put-lists-requires : tie.Need-put-lists-requires
 put-lists-requires c κs =
     let start = c .before .before .before .before .before .before .before .before .before .before .before .before .before .before .before .before .before .before .before .before .before .before .before .before .before .before in
     let step = c .before .before .before .before .before .before .before .before .before .before .before .step-lawful .ensures in
-    let line = command-line-reach _ _ _ _ _ _ _ (c .before .before .before .before .before .put-command-line .ensures) in
+    let line = command-line-reach _ _ _ _ _ (c .before .before .before .before .before .before .before .before .before .before .before .step-lawful .result .answer) _ (c .before .before .before .before .before .put-command-line .ensures) in
     let places = c .before .before .positions-at .ensures in (
       omega (arith, places),
       λ e. room-for _ _ _ _ _ _ _ _ places (step-fits _ _ _ (start .args .from) (start .pre .1 .0) (start .pre .1 .1) _ _ _ step e) (omega (arith, c .before .before .before .before .before .before .before .before .words .given)) (start .pre .1 .3) line (omega (arith, start .pre .1 .4, c .before .before .before .before .out .given)),
@@ -50,7 +50,7 @@ returns c =
     let fits = step-fits _ _ _ (start .args .from) (start .pre .1 .0) (start .pre .1 .1) _ _ _ step in (
       step-printed _ _ _ (start .args .from) (start .pre .1 .0) (start .pre .1 .1) _ _ _ step _ refl refl (c .before .goes-on .ensures) refl _ _ _ _ line lists (start .pre .0 .0),
       (
-        omega (arith, command-line-reach _ _ _ _ _ _ _ line, lists-reach _ _ _ _ _ _ _ (λ k. c .before .before .before .before .before .before .before .before .before .before .before .before .before .slice-known5 .given k .fits) (omega arith) (λ e. omega (arith, fits e, start .pre .1 .3)) lists),
+        omega (arith, command-line-reach _ _ _ _ _ (c .before .before .before .before .before .before .before .before .before .before .before .before .before .before .before .before .before .step-lawful .result .answer) _ line, lists-reach _ _ _ _ _ _ _ (λ k. c .before .before .before .before .before .before .before .before .before .before .before .before .before .slice-known5 .given k .fits) (omega arith) (λ e. omega (arith, fits e, start .pre .1 .3)) lists),
         λ e. step-next _ _ _ (start .args .from) (start .pre .1 .0) (start .pre .1 .1) _ _ _ step _ (c .before .goes-on .ensures) e (start .pre .1 .2),
       ),
     )

@@ -3,7 +3,7 @@ use native.Mathlib.Omega.{arith}
 use mathlib.Core.Path.{ap}
 use borrow.Author.Needs.{needs}
 use Rattle.format.specs.Commands.{operationWidth}
-use Rattle.format.proofs.CommandLaws.{operation-refer, operation-drop, operation-probe, operation-evenness, operation-total, operation-query, is-query}
+use Rattle.format.proofs.CommandLaws.{operation-refer, operation-drop, operation-probe, operation-evenness, operation-total, operation-smallest-knot, operation-query, is-query}
 use Rattle.format.proofs.command.issued_at.Statement.{statement}
 use Rattle.format.proofs.command.issued_at.Tie as tie
 
@@ -37,7 +37,7 @@ query-at-requires : tie.Need-query-at-requires
 unfolding operationWidth
 query-at-requires c κs =
     let r = c .match .rest in
-    omega (arith, ap operationWidth (is-query _ (c .before .before .pre .0) (c .before .before .pre .1) (r .0 .0 .0 .0 .1) (r .0 .0 .0 .1) (r .0 .0 .1) (r .0 .1) (r .1)))
+    omega (arith, ap operationWidth (is-query _ (c .before .before .pre .0) (c .before .before .pre .1) (r .0 .0 .0 .0 .0 .1) (r .0 .0 .0 .0 .1) (r .0 .0 .0 .1) (r .0 .0 .1) (r .0 .1) (r .1)))
 
 returns : tie.Need-returns
 returns c = operation-refer _ _ _ _ _ (c .held-value-at .ensures) (c .before .match .keys1)
@@ -55,9 +55,12 @@ returns-5 : tie.Need-returns-5
 returns-5 c = operation-total _ _ _ _ _ (c .total-at .ensures) (c .before .match .keys5)
 
 returns-6 : tie.Need-returns-6
-returns-6 c =
+returns-6 c = operation-smallest-knot _ _ _ _ (c .match .keys6)
+
+returns-7 : tie.Need-returns-7
+returns-7 c =
     let r = c .before .match .rest in
-    operation-query _ _ _ _ _ (c .query-at .ensures) (is-query _ (c .before .before .before .pre .0) (c .before .before .before .pre .1) (r .0 .0 .0 .0 .1) (r .0 .0 .0 .1) (r .0 .0 .1) (r .0 .1) (r .1))
+    operation-query _ _ _ _ _ (c .query-at .ensures) (is-query _ (c .before .before .before .pre .0) (c .before .before .before .pre .1) (r .0 .0 .0 .0 .0 .1) (r .0 .0 .0 .0 .1) (r .0 .0 .0 .1) (r .0 .0 .1) (r .0 .1) (r .1))
 
 pub issued-at-spec : {M : Type 1} → statement M
 issued-at-spec =
@@ -76,4 +79,5 @@ issued-at-spec =
     returns-3
     returns-4
     returns-5
-    returns-6)
+    returns-6
+    returns-7)

@@ -2,7 +2,7 @@
 use borrow.Author.Needs.{needs}
 use Rattle.state.proofs.Arrays.{sized, held-sized}
 use Rattle.lawful.proofs.Asked.{sound-range}
-use Rattle.operate.proofs.Performed.{refer-performs, drop-performs, ask-performs, even-answers, in-case}
+use Rattle.operate.proofs.Performed.{refer-performs, drop-performs, ask-performs, even-answers, knot-answers, in-case}
 use Rattle.operate.proofs.performing.perform_lawful.Statement.{statement}
 use Rattle.operate.proofs.performing.perform_lawful.Tie as tie
 
@@ -42,6 +42,13 @@ enum-known-op-5 c = search needs
 
 query-lawful-requires-2 : tie.Need-query-lawful-requires-2
 query-lawful-requires-2 c κs = search needs
+
+enum-told-2 : tie.Need-enum-told-2
+enum-told-2 c = search needs
+
+smallest-knot-requires : tie.Need-smallest-knot-requires
+smallest-knot-requires c κs =
+    let b = c .before .before .before .before .before .before .before in sound-range _ (b .pre .0) (sized (b .args .design) _ (b .good .1 .0))
 
 same-length : tie.Need-same-length
 same-length c = search needs
@@ -87,6 +94,12 @@ same-length-7 c = search needs
 returns-6 : tie.Need-returns-6
 returns-6 c = in-case _ _ _ _ _ _ _ _ (c .before .before .before .before .before .before .before .before .before .before .before .before .before .op5 .given .1) (c .before .before .before .before .query-lawful2 .ensures)
 
+returns-7 : tie.Need-returns-7
+returns-7 c =
+    let b = c .before .before .before .before .before .before .before .before in
+    in-case _ _ _ _ _ _ _ _ (c .before .enum-told2 .given .1)
+    (ask-performs _ (b .pre .0) _ (held-sized (b .args .held) _ (b .good .1 .1 .1 .1 .1 .1 .1 .1 .1 .1 .1 .0)) _ _ (knot-answers _ (b .pre .0) _ (c .smallest-knot .ensures)))
+
 pub perform-lawful-spec : {M : Type 1} → statement M
 perform-lawful-spec =
     tie.close
@@ -103,6 +116,8 @@ perform-lawful-spec =
     evenness-requires
     enum-known-op-5
     query-lawful-requires-2
+    enum-told-2
+    smallest-knot-requires
     same-length
     returns
     same-length-2
@@ -115,4 +130,5 @@ perform-lawful-spec =
     returns-5
     same-length-6
     same-length-7
-    returns-6)
+    returns-6
+    returns-7)

@@ -20,7 +20,8 @@ put-byte-requires-2 : tie.Need-put-byte-requires-2
 put-byte-requires-2 c κs =
     let a = c .before .before .before in
     let n = a .before .before .before .before .before .before .before .before in
-    omega (arith, decimal-reach _ _ _ _ _ (n .put-decimal .ensures), answer-reach _ _ _ _ _ _ (a .put-answer .ensures))
+    let start = n .before .before .before in
+    omega (arith, decimal-reach _ _ _ _ _ (n .put-decimal .ensures), answer-reach _ _ _ _ (start .args .answer) (start .args .place) (a .put-answer .ensures))
 
 same-length : tie.Need-same-length
 same-length c = search needs

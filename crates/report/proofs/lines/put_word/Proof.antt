@@ -71,6 +71,12 @@ slice-aggregate-put-bytes-11 c = search needs
 put-bytes-requires-11 : tie.Need-put-bytes-requires-11
 put-bytes-requires-11 c κs = search needs
 
+slice-aggregate-put-bytes-12 : tie.Need-slice-aggregate-put-bytes-12
+slice-aggregate-put-bytes-12 c = search needs
+
+put-bytes-requires-12 : tie.Need-put-bytes-requires-12
+put-bytes-requires-12 c κs = search needs
+
 same-length : tie.Need-same-length
 same-length c = search needs
 
@@ -148,11 +154,18 @@ returns-11 : tie.Need-returns-11
 unfolding wordText
 returns-11 c = in-word (c .before .before .before .before .before .match .keys11) (c .before .before .put-bytes11 .ensures)
 
+same-length-12 : tie.Need-same-length-12
+same-length-12 c = search needs
+
 returns-12 : tie.Need-returns-12
-returns-12 c =
+unfolding wordText
+returns-12 c = in-word (c .before .before .before .before .before .match .keys12) (c .before .before .put-bytes12 .ensures)
+
+returns-13 : tie.Need-returns-13
+returns-13 c =
     let r = c .match .rest in
     let q = r .0 .0 .0 .0 .0 .0 in
-    no-word _ _ _ (past-words _ (q .0 .0 .0 .0 .1) (q .0 .0 .0 .1) (q .0 .0 .1) (q .0 .1) (q .1) (r .0 .0 .0 .0 .0 .1) (r .0 .0 .0 .0 .1) (r .0 .0 .0 .1) (r .0 .0 .1) (r .0 .1) (r .1))
+    no-word _ _ _ (past-words _ (q .0 .0 .0 .0 .0 .1) (q .0 .0 .0 .0 .1) (q .0 .0 .0 .1) (q .0 .0 .1) (q .0 .1) (q .1) (r .0 .0 .0 .0 .0 .1) (r .0 .0 .0 .0 .1) (r .0 .0 .0 .1) (r .0 .0 .1) (r .0 .1) (r .1))
 
 pub put-word-spec : {M : Type 1} → statement M
 put-word-spec =
@@ -180,6 +193,8 @@ put-word-spec =
     put-bytes-requires-10
     slice-aggregate-put-bytes-11
     put-bytes-requires-11
+    slice-aggregate-put-bytes-12
+    put-bytes-requires-12
     same-length
     returns
     same-length-2
@@ -202,4 +217,6 @@ put-word-spec =
     returns-10
     same-length-11
     returns-11
-    returns-12)
+    same-length-12
+    returns-12
+    returns-13)

@@ -1,6 +1,7 @@
 -- `state::answer::show` meets its contract: case by case. Assumes nothing.
 use mathlib.Core.Path.{refl}
 use borrow.Author.Needs.{needs}
+use Rattle.finite.specs.Finite.{tab}
 use Rattle.model.specs.Answers.{shown}
 use Rattle.state.proofs.AnswerLaws.{shows-case}
 use Rattle.state.proofs.answer.show.Statement.{statement}
@@ -84,49 +85,59 @@ enum-known-answer-7 c = search needs
 words-requires-11 : tie.Need-words-requires-11
 words-requires-11 c κs = search needs
 
+enum-known-answer-8 : tie.Need-enum-known-answer-8
+enum-known-answer-8 c = search needs
+
+members-requires : tie.Need-members-requires
+members-requires c κs = search needs
+
 returns : tie.Need-returns
-unfolding shown
+unfolding shown tab
 returns c = shows-case (c .words .ensures) (c .before .before .answer .given .1) refl
 
 returns-2 : tie.Need-returns-2
-unfolding shown
+unfolding shown tab
 returns-2 c = shows-case (c .words2 .ensures) (c .before .enum-told .given .1) refl
 
 returns-3 : tie.Need-returns-3
-unfolding shown
+unfolding shown tab
 returns-3 c = shows-case (c .words3 .ensures) (c .before .enum-told2 .given .1) refl
 
 returns-4 : tie.Need-returns-4
-unfolding shown
+unfolding shown tab
 returns-4 c = shows-case (c .words4 .ensures) (c .before .before .answer2 .given .1) refl
 
 returns-5 : tie.Need-returns-5
-unfolding shown
+unfolding shown tab
 returns-5 c = shows-case (c .words5 .ensures) (c .before .before .answer3 .given .1) refl
 
 returns-6 : tie.Need-returns-6
-unfolding shown
+unfolding shown tab
 returns-6 c = shows-case (c .words6 .ensures) (c .before .enum-told3 .given .1) refl
 
 returns-7 : tie.Need-returns-7
-unfolding shown
+unfolding shown tab
 returns-7 c = shows-case (c .words7 .ensures) (c .before .before .answer4 .given .1) refl
 
 returns-8 : tie.Need-returns-8
-unfolding shown
+unfolding shown tab
 returns-8 c = shows-case (c .words8 .ensures) (c .before .before .answer5 .given .1) refl
 
 returns-9 : tie.Need-returns-9
-unfolding shown
+unfolding shown tab
 returns-9 c = shows-case (c .words9 .ensures) (c .before .enum-told4 .given .1) refl
 
 returns-10 : tie.Need-returns-10
-unfolding shown
+unfolding shown tab
 returns-10 c = shows-case (c .words10 .ensures) (c .before .before .answer6 .given .1) refl
 
 returns-11 : tie.Need-returns-11
-unfolding shown
+unfolding shown tab
 returns-11 c = shows-case (c .words11 .ensures) (c .before .before .answer7 .given .1) refl
+
+returns-12 : tie.Need-returns-12
+unfolding shown
+returns-12 c = shows-case (c .members .ensures) (c .before .before .answer8 .given .1) refl
 
 pub show-spec : {M : Type 1} → statement M
 show-spec =
@@ -158,6 +169,8 @@ show-spec =
     words-requires-10
     enum-known-answer-7
     words-requires-11
+    enum-known-answer-8
+    members-requires
     returns
     returns-2
     returns-3
@@ -168,4 +181,5 @@ show-spec =
     returns-8
     returns-9
     returns-10
-    returns-11)
+    returns-11
+    returns-12)
