@@ -3,11 +3,12 @@ use Prim.Native.Nat.{ℕ}
 use mathlib.Core.Path.{_≡_, refl, sym, subst}
 use mathlib.Core.Bool.{Bool, true, false, cond}
 use mathlib.Core.List.{List}
+use lib.Dec.{ltb}
 use Rattle.model.specs.Scheme.{Scheme}
 use Rattle.model.specs.Database.{Database}
 use Rattle.model.specs.Rounds.{reached}
-use Rattle.model.specs.Holding.{Pair, holds, withPair}
-use Rattle.model.specs.Runs.{Operation, refer, drop, ask, query, taken, pairFor, refers, marks, marked, Cache, reloadLevels, referred, cacheAfter}
+use Rattle.model.specs.Holding.{desks, Pair, holds, withPair}
+use Rattle.model.specs.Runs.{Operation, refer, drop, ask, query, name, taken, pairFor, refers, marks, marked, Cache, reloadLevels, referred, atDesk, cacheAfter}
 use Rattle.model.proofs.Loads.{one-smallest}
 use Rattle.model.proofs.Marks.{marks-same}
 use Rattle.model.proofs.RunLaws.{Sound, refer-smallest, held-smallest, reload-sound}
@@ -31,8 +32,9 @@ refer-fresh S D c p f =
 
 -- an operation leaves one
 pub step-fresh : (S : Scheme) (D : Database) (c : Cache) (o : Operation) → Fresh S D c → Fresh S D (cacheAfter S D c o)
-unfolding cacheAfter
+unfolding cacheAfter reloadLevels
 step-fresh S D c (refer p) f = cond-fresh (taken S (c .held) p) _ c (refer-fresh S D c p f) f
 step-fresh S D c (drop p) f = cond-fresh (holds (c .held) p) _ c (record { reloaded = refl }) f
 step-fresh S D c (ask q) f = f
 step-fresh S D c (query q out) f = cond-fresh (refers S D (c .held) (marked (c .marks)) q out) _ c (refer-fresh S D c (pairFor S q) f) f
+step-fresh S D c (name d) f = cond-fresh (ltb d desks) (atDesk c d) c (record { reloaded = f .reloaded }) f

@@ -1,53 +1,137 @@
--- What is held fits a scheme: at most 64 pairs of an existing filling and a candidate, none twice. It still fits when a REFER puts a pair at the end,
--- and when one goes; a listed pair is one of them. Assumes nothing.
-use Prim.Native.Nat.{ℕ, suc, _+_, _≤_, _<_}
+-- What is held fits a scheme: one of four desks is named, and each desk has at most 16 pairs of an existing filling and a candidate, none twice. It still
+-- fits when a REFER puts a pair at the end, when one goes, and when another desk is named; a listed pair is one of them. What a desk is told of its own pairs
+-- comes from these alone. Assumes nothing.
+use Prim.Native.Nat.{ℕ, zero, suc, _+_, _≤_, _<_}
 use native.Mathlib.Decide.{decLt}
+use native.Mathlib.Numerals.{add-one}
 use native.Mathlib.Omega.{arith}
 use mathlib.Core.Path.{_≡_, refl, sym, ap, ap₂, subst, _∙_}
-use mathlib.Core.Logic.{⊎-elim}
-use mathlib.Core.Bool.{Bool, true, false, not, cond, and-eq-true-iff}
+use mathlib.Core.Logic.{_⊎_, inl, inr, ⊎-elim}
+use mathlib.Core.Bool.{Bool, true, false, not, cond, _&&_, _||_, and-eq-true-iff}
 use mathlib.Core.List.{List, [], _∷_, _++_}
-use borrow.Author.Tests.{ltb-true, eqb-true, not-true}
+use borrow.Author.Tests.{ltb-true, eqb-true, ne-eqb, not-true}
 use lib.Dec.{eqb, ltb}
 use lib.ListN.{length, getD}
+use Rattle.finite.specs.Finite.{count, tab}
 use Rattle.finite.specs.Sameness.{listed, placeOf, remove}
-use Rattle.finite.proofs.Bools.{clash, or-cases}
+use Rattle.finite.proofs.Bools.{clash, or-cases, same-number}
+use Rattle.finite.proofs.Tables.{tab-more}
 use Rattle.finite.proofs.Sameness.{end-length, end-before, end-last, unlisted-at, skip, skip-rises, skip-le, remove-none, remove-length, remove-at}
 use Rattle.model.specs.Cell.{Cell, numbered}
 use Rattle.model.specs.Scheme.{Column, Scheme, candidate, sameColumn}
 use Rattle.model.specs.Database.{Database}
-use Rattle.model.specs.Holding.{Pair, samePair, Holding, holds, hasRoom, one, pairsHold, heldIn}
+use Rattle.model.specs.Holding.{desks, places, Pair, samePair, Owned, sameOwned, ownAmong, Holding, withDesk, ownOf, mine, holds, hasRoom, withPair, withoutPair, one, pairsHold, heldIn}
 use Rattle.model.specs.Cache.{RowSet}
 use Rattle.model.specs.Probe as Probe
 use Rattle.model.specs.Query.{Query}
-use Rattle.model.specs.Runs.{Output, Operation, refer, drop, ask, query, taken, cachedFor, pairFor, answerable, refers, heldAfter}
+use Rattle.model.specs.Runs.{Output, Operation, refer, drop, ask, query, name, taken, cachedFor, pairFor, answerable, refers, heldAfter}
 use Rattle.model.proofs.CellLaws.{equal-same}
 
 -- what is read past a list's end
-abbrev pub noPair : Pair
-noPair = record { filling = 0; value = numbered 0 }
+abbrev pub noOwned : Owned
+noOwned = record { desk = 0; pair = record { filling = 0; value = numbered 0 } }
 
-abbrev pub pairAt : List Pair → ℕ → Pair
-pairAt ps i = getD ps i noPair
+abbrev pub ownedAt : List Owned → ℕ → Owned
+ownedAt os i = getD os i noOwned
 
--- at most 64 pairs of an existing filling and a candidate, none twice
-pub record PairsFit (S : Scheme) (ps : List Pair) : Type 0 where
-  pub few : length ps ≤ 64
-  pub filling : (i : ℕ) → i < length ps → pairAt ps i .filling < S .fillings
-  pub value : (i : ℕ) → i < length ps → candidate (S .filling (pairAt ps i .filling)) (pairAt ps i .value) ≡ true
-  pub once : (i j : ℕ) → i < j → j < length ps → samePair (pairAt ps i) (pairAt ps j) ≡ false
+-- ---- a desk's own pairs
 
-abbrev pub HoldingFits : Scheme → Holding → Type 0
-HoldingFits S h = PairsFit S (h .pairs)
+-- a value's own desk has one more of them
+own-head : (d : ℕ) (o : Owned) (os : List Owned) → length (ownAmong d (o ∷ os)) ≡ cond (eqb (o .desk) d) 1 0 + length (ownAmong d os)
+unfolding ownAmong
+own-head d o os = go (eqb (o .desk) d)
+  where
+    go : (b : Bool) → length (cond b (o .pair ∷ ownAmong d os) (ownAmong d os)) ≡ cond b 1 0 + length (ownAmong d os)
+    go true = omega arith
+    go false = omega arith
 
--- what a REFER takes: the filling exists, the value is a candidate, the pair is new, and there is room
-record Taken (S : Scheme) (ps : List Pair) (p : Pair) : Type 0 where
+pub own-end : (d : ℕ) (os : List Owned) (o : Owned) → length (ownAmong d (os ++ (o ∷ []))) ≡ length (ownAmong d os) + cond (eqb (o .desk) d) 1 0
+unfolding ownAmong
+own-end d [] o = omega (arith, own-head d o [])
+own-end d (q ∷ qs) o = omega (arith, own-head d q (qs ++ (o ∷ [])), own-head d q qs, own-end d qs o)
+
+-- they are as many as the values with this desk
+pub own-count : (d n : ℕ) (f : ℕ → Owned) → length (ownAmong d (tab n f)) ≡ count n (λ i. eqb (f i .desk) d)
+unfolding count tab ownAmong
+own-count d zero f = refl
+own-count d (suc n) f =
+    ap (λ (os : List Owned). length (ownAmong d os)) (ap (λ (m : ℕ). tab m f) (sym (add-one n)) ∙ tab-more n f) ∙ own-end d (tab n f) (f n) ∙
+    ap (λ (m : ℕ). m + cond (eqb (f n .desk) d) 1 0) (own-count d n f)
+
+-- a value that goes makes them no more
+own-fewer : (d : ℕ) (o : Owned) (os : List Owned) → length (ownAmong d (remove sameOwned o os)) ≤ length (ownAmong d os)
+unfolding remove
+own-fewer d o [] = omega arith
+own-fewer d o (q ∷ qs) = go (sameOwned q o) (own-fewer d o qs)
+  where
+    go : (b : Bool) → length (ownAmong d (remove sameOwned o qs)) ≤ length (ownAmong d qs) →
+        length (ownAmong d (cond b qs (q ∷ remove sameOwned o qs))) ≤ length (ownAmong d (q ∷ qs))
+    go true h = omega (arith, own-head d q qs)
+    go false h = omega (arith, own-head d q qs, own-head d q (remove sameOwned o qs))
+
+-- the desks together have all values
+own-all : (os : List Owned) → ((i : ℕ) → i < length os → ownedAt os i .desk < desks) →
+    length os ≡ length (ownAmong 0 os) + length (ownAmong 1 os) + length (ownAmong 2 os) + length (ownAmong 3 os)
+unfolding ownAmong
+own-all [] h = refl
+own-all (o ∷ os) h =
+    omega (arith, own-head 0 o os, own-head 1 o os, own-head 2 o os, own-head 3 o os, one-of (o .desk) (h 0 (omega arith)), own-all os (λ i l. h (suc i) (omega arith)))
+  where
+    one-of : (d : ℕ) → d < desks → cond (eqb d 0) 1 0 + cond (eqb d 1) 1 0 + cond (eqb d 2) 1 0 + cond (eqb d 3) 1 0 ≡ 1
+    one-of zero l = refl
+    one-of (suc zero) l = refl
+    one-of (suc (suc zero)) l = refl
+    one-of (suc (suc (suc zero))) l = refl
+    one-of (suc (suc (suc (suc d)))) l = absurd (omega arith)
+
+-- a pair is listed as one's own exactly if it is among one's own pairs
+pub own-listed : (d : ℕ) (p : Pair) (os : List Owned) → listed sameOwned (record { desk = d; pair = p }) os ≡ listed samePair p (ownAmong d os)
+unfolding listed ownAmong sameOwned
+own-listed d p [] = refl
+own-listed d p (q ∷ qs) = go (eqb (q .desk) d) (own-listed d p qs)
+  where
+    go : (b : Bool) → listed sameOwned (record { desk = d; pair = p }) qs ≡ listed samePair p (ownAmong d qs) →
+        (b && samePair (q .pair) p) || listed sameOwned (record { desk = d; pair = p }) qs ≡ listed samePair p (cond b (q .pair ∷ ownAmong d qs) (ownAmong d qs))
+    go true h = ap (λ (x : Bool). samePair (q .pair) p || x) h
+    go false h = h
+
+-- ---- what fits
+
+-- values of existing desks, at most 16 for each, of an existing filling and a candidate, none twice in a desk
+pub record ValuesFit (S : Scheme) (os : List Owned) : Type 0 where
+  pub desk : (i : ℕ) → i < length os → ownedAt os i .desk < desks
+  pub few : (d : ℕ) → length (ownAmong d os) ≤ places
+  pub filling : (i : ℕ) → i < length os → ownedAt os i .pair .filling < S .fillings
+  pub value : (i : ℕ) → i < length os → candidate (S .filling (ownedAt os i .pair .filling)) (ownedAt os i .pair .value) ≡ true
+  pub once : (i j : ℕ) → i < j → j < length os → sameOwned (ownedAt os i) (ownedAt os j) ≡ false
+
+pub record HoldingFits (S : Scheme) (h : Holding) : Type 0 where
+  pub named : h .desk < desks
+  pub values : ValuesFit S (h .values)
+
+-- so there are at most 64
+pub values-few : {S : Scheme} {os : List Owned} → ValuesFit S os → length os ≤ 64
+values-few {S} {os} H = omega (arith, own-all os (H .desk), H .few 0, H .few 1, H .few 2, H .few 3)
+
+-- fewer than 64, where a desk has room
+pub room-few : {S : Scheme} {h : Holding} → HoldingFits S h → hasRoom h ≡ true → length (h .values) < 64
+room-few {S} {h} H r = go (h .desk) (H .named) (ltb-true _ _ r)
+  where
+    go : (d : ℕ) → d < desks → length (ownAmong d (h .values)) < places → length (h .values) < 64
+    go zero l m = omega (arith, own-all (h .values) (H .values .desk), H .values .few 1, H .values .few 2, H .values .few 3)
+    go (suc zero) l m = omega (arith, own-all (h .values) (H .values .desk), H .values .few 0, H .values .few 2, H .values .few 3)
+    go (suc (suc zero)) l m = omega (arith, own-all (h .values) (H .values .desk), H .values .few 0, H .values .few 1, H .values .few 3)
+    go (suc (suc (suc zero))) l m = omega (arith, own-all (h .values) (H .values .desk), H .values .few 0, H .values .few 1, H .values .few 2)
+    go (suc (suc (suc (suc d)))) l m = absurd (omega arith)
+
+-- what a REFER takes: the filling exists, the value is a candidate, the pair is new to the named desk, and that has room
+record Taken (S : Scheme) (h : Holding) (p : Pair) : Type 0 where
   filling : p .filling < S .fillings
   value : candidate (S .filling (p .filling)) (p .value) ≡ true
-  new : listed samePair p ps ≡ false
-  room : length ps < 64
+  new : holds h p ≡ false
+  room : length (ownOf (h .desk) h) < places
 
-taken-says : (S : Scheme) (h : Holding) (p : Pair) → taken S h p ≡ true → Taken S (h .pairs) p
+taken-says : (S : Scheme) (h : Holding) (p : Pair) → taken S h p ≡ true → Taken S h p
 unfolding taken
 taken-says S h p e =
     let a = and-eq-true-iff (ltb (p .filling) (S .fillings)) _ .0 e in
@@ -55,52 +139,83 @@ taken-says S h p e =
     let c = and-eq-true-iff (not (holds h p)) (hasRoom h) .0 (b .1) in
     record { filling = ltb-true _ _ (a .0); value = b .0; new = not-true _ (c .0); room = ltb-true _ _ (c .1) }
 
-module _ (S : Scheme) (ps : List Pair) (H : PairsFit S ps) (p : Pair) where
-  fit-more : Taken S ps p → PairsFit S (ps ++ (p ∷ []))
+module _ (S : Scheme) (h : Holding) (H : HoldingFits S h) (p : Pair) where
+  abbrev os : List Owned
+  os = h .values
+
+  abbrev o : Owned
+  o = mine h p
+
+  abbrev more : List Owned
+  more = os ++ (o ∷ [])
+
+  fit-more : Taken S h p → HoldingFits S (withPair h p)
   fit-more t =
       record {
-        few = omega (arith, end-length samePair noPair ps p, t .room);
-        filling = λ i l. filling i l (decLt i (length ps));
-        value = λ i l. value i l (decLt i (length ps));
-        once = λ j i k l. once j i k l (decLt i (length ps));
+        named = H .named;
+        values = record {
+          desk = λ i l. desk i l (decLt i (length os));
+          few = λ d. few d (same-number (h .desk) d);
+          filling = λ i l. filling i l (decLt i (length os));
+          value = λ i l. value i l (decLt i (length os));
+          once = λ j i k l. once j i k l (decLt i (length os));
+        };
       }
     where
-      last : (i : ℕ) → i < length (ps ++ (p ∷ [])) → (i < length ps → ⊥) → i ≡ length ps
-      last i l m = omega (arith, end-length samePair noPair ps p)
+      last : (i : ℕ) → i < length more → (i < length os → ⊥) → i ≡ length os
+      last i l m = omega (arith, end-length sameOwned noOwned os o)
 
-      filling : (i : ℕ) → i < length (ps ++ (p ∷ [])) → Dec (i < length ps) → pairAt (ps ++ (p ∷ [])) i .filling < S .fillings
-      filling i l (yes k) = rw (end-before samePair noPair ps p i k) (H .filling i k)
-      filling i l (no m) = rw (end-last samePair noPair ps p i (last i l m)) (t .filling)
+      one-most : (b : Bool) → cond b 1 0 ≤ 1
+      one-most true = omega arith
+      one-most false = omega arith
 
-      value : (i : ℕ) → i < length (ps ++ (p ∷ [])) → Dec (i < length ps) → candidate (S .filling (pairAt (ps ++ (p ∷ [])) i .filling)) (pairAt (ps ++
-          (p ∷ [])) i .value) ≡ true
-      value i l (yes k) = rw (end-before samePair noPair ps p i k) (H .value i k)
-      value i l (no m) = rw (end-last samePair noPair ps p i (last i l m)) (t .value)
+      few : (d : ℕ) → (h .desk ≡ d) ⊎ (h .desk ≡ d → ⊥) → length (ownAmong d more) ≤ places
+      few d (inl e) = subst (λ (x : ℕ). length (ownAmong x more) ≤ places) e (omega (arith, own-end (h .desk) os o, one-most (eqb (h .desk) (h .desk)), t .room))
+      few d (inr n) = omega (arith, own-end d os o ∙ ap (λ (b : Bool). length (ownAmong d os) + cond b 1 0) (ne-eqb (h .desk) d n), H .values .few d)
 
-      once : (j i : ℕ) → j < i → i < length (ps ++ (p ∷ [])) → Dec (i < length ps) → samePair (pairAt (ps ++ (p ∷ [])) j) (pairAt (ps ++ (p ∷ [])) i) ≡ false
-      once j i k l (yes m) = rw (end-before samePair noPair ps p i m, end-before samePair noPair ps p j (omega arith)) (H .once j i k m)
+      desk : (i : ℕ) → i < length more → Dec (i < length os) → ownedAt more i .desk < desks
+      desk i l (yes k) = rw (end-before sameOwned noOwned os o i k) (H .values .desk i k)
+      desk i l (no m) = rw (end-last sameOwned noOwned os o i (last i l m)) (H .named)
+
+      filling : (i : ℕ) → i < length more → Dec (i < length os) → ownedAt more i .pair .filling < S .fillings
+      filling i l (yes k) = rw (end-before sameOwned noOwned os o i k) (H .values .filling i k)
+      filling i l (no m) = rw (end-last sameOwned noOwned os o i (last i l m)) (t .filling)
+
+      value : (i : ℕ) → i < length more → Dec (i < length os) → candidate (S .filling (ownedAt more i .pair .filling)) (ownedAt more i .pair .value) ≡ true
+      value i l (yes k) = rw (end-before sameOwned noOwned os o i k) (H .values .value i k)
+      value i l (no m) = rw (end-last sameOwned noOwned os o i (last i l m)) (t .value)
+
+      once : (j i : ℕ) → j < i → i < length more → Dec (i < length os) → sameOwned (ownedAt more j) (ownedAt more i) ≡ false
+      once j i k l (yes m) = rw (end-before sameOwned noOwned os o i m, end-before sameOwned noOwned os o j (omega arith)) (H .values .once j i k m)
       once j i k l (no m) =
-          rw (end-last samePair noPair ps p i (last i l m), end-before samePair noPair ps p j (omega (arith, last i l m))) (unlisted-at samePair noPair p ps (t .new) j (omega (arith, last i l m)))
+          rw (end-last sameOwned noOwned os o i (last i l m), end-before sameOwned noOwned os o j (omega (arith, last i l m))) (unlisted-at sameOwned noOwned o os (t .new) j (omega (arith, last i l m)))
 
-  pub fit-fewer : PairsFit S (remove samePair p ps)
-  fit-fewer = go (decLt (placeOf samePair p ps) (length ps))
+  abbrev gap : ℕ
+  gap = placeOf sameOwned o os
+
+  pub fit-fewer : HoldingFits S (withoutPair h p)
+  fit-fewer = go (decLt gap (length os))
     where
-      gone : placeOf samePair p ps < length ps → PairsFit S (remove samePair p ps)
+      gone : gap < length os → HoldingFits S (withoutPair h p)
       gone m =
           record {
-            few = omega (arith, remove-length samePair noPair p ps m, H .few);
-            filling = λ i l. rw (remove-at samePair noPair p ps m i) (H .filling (skip (placeOf samePair p ps) i) (inside i l));
-            value = λ i l. rw (remove-at samePair noPair p ps m i) (H .value (skip (placeOf samePair p ps) i) (inside i l));
-            once = λ j i k l. rw (remove-at samePair noPair p ps m j, remove-at samePair noPair p ps m i)
-                (H .once (skip (placeOf samePair p ps) j) (skip (placeOf samePair p ps) i) (skip-rises (placeOf samePair p ps) j i k) (inside i l));
+            named = H .named;
+            values = record {
+              desk = λ i l. rw (remove-at sameOwned noOwned o os m i) (H .values .desk (skip gap i) (inside i l));
+              few = λ d. omega (arith, own-fewer d o os, H .values .few d);
+              filling = λ i l. rw (remove-at sameOwned noOwned o os m i) (H .values .filling (skip gap i) (inside i l));
+              value = λ i l. rw (remove-at sameOwned noOwned o os m i) (H .values .value (skip gap i) (inside i l));
+              once = λ j i k l. rw (remove-at sameOwned noOwned o os m j, remove-at sameOwned noOwned o os m i)
+                  (H .values .once (skip gap j) (skip gap i) (skip-rises gap j i k) (inside i l));
+            };
           }
         where
-          inside : (i : ℕ) → i < length (remove samePair p ps) → skip (placeOf samePair p ps) i < length ps
-          inside i l = omega (arith, skip-le (placeOf samePair p ps) i, remove-length samePair noPair p ps m)
+          inside : (i : ℕ) → i < length (remove sameOwned o os) → skip gap i < length os
+          inside i l = omega (arith, skip-le gap i, remove-length sameOwned noOwned o os m)
 
-      go : Dec (placeOf samePair p ps < length ps) → PairsFit S (remove samePair p ps)
+      go : Dec (gap < length os) → HoldingFits S (withoutPair h p)
       go (yes m) = gone m
-      go (no m) = rw (remove-none samePair noPair p ps (omega arith)) H
+      go (no m) = rw (remove-none sameOwned noOwned o os (omega arith)) H
 
 cond-fit : {S : Scheme} (b : Bool) (h g : Holding) → (b ≡ true → HoldingFits S h) → HoldingFits S g → HoldingFits S (cond b h g)
 cond-fit true h g f e = f refl
@@ -116,35 +231,42 @@ refers-takes S D h X q out e =
 -- so what is held after an operation fits
 pub step-fit : (S : Scheme) (D : Database) (h : Holding) (o : Operation) → HoldingFits S h → HoldingFits S (heldAfter S D h o)
 unfolding heldAfter
-step-fit S D h (refer p) H = cond-fit (taken S h p) _ h (λ e. fit-more S (h .pairs) H p (taken-says S h p e)) H
-step-fit S D h (drop p) H = cond-fit (holds h p) _ h (λ e. fit-fewer S (h .pairs) H p) H
+step-fit S D h (refer p) H = cond-fit (taken S h p) _ h (λ e. fit-more S h H p (taken-says S h p e)) H
+step-fit S D h (drop p) H = cond-fit (holds h p) _ h (λ e. fit-fewer S h H p) H
 step-fit S D h (ask q) H = H
 step-fit S D h (query q out) H =
-    cond-fit (refers S D h (cachedFor S D h) q out) _ h (λ e. fit-more S (h .pairs) H (pairFor S q) (taken-says S h (pairFor S q) (refers-takes S D h _ q out e))) H
+    cond-fit (refers S D h (cachedFor S D h) q out) _ h (λ e. fit-more S h H (pairFor S q) (taken-says S h (pairFor S q) (refers-takes S D h _ q out e))) H
+step-fit S D h (name d) H = cond-fit (ltb d desks) _ h (λ e. record { named = ltb-true _ _ e; values = H .values }) H
 
 -- ---- a listed pair
 
 -- it stands somewhere in the list
-listed-at : (p : Pair) (ps : List Pair) → listed samePair p ps ≡ true → (i : ℕ) × (i < length ps) × (samePair (pairAt ps i) p ≡ true)
+listed-at : (o : Owned) (os : List Owned) → listed sameOwned o os ≡ true → (i : ℕ) × (i < length os) × (sameOwned (ownedAt os i) o ≡ true)
 unfolding listed
-listed-at p [] e = clash refl (sym e)
-listed-at p (q ∷ qs) e = ⊎-elim (λ h. (0, omega arith, h)) (λ h. let f = listed-at p qs h in (suc (f .0), omega (arith, f .1), f .2)) (or-cases
-    (samePair q p) (listed samePair p qs) e)
+listed-at o [] e = clash refl (sym e)
+listed-at o (q ∷ qs) e = ⊎-elim (λ h. (0, omega arith, h)) (λ h. let f = listed-at o qs h in (suc (f .0), omega (arith, f .1), f .2)) (or-cases
+    (sameOwned q o) (listed sameOwned o qs) e)
 
-pub listed-fits : (S : Scheme) (ps : List Pair) → PairsFit S ps → (p : Pair) → listed samePair p ps ≡ true → p .filling < S .fillings
-unfolding samePair
-listed-fits S ps H p e =
-    let f = listed-at p ps e in
-    let q = and-eq-true-iff (eqb (pairAt ps (f .0) .filling) (p .filling)) _ .0 (f .2) in
-    subst (λ (n : ℕ). n < S .fillings) (eqb-true _ _ (q .0)) (H .filling (f .0) (f .1))
+-- the same pair, and the same desk
+pub same-parts : (a b : Owned) → sameOwned a b ≡ true → (a .desk ≡ b .desk) × (samePair (a .pair) (b .pair) ≡ true)
+unfolding sameOwned
+same-parts a b e = let q = and-eq-true-iff (eqb (a .desk) (b .desk)) _ .0 e in (eqb-true _ _ (q .0), q .1)
 
-pub listed-candidate : (S : Scheme) (ps : List Pair) → PairsFit S ps → (p : Pair) → listed samePair p ps ≡ true →
-    candidate (S .filling (p .filling)) (p .value) ≡ true
-unfolding samePair
-listed-candidate S ps H p e =
-    let f = listed-at p ps e in
-    let q = and-eq-true-iff (eqb (pairAt ps (f .0) .filling) (p .filling)) _ .0 (f .2) in
-    sym (ap₂ (λ (n : ℕ) (v : Cell). candidate (S .filling n) v) (eqb-true _ _ (q .0)) (equal-same (pairAt ps (f .0) .value) (p .value) (q .1))) ∙ H .value (f .0) (f .1)
+module _ (S : Scheme) (h : Holding) (H : HoldingFits S h) (p : Pair) (e : holds h p ≡ true) where
+  same-as : (i : ℕ) × (i < length (h .values)) × (ownedAt (h .values) i .pair .filling ≡ p .filling) × (ownedAt (h .values) i .pair .value ≡ p .value)
+  unfolding samePair
+  same-as =
+      let f = listed-at (mine h p) (h .values) e in
+      let a = ownedAt (h .values) (f .0) in
+      let q = and-eq-true-iff (eqb (a .pair .filling) (p .filling)) _ .0 (same-parts a (mine h p) (f .2) .1) in
+      (f .0, f .1, eqb-true _ _ (q .0), equal-same (a .pair .value) (p .value) (q .1))
+
+  pub listed-fits : p .filling < S .fillings
+  listed-fits = let f = same-as in subst (λ (n : ℕ). n < S .fillings) (f .2) (H .values .filling (f .0) (f .1))
+
+  pub listed-candidate : candidate (S .filling (p .filling)) (p .value) ≡ true
+  listed-candidate =
+      let f = same-as in sym (ap₂ (λ (n : ℕ) (v : Cell). candidate (S .filling n) v) (f .2) (f .3)) ∙ H .values .value (f .0) (f .1)
 
 -- ---- a held value
 
@@ -152,12 +274,12 @@ listed-candidate S ps H p e =
 pub held-from : (S : Scheme) (h : Holding) → HoldingFits S h → (k : Column) (v : Cell) → heldIn S h k v ≡ true →
     (f : ℕ) × (f < S .fillings) × (sameColumn (S .filling f .column) k ≡ true)
 unfolding pairsHold one
-held-from S h H k v e = go (h .pairs) (H .filling) e
+held-from S h H k v e = go (h .values) (H .values .filling) e
   where
-    go : (ps : List Pair) → ((i : ℕ) → i < length ps → pairAt ps i .filling < S .fillings) → pairsHold S ps k v ≡ true →
+    go : (os : List Owned) → ((i : ℕ) → i < length os → ownedAt os i .pair .filling < S .fillings) → pairsHold S os k v ≡ true →
         (f : ℕ) × (f < S .fillings) × (sameColumn (S .filling f .column) k ≡ true)
     go [] fits x = clash x refl
-    go (p ∷ ps) fits x =
-        ⊎-elim (λ y. (p .filling, fits 0 (omega arith), and-eq-true-iff (sameColumn (S .filling (p .filling) .column) k) _ .0 y .0))
-        (λ y. go ps (λ i l. fits (suc i) (omega arith)) y)
-        (or-cases (one (S .filling (p .filling) .column) (p .value) k v) (pairsHold S ps k v) x)
+    go (o ∷ os) fits x =
+        ⊎-elim (λ y. (o .pair .filling, fits 0 (omega arith), and-eq-true-iff (sameColumn (S .filling (o .pair .filling) .column) k) _ .0 y .0))
+        (λ y. go os (λ i l. fits (suc i) (omega arith)) y)
+        (or-cases (one (S .filling (o .pair .filling) .column) (o .pair .value) k v) (pairsHold S os k v) x)

@@ -1,5 +1,5 @@
 -- CellLaws, DatabaseLaws, ProbeLaws: the tests say what they are named for. Closed, RoundsLaws, Loads: rounds reach the smallest row set.
--- ReachLaws, EvenRounds, EvenLaws, EvenRefers: even designs. KnotOrder, KnotLaws: the smallest knot. Exact: the probe. Marks, HoldingLaws, RunLaws, Fresh, Demand3: runs. QueryLaws, ListLaws, TotalLaws, Referring, Demand2, CountedRows: queries. Examples: the worked
+-- ReachLaws, EvenRounds, EvenLaws, EvenRefers: even designs. KnotOrder, KnotLaws: the smallest knot. Exact: the probe. Marks, HoldingLaws, RunLaws, Fresh, DeskAlone, Demand3: runs. QueryLaws, ListLaws, TotalLaws, Referring, Demand2, CountedRows: queries. Examples: the worked
 -- cases.
 pub mod CellLaws
 pub mod DatabaseLaws
@@ -18,6 +18,7 @@ pub mod KnotLaws
 pub mod RunLaws
 pub mod EvenRefers
 pub mod Fresh
+pub mod DeskAlone
 pub mod Demand3
 pub mod QueryLaws
 pub mod ListLaws

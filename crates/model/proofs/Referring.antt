@@ -16,12 +16,13 @@ use Rattle.model.specs.Scheme.{Column, sameColumn, candidate, Scheme}
 use Rattle.model.specs.Database.{Database}
 use Rattle.model.specs.Cache.{Held}
 use Rattle.model.specs.Probe as Probe
-use Rattle.model.specs.Holding.{Pair, samePair, Holding, holds, hasRoom, withPair, one, pairsHold, heldIn}
+use Rattle.model.specs.Holding.{Pair, samePair, Owned, sameOwned, Holding, mine, holds, hasRoom, withPair, one, pairsHold, heldIn}
 use Rattle.model.specs.Query.{Query}
 use Rattle.model.specs.Runs.{Output, asLists, asTotal, query, taken, fillingFor, pairFor, outputFits, withinLimit, answerable, refers, marked, Cache, referred, cacheAfter}
 use Rattle.model.specs.Answers.{Answer, sent, refused, unless, orAnswer, queryGround, isAnswered, fullAnswer, limitCause, queryAnswer}
 use Rattle.model.specs.Demand.{FillingAt, FillingsApart, Unreferred, noFilling, noCandidate, full}
 use Rattle.model.proofs.CellLaws.{numbered-full, equal-self}
+use Rattle.model.proofs.HoldingLaws.{same-parts}
 use Rattle.model.proofs.RunLaws.{held-more}
 
 -- ---- the filling of a query's column
@@ -55,19 +56,21 @@ takes S h q e =
       room = and-eq-true-iff (not (holds h (pairFor S q))) (hasRoom h) .0 (b .1) .1;
     }
 
--- a listed pair's value is held in its filling's column
-listed-held : (S : Scheme) (ps : List Pair) (p : Pair) (k : Column) → listed samePair p ps ≡ true → sameColumn (S .filling (p .filling) .column) k ≡ true →
-    pairsHold S ps k (p .value) ≡ true
+-- a value that a desk holds is held in its filling's column
+listed-held : (S : Scheme) (os : List Owned) (o : Owned) (k : Column) → listed sameOwned o os ≡ true → sameColumn (S .filling (o .pair .filling) .column) k ≡ true →
+    pairsHold S os k (o .pair .value) ≡ true
 unfolding listed pairsHold samePair one
-listed-held S [] p k e c = clash e refl
-listed-held S (x ∷ xs) p k e c =
+listed-held S [] o k e c = clash e refl
+listed-held S (x ∷ xs) o k e c =
     ⊎-elim
-    (λ (h : samePair x p ≡ true).
-    let a = and-eq-true-iff (eqb (x .filling) (p .filling)) _ .0 h in
-    sym (or-left (one (S .filling (x .filling) .column) (x .value) k (p .value)) (pairsHold S xs k (p .value)) (both (ap (λ (f : ℕ). sameColumn (S .filling f .column) k) (eqb-true _ _ (a .0)) ∙ c) (a .1))))
-    (λ (h : listed samePair p xs ≡ true).
-    ap (λ (b : Bool). one (S .filling (x .filling) .column) (x .value) k (p .value) || b) (listed-held S xs p k h c) ∙ or-true (one (S .filling (x .filling) .column) (x .value) k (p .value)))
-    (or-cases (samePair x p) (listed samePair p xs) e)
+    (λ (h : sameOwned x o ≡ true).
+    let a = and-eq-true-iff (eqb (x .pair .filling) (o .pair .filling)) _ .0 (same-parts x o h .1) in
+    sym (or-left (one (S .filling (x .pair .filling) .column) (x .pair .value) k (o .pair .value)) (pairsHold S xs k (o .pair .value))
+    (both (ap (λ (f : ℕ). sameColumn (S .filling f .column) k) (eqb-true _ _ (a .0)) ∙ c) (a .1))))
+    (λ (h : listed sameOwned o xs ≡ true).
+    ap (λ (b : Bool). one (S .filling (x .pair .filling) .column) (x .pair .value) k (o .pair .value) || b) (listed-held S xs o k h c) ∙
+    or-true (one (S .filling (x .pair .filling) .column) (x .pair .value) k (o .pair .value)))
+    (or-cases (sameOwned x o) (listed sameOwned o xs) e)
 
 -- ---- why a query is not referred
 
@@ -81,7 +84,7 @@ module _ (S : Scheme) (h : Holding) (q : Query) where
           (hasRoom h ≡ true) ⊎ (hasRoom h ≡ false) → (holds h (pairFor S q) ≡ true) ⊎ (holds h (pairFor S q) ≡ false) →
           Unreferred S h (q .column) (q .value)
       room c l (inr f) p = full f
-      room c l (inl t) (inl y) = clash (listed-held S (h .pairs) (pairFor S q) (q .column) y (first-filling S q .here (ltb-true _ _ l))) n
+      room c l (inl t) (inl y) = clash (listed-held S (h .values) (mine h (pairFor S q)) (q .column) y (first-filling S q .here (ltb-true _ _ l))) n
       room c l (inl t) (inr y) = clash (both l (both c (both (ap not y) t))) e
 
       value : ltb (fillingFor S (q .column)) (S .fillings) ≡ true →

@@ -3,13 +3,14 @@ use Prim.Native.Nat.{ℕ}
 use mathlib.Core.Path.{_≡_, refl, sym, ap, _∙_, fun-ext}
 use mathlib.Core.Bool.{Bool, true, false, cond, _||_, or-false, or-assoc}
 use mathlib.Core.List.{List, [], _∷_, _++_}
+use lib.Dec.{ltb}
 use Rattle.model.specs.Cell.{Cell}
 use Rattle.model.specs.Scheme.{Column, Scheme}
 use Rattle.model.specs.Database.{Database}
 use Rattle.model.specs.Cache.{RowSet, Smallest}
 use Rattle.model.specs.Rounds.{reached}
-use Rattle.model.specs.Holding.{Pair, Holding, holds, withPair, withoutPair, one, pairsHold, pairsWant, heldIn, wanted}
-use Rattle.model.specs.Runs.{Operation, refer, drop, ask, query, taken, pairFor, refers, heldAfter, heldFrom, marked, Cache, emptyCache, referLevels, reloadLevels, reloaded, cacheAfter, cacheFrom}
+use Rattle.model.specs.Holding.{desks, Pair, Owned, Holding, mine, holds, withPair, withoutPair, one, pairsHold, pairsWant, heldIn, wanted}
+use Rattle.model.specs.Runs.{Operation, refer, drop, ask, query, name, taken, pairFor, refers, heldAfter, heldFrom, marked, Cache, emptyCache, referLevels, reloadLevels, atDesk, reloaded, cacheAfter, cacheFrom}
 use Rattle.model.proofs.Loads.{one-smallest, Wants, load-smallest, reload-smallest, none-smallest, none-wants, one-wants, both-want}
 use Rattle.model.proofs.Marks.{marks-smallest}
 
@@ -19,22 +20,22 @@ use Rattle.model.proofs.Marks.{marks-smallest}
 pub held-more : (S : Scheme) (h : Holding) (p : Pair) →
     heldIn S (withPair h p) ≡ (λ k v. heldIn S h k v || one (S .filling (p .filling) .column) (p .value) k v)
 unfolding pairsHold
-held-more S h p = fun-ext (λ k. fun-ext (λ v. go (h .pairs) k v))
+held-more S h p = fun-ext (λ k. fun-ext (λ v. go (h .values) k v))
   where
-    go : (qs : List Pair) (k : Column) (v : Cell) → pairsHold S (qs ++ (p ∷ [])) k v ≡ (pairsHold S qs k v || one (S .filling (p .filling) .column) (p .value) k v)
+    go : (os : List Owned) (k : Column) (v : Cell) → pairsHold S (os ++ (mine h p ∷ [])) k v ≡ (pairsHold S os k v || one (S .filling (p .filling) .column) (p .value) k v)
     go [] k v = or-false (one (S .filling (p .filling) .column) (p .value) k v)
-    go (q ∷ qs) k v =
-        ap (λ (b : Bool). one (S .filling (q .filling) .column) (q .value) k v || b) (go qs k v) ∙
-        sym (or-assoc (one (S .filling (q .filling) .column) (q .value) k v) (pairsHold S qs k v) (one (S .filling (p .filling) .column) (p .value) k v))
+    go (o ∷ os) k v =
+        ap (λ (b : Bool). one (S .filling (o .pair .filling) .column) (o .pair .value) k v || b) (go os k v) ∙
+        sym (or-assoc (one (S .filling (o .pair .filling) .column) (o .pair .value) k v) (pairsHold S os k v) (one (S .filling (p .filling) .column) (p .value) k v))
 
 -- the rows that held values want are those that have one of them
-pairs-want : (S : Scheme) (D : Database) (ps : List Pair) → Wants D (pairsHold S ps) (pairsWant S D ps)
+pairs-want : (S : Scheme) (D : Database) (os : List Owned) → Wants D (pairsHold S os) (pairsWant S D os)
 unfolding pairsHold pairsWant
 pairs-want S D [] = none-wants D
-pairs-want S D (p ∷ ps) = both-want (one-wants D (S .filling (p .filling) .column) (p .value)) (pairs-want S D ps)
+pairs-want S D (o ∷ os) = both-want (one-wants D (S .filling (o .pair .filling) .column) (o .pair .value)) (pairs-want S D os)
 
 pub held-wants : (S : Scheme) (D : Database) (h : Holding) → Wants D (heldIn S h) (wanted S D h)
-held-wants S D h = pairs-want S D (h .pairs)
+held-wants S D h = pairs-want S D (h .values)
 
 -- ---- what is cached
 
@@ -70,6 +71,7 @@ step-sound {S} {D} c (drop p) m = cond-sound (holds (c .held) p) _ c (marks-smal
 step-sound c (ask q) m = m
 step-sound {S} {D} c (query q out) m =
     cond-sound (refers S D (c .held) (marked (c .marks)) q out) _ c (marks-smallest (refer-smallest c (pairFor S q) m)) m
+step-sound c (name d) m = cond-sound (ltb d desks) (atDesk c d) c m m
 
 -- so does a run
 pub run-sound : {S : Scheme} {D : Database} (c : Cache) (os : List Operation) → Sound S D c → Sound S D (cacheFrom S D c os)
@@ -102,6 +104,7 @@ step-held c (ask q) m = refl
 step-held {S} {D} c (query q out) m =
     held-cond (refers S D (c .held) (marked (c .marks)) q out) _ c ∙
     ap (λ (X : RowSet). cond (refers S D (c .held) X q out) (withPair (c .held) (pairFor S q)) (c .held)) (fun-ext (sound-reloaded c m))
+step-held c (name d) m = held-cond (ltb d desks) (atDesk c d) c
 
 -- so is what a run leaves held
 pub run-held : {S : Scheme} {D : Database} (c : Cache) (os : List Operation) → Sound S D c → cacheFrom S D c os .held ≡ heldFrom S D (c .held) os

@@ -14,12 +14,12 @@ use Rattle.model.specs.Probe
 use Rattle.model.specs.Rounds.{addedRows, laterRounds, reached}
 use Rattle.model.specs.Even.{unevenFrom, lowestUneven}
 use Rattle.model.specs.Knot.{isUnevenScheme, knotOf}
-use Rattle.model.specs.Holding.{holds, hasRoom, withoutPair, heldIn}
-use Rattle.model.specs.Runs.{Question, probe, evenness, smallestKnot, Output, asLists, asTotal, Operation, refer, drop, ask, query, taken, pairFor, outputFits, withinLimit, marked, Cache, referLevels, reloadLevels}
+use Rattle.model.specs.Holding.{desks, holds, hasRoom, withoutPair, heldIn}
+use Rattle.model.specs.Runs.{Question, probe, evenness, smallestKnot, Output, asLists, asTotal, Operation, refer, drop, ask, query, name, taken, pairFor, outputFits, withinLimit, marked, Cache, referLevels, reloadLevels}
 use Rattle.model.specs.Query.{Query, wordsOf, fullLists, fullTotal}
 
 -- `loaded` rows rounds, `held`, `no candidate`, `dropped` rows, `ground` g rows, `sent`, `answer` lists, `refused` number; `even`, `uneven` i j (02, Req 01);
--- `total` n (02, Req 03); `knot` constraints (02, Req 11)
+-- `total` n (02, Req 03); `knot` constraints (02, Req 11); `desk` d (02, Req 07)
 pub data Answer : Type 0 where
   loaded : ℕ → ℕ → Answer
   held noCandidate : Answer
@@ -32,6 +32,7 @@ pub data Answer : Type 0 where
   uneven : ℕ → ℕ → Answer
   total : ℕ → Answer
   knot : List ℕ → Answer
+  named : ℕ → Answer
 
 -- an answer as the report shows it: its word, by number, and the numbers behind it. Whatever depends on what an answer is goes through this
 pub record Shown : Type 0 where
@@ -57,6 +58,7 @@ shown even = record { word = 8; numbers = [] }
 shown (uneven i j) = record { word = 9; numbers = i ∷ j ∷ [] }
 shown (total n) = record { word = 10; numbers = n ∷ [] }
 shown (knot ks) = record { word = 11; numbers = ks }
+shown (named d) = record { word = 12; numbers = d ∷ [] }
 
 -- the answer has lists; the answer is a refusal
 unfoldable pub hasLists : Answer → Bool
@@ -151,6 +153,8 @@ answer S D c (drop p) =
     (let L = reloadLevels S D (withoutPair (c .held) p) in dropped (count (D .size) (λ r. marked (c .marks) r && not (reached L r))))))
 answer S D c (ask q) = questionAnswer S D c q
 answer S D c (query q out) = queryAnswer S D c q out
+-- "It refuses a desk above 3 with 5"
+answer S D c (name d) = unless (not (ltb d desks)) 5 (named d)
 
 -- the words that an operation writes
 unfoldable pub written : Scheme → Database → Cache → Operation → List ℕ
@@ -158,3 +162,4 @@ written S D c (refer p) = []
 written S D c (drop p) = []
 written S D c (ask q) = []
 written S D c (query q out) = queryWords S D c q out
+written S D c (name d) = []

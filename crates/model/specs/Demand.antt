@@ -32,7 +32,8 @@ pub record FillingAt (S : Scheme) (k : Column) (f : ℕ) : Type 0 where
 unfoldable pub FillingsApart : Scheme → Type 0
 FillingsApart S = (k : Column) (f g : ℕ) → FillingAt S k f → FillingAt S k g → f ≡ g
 
--- why a query of the value v in column k is not referred (02, Req 02): "the column has no filling, the value is no candidate, or 64 values are held"
+-- why a query of the value v in column k is not referred (02, Req 02): "the column has no filling, the value is no candidate, or 64 values are held", of which a desk has
+-- 16: "Req 02's limit come[s] at one's own 16" (02, Req 07)
 pub data Unreferred (S : Scheme) (h : Holding) (k : Column) (v : Cell) : Type 0 where
   noFilling : ((f : ℕ) → FillingAt S k f → ⊥) → Unreferred S h k v
   noCandidate : (f : ℕ) → FillingAt S k f → candidate (S .filling f) v ≡ false → Unreferred S h k v

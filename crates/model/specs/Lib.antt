@@ -11,4 +11,5 @@ pub mod Holding
 pub mod Query
 pub mod Runs
 pub mod Answers
+pub mod Desks
 pub mod Demand

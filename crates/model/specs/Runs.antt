@@ -1,5 +1,5 @@
 -- Operations and runs: what a list of operations leaves held, found from the scheme, the rows, the operands and the words lent alone, and what it leaves
--- cached (01, "Runs"; 02, Req 02). Assumes nothing.
+-- cached (01, "Runs"; 02, Req 02 and 07). Assumes nothing.
 use Prim.Native.Nat.{ℕ, _^_}
 use mathlib.Core.Bool.{Bool, false, not, cond, _&&_}
 use mathlib.Core.List.{List, [], _∷_}
@@ -12,7 +12,7 @@ use Rattle.model.specs.Database.{Database, has}
 use Rattle.model.specs.Cache.{RowSet}
 use Rattle.model.specs.Probe
 use Rattle.model.specs.Rounds.{reached, load}
-use Rattle.model.specs.Holding.{Pair, Holding, nothingHeld, holds, hasRoom, withPair, withoutPair, heldIn, wanted}
+use Rattle.model.specs.Holding.{desks, Pair, Holding, nothingHeld, withDesk, holds, hasRoom, withPair, withoutPair, heldIn, wanted}
 use Rattle.model.specs.Query.{Query, operandsFit, positionFits, wordsOf, fullLists, fullTotal}
 
 -- a question, which changes nothing
@@ -28,14 +28,16 @@ pub data Output : Type 0 where
   asLists : ℕ → Output
   asTotal : ℕ → ℕ → Output
 
--- REFER, DROP, a question, and QUERY
+-- REFER, DROP, a question, QUERY, and naming a desk (02, Req 07)
 pub data Operation : Type 0 where
   refer : Pair → Operation
   drop : Pair → Operation
   ask : Question → Operation
   query : Query → Output → Operation
+  name : ℕ → Operation
 
--- "REFER: if the filling exists, the value is a candidate, the pair isn't listed and fewer than 64 are, the pair goes to the end"
+-- "REFER: if the filling exists, the value is a candidate, the pair isn't listed and fewer than 64 are, the pair goes to the end", where listed and room
+-- go "by the pairs of the desk then named", of which fewer than 16 are to be listed (02, Req 07)
 unfoldable pub taken : Scheme → Holding → Pair → Bool
 taken S h p = ltb (p .filling) (S .fillings) && (candidate (S .filling (p .filling)) (p .value) && (not (holds h p) && hasRoom h))
 
@@ -87,6 +89,7 @@ heldAfter S D h (refer p) = cond (taken S h p) (withPair h p) h
 heldAfter S D h (drop p) = cond (holds h p) (withoutPair h p) h
 heldAfter S D h (ask q) = h
 heldAfter S D h (query q out) = cond (refers S D h (cachedFor S D h) q out) (withPair h (pairFor S q)) h
+heldAfter S D h (name d) = cond (ltb d desks) (withDesk h d) h
 
 -- after a run
 unfoldable pub heldFrom : Scheme → Database → Holding → List Operation → Holding
@@ -114,6 +117,10 @@ emptyCache D = record { held = nothingHeld; marks = marks D (λ _. false) }
 abbrev pub referred : Scheme → Database → Cache → Pair → Cache
 referred S D c p = record { held = withPair (c .held) p; marks = marks D (reached (referLevels S D (marked (c .marks)) p)) }
 
+-- another desk is named
+abbrev pub atDesk : Cache → ℕ → Cache
+atDesk c d = record { held = withDesk (c .held) d; marks = c .marks }
+
 -- the smallest set for what is held, loaded from nothing
 abbrev pub reloaded : Scheme → Database → Holding → Cache
 reloaded S D h = record { held = h; marks = marks D (cachedFor S D h) }
@@ -123,6 +130,7 @@ cacheAfter S D c (refer p) = cond (taken S (c .held) p) (referred S D c p) c
 cacheAfter S D c (drop p) = cond (holds (c .held) p) (reloaded S D (withoutPair (c .held) p)) c
 cacheAfter S D c (ask q) = c
 cacheAfter S D c (query q out) = cond (refers S D (c .held) (marked (c .marks)) q out) (referred S D c (pairFor S q)) c
+cacheAfter S D c (name d) = cond (ltb d desks) (atDesk c d) c
 
 unfoldable pub cacheFrom : Scheme → Database → Cache → List Operation → Cache
 cacheFrom S D c [] = c
