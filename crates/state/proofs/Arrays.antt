@@ -25,4 +25,4 @@ sized d vs g =
     }
 
 pub held-sized : (h : Held) (vs : List Val) → Is (row H.the-type) h vs → length (h .values) ≡ 64
-held-sized h vs g = simp length-map at (g .1 .1 .1 .0 .1 .0 .1)
+held-sized h vs g = simp length-map at (g .1 .1 .1 .1 .0 .1 .0 .1)

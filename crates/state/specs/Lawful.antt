@@ -6,25 +6,25 @@ use mathlib.Core.Bool.{Bool, not, cond, _&&_, _||_}
 use mathlib.Core.List.{List}
 use lib.Dec.{eqb, leb, ltb}
 use lib.ListN.{getD}
-use Rattle.finite.specs.Finite.{any, all}
+use Rattle.finite.specs.Finite.{any, all, count}
 use Rattle.model.specs.Cell.{Cell, isBlank, numberless}
 use Rattle.model.specs.Scheme as Model
 use Rattle.model.specs.Scheme.{sameColumn, isColumn, candidate, Scheme}
 use Rattle.model.specs.Database.{Database, has}
 use Rattle.model.specs.Rounds.{reached}
-use Rattle.model.specs.Holding.{samePair}
+use Rattle.model.specs.Holding.{desks, places, sameOwned}
 use Rattle.model.specs.Runs.{reloadLevels}
 use Rattle.state.specs.declared.design.Table.{Table}
 use Rattle.state.specs.declared.design.Column.{Column}
 use Rattle.state.specs.declared.design.Constraint.{Constraint}
 use Rattle.state.specs.declared.design.Filling.{Filling}
 use Rattle.state.specs.declared.design.Design.{Design}
-use Rattle.state.specs.declared.held.HeldValue.{HeldValue}
+use Rattle.state.specs.declared.held.OwnedValue.{OwnedValue}
 use Rattle.state.specs.declared.held.Held.{Held}
 use Rattle.state.specs.Cells.{Cells}
 use Rattle.state.specs.Design.{tableAt, constraintAt, fillingAt}
 use Rattle.state.specs.Held.{heldAt}
-use Rattle.state.specs.Meaning.{columnOf, fillingOf, pairOf, holdingOf, schemeOf, databaseOf}
+use Rattle.state.specs.Meaning.{columnOf, fillingOf, ownedOf, holdingOf, schemeOf, databaseOf}
 
 -- place i is used and passes the test, or is unused and 0
 abbrev pub usedOr : ℕ → ℕ → Bool → Bool → Bool
@@ -109,18 +109,28 @@ lawfulRows d cells tables =
 
 -- ---- the held values
 
--- v can stand as held value n: its filling exists, it is a candidate, and is not held before
-unfoldable pub heldFits : Design → Held → ℕ → HeldValue → Bool
+-- v can stand as held value n: its desk and its filling exist, it is a candidate, and its desk doesn't hold it before
+unfoldable pub heldFits : Design → Held → ℕ → OwnedValue → Bool
 heldFits d h n v =
-    ltb (v .filling) (d .fillings) &&
-    (candidate (fillingOf (fillingAt d (v .filling))) (pairOf v .value) &&
-    not (any n (λ i. samePair (pairOf (heldAt h i)) (pairOf v))))
+    ltb (v .desk) desks &&
+    (ltb (v .pair .filling) (d .fillings) &&
+    (candidate (fillingOf (fillingAt d (v .pair .filling))) (ownedOf v .pair .value) &&
+    not (any n (λ i. sameOwned (ownedOf (heldAt h i)) (ownedOf v)))))
 
-unfoldable pub zeroHeld : HeldValue → Bool
-zeroHeld v = eqb (v .filling) 0 && isBlank (pairOf v .value)
+unfoldable pub zeroHeld : OwnedValue → Bool
+zeroHeld v = eqb (v .desk) 0 && (eqb (v .pair .filling) 0 && isBlank (ownedOf v .pair .value))
 
+-- how many values desk e holds
+unfoldable pub ownCount : Held → ℕ → ℕ
+ownCount h e = count (h .count) (λ i. eqb (heldAt h i .desk) e)
+
+-- "12 looks at pairs and limits desk by desk, and at a desk above 3, named or of a pair" (02, Req 07); 16 for each of the desks are "64 held"
 unfoldable pub lawfulHeld : Design → Held → Bool
-lawfulHeld d h = leb (h .count) 64 && all 64 (λ i. usedOr i (h .count) (heldFits d h i (heldAt h i)) (zeroHeld (heldAt h i)))
+lawfulHeld d h =
+    ltb (h .desk) desks &&
+    (leb (h .count) 64 &&
+    (all desks (λ e. leb (ownCount h e) places) &&
+    all 64 (λ i. usedOr i (h .count) (heldFits d h i (heldAt h i)) (zeroHeld (heldAt h i)))))
 
 -- ---- the marks
 

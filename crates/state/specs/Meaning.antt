@@ -10,7 +10,7 @@ use Rattle.model.specs.Cell as Model-cell
 use Rattle.model.specs.Cell.{blank}
 use Rattle.model.specs.Scheme as Model
 use Rattle.model.specs.Database.{Database}
-use Rattle.model.specs.Holding.{Pair, Holding, holding}
+use Rattle.model.specs.Holding.{Pair, Owned, Holding, holding}
 use Rattle.model.specs.Query as Model-query
 use Rattle.model.specs.Runs as Runs
 use Rattle.model.specs.Runs.{Cache}
@@ -21,6 +21,7 @@ use Rattle.state.specs.declared.design.Constraint.{Constraint}
 use Rattle.state.specs.declared.design.Filling.{Filling}
 use Rattle.state.specs.declared.design.Design.{Design}
 use Rattle.state.specs.declared.held.HeldValue.{HeldValue}
+use Rattle.state.specs.declared.held.OwnedValue.{OwnedValue}
 use Rattle.state.specs.declared.held.Held.{Held}
 use Rattle.state.specs.declared.answer.Answer.{Answer}
 use Rattle.state.specs.declared.answer.Answer.the-variants as A
@@ -99,19 +100,26 @@ pairOf v = record { filling = v .filling; value = cellOf (v .value) }
 abbrev pub pairBack : Pair → HeldValue
 pairBack p = record { filling = p .filling; value = cellBack (p .value) }
 
-unfoldable pub pairsOf : Held → List Pair
-pairsOf h = tab (h .count) (λ i. pairOf (heldAt h i))
+abbrev pub ownedOf : OwnedValue → Owned
+ownedOf v = record { desk = v .desk; pair = pairOf (v .pair) }
+
+abbrev pub ownedBack : Owned → OwnedValue
+ownedBack o = record { desk = o .desk; pair = pairBack (o .pair) }
+
+unfoldable pub valuesOf : Held → List Owned
+valuesOf h = tab (h .count) (λ i. ownedOf (heldAt h i))
 
 -- what the record holds
 abbrev pub holdingOf : Held → Holding
-holdingOf h = holding (pairsOf h)
+holdingOf h = holding (h .desk) (valuesOf h)
 
 -- the record that holds this, unused places 0
 unfoldable pub heldOf : Holding → Held
 heldOf h =
     record {
-      count = length (h .pairs);
-      values = tab 64 (λ i. pairBack (getD (h .pairs) i (pairOf noValue)));
+      desk = h .desk;
+      count = length (h .values);
+      values = tab 64 (λ i. ownedBack (getD (h .values) i (ownedOf noValue)));
     }
 
 abbrev pub cacheOf : Held → List ℕ → Cache
@@ -139,6 +147,7 @@ operationOf (O.Query q) room = Runs.query (queryOf q) (Runs.asLists room)
 operationOf O.Evenness room = Runs.ask Runs.evenness
 operationOf O.SmallestKnot room = Runs.ask Runs.smallestKnot
 operationOf (O.Total t) room = Runs.query (queryOf (t .query)) (Runs.asTotal (t .position) (t .column))
+operationOf (O.Name d) room = Runs.name d
 
 -- ---- sets of constraints
 
@@ -161,6 +170,7 @@ answerOf A.Even = Answers.even
 answerOf (A.Uneven i j) = Answers.uneven i j
 answerOf (A.Total n) = Answers.total n
 answerOf (A.Knot mask) = Answers.knot (maskMembers mask)
+answerOf (A.Named d) = Answers.named d
 
 -- an array of sixteen numbers, 0 behind the last
 abbrev pub sixteen : List ℕ → List ℕ

@@ -29,6 +29,8 @@ pub enum Answer {
     Total(u64),
     // the constraints of the smallest knot, as a mask: constraint 0 has the highest of sixteen bits
     Knot(u16),
+    // the desk that was named
+    Named(u8),
 }
 
 // An answer as the report shows it: its word, by number, how many numbers stand behind it, and these, 0 behind the last.
@@ -105,6 +107,7 @@ pub fn show(answer: Answer) -> Shown
         Answer::Uneven(i, j) => words(9, 2, i as u64, j as u64),
         Answer::Total(n) => words(10, 1, n, 0),
         Answer::Knot(mask) => members(11, mask),
+        Answer::Named(desk) => words(12, 1, desk as u64, 0),
     }
 }
 

@@ -37,4 +37,6 @@ pub enum Operation {
     Total(Total),
     // the smallest knot
     SmallestKnot,
+    // the desk for what follows
+    Name(u8),
 }

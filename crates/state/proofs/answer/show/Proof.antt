@@ -91,6 +91,15 @@ enum-known-answer-8 c = search needs
 members-requires : tie.Need-members-requires
 members-requires c κs = search needs
 
+enum-known-answer-9 : tie.Need-enum-known-answer-9
+enum-known-answer-9 c = search needs
+
+cast-words-5 : tie.Need-cast-words-5
+cast-words-5 c = search needs
+
+words-requires-12 : tie.Need-words-requires-12
+words-requires-12 c κs = search needs
+
 returns : tie.Need-returns
 unfolding shown tab
 returns c = shows-case (c .words .ensures) (c .before .before .answer .given .1) refl
@@ -139,6 +148,10 @@ returns-12 : tie.Need-returns-12
 unfolding shown
 returns-12 c = shows-case (c .members .ensures) (c .before .before .answer8 .given .1) refl
 
+returns-13 : tie.Need-returns-13
+unfolding shown tab
+returns-13 c = shows-case (c .words12 .ensures) (c .before .before .answer9 .given .1) refl
+
 pub show-spec : {M : Type 1} → statement M
 show-spec =
     tie.close
@@ -171,6 +184,9 @@ show-spec =
     words-requires-11
     enum-known-answer-8
     members-requires
+    enum-known-answer-9
+    cast-words-5
+    words-requires-12
     returns
     returns-2
     returns-3
@@ -182,4 +198,5 @@ show-spec =
     returns-9
     returns-10
     returns-11
-    returns-12)
+    returns-12
+    returns-13)
