@@ -85,7 +85,7 @@ pub(crate) fn mark_held(
     marks: &mut [u8],
     held: Held,
 ) -> Answer
-    requires { ⌜ InRange design × (512 ≤ length (now marks)) × (held .count ≤ 64) × ((i : ℕ) → heldAt held i .filling < 8) ⌝ }
+    requires { ⌜ InRange design × (512 ≤ length (now marks)) × (held .count ≤ 64) × ((i : ℕ) → heldAt held i .pair .filling < 8) ⌝ }
     requires { ⌜ Catalogued design (cellsIn (now cells) (now issues)) (now tables) (now next) (now first) (now keys) (now heads) (now starts) ⌝ }
     requires { ⌜ Covers (schemeOf design) (rowsOf design (cellsIn (now cells) (now issues)) (now tables))
         (wanted (schemeOf design) (rowsOf design (cellsIn (now cells) (now issues)) (now tables)) (holdingOf held)) (marked (now marks)) ⌝ }

@@ -48,7 +48,7 @@ module _ (s : State) (e : sound s ≡ true) where
   pub sound-tidy : Tidy (s .held)
   sound-tidy = lawful-tidy (s .design) (s .held) (parts s e .design) (parts s e .held)
 
-  pub sound-filling : length (s .held .values) ≡ 64 → (i : ℕ) → heldAt (s .held) i .filling < 8
+  pub sound-filling : length (s .held .values) ≡ 64 → (i : ℕ) → heldAt (s .held) i .pair .filling < 8
   sound-filling l = held-filling (s .design) (s .held) (parts s e .design) (parts s e .held) l
 
   pub sound-column : (k : Column) → isColumn (schemeOf (s .design)) (columnOf k) ≡ true → k .place < 8

@@ -14,7 +14,7 @@ use Rattle.finite.proofs.Tables.{tab-at, tab-of}
 use Rattle.model.specs.Answers.{Answer, refused, unless, answer, written}
 use Rattle.model.specs.Runs.{Operation, marks, Cache, cacheAfter}
 use Rattle.model.proofs.Marks.{length-marks}
-use Rattle.model.proofs.HoldingLaws.{HoldingFits, step-fit}
+use Rattle.model.proofs.HoldingLaws.{HoldingFits, values-few, step-fit}
 use Rattle.model.proofs.RunLaws.{Sound, step-held}
 use Rattle.model.proofs.Fresh.{Fresh, fresh-sound, step-fresh}
 use Rattle.state.specs.Cells.{Cells}
@@ -151,7 +151,7 @@ module _ (s : State) (e : sound s ≡ true) (o : Operation) where
       long = fresh-long (s .design) (s .cells) (s .tables) (after s o) after-fresh
 
       fresh : Fresh (scheme s) (database s) (record { held = holdingOf (heldOf (after s o .held)); marks = after s o .marks })
-      fresh = rw (holding-back (after s o .held) (after-fit .few)) after-fresh
+      fresh = rw (holding-back (after s o .held) (values-few (after-fit .values))) after-fresh
 
   -- an operation that leaves the cache as it was leaves the state as it was
   pub unchanged : length (s .held .values) ≡ 64 → after s o ≡ cache s → stateAfter s o ≡ s

@@ -20,6 +20,7 @@ use Rattle.state.specs.declared.held.Held.{Held}
 use Rattle.state.specs.Design.{noTable, noConstraint, noFilling, tableAt, constraintAt, fillingAt}
 use Rattle.state.specs.Held.{noCell, noValue, heldAt}
 use Rattle.state.specs.Meaning.{cellAt, columnOf, schemeOf, databaseOf, holdingOf}
+use Rattle.state.specs.Lawful.{ownCount}
 use Rattle.state.specs.Lent.{State, scheme, database}
 
 -- ---- the design
@@ -73,8 +74,12 @@ pub record LawfulPair (d : Design) (v : HeldValue) : Type 0 where
 
 pub record LawfulHeld (d : Design) (h : Held) : Type 0 where
   pub count : h .count ≤ 64
-  pub pair : (i : ℕ) → i < h .count → LawfulPair d (heldAt h i)
-  -- no pair twice
+  -- one of four desks is named, each value is of one, and each has at most 16
+  pub named : h .desk < 4
+  pub desk : (i : ℕ) → i < h .count → heldAt h i .desk < 4
+  pub share : (e : ℕ) → e < 4 → ownCount h e ≤ 16
+  pub pair : (i : ℕ) → i < h .count → LawfulPair d (heldAt h i .pair)
+  -- no pair twice in a desk
   pub once : (i j : ℕ) → i < j → j < h .count → heldAt h i ≢ heldAt h j
   pub rest : (i : ℕ) → i < 64 → h .count ≤ i → heldAt h i ≡ noValue
 

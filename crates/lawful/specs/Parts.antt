@@ -2,7 +2,9 @@
 use Prim.Native.Nat.{ℕ}
 use mathlib.Core.Bool.{Bool}
 use mathlib.Core.List.{List}
+use lib.Dec.{leb}
 use Rattle.finite.specs.Finite.{all}
+use Rattle.model.specs.Holding.{desks, places}
 use Rattle.state.specs.Cells.{Cells}
 use Rattle.state.specs.declared.design.Design.{Design}
 use Rattle.state.specs.declared.held.Held.{Held}
@@ -10,7 +12,7 @@ use Rattle.state.specs.Design.{tableAt, constraintAt, fillingAt}
 use Rattle.state.specs.Held.{heldAt}
 use Rattle.state.specs.Meaning.{cellOf, cellAt, schemeOf, databaseOf}
 use Rattle.state.specs.Lawful.{usedOr, tableFits, zeroTable, constraintFits, zeroConstraint, fillingFits, zeroFilling}
-use Rattle.state.specs.Lawful.{cellFits, rowFits, zeroRow, heldFits, zeroHeld}
+use Rattle.state.specs.Lawful.{cellFits, rowFits, zeroRow, heldFits, zeroHeld, ownCount}
 
 -- ---- a design's places: each holds what can stand there, or is unused and 0
 
@@ -51,7 +53,11 @@ rowStands d cells tables r =
 unfoldable pub rowsStand : Design → Cells → List ℕ → Bool
 rowsStand d cells tables = all 512 (rowStands d cells tables)
 
--- ---- a held record's places
+-- ---- a held record's desks and places
+
+-- no desk has more than its share
+abbrev pub sharesKept : Held → Bool
+sharesKept h = all desks (λ e. leb (ownCount h e) places)
 
 abbrev pub heldLawful : Design → Held → ℕ → Bool
 heldLawful d h i = usedOr i (h .count) (heldFits d h i (heldAt h i)) (zeroHeld (heldAt h i))

@@ -14,10 +14,10 @@ use Rattle.model.specs.Scheme.{Scheme}
 use Rattle.model.specs.Database.{Database, has}
 use Rattle.model.specs.Cache.{RowSet}
 use Rattle.model.specs.Rounds.{level, orElse, start, levels, load}
-use Rattle.model.specs.Holding.{Pair, pairsWant, wanted}
+use Rattle.model.specs.Holding.{Owned, pairsWant, wanted}
 use Rattle.state.specs.Cells.{Cells}
 use Rattle.state.specs.declared.held.Held.{Held}
-use Rattle.state.specs.Meaning.{cellOf, databaseOf, pairOf, pairsOf, holdingOf}
+use Rattle.state.specs.Meaning.{cellOf, databaseOf, ownedOf, valuesOf, holdingOf}
 use Rattle.state.specs.Held.{heldAt}
 use Rattle.load.specs.Raised.{raised}
 use Rattle.load.specs.Queue.{added, Listed}
@@ -89,21 +89,22 @@ module _ (old : RowSet) (L : List ℕ) (e : L ≡ tab 512 (λ r. cond (old r) 1 
 -- ---- round 0 of a load of all held values
 
 -- a row is wanted if it has one of the values in its filling's column
-wanted-tab : (S : Scheme) (D : Database) (r n : ℕ) (f : ℕ → Pair) → pairsWant S D (tab n f) r ≡ any n (λ i. has D (S .filling (f i .filling) .column) (f i .value) r)
+wanted-tab : (S : Scheme) (D : Database) (r n : ℕ) (f : ℕ → Owned) →
+    pairsWant S D (tab n f) r ≡ any n (λ i. has D (S .filling (f i .pair .filling) .column) (f i .pair .value) r)
 unfolding pairsWant tab any
 wanted-tab S D r zero f = refl
 wanted-tab S D r (suc n) f =
-    ap (λ (b : Bool). has D (S .filling (f 0 .filling) .column) (f 0 .value) r || b) (wanted-tab S D r n (λ i. f (suc i))) ∙
-    sym (any-front n (λ i. has D (S .filling (f i .filling) .column) (f i .value) r))
+    ap (λ (b : Bool). has D (S .filling (f 0 .pair .filling) .column) (f 0 .pair .value) r || b) (wanted-tab S D r n (λ i. f (suc i))) ∙
+    sym (any-front n (λ i. has D (S .filling (f i .pair .filling) .column) (f i .pair .value) r))
 
 wanted-any : (S : Scheme) (D : Database) (h : Held) (r : ℕ) →
-    any (h .count) (λ i. has D (S .filling (pairOf (heldAt h i) .filling) .column) (pairOf (heldAt h i) .value) r) ≡ wanted S D (holdingOf h) r
-unfolding pairsOf
-wanted-any S D h r = sym (wanted-tab S D r (h .count) (λ i. pairOf (heldAt h i)))
+    any (h .count) (λ i. has D (S .filling (heldAt h i .pair .filling) .column) (cellOf (heldAt h i .pair .value)) r) ≡ wanted S D (holdingOf h) r
+unfolding valuesOf
+wanted-any S D h r = sym (wanted-tab S D r (h .count) (λ i. ownedOf (heldAt h i)))
 
 -- from nothing, by steps for the held values
 pub start-all : (S : Scheme) (rows : ℕ) (cells : Cells) (tables : List ℕ) (h : Held) (L : List ℕ) → let D = databaseOf rows cells tables in
-    L ≡ raised (replicate 512 0) 2 (λ r. any (h .count) (λ i. has D (S .filling (heldAt h i .filling) .column) (cellOf (heldAt h i .value)) r)) →
+    L ≡ raised (replicate 512 0) 2 (λ r. any (h .count) (λ i. has D (S .filling (heldAt h i .pair .filling) .column) (cellOf (heldAt h i .pair .value)) r)) →
     L ≡ start D (λ _. false) (wanted S D (holdingOf h))
 unfolding start raised databaseOf
 start-all S rows cells tables h L e =

@@ -94,7 +94,7 @@ pub fn load_held(
     most: usize,
     levels: &mut [u16; 512],
 ) -> usize
-    requires { ⌜ InRange d × (held .count ≤ 64) × ((i : ℕ) → heldAt held i .filling < 8) ⌝ }
+    requires { ⌜ InRange d × (held .count ≤ 64) × ((i : ℕ) → heldAt held i .pair .filling < 8) ⌝ }
     requires { ⌜ Catalogued d (cellsIn (now cells) (now issues)) (now tables) (now next) (now first) (now keys) (now heads) (now starts) ⌝ }
     requires { ⌜ Within (schemeOf d) (databaseOf (d .rows) (cellsIn (now cells) (now issues)) (now tables))
         (wanted (schemeOf d) (databaseOf (d .rows) (cellsIn (now cells) (now issues)) (now tables)) (holdingOf held)) most ⌝ }

@@ -97,7 +97,7 @@ pub(crate) fn start_held(
     levels: &mut [u16; 512],
     queue: &mut [u16; 512],
 ) -> usize
-    requires { ⌜ InRange d × (held .count ≤ 64) × ((i : ℕ) → heldAt held i .filling < 8) × (length (now queue) ≡ 512) ⌝ }
+    requires { ⌜ InRange d × (held .count ≤ 64) × ((i : ℕ) → heldAt held i .pair .filling < 8) × (length (now queue) ≡ 512) ⌝ }
     requires { ⌜ (now next ≡ nexts (databaseOf (d .rows) (cellsIn (now cells) (now issues)) (now tables)))
         × Directory (databaseOf (d .rows) (cellsIn (now cells) (now issues)) (now tables)) (now keys) (now heads) (now starts) ⌝ }
     ensures { λ e. ⌜ (now (levels .exit) ≡ start (databaseOf (d .rows) (cellsIn (now (cells .entry)) (now (issues .entry))) (now (tables .entry)))
@@ -111,7 +111,8 @@ pub(crate) fn start_held(
     let values = held.values;
     let filling = d.filling;
     for i in 0..held.count {
-        let v = values[i];
+        let o = values[i];
+        let v = o.pair;
         let f = filling[v.filling as usize];
         let k = f.column;
         let r = find(keys, heads, starts, k, v.value);

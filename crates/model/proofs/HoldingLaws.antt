@@ -100,7 +100,7 @@ own-listed d p (q ∷ qs) = go (eqb (q .desk) d) (own-listed d p qs)
 -- values of existing desks, at most 16 for each, of an existing filling and a candidate, none twice in a desk
 pub record ValuesFit (S : Scheme) (os : List Owned) : Type 0 where
   pub desk : (i : ℕ) → i < length os → ownedAt os i .desk < desks
-  pub few : (d : ℕ) → length (ownAmong d os) ≤ places
+  pub few : (d : ℕ) → d < desks → length (ownAmong d os) ≤ places
   pub filling : (i : ℕ) → i < length os → ownedAt os i .pair .filling < S .fillings
   pub value : (i : ℕ) → i < length os → candidate (S .filling (ownedAt os i .pair .filling)) (ownedAt os i .pair .value) ≡ true
   pub once : (i j : ℕ) → i < j → j < length os → sameOwned (ownedAt os i) (ownedAt os j) ≡ false
@@ -111,17 +111,20 @@ pub record HoldingFits (S : Scheme) (h : Holding) : Type 0 where
 
 -- so there are at most 64
 pub values-few : {S : Scheme} {os : List Owned} → ValuesFit S os → length os ≤ 64
-values-few {S} {os} H = omega (arith, own-all os (H .desk), H .few 0, H .few 1, H .few 2, H .few 3)
+values-few {S} {os} H = omega (arith, own-all os (H .desk), H .few 0 (omega arith), H .few 1 (omega arith), H .few 2 (omega arith), H .few 3 (omega arith))
 
 -- fewer than 64, where a desk has room
 pub room-few : {S : Scheme} {h : Holding} → HoldingFits S h → hasRoom h ≡ true → length (h .values) < 64
 room-few {S} {h} H r = go (h .desk) (H .named) (ltb-true _ _ r)
   where
+    few : (d : ℕ) → d < desks → length (ownAmong d (h .values)) ≤ places
+    few = H .values .few
+
     go : (d : ℕ) → d < desks → length (ownAmong d (h .values)) < places → length (h .values) < 64
-    go zero l m = omega (arith, own-all (h .values) (H .values .desk), H .values .few 1, H .values .few 2, H .values .few 3)
-    go (suc zero) l m = omega (arith, own-all (h .values) (H .values .desk), H .values .few 0, H .values .few 2, H .values .few 3)
-    go (suc (suc zero)) l m = omega (arith, own-all (h .values) (H .values .desk), H .values .few 0, H .values .few 1, H .values .few 3)
-    go (suc (suc (suc zero))) l m = omega (arith, own-all (h .values) (H .values .desk), H .values .few 0, H .values .few 1, H .values .few 2)
+    go zero l m = omega (arith, own-all (h .values) (H .values .desk), few 1 (omega arith), few 2 (omega arith), few 3 (omega arith))
+    go (suc zero) l m = omega (arith, own-all (h .values) (H .values .desk), few 0 (omega arith), few 2 (omega arith), few 3 (omega arith))
+    go (suc (suc zero)) l m = omega (arith, own-all (h .values) (H .values .desk), few 0 (omega arith), few 1 (omega arith), few 3 (omega arith))
+    go (suc (suc (suc zero))) l m = omega (arith, own-all (h .values) (H .values .desk), few 0 (omega arith), few 1 (omega arith), few 2 (omega arith))
     go (suc (suc (suc (suc d)))) l m = absurd (omega arith)
 
 -- what a REFER takes: the filling exists, the value is a candidate, the pair is new to the named desk, and that has room
@@ -155,7 +158,7 @@ module _ (S : Scheme) (h : Holding) (H : HoldingFits S h) (p : Pair) where
         named = H .named;
         values = record {
           desk = λ i l. desk i l (decLt i (length os));
-          few = λ d. few d (same-number (h .desk) d);
+          few = λ d l. few d l (same-number (h .desk) d);
           filling = λ i l. filling i l (decLt i (length os));
           value = λ i l. value i l (decLt i (length os));
           once = λ j i k l. once j i k l (decLt i (length os));
@@ -169,9 +172,9 @@ module _ (S : Scheme) (h : Holding) (H : HoldingFits S h) (p : Pair) where
       one-most true = omega arith
       one-most false = omega arith
 
-      few : (d : ℕ) → (h .desk ≡ d) ⊎ (h .desk ≡ d → ⊥) → length (ownAmong d more) ≤ places
-      few d (inl e) = subst (λ (x : ℕ). length (ownAmong x more) ≤ places) e (omega (arith, own-end (h .desk) os o, one-most (eqb (h .desk) (h .desk)), t .room))
-      few d (inr n) = omega (arith, own-end d os o ∙ ap (λ (b : Bool). length (ownAmong d os) + cond b 1 0) (ne-eqb (h .desk) d n), H .values .few d)
+      few : (d : ℕ) → d < desks → (h .desk ≡ d) ⊎ (h .desk ≡ d → ⊥) → length (ownAmong d more) ≤ places
+      few d l (inl e) = subst (λ (x : ℕ). length (ownAmong x more) ≤ places) e (omega (arith, own-end (h .desk) os o, one-most (eqb (h .desk) (h .desk)), t .room))
+      few d l (inr n) = omega (arith, own-end d os o ∙ ap (λ (b : Bool). length (ownAmong d os) + cond b 1 0) (ne-eqb (h .desk) d n), H .values .few d l)
 
       desk : (i : ℕ) → i < length more → Dec (i < length os) → ownedAt more i .desk < desks
       desk i l (yes k) = rw (end-before sameOwned noOwned os o i k) (H .values .desk i k)
@@ -202,7 +205,7 @@ module _ (S : Scheme) (h : Holding) (H : HoldingFits S h) (p : Pair) where
             named = H .named;
             values = record {
               desk = λ i l. rw (remove-at sameOwned noOwned o os m i) (H .values .desk (skip gap i) (inside i l));
-              few = λ d. omega (arith, own-fewer d o os, H .values .few d);
+              few = λ d l. omega (arith, own-fewer d o os, H .values .few d l);
               filling = λ i l. rw (remove-at sameOwned noOwned o os m i) (H .values .filling (skip gap i) (inside i l));
               value = λ i l. rw (remove-at sameOwned noOwned o os m i) (H .values .value (skip gap i) (inside i l));
               once = λ j i k l. rw (remove-at sameOwned noOwned o os m j, remove-at sameOwned noOwned o os m i)

@@ -28,7 +28,7 @@ fn is_held_by(d: Design, h: HeldValue, k: Column, v: Cell) -> bool
 
 // Whether a filling of the column holds the value. One comparison for each held value that is another.
 pub(crate) fn is_held(d: Design, held: Held, k: Column, v: Cell) -> bool
-    requires { ⌜ (held .count ≤ 64) × ((i : ℕ) → heldAt held i .filling < 8) ⌝ }
+    requires { ⌜ (held .count ≤ 64) × ((i : ℕ) → heldAt held i .pair .filling < 8) ⌝ }
     ensures { λ b. ⌜ b ≡ heldIn (schemeOf d) (holdingOf held) (columnOf k) (cellOf v) ⌝ }
 {
     let n = held.count;

@@ -40,7 +40,7 @@ pub fn search(
     v: Cell,
 ) -> Found
     requires { ⌜ InRange d × (512 ≤ length (now marks)) × (held .count ≤ 64) × (k .table < 8) × (k .place < 8)
-        × ((i : ℕ) → heldAt held i .filling < 8) ⌝ }
+        × ((i : ℕ) → heldAt held i .pair .filling < 8) ⌝ }
     requires { ⌜ (now next ≡ nexts (databaseOf (d .rows) (cellsIn (now cells) (now issues)) (now tables)))
         × Directory (databaseOf (d .rows) (cellsIn (now cells) (now issues)) (now tables)) (now keys) (now heads) (now starts) ⌝ }
     ensures { λ s. ⌜ (s .ground ≡ Probe.probe (schemeOf d) (databaseOf (d .rows) (cellsIn (now (cells .entry)) (now (issues .entry)))

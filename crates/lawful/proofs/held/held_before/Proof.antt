@@ -7,14 +7,14 @@ use borrow.Author.Needs.{needs}
 use lib.ListN.{getD}
 use Rattle.finite.proofs.Search.{any-end, any-hit, any-more, any-start}
 use Rattle.finite.specs.Finite.{any}
-use Rattle.model.specs.Holding.{samePair}
+use Rattle.model.specs.Holding.{sameOwned}
 use Rattle.state.specs.Held.{noValue}
-use Rattle.state.specs.Meaning.{pairOf}
+use Rattle.state.specs.Meaning.{ownedOf}
 use Rattle.lawful.proofs.held.held_before.Statement.{statement}
 use Rattle.lawful.proofs.held.held_before.Tie as tie
 
 abbrev Inv-loop : tie.InvT-loop
-Inv-loop n v values i₀ i = (i ≤ n) × (any i (λ j. samePair (pairOf (getD values j noValue)) (pairOf v)) ≡ false)
+Inv-loop n v values i₀ i = (i ≤ n) × (any i (λ j. sameOwned (ownedOf (getD values j noValue)) (ownedOf v)) ≡ false)
 
 abbrev μ-loop : tie.MeasureT-loop
 μ-loop n v values i₀ i = n - i
@@ -22,17 +22,17 @@ abbrev μ-loop : tie.MeasureT-loop
 loop-holds : tie.Need-loop-holds Inv-loop μ-loop
 loop-holds c = (omega arith, any-start _)
 
-mul-same-pair : tie.Need-mul-same-pair Inv-loop μ-loop
-mul-same-pair c = search needs
+mul-same-owned : tie.Need-mul-same-owned Inv-loop μ-loop
+mul-same-owned c = search needs
 
-array-copy-out-same-pair : tie.Need-array-copy-out-same-pair Inv-loop μ-loop
-array-copy-out-same-pair c = search needs
+array-copy-out-same-owned : tie.Need-array-copy-out-same-owned Inv-loop μ-loop
+array-copy-out-same-owned c = search needs
 
-same-pair-requires : tie.Need-same-pair-requires Inv-loop μ-loop
-same-pair-requires c κs = search needs
+same-owned-requires : tie.Need-same-owned-requires Inv-loop μ-loop
+same-owned-requires c κs = search needs
 
 returns : tie.Need-returns Inv-loop μ-loop
-returns c = any-hit _ _ _ (c .before .before .before .loop-test .taken) (sym (c .before .same-pair .ensures) ∙ c .if1 .taken)
+returns c = any-hit _ _ _ (c .before .before .before .loop-test .taken) (sym (c .before .same-owned .ensures) ∙ c .if1 .taken)
 
 add-i : tie.Need-add-i Inv-loop μ-loop
 add-i c = omega arith
@@ -41,7 +41,7 @@ loop-less : tie.Need-loop-less Inv-loop μ-loop
 loop-less c = omega arith
 
 loop-again : tie.Need-loop-again Inv-loop μ-loop
-loop-again c = (omega arith, any-more _ _ (c .before .before .before .before .loop .inv .1) (sym (c .before .same-pair .ensures) ∙ c .if1 .left))
+loop-again c = (omega arith, any-more _ _ (c .before .before .before .before .loop .inv .1) (sym (c .before .same-owned .ensures) ∙ c .if1 .left))
 
 returns-2 : tie.Need-returns-2 Inv-loop μ-loop
 returns-2 c = any-end _ _ _ (c .before .loop .inv .0) (c .loop-test .left) (c .before .loop .inv .1)
@@ -49,4 +49,4 @@ returns-2 c = any-end _ _ _ (c .before .loop .inv .0) (c .loop-test .left) (c .b
 pub held-before-spec : {M : Type 1} → statement M
 held-before-spec =
     tie.close (tie.spec
-    Inv-loop μ-loop loop-holds mul-same-pair array-copy-out-same-pair same-pair-requires returns add-i loop-less loop-again returns-2)
+    Inv-loop μ-loop loop-holds mul-same-owned array-copy-out-same-owned same-owned-requires returns add-i loop-less loop-again returns-2)

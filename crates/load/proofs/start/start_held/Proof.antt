@@ -21,8 +21,8 @@ abbrev Inv-loop : tie.InvT-loop
 Inv-loop d cells issues tables next keys heads starts levels₀ queue₀ end₀ values filling i₀ i-end levels queue end i =
     (i ≤ i-end) ×
     Grown 2
-    (λ r. any i (λ j. has (databaseOf (d .rows) (cellsIn cells issues) tables) (columnOf (fillingAt d (getD values j noValue .filling) .column))
-    (cellOf (getD values j noValue .value)) r)) levels₀ queue₀ end₀ levels queue end
+    (λ r. any i (λ j. has (databaseOf (d .rows) (cellsIn cells issues) tables) (columnOf (fillingAt d (getD values j noValue .pair .filling) .column))
+    (cellOf (getD values j noValue .pair .value)) r)) levels₀ queue₀ end₀ levels queue end
 
 abbrev μ-loop : tie.MeasureT-loop
 μ-loop d cells issues tables next keys heads starts levels₀ queue₀ end₀ values filling i₀ i-end levels queue end i = i-end - i
@@ -32,11 +32,11 @@ loop-holds c =
     let p = c .before .before .before .before .before .before .pre .0 in
     (omega arith, grown-start _ _ _ _ _ 0 (length-replicate {A = ℕ} 512 0) (none-added _ (p .3)) (λ r l. any-start _))
 
-mul-v : tie.Need-mul-v Inv-loop μ-loop
-mul-v c = omega (arith, c .before .before .before .before .before .before .before .before .pre .0 .1, c .loop-test .taken)
+mul-o : tie.Need-mul-o Inv-loop μ-loop
+mul-o c = omega (arith, c .before .before .before .before .before .before .before .before .pre .0 .1, c .loop-test .taken)
 
-array-copy-out-v : tie.Need-array-copy-out-v Inv-loop μ-loop
-array-copy-out-v c = omega (arith, c .before .before .before .before .before .before .before .before .pre .0 .1, c .loop-test .taken)
+array-copy-out-o : tie.Need-array-copy-out-o Inv-loop μ-loop
+array-copy-out-o c = omega (arith, c .before .before .before .before .before .before .before .before .pre .0 .1, c .loop-test .taken)
 
 cast-f : tie.Need-cast-f Inv-loop μ-loop
 cast-f c = search needs
@@ -91,8 +91,8 @@ start-held-spec =
     Inv-loop
     μ-loop
     loop-holds
-    mul-v
-    array-copy-out-v
+    mul-o
+    array-copy-out-o
     cast-f
     mul-f
     array-copy-out-f
