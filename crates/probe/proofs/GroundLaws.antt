@@ -15,7 +15,7 @@ use Rattle.model.specs.Scheme.{Column, Scheme, sameColumn}
 use Rattle.model.specs.Database.{Database, has}
 use Rattle.model.specs.Cache.{RowSet, Held}
 use Rattle.model.specs.Probe.{seen, demanded, uniquelySeen, lowest, probe, cachedRows}
-use Rattle.model.specs.Holding.{Pair, one, pairsHold}
+use Rattle.model.specs.Holding.{Pair, Owned, one, pairsHold}
 use Rattle.model.specs.Runs.{marked}
 use Rattle.state.specs.Cells.{Cells}
 use Rattle.state.specs.Meaning.{databaseOf}
@@ -26,11 +26,11 @@ use Rattle.state.specs.Meaning.{databaseOf}
 abbrev pub pairHolds : Scheme → Column → Cell → Pair → Bool
 pairHolds S k v p = one (S .filling (p .filling) .column) (p .value) k v
 
-pub held-any : (S : Scheme) (k : Column) (v : Cell) (n : ℕ) (f : ℕ → Pair) → pairsHold S (tab n f) k v ≡ any n (λ i. pairHolds S k v (f i))
+pub held-any : (S : Scheme) (k : Column) (v : Cell) (n : ℕ) (f : ℕ → Owned) → pairsHold S (tab n f) k v ≡ any n (λ i. pairHolds S k v (f i .pair))
 unfolding pairsHold tab any
 held-any S k v zero f = refl
 held-any S k v (suc n) f =
-    ap (λ (b : Bool). pairHolds S k v (f 0) || b) (held-any S k v n (λ i. f (suc i))) ∙ sym (any-front n (λ i. pairHolds S k v (f i)))
+    ap (λ (b : Bool). pairHolds S k v (f 0 .pair) || b) (held-any S k v n (λ i. f (suc i))) ∙ sym (any-front n (λ i. pairHolds S k v (f i .pair)))
 
 -- one held value: the value, then the column
 module _ (j k : Column) (w v : Cell) where

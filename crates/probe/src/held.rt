@@ -26,7 +26,7 @@ fn is_held_by(d: Design, h: HeldValue, k: Column, v: Cell) -> bool
     same_column(j, k)
 }
 
-// Whether a filling of the column holds the value. One comparison for each held value that is another.
+// Whether a filling of the column holds the value, for whatever desk. One comparison for each held value that is another.
 pub(crate) fn is_held(d: Design, held: Held, k: Column, v: Cell) -> bool
     requires { ⌜ (held .count ≤ 64) × ((i : ℕ) → heldAt held i .pair .filling < 8) ⌝ }
     ensures { λ b. ⌜ b ≡ heldIn (schemeOf d) (holdingOf held) (columnOf k) (cellOf v) ⌝ }
@@ -35,7 +35,8 @@ pub(crate) fn is_held(d: Design, held: Held, k: Column, v: Cell) -> bool
     // read from here, so that the compiler copies a value and not all of them
     let values = held.values;
     for i in 0..n {
-        let h = values[i];
+        let o = values[i];
+        let h = o.pair;
         if is_held_by(d, h, k, v) {
             return true;
         }

@@ -42,14 +42,14 @@ cast-f : tie.Need-cast-f Inv-loop μ-loop
 cast-f c = search needs
 
 mul-f : tie.Need-mul-f Inv-loop μ-loop
-mul-f c = let w = c .before .before .before in omega (arith, w .before .before .before .before .before .before .before .pre .0 .2 (w .loop .i))
+mul-f c = let w = c .before .before .before .before in omega (arith, w .before .before .before .before .before .before .before .pre .0 .2 (w .loop .i))
 
 array-copy-out-f : tie.Need-array-copy-out-f Inv-loop μ-loop
-array-copy-out-f c = let w = c .before .before .before in omega (arith, w .before .before .before .before .before .before .before .pre .0 .2 (w .loop .i))
+array-copy-out-f c = let w = c .before .before .before .before in omega (arith, w .before .before .before .before .before .before .before .pre .0 .2 (w .loop .i))
 
 find-requires : tie.Need-find-requires Inv-loop μ-loop
 find-requires c κs =
-    let p = c .before .before .before .before .before .before .before .before .before .before .before .before .pre .0 .0 in
+    let p = c .before .before .before .before .before .before .before .before .before .before .before .before .before .pre .0 .0 in
     (p .column-table _, p .column _)
 
 cast-place : tie.Need-cast-place Inv-loop μ-loop
@@ -58,22 +58,22 @@ cast-place c = search needs
 walk-requires : tie.Need-walk-requires Inv-loop μ-loop
 walk-requires c κs =
     let w = c .before .before .before in
-    let p = w .before .before .before .before .before .before .before .before .before .before .before .before .before .pre in
-    let g = w .before .before .before .before .before .before .loop .inv .1 in
+    let p = w .before .before .before .before .before .before .before .before .before .before .before .before .before .before .pre in
+    let g = w .before .before .before .before .before .before .before .loop .inv .1 in
     (p .1 .0, ((p .0 .0 .column _, begins-has _ _ _ _ (w .find .ensures _ (p .1 .1))), (omega arith, g .long, g .queue)))
 
 add-i : tie.Need-add-i Inv-loop μ-loop
 add-i c =
-    let w = c .before .before .before .before .before .before .before .before .before in
+    let w = c .before .before .before .before .before .before .before .before .before .before in
     omega (arith, w .before .before .before .before .before .before .before .before .pre .0 .1, w .loop-test .taken)
 
 loop-less : tie.Need-loop-less Inv-loop μ-loop
-loop-less c = omega (arith, c .before .before .before .before .before .before .before .before .before .loop-test .taken)
+loop-less c = omega (arith, c .before .before .before .before .before .before .before .before .before .before .loop-test .taken)
 
 loop-again : tie.Need-loop-again Inv-loop μ-loop
 loop-again c =
     let w = c .before .before .before .before in
-    let t = w .before .before .before .before .before in
+    let t = w .before .before .before .before .before .before in
     let f = w .find .ensures _ (t .before .before .before .before .before .before .before .before .pre .1 .1) in
     let g = grown-turn _ _ _ _ _ _ _ _ _ _ _ _ _ (omega arith) (t .before .loop .inv .1) (c .walk .ensures) (along-has _ _ _ _ f) in
     (omega (arith, t .loop-test .taken), g)

@@ -11,16 +11,16 @@ use Rattle.finite.proofs.Search.{any-start, any-more, any-hit, any-end}
 use Rattle.state.specs.declared.cell.Cell.{Cell}
 use Rattle.state.specs.declared.design.Design.{Design}
 use Rattle.state.specs.declared.design.Column.{Column}
-use Rattle.state.specs.declared.held.HeldValue.{HeldValue}
+use Rattle.state.specs.declared.held.OwnedValue.{OwnedValue}
 use Rattle.state.specs.Held.{noValue}
-use Rattle.state.specs.Meaning.{cellOf, columnOf, schemeOf, pairOf, pairsOf}
+use Rattle.state.specs.Meaning.{cellOf, columnOf, schemeOf, pairOf, valuesOf}
 use Rattle.probe.proofs.GroundLaws.{pairHolds, held-any}
 use Rattle.probe.proofs.held.is_held.Statement.{statement}
 use Rattle.probe.proofs.held.is_held.Tie as tie
 
 -- the held value at i is v, in column k
-abbrev at : Design → List HeldValue → Column → Cell → ℕ → Bool
-at d values k v i = pairHolds (schemeOf d) (columnOf k) (cellOf v) (pairOf (getD values i noValue))
+abbrev at : Design → List OwnedValue → Column → Cell → ℕ → Bool
+at d values k v i = pairHolds (schemeOf d) (columnOf k) (cellOf v) (pairOf (getD values i noValue .pair))
 
 abbrev Inv-loop : tie.InvT-loop
 Inv-loop d k v n values i₀ i = (i ≤ n) × (any i (at d values k v) ≡ false)
@@ -31,19 +31,19 @@ abbrev μ-loop : tie.MeasureT-loop
 loop-holds : tie.Need-loop-holds Inv-loop μ-loop
 loop-holds c = (omega arith, any-start _)
 
-mul-h : tie.Need-mul-h Inv-loop μ-loop
-mul-h c = search needs
+mul-o : tie.Need-mul-o Inv-loop μ-loop
+mul-o c = search needs
 
-array-copy-out-h : tie.Need-array-copy-out-h Inv-loop μ-loop
-array-copy-out-h c = search needs
+array-copy-out-o : tie.Need-array-copy-out-o Inv-loop μ-loop
+array-copy-out-o c = search needs
 
 is-held-by-requires : tie.Need-is-held-by-requires Inv-loop μ-loop
-is-held-by-requires c κs = c .before .before .before .before .pre .1 (c .before .before .loop .i)
+is-held-by-requires c κs = c .before .before .before .before .before .pre .1 (c .before .before .before .loop .i)
 
 returns : tie.Need-returns Inv-loop μ-loop
-unfolding pairsOf
+unfolding valuesOf
 returns c =
-    any-hit _ _ _ (c .before .before .before .loop-test .taken) (sym (c .before .is-held-by .ensures) ∙ c .if1 .taken) ∙
+    any-hit _ _ _ (c .before .before .before .before .loop-test .taken) (sym (c .before .is-held-by .ensures) ∙ c .if1 .taken) ∙
     sym (held-any _ _ _ _ _)
 
 add-i : tie.Need-add-i Inv-loop μ-loop
@@ -53,10 +53,10 @@ loop-less : tie.Need-loop-less Inv-loop μ-loop
 loop-less c = omega arith
 
 loop-again : tie.Need-loop-again Inv-loop μ-loop
-loop-again c = (omega arith, any-more _ _ (c .before .before .before .before .loop .inv .1) (sym (c .before .is-held-by .ensures) ∙ c .if1 .left))
+loop-again c = (omega arith, any-more _ _ (c .before .before .before .before .before .loop .inv .1) (sym (c .before .is-held-by .ensures) ∙ c .if1 .left))
 
 returns-2 : tie.Need-returns-2 Inv-loop μ-loop
-unfolding pairsOf
+unfolding valuesOf
 returns-2 c = any-end _ _ _ (c .before .loop .inv .0) (c .loop-test .left) (c .before .loop .inv .1) ∙ sym (held-any _ _ _ _ _)
 
 pub is-held-spec : {M : Type 1} → statement M
@@ -66,8 +66,8 @@ is-held-spec =
     Inv-loop
     μ-loop
     loop-holds
-    mul-h
-    array-copy-out-h
+    mul-o
+    array-copy-out-o
     is-held-by-requires
     returns
     add-i
