@@ -11,7 +11,7 @@ use Rattle.finite.proofs.Bools.{or-cases, or-left}
 use Rattle.model.specs.Scheme.{Scheme}
 use Rattle.model.specs.Database.{Database, has}
 use Rattle.model.specs.Cache.{RowSet, Inside, Complete, Meets}
-use Rattle.model.specs.Holding.{Pair, samePair, Holding, withoutPair, pairsWant, wanted, heldIn}
+use Rattle.model.specs.Holding.{Pair, Owned, sameOwned, Holding, mine, withoutPair, pairsWant, wanted, heldIn}
 use Rattle.model.specs.Runs.{marked}
 use Rattle.model.proofs.Closed.{Closed, demands-Demand, constraints-closed}
 use Rattle.model.proofs.Fresh.{fresh-sound}
@@ -24,21 +24,21 @@ use Rattle.probe.proofs.GroundLaws.{marked-front}
 use Rattle.load.specs.Ended.{Covers}
 
 -- fewer pairs want fewer rows
-want-fewer : (S : Scheme) (D : Database) (p : Pair) (ps : List Pair) → Inside (pairsWant S D (remove samePair p ps)) (pairsWant S D ps)
+want-fewer : (S : Scheme) (D : Database) (p : Owned) (ps : List Owned) → Inside (pairsWant S D (remove sameOwned p ps)) (pairsWant S D ps)
 unfolding pairsWant remove
 want-fewer S D p [] r t = t
-want-fewer S D p (q ∷ ps) r t = go (samePair q p) (want-fewer S D p ps r) t
+want-fewer S D p (q ∷ ps) r t = go (sameOwned q p) (want-fewer S D p ps r) t
   where
-    later : pairsWant S D ps r ≡ true → has D (S .filling (q .filling) .column) (q .value) r || pairsWant S D ps r ≡ true
-    later e = ap (λ (b : Bool). has D (S .filling (q .filling) .column) (q .value) r || b) e ∙ or-true (has D (S .filling (q .filling) .column) (q .value) r)
+    later : pairsWant S D ps r ≡ true → has D (S .filling (q .pair .filling) .column) (q .pair .value) r || pairsWant S D ps r ≡ true
+    later e = ap (λ (b : Bool). has D (S .filling (q .pair .filling) .column) (q .pair .value) r || b) e ∙ or-true (has D (S .filling (q .pair .filling) .column) (q .pair .value) r)
 
-    go : (b : Bool) → (pairsWant S D (remove samePair p ps) r ≡ true → pairsWant S D ps r ≡ true) →
-        pairsWant S D (cond b ps (q ∷ remove samePair p ps)) r ≡ true →
-        has D (S .filling (q .filling) .column) (q .value) r || pairsWant S D ps r ≡ true
+    go : (b : Bool) → (pairsWant S D (remove sameOwned p ps) r ≡ true → pairsWant S D ps r ≡ true) →
+        pairsWant S D (cond b ps (q ∷ remove sameOwned p ps)) r ≡ true →
+        has D (S .filling (q .pair .filling) .column) (q .pair .value) r || pairsWant S D ps r ≡ true
     go true h e = later e
     go false h e =
-        ⊎-elim (λ a. sym (or-left (has D (S .filling (q .filling) .column) (q .value) r) (pairsWant S D ps r) a)) (λ a. later (h a))
-        (or-cases (has D (S .filling (q .filling) .column) (q .value) r) (pairsWant S D (remove samePair p ps) r) e)
+        ⊎-elim (λ a. sym (or-left (has D (S .filling (q .pair .filling) .column) (q .pair .value) r) (pairsWant S D ps r) a)) (λ a. later (h a))
+        (or-cases (has D (S .filling (q .pair .filling) .column) (q .pair .value) r) (pairsWant S D (remove sameOwned p ps) r) e)
 
 -- a row set that meets the constraints and what is held has the rows that this wants
 meets-wanted : (S : Scheme) (D : Database) (h : Holding) (X : RowSet) → Meets S D (heldIn S h) X → Inside (wanted S D h) X
@@ -54,7 +54,7 @@ marks-cover S rows cells tables m p h g =
     record {
       closed = λ s r x d. let e = demands-Demand S D s r d in
           back r (C .demanded s r (sym (marked-front m 512 s (D .finite s (e .source .live))) ∙ x) e);
-      seeds = λ r t. back r (meets-wanted S D h (marked (take 512 m)) g r (want-fewer S D p (h .pairs) r t));
+      seeds = λ r t. back r (meets-wanted S D h (marked (take 512 m)) g r (want-fewer S D (mine h p) (h .values) r t));
     }
   where
     D : Database

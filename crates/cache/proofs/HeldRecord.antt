@@ -17,76 +17,74 @@ use Rattle.finite.specs.Sameness.{placeOf}
 use Rattle.finite.proofs.Bools.{same-number, cond-false}
 use Rattle.finite.proofs.Sameness.{listed-place, end-length, end-before, end-last, end-past, skip, skip-behind, remove-length, remove-at}
 use Rattle.finite.proofs.Tables.{length-tab, tab-at, tab-of, Upto, upto-set, upto-end}
-use Rattle.model.specs.Holding.{Pair, samePair, Holding, holds, withPair, withoutPair}
-use Rattle.model.proofs.HoldingLaws.{noPair, pairAt}
+use Rattle.model.specs.Holding.{Pair, sameOwned, Holding, mine, holds, withPair, withoutPair}
+use Rattle.model.proofs.HoldingLaws.{noOwned, ownedAt}
 use Rattle.state.specs.declared.held.HeldValue.{HeldValue}
+use Rattle.state.specs.declared.held.OwnedValue.{OwnedValue}
 use Rattle.state.specs.declared.held.Held.{Held}
 use Rattle.state.specs.Held.{noValue, heldAt, Tidy}
-use Rattle.state.specs.Meaning.{pairOf, pairBack, pairsOf, holdingOf, heldOf}
+use Rattle.state.specs.Meaning.{pairOf, ownedOf, ownedBack, valuesOf, holdingOf, heldOf}
+use Rattle.lawful.proofs.HeldLaws.{length-values, values-at}
 use Rattle.cache.specs.Places.{keptAt, without}
 
--- ---- the pairs of a record
-
-pub pairs-length : (h : Held) → length (pairsOf h) ≡ h .count
-unfolding pairsOf
-pairs-length h = length-tab (h .count) _
-
-pairs-at : (h : Held) (i : ℕ) → i < h .count → pairAt (pairsOf h) i ≡ pairOf (heldAt h i)
-unfolding pairsOf
-pairs-at h i l = tab-at noPair (h .count) (λ j. pairOf (heldAt h j)) i l
+-- ---- the values of a record
 
 -- a pair is held if its place is one of the record's
-pub listed-is : (h : Held) (p : Pair) (at : ℕ) → at ≡ placeOf samePair p (pairsOf h) → ltb at (h .count) ≡ holds (holdingOf h) p
-listed-is h p at e = ap₂ ltb e (sym (pairs-length h)) ∙ listed-place samePair noPair p (pairsOf h)
+pub listed-is : (h : Held) (p : Pair) (at : ℕ) → at ≡ placeOf sameOwned (mine (holdingOf h) p) (valuesOf h) → ltb at (h .count) ≡ holds (holdingOf h) p
+listed-is h p at e = ap₂ ltb e (sym (length-values h)) ∙ listed-place sameOwned noOwned (mine (holdingOf h) p) (valuesOf h)
 
-pub held-there : (h : Held) (p : Pair) (at : ℕ) → at ≡ placeOf samePair p (pairsOf h) → at < h .count → holds (holdingOf h) p ≡ true
+pub held-there : (h : Held) (p : Pair) (at : ℕ) → at ≡ placeOf sameOwned (mine (holdingOf h) p) (valuesOf h) → at < h .count → holds (holdingOf h) p ≡ true
 held-there h p at e l = sym (listed-is h p at e) ∙ lt-ltb at (h .count) l
 
-pub held-nowhere : (h : Held) (p : Pair) (at : ℕ) → at ≡ placeOf samePair p (pairsOf h) → h .count ≤ at → holds (holdingOf h) p ≡ false
+pub held-nowhere : (h : Held) (p : Pair) (at : ℕ) → at ≡ placeOf sameOwned (mine (holdingOf h) p) (valuesOf h) → h .count ≤ at → holds (holdingOf h) p ≡ false
 held-nowhere h p at e l = sym (listed-is h p at e) ∙ le-ltb at (h .count) l
 
 -- with unused places 0, what a place holds is known of every place
-pairs-all : (h : Held) → Tidy h → length (h .values) ≡ 64 → (i : ℕ) → pairAt (pairsOf h) i ≡ pairOf (heldAt h i)
-pairs-all h t l i = go (decLt i (h .count)) (decLt i 64)
+values-all : (h : Held) → Tidy h → length (h .values) ≡ 64 → (i : ℕ) → ownedAt (valuesOf h) i ≡ ownedOf (heldAt h i)
+values-all h t l i = go (decLt i (h .count)) (decLt i 64)
   where
-    go : Dec (i < h .count) → Dec (i < 64) → pairAt (pairsOf h) i ≡ pairOf (heldAt h i)
-    go (yes k) m = pairs-at h i k
-    go (no k) (yes m) = List·getD-eq-default (pairsOf h) noPair (omega (arith, pairs-length h)) ∙ ap pairOf (sym (t .unused i (omega arith) m))
-    go (no k) (no m) = List·getD-eq-default (pairsOf h) noPair (omega (arith, pairs-length h)) ∙
-        ap pairOf (sym (List·getD-eq-default (h .values) noValue (omega arith)))
+    go : Dec (i < h .count) → Dec (i < 64) → ownedAt (valuesOf h) i ≡ ownedOf (heldAt h i)
+    go (yes k) m = values-at h i k
+    go (no k) (yes m) = List·getD-eq-default (valuesOf h) noOwned (omega (arith, length-values h)) ∙ ap ownedOf (sym (t .unused i (omega arith) m))
+    go (no k) (no m) = List·getD-eq-default (valuesOf h) noOwned (omega (arith, length-values h)) ∙
+        ap ownedOf (sym (List·getD-eq-default (h .values) noValue (omega arith)))
 
--- ---- a record with this count and these values holds this
+-- ---- a record with this desk, this count and these values holds this
 
-held-is : (h : Held) (g : Holding) → h .count ≡ length (g .pairs) → length (h .values) ≡ 64 →
-    ((i : ℕ) → i < 64 → heldAt h i ≡ pairBack (pairAt (g .pairs) i)) → h ≡ heldOf g
+held-is : (h : Held) (g : Holding) → h .desk ≡ g .desk → h .count ≡ length (g .values) → length (h .values) ≡ 64 →
+    ((i : ℕ) → i < 64 → heldAt h i ≡ ownedBack (ownedAt (g .values) i)) → h ≡ heldOf g
 unfolding heldOf
-held-is h g n l at = λ i. record { count = n i; values = tab-of noValue 64 (λ j. pairBack (pairAt (g .pairs) j)) (h .values) l at i }
+held-is h g d n l at = λ i. record { desk = d i; count = n i; values = tab-of noValue 64 (λ j. ownedBack (ownedAt (g .values) j)) (h .values) l at i }
 
 -- ---- one more
 
-module _ (h : Held) (t : Tidy h) (room : h .count < 64) (l : length (h .values) ≡ 64) (v : HeldValue) where
-  ends : (i : ℕ) → i < 64 → getD (set (h .values) (h .count) v) i noValue ≡ pairBack (pairAt (pairsOf h ++ (pairOf v ∷ [])) i)
+module _ (h : Held) (t : Tidy h) (room : h .count < 64) (l : length (h .values) ≡ 64) (p : HeldValue) where
+  -- the named desk's value
+  abbrev v : OwnedValue
+  v = record { desk = h .desk; pair = p }
+
+  ends : (i : ℕ) → i < 64 → getD (set (h .values) (h .count) v) i noValue ≡ ownedBack (ownedAt (valuesOf h ++ (ownedOf v ∷ [])) i)
   ends i k = ⊎-elim
-      (λ (e : i ≡ h .count). rw e (getD-set-same (h .values) (h .count) v noValue (omega arith)) ∙ ap pairBack (sym (end-last samePair noPair (pairsOf h) (pairOf v) i (e ∙
-      sym (pairs-length h)))))
+      (λ (e : i ≡ h .count). rw e (getD-set-same (h .values) (h .count) v noValue (omega arith)) ∙ ap ownedBack (sym (end-last sameOwned noOwned (valuesOf h) (ownedOf v) i (e ∙
+      sym (length-values h)))))
       (λ (ne : i ≡ h .count → ⊥). getD-set-other (h .values) (h .count) i v noValue ne ∙ other ne (decLt i (h .count)))
       (same-number i (h .count))
     where
       above : (i ≡ h .count → ⊥) → h .count ≤ i → h .count < i
       above ne m = ⊎-elim (λ (e : h .count ≡ i). absurd (ne (sym e))) (λ (b : h .count < i). b) (eq-or-lt-of-le m)
 
-      other : (i ≡ h .count → ⊥) → Dec (i < h .count) → heldAt h i ≡ pairBack (pairAt (pairsOf h ++ (pairOf v ∷ [])) i)
-      other ne (yes b) = ap pairBack (sym (end-before samePair noPair (pairsOf h) (pairOf v) i (omega (arith, pairs-length h)) ∙ pairs-at h i b))
-      other ne (no b) = t .unused i (omega arith) k ∙ ap pairBack (sym (end-past samePair noPair (pairsOf h) (pairOf v) i (omega (
+      other : (i ≡ h .count → ⊥) → Dec (i < h .count) → heldAt h i ≡ ownedBack (ownedAt (valuesOf h ++ (ownedOf v ∷ [])) i)
+      other ne (yes b) = ap ownedBack (sym (end-before sameOwned noOwned (valuesOf h) (ownedOf v) i (omega (arith, length-values h)) ∙ values-at h i b))
+      other ne (no b) = t .unused i (omega arith) k ∙ ap ownedBack (sym (end-past sameOwned noOwned (valuesOf h) (ownedOf v) i (omega (
         arith,
-        pairs-length h,
+        length-values h,
         above ne
             (omega arith),
       ))))
 
-  pub append-is : _≡_ {A = Held} (record { count = h .count + 1; values = set (h .values) (h .count) v }) (heldOf (withPair (holdingOf h) (pairOf v)))
+  pub append-is : _≡_ {A = Held} (record { desk = h .desk; count = h .count + 1; values = set (h .values) (h .count) v }) (heldOf (withPair (holdingOf h) (pairOf p)))
   append-is =
-      held-is _ (withPair (holdingOf h) (pairOf v)) (omega (arith, pairs-length h, end-length samePair noPair (pairsOf h) (pairOf v)))
+      held-is _ (withPair (holdingOf h) (pairOf p)) refl (omega (arith, length-values h, end-length sameOwned noOwned (valuesOf h) (ownedOf v)))
       (length-set (h .values) (h .count) v ∙ l) ends
 
 -- ---- one fewer
@@ -100,8 +98,8 @@ module _ (h : Held) (gap : ℕ) where
       go r true = refl
       go r false = refl
 
-  module _ (i : ℕ) (values : List HeldValue) (u : Upto noValue 64 i (keptAt h gap) (heldAt h) values) (o : gap ≤ i) where
-    pub shift-next : i + 1 < 64 → (v : HeldValue) → v ≡ getD values (i + 1) noValue → Upto noValue 64 (i + 1) (keptAt h gap) (heldAt h) (set values i v)
+  module _ (i : ℕ) (values : List OwnedValue) (u : Upto noValue 64 i (keptAt h gap) (heldAt h) values) (o : gap ≤ i) where
+    pub shift-next : i + 1 < 64 → (v : OwnedValue) → v ≡ getD values (i + 1) noValue → Upto noValue 64 (i + 1) (keptAt h gap) (heldAt h) (set values i v)
     shift-next l v e =
         upto-set noValue 64 i _ _ values u (omega arith) v
         (e ∙ u .at (i + 1) l ∙ cond-false _ (keptAt h gap (i + 1)) (heldAt h (i + 1)) (le-ltb (i + 1) i (omega arith)) ∙ sym (ap (heldAt h) (skip-behind gap i o)))
@@ -113,19 +111,19 @@ module _ (h : Held) (gap : ℕ) where
         (upto-set noValue 64 i _ _ values u (omega (arith, z .1)) noValue
         (sym (ap (heldAt h) (skip-behind gap i o) ∙ List·getD-eq-default (h .values) noValue (omega (arith, z .1))))) (omega (arith, z .1)) (omega (arith, z .1))
 
-pub closed-is : (h : Held) (gap : ℕ) (values : List HeldValue) → values ≡ tab 64 (keptAt h gap) →
-    _≡_ {A = Held} (record { count = h .count - 1; values = values }) (without h gap)
+pub closed-is : (h : Held) (gap : ℕ) (values : List OwnedValue) → values ≡ tab 64 (keptAt h gap) →
+    _≡_ {A = Held} (record { desk = h .desk; count = h .count - 1; values = values }) (without h gap)
 unfolding without
-closed-is h gap values e = λ i. record { count = h .count - 1; values = e i }
+closed-is h gap values e = λ i. record { desk = h .desk; count = h .count - 1; values = e i }
 
 -- the pair is at a place of the record: the value goes and the gap closes
-pub without-is : (h : Held) → Tidy h → length (h .values) ≡ 64 → (p : Pair) (at : ℕ) → at ≡ placeOf samePair p (pairsOf h) → at < h .count →
+pub without-is : (h : Held) → Tidy h → length (h .values) ≡ 64 → (p : Pair) (at : ℕ) → at ≡ placeOf sameOwned (mine (holdingOf h) p) (valuesOf h) → at < h .count →
     without h at ≡ heldOf (withoutPair (holdingOf h) p)
 unfolding without
 without-is h t l p at e inside =
-    held-is _ (withoutPair (holdingOf h) p) (omega (arith, remove-length samePair noPair p (pairsOf h) inside′, pairs-length h)) (length-tab 64 _)
+    held-is _ (withoutPair (holdingOf h) p) refl (omega (arith, remove-length sameOwned noOwned (mine (holdingOf h) p) (valuesOf h) inside′, length-values h)) (length-tab 64 _)
     (λ i k. tab-at noValue 64 (keptAt h at) i k ∙
-    ap pairBack (sym (remove-at samePair noPair p (pairsOf h) inside′ i ∙ rw (← e) (pairs-all h t l (skip at i)))))
+    ap ownedBack (sym (remove-at sameOwned noOwned (mine (holdingOf h) p) (valuesOf h) inside′ i ∙ rw (← e) (values-all h t l (skip at i)))))
   where
-    inside′ : placeOf samePair p (pairsOf h) < length (pairsOf h)
-    inside′ = omega (arith, pairs-length h)
+    inside′ : placeOf sameOwned (mine (holdingOf h) p) (valuesOf h) < length (valuesOf h)
+    inside′ = omega (arith, length-values h)

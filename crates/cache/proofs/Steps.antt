@@ -18,24 +18,23 @@ use Rattle.model.specs.Holding.{Holding, holds, hasRoom, withPair, withoutPair,
 use Rattle.model.specs.Runs.{Operation, refer, drop, marks, marked, Cache, referLevels, reloadLevels, reloaded}
 use Rattle.model.specs.Answers as Answers
 use Rattle.model.specs.Answers.{Answer, answer, loaded, dropped, refused}
-use Rattle.model.proofs.HoldingLaws.{HoldingFits, fit-fewer, listed-fits, listed-candidate}
+use Rattle.model.proofs.HoldingLaws.{HoldingFits, values-few, room-few, fit-fewer, listed-fits, listed-candidate}
 use Rattle.model.proofs.RoundsLaws.{load-same}
 use Rattle.state.specs.declared.held.HeldValue.{HeldValue}
 use Rattle.state.specs.declared.held.Held.{Held}
 use Rattle.state.specs.Design.{fillingAt}
 use Rattle.state.specs.Held.{heldAt}
-use Rattle.state.specs.Meaning.{cellOf, fillingOf, schemeOf, databaseOf, pairOf, pairsOf, holdingOf, heldOf}
+use Rattle.state.specs.Meaning.{cellOf, fillingOf, schemeOf, databaseOf, pairOf, holdingOf, heldOf}
 use Rattle.state.specs.Lawful.{lawfulHeld}
 use Rattle.state.specs.Lent.{State, lent, scheme, database, cache, sound, Answered}
 use Rattle.lawful.proofs.DesignLaws.{low-full}
-use Rattle.lawful.proofs.HeldLaws.{held-count, held-filling, holding-fits, holding-back, fit-held}
+use Rattle.lawful.proofs.HeldLaws.{length-values, held-count, held-filling, holding-fits, holding-back, fit-held}
 use Rattle.lawful.proofs.SoundState.{parts, after, answer-at, held-after, marks-after, unchanged}
 use Rattle.probe.proofs.GroundLaws.{marked-front}
 use Rattle.load.specs.Ended.{Covers}
 use Rattle.cache.specs.Loads.{rowsOf, valueLevels, heldLevels, settled, goneRows}
 use Rattle.cache.proofs.Answering.{Kept, refer-nowhere, refer-numberless, refer-none, refer-held, refer-full, refer-loads, refer-leaves, drop-nowhere, drop-numberless, drop-none, drop-drops, drop-leaves}
 use Rattle.cache.proofs.Covered.{sound-covers}
-use Rattle.cache.proofs.HeldRecord.{pairs-length}
 
 module _ (s : State) (e : sound s ≡ true) where
   -- the parts that the operation leaves
@@ -51,7 +50,14 @@ module _ (s : State) (e : sound s ≡ true) where
   exists : (v : HeldValue) → v .filling < s .design .fillings → ltb (v .filling) (s .design .fillings) ≡ true
   exists v f = lt-ltb (v .filling) (s .design .fillings) f
 
+  held-fits : HoldingFits (scheme s) (holdingOf (s .held))
+  held-fits = holding-fits (s .design) (s .held) (parts s e .held)
+
   -- ---- REFER
+
+  -- where the named desk has room, the record has a place
+  pub room-place : hasRoom (holdingOf (s .held)) ≡ true → s .held .count < 64
+  room-place r = omega (arith, room-few held-fits r, length-values (s .held))
 
   module _ (l : length (s .held .values) ≡ 64) (v : HeldValue) where
     pub refer-5 : s .design .fillings ≤ v .filling → Answered s (refer (pairOf v)) (refused 5) s
@@ -77,10 +83,9 @@ module _ (s : State) (e : sound s ≡ true) where
           refer-already n = stays l _ _ (refer-held _ _ _ (pairOf v) (exists v f) b k n)
 
           module _ (n : holds (holdingOf (s .held)) (pairOf v) ≡ false) where
-            pub refer-8 : 64 ≤ s .held .count → Answered s (refer (pairOf v)) (refused 8) s
+            pub refer-8 : hasRoom (holdingOf (s .held)) ≡ false → Answered s (refer (pairOf v)) (refused 8) s
             unfolding schemeOf
-            refer-8 r =
-                stays l _ _ (refer-full _ _ _ (pairOf v) (exists v f) b k n (le-ltb (length (pairsOf (s .held))) 64 (omega (arith, pairs-length (s .held)))))
+            refer-8 r = stays l _ _ (refer-full _ _ _ (pairOf v) (exists v f) b k n r)
 
             -- the load beside all marks is the load beside the first 512
             levels-same : valueLevels (s .design) (s .cells) (s .tables) (s .marks) (fillingAt (s .design) (v .filling) .column) (v .value) ≡
@@ -88,7 +93,7 @@ module _ (s : State) (e : sound s ≡ true) where
             unfolding valueLevels referLevels schemeOf databaseOf
             levels-same = load-same (scheme s) (database s) _ _ _ _ (λ r l. marked-front (s .marks) 512 r l) (λ r l. refl)
 
-            pub refer-load : s .held .count < 64 → (a : Answer) (h : Held) (m : List ℕ) →
+            pub refer-load : hasRoom (holdingOf (s .held)) ≡ true → (a : Answer) (h : Held) (m : List ℕ) →
                 (let D = rowsOf (s .design) (s .cells) (s .tables) in
                 let L = valueLevels (s .design) (s .cells) (s .tables) (s .marks) (fillingAt (s .design) (v .filling) .column) (v .value) in
                 (a ≡ loaded (addedRows D L) (laterRounds D L)) × (m ≡ settled D L (s .marks))) →
@@ -97,39 +102,33 @@ module _ (s : State) (e : sound s ≡ true) where
             refer-load r a h m w q =
                 steps _ a h m
                 (w .0 ∙ ap (λ (L : List ℕ). loaded (addedRows (database s) L) (laterRounds (database s) L)) levels-same ∙
-                refer-loads (scheme s) (database s) (cache s) (pairOf v) (exists v f) b k n room)
+                refer-loads (scheme s) (database s) (cache s) (pairOf v) (exists v f) b k n r)
                 (q ∙ sym (ap (λ (c : Cache). heldOf (c .held)) left))
                 (w .1 ∙ ap (λ (L : List ℕ). marks (database s) (reached L) ++ past 512 (s .marks)) levels-same ∙
                 sym (ap (λ (c : Cache). c .marks ++ past 512 (s .marks)) left))
               where
-                room : hasRoom (holdingOf (s .held)) ≡ true
-                room = lt-ltb (length (pairsOf (s .held))) 64 (omega (arith, pairs-length (s .held)))
-
                 left : after s (refer (pairOf v)) ≡
                     record {
                       held = withPair (holdingOf (s .held)) (pairOf v);
                       marks = marks (database s) (reached (referLevels (scheme s) (database s) (marked (take 512 (s .marks))) (pairOf v)));
                     }
-                left = refer-leaves (scheme s) (database s) (cache s) (pairOf v) (exists v f) b k n room
+                left = refer-leaves (scheme s) (database s) (cache s) (pairOf v) (exists v f) b k n r
 
   -- ---- DROP
 
   module _ (l : length (s .held .values) ≡ 64) (v : HeldValue) where
-    held-fits : HoldingFits (scheme s) (holdingOf (s .held))
-    held-fits = holding-fits (s .design) (s .held) (parts s e .held)
-
     pub drop-5 : s .design .fillings ≤ v .filling → Answered s (drop (pairOf v)) (refused 5) s
     unfolding schemeOf
     drop-5 h =
         stays l _ _ (drop-nowhere _ _ _ (pairOf v) (le-ltb (v .filling) (s .design .fillings) h)
-        (refute _ (λ n. let g = listed-fits (scheme s) (pairsOf (s .held)) held-fits (pairOf v) n in omega arith)))
+        (refute _ (λ n. let g = listed-fits (scheme s) (holdingOf (s .held)) held-fits (pairOf v) n in omega arith)))
 
     module _ (f : v .filling < s .design .fillings) where
       pub drop-9 : numberless (cellOf (v .value)) ≡ true → Answered s (drop (pairOf v)) (refused 9) s
       unfolding schemeOf
       drop-9 b =
           stays l _ _ (drop-numberless _ _ _ (pairOf v) (exists v f) b
-          (refute _ (λ n. clash b (low-full (s .design) (parts s e .design) (v .filling) f (cellOf (v .value)) (listed-candidate (scheme s) (pairsOf (s .held)) held-fits (pairOf v) n)))))
+          (refute _ (λ n. clash b (low-full (s .design) (parts s e .design) (v .filling) f (cellOf (v .value)) (listed-candidate (scheme s) (holdingOf (s .held)) held-fits (pairOf v) n)))))
 
       module _ (b : numberless (cellOf (v .value)) ≡ false) where
         pub drop-10 : holds (holdingOf (s .held)) (pairOf v) ≡ false → Answered s (drop (pairOf v)) (refused 10) s
@@ -141,7 +140,7 @@ module _ (s : State) (e : sound s ≡ true) where
           rest = withoutPair (holdingOf (s .held)) (pairOf v)
 
           rest-fits : HoldingFits (scheme s) rest
-          rest-fits = fit-fewer (scheme s) (pairsOf (s .held)) held-fits (pairOf v)
+          rest-fits = fit-fewer (scheme s) (holdingOf (s .held)) held-fits (pairOf v)
 
           -- the record that is left is lawful, so it can be reloaded
           left-lawful : lawfulHeld (s .design) h ≡ true
@@ -150,13 +149,13 @@ module _ (s : State) (e : sound s ≡ true) where
           pub left-count : h .count ≤ 64
           left-count = held-count (s .design) h left-lawful
 
-          pub left-filling : (i : ℕ) → heldAt h i .filling < 8
+          pub left-filling : (i : ℕ) → heldAt h i .pair .filling < 8
           unfolding heldOf
           left-filling = held-filling (s .design) h (parts s e .design) left-lawful (ap (λ (g : Held). length (g .values)) q ∙ length-tab 64 _)
 
           -- it holds what is left
           left-holding : holdingOf h ≡ rest
-          left-holding = ap holdingOf q ∙ holding-back rest (rest-fits .few)
+          left-holding = ap holdingOf q ∙ holding-back rest (values-few (rest-fits .values))
 
           -- the cached rows have what it wants
           pub left-covers : Covers (scheme s) (database s) (wanted (scheme s) (database s) (holdingOf h)) (marked (s .marks))

@@ -16,7 +16,7 @@ use state::Held;
 use state::HeldValue;
 use state::is_numberless;
 
-// Lets the value go, and the cached rows become the smallest set for the values left. One look at each held value, then one reload: a
+// Lets the named desk's value go, and the cached rows become the smallest set for the values left. One look at each held value, then one reload: a
 // step for each row that is reached and each constraint.
 pub fn drop_lawful(
     design: Design,

@@ -1,8 +1,9 @@
-// REFER, DROP and PROBE over a sound state, and the test for causes 7 and 12 that stands before them.
+// REFER, DROP, PROBE and the naming of a desk over a sound state, and the test for causes 7 and 12 that stands before them.
 mod distinct;
 mod dropping;
 mod lending;
 mod loads;
+mod naming;
 mod outcome;
 mod probing;
 mod referring;
@@ -13,6 +14,7 @@ mod values;
 pub use dropping::drop_lawful;
 pub use lending::drop;
 pub use lending::refer;
+pub use naming::name_lawful;
 pub use outcome::Outcome;
 pub use probing::probe_lawful;
 pub use referring::refer_lawful;

@@ -9,6 +9,7 @@ ghost use Rattle.catalog.specs.Catalog.{Catalogued};
 use crate::loads::mark_value;
 use crate::outcome::Outcome;
 use crate::values::appended;
+use crate::values::has_room;
 use crate::values::listed;
 use lawful::is_candidate;
 use state::Answer;
@@ -17,7 +18,7 @@ use state::Held;
 use state::HeldValue;
 use state::is_numberless;
 
-// Holds the value from now on and loads it, unless it is refused, no candidate, or held already. One look at each held value, then one load:
+// Holds the value for the named desk from now on and loads it, unless it is refused, no candidate, or held already. Two looks at each held value, then one load:
 // a step for each row that is added and each constraint.
 pub fn refer_lawful(
     design: Design,
@@ -57,7 +58,7 @@ pub fn refer_lawful(
         let answer = Answer::Held;
         return Outcome { held, answer };
     }
-    if Held::PLACES <= held.count {
+    if !has_room(held) {
         let answer = Answer::Refused(8);
         return Outcome { held, answer };
     }

@@ -3,6 +3,7 @@ ghost use mathlib.Core.Path.{_≡_};
 ghost use Prim.Native.Nat.{_≤_};
 ghost use Rattle.model.specs.Runs.{fillingFor, taken};
 ghost use Rattle.state.specs.Meaning.{columnOf, holdingOf, pairOf, schemeOf};
+use crate::values::has_room;
 use crate::values::listed;
 use lawful::is_candidate;
 use state::Column;
@@ -28,7 +29,8 @@ pub fn filling_for(design: Design, k: Column) -> usize
     n
 }
 
-// Whether a REFER takes the pair: the filling exists, the value is a candidate and not held already, and there is room. One look at each held value.
+// Whether a REFER takes the pair: the filling exists, the value is a candidate, and the named desk doesn't hold it already and has room. Two looks at each
+// held value.
 pub fn takes(design: Design, held: Held, v: HeldValue) -> bool
     requires { ⌜ (design .fillings ≤ 8) × (held .count ≤ 64) ⌝ }
     ensures { λ b. ⌜ b ≡ taken (schemeOf design) (holdingOf held) (pairOf v) ⌝ }
@@ -44,5 +46,5 @@ pub fn takes(design: Design, held: Held, v: HeldValue) -> bool
     if listed(held, v) {
         return false;
     }
-    held.count < Held::PLACES
+    has_room(held)
 }

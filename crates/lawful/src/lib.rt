@@ -13,6 +13,7 @@ pub use designs::lawful_design;
 pub use fillings::filling_fits;
 pub use fillings::is_candidate;
 pub use held::lawful_held;
+pub use held::own_count;
 pub use rows::row_fits;
 pub use rows::rows_stand;
 pub use tables::has_bit;

@@ -25,6 +25,7 @@ impl Held {
     pub const DESKS: u8 = 4;
     // for each desk, and for all of them
     pub const SHARE: usize = 16;
+
     pub const PLACES: usize = 64;
 
     pub fn none() -> Held

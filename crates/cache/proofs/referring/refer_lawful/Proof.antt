@@ -5,7 +5,7 @@ use borrow.Author.Needs.{needs}
 use borrow.Author.Tests.{not-true, not-false}
 use Rattle.state.proofs.Arrays.{sized, held-sized}
 use Rattle.lawful.proofs.Asked.{sound-range, sound-marks, sound-fillings, sound-tidy}
-use Rattle.cache.proofs.Steps.{refer-5, refer-9, refer-no-candidate, refer-already, refer-8, refer-load}
+use Rattle.cache.proofs.Steps.{refer-5, refer-9, refer-no-candidate, refer-already, refer-8, room-place, refer-load}
 use Rattle.cache.proofs.referring.refer_lawful.Statement.{statement}
 use Rattle.cache.proofs.referring.refer_lawful.Tie as tie
 
@@ -52,13 +52,16 @@ returns-4 c =
     refer-already _ (s .pre .0) (held-sized (s .args .held) _ (s .good .1 .1 .1 .1 .1 .1 .1 .1 .1 .1 .0)) _ (b .before .if1 .left) (sym (b .is-numberless .ensures) ∙ p .before .before .if2 .left)
     (sym (p .is-candidate .ensures) ∙ not-false _ (c .before .before .if3 .left)) (sym (c .before .listed .ensures) ∙ c .if4 .taken)
 
+has-room-requires : tie.Need-has-room-requires
+has-room-requires c κs = sound-tidy _ (c .before .before .before .before .before .before .before .before .before .before .before .before .before .pre .0) .few
+
 returns-5 : tie.Need-returns-5
 returns-5 c =
     let p = c .before .before .before .before .before in
     let b = p .before .before .before in
     let s = b .before .before .before .before .before .before .before in
     refer-8 _ (s .pre .0) (held-sized (s .args .held) _ (s .good .1 .1 .1 .1 .1 .1 .1 .1 .1 .1 .0)) _ (b .before .if1 .left) (sym (b .is-numberless .ensures) ∙ p .before .before .if2 .left)
-    (sym (p .is-candidate .ensures) ∙ not-false _ (c .before .before .before .before .if3 .left)) (sym (c .before .before .before .listed .ensures) ∙ c .before .before .if4 .left) (omega (arith, c .if5 .taken))
+    (sym (p .is-candidate .ensures) ∙ not-false _ (c .before .before .before .before .if3 .left)) (sym (c .before .before .before .listed .ensures) ∙ c .before .before .if4 .left) (sym (c .before .has-room .ensures) ∙ not-true _ (c .if5 .taken))
 
 mark-value-requires : tie.Need-mark-value-requires
 mark-value-requires c κs =
@@ -67,7 +70,7 @@ mark-value-requires c κs =
     ((range, sound-marks _ (s .pre .0), range .column-table _, range .column _), s .pre .1)
 
 appended-requires : tie.Need-appended-requires
-appended-requires c κs = (sound-tidy _ (c .before .before .before .before .before .before .before .before .before .before .before .before .before .before .before .before .before .before .before .before .pre .0), c .before .before .before .before .before .if5 .left)
+appended-requires c κs = (sound-tidy _ (c .before .before .before .before .before .before .before .before .before .before .before .before .before .before .before .before .before .before .before .before .pre .0), room-place _ (c .before .before .before .before .before .before .before .before .before .before .before .before .before .before .before .before .before .before .before .before .pre .0) (sym (c .before .before .before .before .before .before .has-room .ensures) ∙ not-false _ (c .before .before .before .before .before .if5 .left)))
 
 same-length : tie.Need-same-length
 same-length c = search needs
@@ -79,7 +82,7 @@ returns-6 c =
     let b = p .before .before .before in
     let s = b .before .before .before .before .before .before .before in
     refer-load _ (s .pre .0) (held-sized (s .args .held) _ (s .good .1 .1 .1 .1 .1 .1 .1 .1 .1 .1 .0)) _ (b .before .if1 .left) (sym (b .is-numberless .ensures) ∙ p .before .before .if2 .left)
-    (sym (p .is-candidate .ensures) ∙ not-false _ (l .before .if3 .left)) (sym (l .listed .ensures) ∙ c .before .before .before .before .before .before .before .before .if4 .left) (c .before .before .before .before .before .before .if5 .left) _ _ _
+    (sym (p .is-candidate .ensures) ∙ not-false _ (l .before .if3 .left)) (sym (l .listed .ensures) ∙ c .before .before .before .before .before .before .before .before .if4 .left) (sym (c .before .before .before .before .before .before .before .has-room .ensures) ∙ not-false _ (c .before .before .before .before .before .before .if5 .left)) _ _ _
     (c .before .before .before .mark-value .ensures) (c .appended .ensures)
 
 pub refer-lawful-spec : {M : Type 1} → statement M
@@ -96,6 +99,7 @@ refer-lawful-spec =
     returns-3
     listed-requires
     returns-4
+    has-room-requires
     returns-5
     mark-value-requires
     appended-requires

@@ -1,6 +1,6 @@
 -- `cache::taking::takes` meets its contract, test by test. Assumes nothing.
 use native.Mathlib.Omega.{arith}
-use mathlib.Core.Path.{refl, sym, _∙_}
+use mathlib.Core.Path.{sym, _∙_}
 use borrow.Author.Needs.{needs}
 use borrow.Author.Tests.{not-true, not-false}
 use Rattle.cache.proofs.TakenLaws.{taken-nowhere, taken-no-candidate, taken-held, taken-room}
@@ -33,10 +33,13 @@ returns-3 c =
     taken-held _ _ _ (c .before .before .before .before .before .if1 .left) (sym (c .before .before .before .is-candidate .ensures) ∙ not-false _ (c .before .before .if2 .left))
     (sym (c .before .listed .ensures) ∙ c .if3 .taken)
 
+has-room-requires : tie.Need-has-room-requires
+has-room-requires c κs = search needs
+
 returns-4 : tie.Need-returns-4
 returns-4 c =
     taken-room _ _ _ (c .before .before .before .before .before .before .if1 .left)
-    (sym (c .before .before .before .before .is-candidate .ensures) ∙ not-false _ (c .before .before .before .if2 .left)) (sym (c .before .before .listed .ensures) ∙ c .before .if3 .left) _ refl
+    (sym (c .before .before .before .before .is-candidate .ensures) ∙ not-false _ (c .before .before .before .if2 .left)) (sym (c .before .before .listed .ensures) ∙ c .before .if3 .left) _ (c .has-room .ensures)
 
 pub takes-spec : {M : Type 1} → statement M
 takes-spec =
@@ -50,4 +53,5 @@ takes-spec =
     returns-2
     listed-requires
     returns-3
+    has-room-requires
     returns-4)

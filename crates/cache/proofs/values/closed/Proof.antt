@@ -59,8 +59,8 @@ mul-values-2 c = search needs
 array-set-from-values-2 : tie.Need-array-set-from-values-2 Inv-loop μ-loop
 array-set-from-values-2 c = search needs
 
-sub-t16 : tie.Need-sub-t16 Inv-loop μ-loop
-sub-t16 c = omega (arith, c .before .before .before .before .pre .0)
+sub-count : tie.Need-sub-count Inv-loop μ-loop
+sub-count c = omega (arith, c .before .before .before .before .pre .0)
 
 returns : tie.Need-returns Inv-loop μ-loop
 returns c =
@@ -87,5 +87,5 @@ closed-spec =
     sub-values
     mul-values-2
     array-set-from-values-2
-    sub-t16
+    sub-count
     returns)
