@@ -1,4 +1,5 @@
--- From what the functions of the operations give to what any operation gives: those that ask change nothing, and REFER and DROP write no words. (QUERY:
+-- From what the functions of the operations give to what any operation gives: those that ask change nothing, and REFER, DROP and the naming of a desk write
+-- no words. (QUERY:
 -- QueryCases.) Assumes nothing.
 use Prim.Native.Nat.{ℕ, _+_}
 use mathlib.Core.Path.{_≡_, refl, sym, ap, _∙_}
@@ -7,7 +8,7 @@ use mathlib.Core.List.{List, []}
 use lib.ListN.{length}
 use lib.Seq.{sets}
 use Rattle.model.specs.Holding.{Pair}
-use Rattle.model.specs.Runs.{Question, evenness, smallestKnot, Operation, refer, drop, ask, cacheAfter}
+use Rattle.model.specs.Runs.{Question, evenness, smallestKnot, Operation, refer, drop, ask, name, cacheAfter}
 use Rattle.model.specs.Answers.{Answer, refused, evenAnswer, knotAnswer, questionAnswer, answer, written}
 use Rattle.state.specs.declared.operation.Operation as State-operation
 use Rattle.state.specs.Meaning.{operationOf}
@@ -28,6 +29,10 @@ module _ (s : State) (e : sound s ≡ true) (w : List ℕ) where
   pub drop-performs : (p : Pair) (a : Answer) (s′ : State) → Answered s (drop p) a s′ → Performed s w (drop p) a s′ w
   unfolding written
   drop-performs p a s′ h = record { answered = h; words = wordless (drop p) refl }
+
+  pub name-performs : (d : ℕ) (a : Answer) (s′ : State) → Answered s (name d) a s′ → Performed s w (name d) a s′ w
+  unfolding written
+  name-performs d a s′ h = record { answered = h; words = wordless (name d) refl }
 
   -- a record of held values has 64 places, as its type says
   module _ (places : length (s .held .values) ≡ 64) where

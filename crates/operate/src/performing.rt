@@ -11,6 +11,7 @@ use crate::querying::query_lawful;
 use cache::Outcome;
 use cache::cause;
 use cache::drop_lawful;
+use cache::name_lawful;
 use cache::probe_lawful;
 use cache::refer_lawful;
 use even::evenness;
@@ -23,7 +24,7 @@ use state::Operation;
 // The operation on a state known sound, with the catalog of its rows: no test for causes 7 and 12. The last four arrays are working memory, whatever
 // stands in them. REFER costs one load, DROP one reload, PROBE a look for the value for each constraint that ends at the column, QUERY the probe of
 // its first position, a load if that has no ground and its value is taken, the counting of its lists and the writing of their words, and a total the same
-// with two sums by weights in place of the lists.
+// with two sums by weights in place of the lists. Naming a desk costs a copy of the held values.
 pub fn perform_lawful(
     op: Operation,
     design: Design,
@@ -147,6 +148,7 @@ pub fn perform_lawful(
             let answer = smallest_knot(design);
             Outcome { held, answer }
         }
+        Operation::Name(desk) => name_lawful(held, desk),
     }
 }
 

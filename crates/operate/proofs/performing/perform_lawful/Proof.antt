@@ -2,7 +2,7 @@
 use borrow.Author.Needs.{needs}
 use Rattle.state.proofs.Arrays.{sized, held-sized}
 use Rattle.lawful.proofs.Asked.{sound-range}
-use Rattle.operate.proofs.Performed.{refer-performs, drop-performs, ask-performs, even-answers, knot-answers, in-case}
+use Rattle.operate.proofs.Performed.{refer-performs, drop-performs, name-performs, ask-performs, even-answers, knot-answers, in-case}
 use Rattle.operate.proofs.performing.perform_lawful.Statement.{statement}
 use Rattle.operate.proofs.performing.perform_lawful.Tie as tie
 
@@ -49,6 +49,12 @@ enum-told-2 c = search needs
 smallest-knot-requires : tie.Need-smallest-knot-requires
 smallest-knot-requires c κs =
     let b = c .before .before .before .before .before .before .before in sound-range _ (b .pre .0) (sized (b .args .design) _ (b .good .1 .0))
+
+enum-known-op-6 : tie.Need-enum-known-op-6
+enum-known-op-6 c = search needs
+
+name-lawful-requires : tie.Need-name-lawful-requires
+name-lawful-requires c κs = search needs
 
 same-length : tie.Need-same-length
 same-length c = search needs
@@ -100,6 +106,11 @@ returns-7 c =
     in-case _ _ _ _ _ _ _ _ (c .before .enum-told2 .given .1)
     (ask-performs _ (b .pre .0) _ (held-sized (b .args .held) _ (b .good .1 .1 .1 .1 .1 .1 .1 .1 .1 .1 .1 .0)) _ _ (knot-answers _ (b .pre .0) _ (c .smallest-knot .ensures)))
 
+returns-8 : tie.Need-returns-8
+returns-8 c =
+    let b = c .before .before .before .before .before .before .before .before .before in
+    in-case _ _ _ _ _ _ _ _ (c .before .before .op6 .given .1) (name-performs _ (b .pre .0) _ _ _ _ (c .name-lawful .ensures _ _ _ _ (b .pre .0)))
+
 pub perform-lawful-spec : {M : Type 1} → statement M
 perform-lawful-spec =
     tie.close
@@ -118,6 +129,8 @@ perform-lawful-spec =
     query-lawful-requires-2
     enum-told-2
     smallest-knot-requires
+    enum-known-op-6
+    name-lawful-requires
     same-length
     returns
     same-length-2
@@ -131,4 +144,5 @@ perform-lawful-spec =
     same-length-6
     same-length-7
     returns-6
-    returns-7)
+    returns-7
+    returns-8)
