@@ -57,7 +57,7 @@ module _ (s : State) (e : sound s ≡ true) where
 
   -- where the named desk has room, the record has a place
   pub room-place : hasRoom (holdingOf (s .held)) ≡ true → s .held .count < 64
-  room-place r = omega (arith, room-few held-fits r, length-values (s .held))
+  room-place r = omega (arith, room-few (scheme s) (holdingOf (s .held)) held-fits r, length-values (s .held))
 
   module _ (l : length (s .held .values) ≡ 64) (v : HeldValue) where
     pub refer-5 : s .design .fillings ≤ v .filling → Answered s (refer (pairOf v)) (refused 5) s

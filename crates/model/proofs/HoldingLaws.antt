@@ -110,22 +110,11 @@ pub record HoldingFits (S : Scheme) (h : Holding) : Type 0 where
   pub values : ValuesFit S (h .values)
 
 -- so there are at most 64
+desks-few : (os : List Owned) → ((i : ℕ) → i < length os → ownedAt os i .desk < desks) → ((d : ℕ) → d < desks → length (ownAmong d os) ≤ places) → length os ≤ 64
+desks-few os own few = omega (arith, own-all os own, few 0 (omega arith), few 1 (omega arith), few 2 (omega arith), few 3 (omega arith))
+
 pub values-few : {S : Scheme} {os : List Owned} → ValuesFit S os → length os ≤ 64
-values-few {S} {os} H = omega (arith, own-all os (H .desk), H .few 0 (omega arith), H .few 1 (omega arith), H .few 2 (omega arith), H .few 3 (omega arith))
-
--- fewer than 64, where a desk has room
-pub room-few : {S : Scheme} {h : Holding} → HoldingFits S h → hasRoom h ≡ true → length (h .values) < 64
-room-few {S} {h} H r = go (h .desk) (H .named) (ltb-true _ _ r)
-  where
-    few : (d : ℕ) → d < desks → length (ownAmong d (h .values)) ≤ places
-    few = H .values .few
-
-    go : (d : ℕ) → d < desks → length (ownAmong d (h .values)) < places → length (h .values) < 64
-    go zero l m = omega (arith, own-all (h .values) (H .values .desk), few 1 (omega arith), few 2 (omega arith), few 3 (omega arith))
-    go (suc zero) l m = omega (arith, own-all (h .values) (H .values .desk), few 0 (omega arith), few 2 (omega arith), few 3 (omega arith))
-    go (suc (suc zero)) l m = omega (arith, own-all (h .values) (H .values .desk), few 0 (omega arith), few 1 (omega arith), few 3 (omega arith))
-    go (suc (suc (suc zero))) l m = omega (arith, own-all (h .values) (H .values .desk), few 0 (omega arith), few 1 (omega arith), few 2 (omega arith))
-    go (suc (suc (suc (suc d)))) l m = absurd (omega arith)
+values-few {S} {os} H = desks-few os (H .desk) (H .few)
 
 -- what a REFER takes: the filling exists, the value is a candidate, the pair is new to the named desk, and that has room
 record Taken (S : Scheme) (h : Holding) (p : Pair) : Type 0 where
@@ -152,34 +141,40 @@ module _ (S : Scheme) (h : Holding) (H : HoldingFits S h) (p : Pair) where
   abbrev more : List Owned
   more = os ++ (o ∷ [])
 
+  last : (i : ℕ) → i < length more → (i < length os → ⊥) → i ≡ length os
+  last i l m = omega (arith, end-length sameOwned noOwned os o)
+
+  more-desk : (i : ℕ) → i < length more → ownedAt more i .desk < desks
+  more-desk i l = go (decLt i (length os))
+    where
+      go : Dec (i < length os) → ownedAt more i .desk < desks
+      go (yes k) = rw (end-before sameOwned noOwned os o i k) (H .values .desk i k)
+      go (no m) = rw (end-last sameOwned noOwned os o i (last i l m)) (H .named)
+
+  more-few : length (ownOf (h .desk) h) < places → (d : ℕ) → d < desks → length (ownAmong d more) ≤ places
+  more-few room d l = go (same-number (h .desk) d)
+    where
+      one-most : (b : Bool) → cond b 1 0 ≤ 1
+      one-most true = omega arith
+      one-most false = omega arith
+
+      go : (h .desk ≡ d) ⊎ (h .desk ≡ d → ⊥) → length (ownAmong d more) ≤ places
+      go (inl e) = subst (λ (x : ℕ). length (ownAmong x more) ≤ places) e (omega (arith, own-end (h .desk) os o, one-most (eqb (h .desk) (h .desk)), room))
+      go (inr n) = omega (arith, own-end d os o ∙ ap (λ (b : Bool). length (ownAmong d os) + cond b 1 0) (ne-eqb (h .desk) d n), H .values .few d l)
+
   fit-more : Taken S h p → HoldingFits S (withPair h p)
   fit-more t =
       record {
         named = H .named;
         values = record {
-          desk = λ i l. desk i l (decLt i (length os));
-          few = λ d l. few d l (same-number (h .desk) d);
+          desk = more-desk;
+          few = more-few (t .room);
           filling = λ i l. filling i l (decLt i (length os));
           value = λ i l. value i l (decLt i (length os));
           once = λ j i k l. once j i k l (decLt i (length os));
         };
       }
     where
-      last : (i : ℕ) → i < length more → (i < length os → ⊥) → i ≡ length os
-      last i l m = omega (arith, end-length sameOwned noOwned os o)
-
-      one-most : (b : Bool) → cond b 1 0 ≤ 1
-      one-most true = omega arith
-      one-most false = omega arith
-
-      few : (d : ℕ) → d < desks → (h .desk ≡ d) ⊎ (h .desk ≡ d → ⊥) → length (ownAmong d more) ≤ places
-      few d l (inl e) = subst (λ (x : ℕ). length (ownAmong x more) ≤ places) e (omega (arith, own-end (h .desk) os o, one-most (eqb (h .desk) (h .desk)), t .room))
-      few d l (inr n) = omega (arith, own-end d os o ∙ ap (λ (b : Bool). length (ownAmong d os) + cond b 1 0) (ne-eqb (h .desk) d n), H .values .few d l)
-
-      desk : (i : ℕ) → i < length more → Dec (i < length os) → ownedAt more i .desk < desks
-      desk i l (yes k) = rw (end-before sameOwned noOwned os o i k) (H .values .desk i k)
-      desk i l (no m) = rw (end-last sameOwned noOwned os o i (last i l m)) (H .named)
-
       filling : (i : ℕ) → i < length more → Dec (i < length os) → ownedAt more i .pair .filling < S .fillings
       filling i l (yes k) = rw (end-before sameOwned noOwned os o i k) (H .values .filling i k)
       filling i l (no m) = rw (end-last sameOwned noOwned os o i (last i l m)) (t .filling)
@@ -219,6 +214,12 @@ module _ (S : Scheme) (h : Holding) (H : HoldingFits S h) (p : Pair) where
       go : Dec (gap < length os) → HoldingFits S (withoutPair h p)
       go (yes m) = gone m
       go (no m) = rw (remove-none sameOwned noOwned o os (omega arith)) H
+
+-- where the named desk has room there is a place: with one more, whatever it is, there are still at most 64
+pub room-few : (S : Scheme) (h : Holding) → HoldingFits S h → hasRoom h ≡ true → length (h .values) < 64
+room-few S h H r =
+    let p = noOwned .pair in
+    omega (arith, desks-few (more S h H p) (more-desk S h H p) (more-few S h H p (ltb-true _ _ r)), end-length sameOwned noOwned (h .values) (mine h p))
 
 cond-fit : {S : Scheme} (b : Bool) (h g : Holding) → (b ≡ true → HoldingFits S h) → HoldingFits S g → HoldingFits S (cond b h g)
 cond-fit true h g f e = f refl
