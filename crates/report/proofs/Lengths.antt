@@ -34,7 +34,8 @@ word-short (suc (suc (suc (suc (suc (suc (suc (suc zero)))))))) = omega arith
 word-short (suc (suc (suc (suc (suc (suc (suc (suc (suc zero))))))))) = omega arith
 word-short (suc (suc (suc (suc (suc (suc (suc (suc (suc (suc zero)))))))))) = omega arith
 word-short (suc (suc (suc (suc (suc (suc (suc (suc (suc (suc (suc zero))))))))))) = omega arith
-word-short (suc (suc (suc (suc (suc (suc (suc (suc (suc (suc (suc (suc w)))))))))))) = omega arith
+word-short (suc (suc (suc (suc (suc (suc (suc (suc (suc (suc (suc (suc zero)))))))))))) = omega arith
+word-short (suc (suc (suc (suc (suc (suc (suc (suc (suc (suc (suc (suc (suc w))))))))))))) = omega arith
 
 -- numbers, each behind a space
 spaced-short : (k : ℕ) (f : ℕ → ℕ) → length (collect k (λ _. true) (λ i. spaced (f i))) ≤ 21 * k

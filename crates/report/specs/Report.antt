@@ -31,7 +31,7 @@ decimal n = decimalBy 20 n
 abbrev pub spaced : ℕ → List ℕ
 spaced n = space ∷ decimal n
 
--- "loaded", "held", "no candidate", "dropped", "ground", "sent", "answer", "refused", "even", "uneven", "total", "knot", "design"
+-- "loaded", "held", "no candidate", "dropped", "ground", "sent", "answer", "refused", "even", "uneven", "total", "knot", "desk", "design"
 abbrev pub loaded-word : List ℕ
 loaded-word = 108 ∷ 111 ∷ 97 ∷ 100 ∷ 101 ∷ 100 ∷ []
 
@@ -68,12 +68,15 @@ total-word = 116 ∷ 111 ∷ 116 ∷ 97 ∷ 108 ∷ []
 abbrev pub knot-word : List ℕ
 knot-word = 107 ∷ 110 ∷ 111 ∷ 116 ∷ []
 
+abbrev pub desk-word : List ℕ
+desk-word = 100 ∷ 101 ∷ 115 ∷ 107 ∷ []
+
 abbrev pub design-word : List ℕ
 design-word = 100 ∷ 101 ∷ 115 ∷ 105 ∷ 103 ∷ 110 ∷ []
 
 -- the words of the answers, in the order of their numbers (`shown`)
 abbrev pub answer-words : List (List ℕ)
-answer-words = loaded-word ∷ held-word ∷ no-candidate-words ∷ dropped-word ∷ ground-word ∷ sent-word ∷ answer-word ∷ refused-word ∷ even-word ∷ uneven-word ∷ total-word ∷ knot-word ∷ []
+answer-words = loaded-word ∷ held-word ∷ no-candidate-words ∷ dropped-word ∷ ground-word ∷ sent-word ∷ answer-word ∷ refused-word ∷ even-word ∷ uneven-word ∷ total-word ∷ knot-word ∷ desk-word ∷ []
 
 unfoldable pub wordText : ℕ → List ℕ
 wordText w = getD answer-words w []

@@ -34,6 +34,7 @@ fn put_word(out: &mut [u8], at: usize, word: u8) -> usize
         9 => put_bytes(out, at, b"uneven", 6),
         10 => put_bytes(out, at, b"total", 5),
         11 => put_bytes(out, at, b"knot", 4),
+        12 => put_bytes(out, at, b"desk", 4),
         _ => at,
     }
 }

@@ -77,6 +77,12 @@ slice-aggregate-put-bytes-12 c = search needs
 put-bytes-requires-12 : tie.Need-put-bytes-requires-12
 put-bytes-requires-12 c κs = search needs
 
+slice-aggregate-put-bytes-13 : tie.Need-slice-aggregate-put-bytes-13
+slice-aggregate-put-bytes-13 c = search needs
+
+put-bytes-requires-13 : tie.Need-put-bytes-requires-13
+put-bytes-requires-13 c κs = search needs
+
 same-length : tie.Need-same-length
 same-length c = search needs
 
@@ -161,11 +167,18 @@ returns-12 : tie.Need-returns-12
 unfolding wordText
 returns-12 c = in-word (c .before .before .before .before .before .match .keys12) (c .before .before .put-bytes12 .ensures)
 
+same-length-13 : tie.Need-same-length-13
+same-length-13 c = search needs
+
 returns-13 : tie.Need-returns-13
-returns-13 c =
+unfolding wordText
+returns-13 c = in-word (c .before .before .before .before .before .match .keys13) (c .before .before .put-bytes13 .ensures)
+
+returns-14 : tie.Need-returns-14
+returns-14 c =
     let r = c .match .rest in
     let q = r .0 .0 .0 .0 .0 .0 in
-    no-word _ _ _ (past-words _ (q .0 .0 .0 .0 .0 .1) (q .0 .0 .0 .0 .1) (q .0 .0 .0 .1) (q .0 .0 .1) (q .0 .1) (q .1) (r .0 .0 .0 .0 .0 .1) (r .0 .0 .0 .0 .1) (r .0 .0 .0 .1) (r .0 .0 .1) (r .0 .1) (r .1))
+    no-word _ _ _ (past-words _ (q .0 .0 .0 .0 .0 .0 .1) (q .0 .0 .0 .0 .0 .1) (q .0 .0 .0 .0 .1) (q .0 .0 .0 .1) (q .0 .0 .1) (q .0 .1) (q .1) (r .0 .0 .0 .0 .0 .1) (r .0 .0 .0 .0 .1) (r .0 .0 .0 .1) (r .0 .0 .1) (r .0 .1) (r .1))
 
 pub put-word-spec : {M : Type 1} → statement M
 put-word-spec =
@@ -195,6 +208,8 @@ put-word-spec =
     put-bytes-requires-11
     slice-aggregate-put-bytes-12
     put-bytes-requires-12
+    slice-aggregate-put-bytes-13
+    put-bytes-requires-13
     same-length
     returns
     same-length-2
@@ -219,4 +234,6 @@ put-word-spec =
     returns-11
     same-length-12
     returns-12
-    returns-13)
+    same-length-13
+    returns-13
+    returns-14)
