@@ -36,12 +36,13 @@ operationWidth b =
     (cond (eqb b 0x13) 16
     (cond (eqb b 0x14) 1
     (cond (eqb b 0x15) 18
+    (cond (eqb b 0x17) 2
     (cond (eqb b 0x1C) 1
     (cond (eqb b 0x20) 7
     (cond (eqb b 0x21) 7
     (cond (eqb b 0x22) 8
     (cond (eqb b 0x23) 17
-    (cond (eqb b 0x25) 19 0)))))))))))
+    (cond (eqb b 0x25) 19 0))))))))))))
 
 unfoldable pub widthOf : ℕ → ℕ
 widthOf b = cond (ltb b 0x10) (designWidth b) (operationWidth b)
@@ -104,8 +105,9 @@ issuedAt b s v i =
     (cond (eqb b 0x12) (O.Probe (columnAt s (i + 1)) (valueAt s v (i + 3)))
     (cond (eqb b 0x14) O.Evenness
     (cond (eqb b 0x15) (O.Total (totalAt s v i))
+    (cond (eqb b 0x17) (O.Name (byteAt s (i + 1)))
     (cond (eqb b 0x1C) O.SmallestKnot
-    (O.Query (queryAt s v i)))))))
+    (O.Query (queryAt s v i))))))))
 
 -- "Operations 0x20 to 0x23 are REFER, DROP, PROBE and QUERY with an issue byte at the end, 0x25 likewise for totals; the old bytes mean issue 0" (02, Req 06)
 unfoldable pub operationAt : ℕ → List ℕ → ℕ → Operation

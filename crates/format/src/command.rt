@@ -58,6 +58,7 @@ fn operation_width(b: u8) -> usize
         0x13 => 16,
         0x14 => 1,
         0x15 => 18,
+        0x17 => 2,
         0x1C => 1,
         0x20 => 7,
         0x21 => 7,
@@ -230,6 +231,10 @@ fn issued_at(b: u8, script: &[u8], issue: u8, i: usize) -> Operation
         0x12 => Operation::Probe(column_at(script, i + 1), value_at(script, issue, i + 3)),
         0x14 => Operation::Evenness,
         0x15 => Operation::Total(total_at(script, issue, i)),
+        0x17 => {
+            let desk = script[i + 1];
+            Operation::Name(desk)
+        }
         0x1C => Operation::SmallestKnot,
         _ => Operation::Query(query_at(script, issue, i)),
     }

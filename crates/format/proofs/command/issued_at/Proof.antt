@@ -1,9 +1,9 @@
 -- `format::command::issued_at` meets its contract: the byte tells the operation and its width. Assumes nothing.
 use native.Mathlib.Omega.{arith}
-use mathlib.Core.Path.{ap}
+use mathlib.Core.Path.{ap, refl}
 use borrow.Author.Needs.{needs}
 use Rattle.format.specs.Commands.{operationWidth}
-use Rattle.format.proofs.CommandLaws.{operation-refer, operation-drop, operation-probe, operation-evenness, operation-total, operation-smallest-knot, operation-query, is-query}
+use Rattle.format.proofs.CommandLaws.{operation-refer, operation-drop, operation-probe, operation-evenness, operation-total, operation-name, operation-smallest-knot, operation-query, is-query}
 use Rattle.format.proofs.command.issued_at.Statement.{statement}
 use Rattle.format.proofs.command.issued_at.Tie as tie
 
@@ -33,11 +33,19 @@ total-at-requires : tie.Need-total-at-requires
 unfolding operationWidth
 total-at-requires c κs = omega (arith, ap operationWidth (c .match .keys5))
 
+add-desk : tie.Need-add-desk
+unfolding operationWidth
+add-desk c = omega (arith, ap operationWidth (c .match .keys6))
+
+shared-slice-read-desk : tie.Need-shared-slice-read-desk
+unfolding operationWidth
+shared-slice-read-desk c = omega (arith, ap operationWidth (c .before .match .keys6))
+
 query-at-requires : tie.Need-query-at-requires
 unfolding operationWidth
 query-at-requires c κs =
     let r = c .match .rest in
-    omega (arith, ap operationWidth (is-query _ (c .before .before .pre .0) (c .before .before .pre .1) (r .0 .0 .0 .0 .0 .1) (r .0 .0 .0 .0 .1) (r .0 .0 .0 .1) (r .0 .0 .1) (r .0 .1) (r .1)))
+    omega (arith, ap operationWidth (is-query _ (c .before .before .pre .0) (c .before .before .pre .1) (r .0 .0 .0 .0 .0 .0 .1) (r .0 .0 .0 .0 .0 .1) (r .0 .0 .0 .0 .1) (r .0 .0 .0 .1) (r .0 .0 .1) (r .0 .1) (r .1)))
 
 returns : tie.Need-returns
 returns c = operation-refer _ _ _ _ _ (c .held-value-at .ensures) (c .before .match .keys1)
@@ -55,12 +63,15 @@ returns-5 : tie.Need-returns-5
 returns-5 c = operation-total _ _ _ _ _ (c .total-at .ensures) (c .before .match .keys5)
 
 returns-6 : tie.Need-returns-6
-returns-6 c = operation-smallest-knot _ _ _ _ (c .match .keys6)
+returns-6 c = operation-name _ _ _ _ _ refl (c .before .match .keys6)
 
 returns-7 : tie.Need-returns-7
-returns-7 c =
+returns-7 c = operation-smallest-knot _ _ _ _ (c .match .keys7)
+
+returns-8 : tie.Need-returns-8
+returns-8 c =
     let r = c .before .match .rest in
-    operation-query _ _ _ _ _ (c .query-at .ensures) (is-query _ (c .before .before .before .pre .0) (c .before .before .before .pre .1) (r .0 .0 .0 .0 .0 .1) (r .0 .0 .0 .0 .1) (r .0 .0 .0 .1) (r .0 .0 .1) (r .0 .1) (r .1))
+    operation-query _ _ _ _ _ (c .query-at .ensures) (is-query _ (c .before .before .before .pre .0) (c .before .before .before .pre .1) (r .0 .0 .0 .0 .0 .0 .1) (r .0 .0 .0 .0 .0 .1) (r .0 .0 .0 .0 .1) (r .0 .0 .0 .1) (r .0 .0 .1) (r .0 .1) (r .1))
 
 pub issued-at-spec : {M : Type 1} → statement M
 issued-at-spec =
@@ -73,6 +84,8 @@ issued-at-spec =
     add-value-at
     value-at-requires
     total-at-requires
+    add-desk
+    shared-slice-read-desk
     query-at-requires
     returns
     returns-2
@@ -80,4 +93,5 @@ issued-at-spec =
     returns-4
     returns-5
     returns-6
-    returns-7)
+    returns-7
+    returns-8)
