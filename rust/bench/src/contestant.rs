@@ -125,6 +125,8 @@ pub enum Answer {
     Total(u64),
     /// The fewest constraints that are uneven.
     Knot(Vec<usize>),
+    /// The desk that is named from now on.
+    Desk(usize),
     /// A cause of refusal.
     Refused(u8),
     /// Given up after [`TIME_LIMIT`].

@@ -39,6 +39,7 @@ impl OpenDesk for Desk {
             LimitAnswer::Even => Answer::Even,
             LimitAnswer::Uneven { i, j } => Answer::Uneven(usize::from(i), usize::from(j)),
             LimitAnswer::Total(total) => Answer::Total(total),
+            LimitAnswer::Desk(desk) => Answer::Desk(desk.into()),
             LimitAnswer::Knot(knot) => {
                 Answer::Knot((0..16).filter(|i| knot >> i & 1 == 1).collect())
             }

@@ -61,6 +61,7 @@ fn answered(answer: ReferenceAnswer) -> Answer {
         ReferenceAnswer::Even => Answer::Even,
         ReferenceAnswer::Uneven { i, j } => Answer::Uneven(i, j),
         ReferenceAnswer::Total(total) => Answer::Total(total),
+        ReferenceAnswer::Desk(desk) => Answer::Desk(desk),
         ReferenceAnswer::Knot(knot) => Answer::Knot(knot),
     }
 }

@@ -90,15 +90,15 @@ fn all_rows_are_loaded_under_sixteen_constraints() {
 #[test]
 fn drops_leave_nothing() {
     for rows in SIZES {
-        let answers = answers(&grown(rows, "64 values: loads, then drops"), 128);
-        let (loads, drops) = answers.split_at(64);
+        let answers = answers(&grown(rows, "16 values: loads, then drops"), 32);
+        let (loads, drops) = answers.split_at(16);
         assert!(loads.iter().all(|load| load.starts_with("loaded ")));
         let dropped = drops.iter().map(|drop| -> usize {
             let rows = drop.strip_prefix("dropped ").expect("a drop");
             rows.parse().expect("a number of rows")
         });
         let sum = dropped.sum();
-        assert_eq!((drops.len(), sum), (64, rows));
+        assert_eq!((drops.len(), sum), (16, rows));
     }
 }
 

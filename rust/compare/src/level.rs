@@ -37,11 +37,9 @@ impl Level {
         let mut pieces = split(&script);
         pieces.retain(|piece| self.has(request_of(piece)));
         let script: Vec<u8> = pieces.iter().flat_map(Piece::bytes).collect();
-        if self.has(2) {
-            script
-        } else {
-            without_fetching(&script)
-        }
+        without(&script, |replay| {
+            !self.has(7) && replay.is_at_limit() || !self.has(2) && replay.fetches()
+        })
     }
 
     /// A reply as a desk of this level gives it: before request 4 there are no
@@ -60,20 +58,21 @@ fn request_of(piece: &Piece) -> u32 {
         Some(0x14) => 1,
         Some(0x15) => 3,
         Some(0x07 | 0x20..=0x23 | 0x25) => 6,
+        Some(0x17) => 7,
         Some(0x1c) => 11,
         _ => 0,
     }
 }
 
-/// The script without the queries that refer their value first.
-fn without_fetching(script: &[u8]) -> Vec<u8> {
+/// The script without the commands for which something is so where they stand.
+fn without(script: &[u8], is_out: impl Fn(&Replay) -> bool) -> Vec<u8> {
     let Some(mut replay) = Replay::new(script) else {
         return script.to_vec();
     };
     let mut kept = script[..replay.place()].to_vec();
     while replay.command().is_some() {
         let place = replay.place();
-        if replay.fetches() {
+        if is_out(&replay) {
             replay.skip();
         } else {
             replay.perform();
@@ -147,6 +146,24 @@ mod tests {
         let script = assemble(text).expect("a right text");
         assert_eq!(Level::before(7).script(script.clone()), script);
         assert_eq!(disassemble(&Level::before(6).script(script)), left);
+    }
+
+    /// From 64 held values to 16: what has no room for a 17th has to go, since it was
+    /// loaded before.
+    #[test]
+    fn what_meets_the_limit_of_a_desk_is_taken_out() {
+        let loads: String = (1..=18).map(|value| format!("refer 0 {value}\n")).collect();
+        let design = "table 1\nfilling 0.0 1..90\nend\n";
+        let text = format!(
+            "{design}{loads}desk 1\nrefer 0 3\nquery 0.0 = 20\nquery 0.0 = 91\n\
+             total 0.0 = 20 of 0 column 0\nrefer 0 17\ndrop 0 2\nrefer 0 18\n"
+        );
+        let script = assemble(&text).expect("a right text");
+        let left = Level::before(7).script(script.clone());
+        let loads: String = (1..=16).map(|value| format!("refer 0 {value}\n")).collect();
+        let rest = "refer 0 3\nquery 0.0 = 91\ndrop 0 2\nrefer 0 18\n";
+        assert_eq!(disassemble(&left), format!("{design}{loads}{rest}"));
+        assert_eq!(Level::before(8).script(script.clone()), script);
     }
 
     #[test]

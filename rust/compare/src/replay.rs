@@ -3,6 +3,7 @@
 
 use reference::design::Design;
 use reference::desk::{Answer, Desk};
+use reference::held::Holding;
 use reference::refusal::Cause;
 use reference::script::{read_command, Command, Probe, Query};
 use reference::ANSWER_WORDS;
@@ -28,6 +29,11 @@ impl Replay<'_> {
     /// The design.
     pub fn design(&self) -> &Design {
         self.desk.design()
+    }
+
+    /// What is held.
+    pub fn held(&self) -> &Holding {
+        self.desk.held()
     }
 
     /// The byte at which the next command begins.
@@ -67,6 +73,23 @@ impl Replay<'_> {
             Err(cause) => matches!(cause, Cause::AnswerTooLong | Cause::TotalTooLarge),
         };
         is_right && self.ground().is_none()
+    }
+
+    /// Whether the next command is refused or sent only because the named desk holds
+    /// as many values as it can.
+    pub fn is_at_limit(&self) -> bool {
+        let Some(command) = self.command() else {
+            return false;
+        };
+        match (query_of(&command), self.try_out(&command)) {
+            (None, Err(Cause::NoPlaceFree)) => true,
+            (Some(Query { column, value, .. }), Ok(Answer::Sent)) => {
+                let mut fillings = self.design().fillings.iter();
+                let filling = fillings.find(|filling| filling.column == column);
+                filling.is_some_and(|f| (f.low..=f.high).contains(&value.number))
+            }
+            _ => false,
+        }
     }
 
     /// Passes over the next command.

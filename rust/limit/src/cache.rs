@@ -10,8 +10,14 @@ use crate::desk::Answer;
 use crate::dropping::Doubt;
 use crate::{CELLS, CONSTRAINTS, NO_ROW, ROWS};
 
+/// The number of desks.
+pub const DESKS: usize = 4;
+
+/// The most values that a desk can hold.
+pub const MOST_OWNED: usize = 16;
+
 /// The most held values.
-pub const MOST_HELD: usize = 64;
+pub const MOST_HELD: usize = DESKS * MOST_OWNED;
 
 /// What is held and cached. All zeros have to be emptied before the first use.
 pub struct Cache {
@@ -23,21 +29,34 @@ pub struct Cache {
     pub(crate) full: [u32; CELLS * ROWS],
     /// Rows whose demands are still to be looked at, or have been.
     pub(crate) queue: [u16; ROWS],
+    /// The desk that operations are for.
+    pub(crate) desk: u8,
+    /// How many values each desk holds.
+    pub(crate) owned: [u8; DESKS],
     pub(crate) held_count: usize,
-    /// The held values in order of reference, each as one key.
+    /// The held values in order of reference, each with its desk as one key.
     pub(crate) held: [u64; MOST_HELD],
     /// The head of each held value's group.
     pub(crate) held_head: [u16; MOST_HELD],
-    /// For each group, by its head and column: whether a filling holds its
-    /// value.
-    pub(crate) holds: [bool; CELLS * ROWS],
+    /// For each group, by its head and column: the desks that hold its value, bit
+    /// i for desk i.
+    pub(crate) holders: [u8; CELLS * ROWS],
     pub(crate) doubt: Doubt,
 }
 
 /// A filling and a value as one number.
 #[inline(always)]
-pub fn key(filling: u8, value: Value) -> u64 {
+fn key(filling: u8, value: Value) -> u64 {
     u64::from(filling) << 40 | value
+}
+
+/// What is left of a held value's key without its desk.
+const WITHOUT_DESK: u64 = (1 << 48) - 1;
+
+/// The filling of a key.
+#[inline(always)]
+pub(crate) fn filling_of(key: u64) -> usize {
+    (key >> 40) as usize & 0xff
 }
 
 impl Cache {
@@ -52,10 +71,33 @@ impl Cache {
         self.mark[row] == self.epoch
     }
 
-    /// Whether the pair is held.
+    /// Whether some desk holds the pair.
     #[inline(always)]
     pub fn holds(&self, filling: u8, value: Value) -> bool {
-        self.held[..self.held_count].contains(&key(filling, value))
+        let key = key(filling, value);
+        let mut held = self.held[..self.held_count].iter();
+        held.any(|held| held & WITHOUT_DESK == key)
+    }
+
+    /// The key of a pair that the named desk holds.
+    #[inline(always)]
+    pub(crate) fn own(&self, filling: u8, value: Value) -> u64 {
+        u64::from(self.desk) << 48 | key(filling, value)
+    }
+
+    /// Whether the named desk holds as many values as it can.
+    #[inline(always)]
+    fn is_full(&self) -> bool {
+        usize::from(self.owned[usize::from(self.desk)]) == MOST_OWNED
+    }
+
+    /// Names the desk for what follows.
+    pub fn name(&mut self, desk: u8) -> Answer {
+        if usize::from(desk) >= DESKS {
+            return Answer::Refused(5);
+        }
+        self.desk = desk;
+        Answer::Desk(desk)
     }
 
     /// REFER.
@@ -75,10 +117,11 @@ impl Cache {
         if !design.is_candidate(filling, value) {
             return Answer::NoCandidate;
         }
-        if self.holds(filling, value) {
+        let own = self.own(filling, value);
+        if self.held[..self.held_count].contains(&own) {
             return Answer::Held;
         }
-        if self.held_count == MOST_HELD {
+        if self.is_full() {
             return Answer::Refused(8);
         }
         self.hold(design, catalog, filling, value)
@@ -94,10 +137,7 @@ impl Cache {
         value: Value,
     ) -> Option<u8> {
         let filling = catalog.filling[column.number()];
-        if filling == NO_FILLING
-            || !design.is_candidate(filling, value)
-            || self.held_count == MOST_HELD
-        {
+        if filling == NO_FILLING || !design.is_candidate(filling, value) || self.is_full() {
             return None;
         }
         self.hold(design, catalog, filling, value);
@@ -108,14 +148,15 @@ impl Cache {
     fn hold(&mut self, design: &Design, catalog: &Catalog, filling: u8, value: Value) -> Answer {
         let column = design.filling[usize::from(filling)].column;
         let head = catalog.find(column, value);
-        self.held[self.held_count] = key(filling, value);
+        self.held[self.held_count] = self.own(filling, value);
         self.held_head[self.held_count] = head;
         self.held_count += 1;
+        self.owned[usize::from(self.desk)] += 1;
         if head == NO_ROW {
             return Answer::Loaded { rows: 0, rounds: 0 };
         }
         let place = usize::from(column.place);
-        self.holds[CELLS * usize::from(head) + place] = true;
+        self.holders[CELLS * usize::from(head) + place] |= 1 << self.desk;
         self.load(design, catalog, head, place)
     }
 

@@ -129,6 +129,7 @@ pub fn width(command: u8) -> usize {
         0x03 => 11,
         0x04 => ROW_WIDTH,
         0x05 | 0x14 | 0x1c => 1,
+        0x17 => 2,
         0x07 => ROW_WIDTH + CELLS,
         0x10 | 0x11 => 6,
         0x12 | 0x20 | 0x21 => 7,

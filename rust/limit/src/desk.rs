@@ -50,6 +50,8 @@ pub enum Answer {
     /// The fewest constraints that are uneven without the others, bit i for
     /// constraint i.
     Knot(u16),
+    /// The desk that is named from now on.
+    Desk(u8),
     /// A cause of refusal.
     Refused(u8),
 }
@@ -134,6 +136,7 @@ impl Desk {
             }
             0x13 | 0x23 => self.listing.query(design, catalog, &mut self.cache, bytes),
             0x14 => self.evenness.of(design),
+            0x17 => self.cache.name(bytes[1]),
             0x1c => self.knot.of(design),
             0x15 | 0x25 => self.listing.total(design, catalog, &mut self.cache, bytes),
             _ => Answer::Refused(3),

@@ -6,7 +6,7 @@
 //! an empty cache, until as many rows are cached as before, since the smallest
 //! set for fewer values lies in the one for more.
 
-use crate::cache::{key, Cache};
+use crate::cache::{filling_of, Cache};
 use crate::catalog::Catalog;
 use crate::design::{number, Design, Value};
 use crate::desk::Answer;
@@ -47,19 +47,25 @@ impl Cache {
         if number(value) == 0 {
             return Answer::Refused(9);
         }
+        let own = self.own(filling, value);
         let mut held = self.held[..self.held_count].iter();
-        let Some(at) = held.position(|&held| held == key(filling, value)) else {
+        let Some(at) = held.position(|&held| held == own) else {
             return Answer::Refused(10);
         };
         let head = self.held_head[at];
         self.held.copy_within(at + 1..self.held_count, at);
         self.held_head.copy_within(at + 1..self.held_count, at);
         self.held_count -= 1;
+        self.owned[usize::from(self.desk)] -= 1;
         if head == NO_ROW {
             return Answer::Dropped(0);
         }
         let place = usize::from(design.filling[usize::from(filling)].column.place);
-        self.holds[CELLS * usize::from(head) + place] = false;
+        let holders = &mut self.holders[CELLS * usize::from(head) + place];
+        *holders &= !(1 << self.desk);
+        if *holders != 0 {
+            return Answer::Dropped(0);
+        }
         let before = self.rows;
         if self.held_count == 0 || !self.settle(design, catalog, head, place) {
             self.load_again(design, catalog);
@@ -74,7 +80,7 @@ impl Cache {
         for at in 0..self.held_count {
             let head = self.held_head[at];
             if head < NO_ROW {
-                let filling = (self.held[at] >> 40) as usize % design.filling.len();
+                let filling = filling_of(self.held[at]) % design.filling.len();
                 let place = usize::from(design.filling[filling].column.place);
                 end = self.reach(catalog, head, place, end);
             }
@@ -166,7 +172,7 @@ impl Cache {
         catalog.fillings[table].all().iter().any(|link| {
             let place = usize::from(link.place);
             let head = catalog.head[CELLS * row + place];
-            head < NO_ROW && self.holds[CELLS * usize::from(head) + place]
+            head < NO_ROW && self.holders[CELLS * usize::from(head) + place] != 0
         })
     }
 

@@ -104,6 +104,7 @@ fn put_answer(text: &mut Vec<u8>, answer: Answer, place: u64) {
         Answer::Even => (b"even", &[]),
         Answer::Uneven { i, j } => (b"uneven ", &[u64::from(i), u64::from(j)]),
         Answer::Total(total) => (b"total ", &[total]),
+        Answer::Desk(desk) => (b"desk ", &[u64::from(desk)]),
         Answer::Knot(knot) => {
             text.extend_from_slice(b"knot ");
             let numbers: Vec<u64> = (0..16).filter(|i| knot >> i & 1 == 1).collect();

@@ -17,6 +17,7 @@ const QUERY: u8 = 0x13;
 const EVEN: u8 = 0x14;
 const TOTAL: u8 = 0x15;
 const ROW_WITH_ISSUES: u8 = 0x07;
+const DESK: u8 = 0x17;
 const KNOT: u8 = 0x1c;
 
 /// The operations that name a value.
@@ -26,7 +27,7 @@ const WITH_VALUE: [u8; 5] = [REFER, DROP, PROBE, QUERY, TOTAL];
 const WITH_ISSUE: u8 = 0x10;
 
 /// The bytes that begin a command.
-pub const COMMAND_BYTES: [u8; 18] = [
+pub const COMMAND_BYTES: [u8; 19] = [
     TABLE,
     CONSTRAINT,
     FILLING,
@@ -44,6 +45,7 @@ pub const COMMAND_BYTES: [u8; 18] = [
     PROBE + WITH_ISSUE,
     QUERY + WITH_ISSUE,
     TOTAL + WITH_ISSUE,
+    DESK,
     KNOT,
 ];
 
@@ -75,6 +77,7 @@ impl Command {
                 w.query(&total.query).u8(total.position).u8(total.column)
             }),
             Command::Knot => writer.u8(KNOT),
+            Command::Desk(desk) => writer.u8(DESK).u8(*desk),
         };
         writer.0
     }
@@ -259,6 +262,7 @@ impl Reader<'_> {
                 column: self.u8()?,
             }),
             KNOT => Command::Knot,
+            DESK => Command::Desk(self.u8()?),
             _ => return None,
         })
     }

@@ -215,4 +215,6 @@ pub enum Command {
     Total(Total),
     /// Ask for the fewest constraints that are uneven.
     Knot,
+    /// Name the desk for what follows.
+    Desk(u8),
 }

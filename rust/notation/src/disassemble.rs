@@ -58,6 +58,7 @@ impl fmt::Display for Command {
                 None => write_bytes(out, &self.bytes()),
             },
             Command::Knot => write!(out, "knot"),
+            Command::Desk(desk) => write!(out, "desk {desk}"),
         }
     }
 }

@@ -19,6 +19,7 @@
 //! total COLUMN = VALUE [join ..] of POSITION column NUMBER
 //!                                               total 0.1 = 3 join 0 by 0 of 1 column 2
 //! knot                                          knot
+//! desk NUMBER                                   desk 1
 //! bytes BYTE ..                                 bytes 0xff 0x01
 //! ```
 //!

@@ -68,6 +68,7 @@ fn one_of_each() -> Vec<Command> {
             column: 7,
         }),
         Command::Knot,
+        Command::Desk(3),
     ]
 }
 

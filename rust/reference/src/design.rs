@@ -192,7 +192,8 @@ impl Stage {
             | Command::Query(_)
             | Command::Even
             | Command::Total(_)
-            | Command::Knot => None,
+            | Command::Knot
+            | Command::Desk(_) => None,
         }
     }
 }

@@ -3,17 +3,16 @@
 //! [`crate::even`] and [`crate::knot`]).
 
 use crate::design::Design;
+use crate::held::Holding;
 use crate::refusal::Cause;
 use crate::script::{Column, Command, Pair, Probe, Value};
-
-const MOST_HELD: usize = 64;
 
 /// A design at work: what it holds and which rows are cached for that.
 #[derive(Clone, Debug)]
 pub struct Desk {
     pub(crate) design: Design,
     pub(crate) cached: Vec<bool>,
-    held: Vec<Pair>,
+    held: Holding,
     pub(crate) answer_words: usize,
     /// What the report on knots says, once it has been asked for.
     knot: Option<Answer>,
@@ -62,6 +61,8 @@ pub enum Answer {
     Total(u64),
     /// The fewest constraints that are uneven without the others.
     Knot(Vec<usize>),
+    /// The desk that is named from now on.
+    Desk(usize),
 }
 
 impl Desk {
@@ -70,7 +71,7 @@ impl Desk {
         Desk {
             cached: vec![false; design.rows.len()],
             design,
-            held: Vec::new(),
+            held: Holding::default(),
             answer_words,
             knot: None,
         }
@@ -79,6 +80,11 @@ impl Desk {
     /// The design.
     pub fn design(&self) -> &Design {
         &self.design
+    }
+
+    /// What is held.
+    pub fn held(&self) -> &Holding {
+        &self.held
     }
 
     /// Carries out one command found after END.
@@ -91,6 +97,7 @@ impl Desk {
             Command::Even => Ok(self.design.evenness()),
             Command::Total(total) => self.total(total),
             Command::Knot => Ok(self.knot()),
+            Command::Desk(desk) => self.held.name(*desk).map(|()| Answer::Desk(*desk)),
             _ => Err(Cause::OutOfOrder),
         }
     }
@@ -107,10 +114,10 @@ impl Desk {
         if !self.is_candidate(pair) {
             return Ok(Answer::NoCandidate);
         }
-        if self.held.contains(&pair) {
+        if self.held.owns(pair) {
             return Ok(Answer::Held);
         }
-        Cause::NoPlaceFree.unless(self.held.len() < MOST_HELD)?;
+        Cause::NoPlaceFree.unless(self.held.has_room())?;
         let before = self.cached_rows();
         let rounds = self.hold(pair);
         let rows = self.cached_rows() - before;
@@ -119,12 +126,11 @@ impl Desk {
 
     fn drop(&mut self, pair: Pair) -> Result<Answer, Cause> {
         self.check_pair(pair)?;
-        let place = self.held.iter().position(|&held| held == pair);
-        self.held.remove(place.ok_or(Cause::NotHeld)?);
+        self.held.remove(pair)?;
         let before = self.cached_rows();
         self.cached.fill(false);
-        for pair in self.held.clone() {
-            self.load(pair);
+        for owned in self.held.values.clone() {
+            self.load(owned.pair);
         }
         let rows = before - self.cached_rows();
         Ok(Answer::Dropped { rows })
@@ -162,12 +168,12 @@ impl Desk {
     }
 
     /// The pair that a question about a value refers, if the column has a
-    /// filling, the value is a candidate and fewer than 64 are held.
+    /// filling, the value is a candidate and the desk holds fewer than 16.
     fn pair_to_refer(&self, column: Column, value: Value) -> Option<Pair> {
         let mut fillings = self.design.fillings.iter();
         let filling = fillings.position(|filling| filling.column == column)?;
         let pair = Pair { filling, value };
-        (self.is_candidate(pair) && self.held.len() < MOST_HELD).then_some(pair)
+        (self.is_candidate(pair) && self.held.has_room()).then_some(pair)
     }
 
     /// Candidates go by number alone.
@@ -188,7 +194,7 @@ impl Desk {
     /// Holds a value from now on, and gives the number of later rounds that
     /// added a row.
     fn hold(&mut self, pair: Pair) -> usize {
-        self.held.push(pair);
+        self.held.add(pair);
         self.load(pair)
     }
 
@@ -234,9 +240,9 @@ impl Desk {
     }
 
     fn is_held(&self, column: Column, value: Value) -> bool {
-        self.held
-            .iter()
-            .any(|held| held.value == value && self.design.fillings[held.filling].column == column)
+        let mut fillings = self.design.fillings.iter();
+        let filling = fillings.position(|filling| filling.column == column);
+        filling.is_some_and(|filling| self.held.holds(Pair { filling, value }))
     }
 
     fn is_demanded_value(&self, column: Column, value: Value) -> bool {

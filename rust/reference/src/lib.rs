@@ -12,6 +12,7 @@
 pub mod design;
 pub mod desk;
 pub mod even;
+pub mod held;
 pub mod knot;
 pub mod query;
 pub mod refusal;

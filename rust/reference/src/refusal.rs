@@ -20,11 +20,11 @@ pub enum Cause {
     WrongOperand = 5,
     /// A unique column gets a value other than blank twice.
     ValueTwice = 6,
-    /// REFER of a candidate not yet held while 64 are held.
+    /// REFER of a candidate that the desk doesn't hold yet, while it holds 16.
     NoPlaceFree = 8,
     /// Value 0 in an operation.
     ValueZero = 9,
-    /// DROP of a pair not held.
+    /// DROP of a pair that the desk doesn't hold.
     NotHeld = 10,
     /// QUERY with a ground, or referred first, whose list needs more words than
     /// are lent.

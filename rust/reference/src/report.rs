@@ -67,6 +67,7 @@ impl fmt::Display for Answer {
             Answer::Even => write!(out, "even"),
             Answer::Uneven { i, j } => write!(out, "uneven {i} {j}"),
             Answer::Total(total) => write!(out, "total {total}"),
+            Answer::Desk(desk) => write!(out, "desk {desk}"),
             Answer::Knot(knot) => write!(out, "knot {}", numbers(knot)),
         }
     }

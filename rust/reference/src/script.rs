@@ -151,6 +151,8 @@ pub enum Command {
     Total(Total),
     /// Ask for the fewest constraints that are uneven.
     Knot,
+    /// Name the desk for what follows.
+    Desk(usize),
 }
 
 /// Reads the command that begins at `place`, and gives it with the place after
@@ -180,6 +182,7 @@ pub fn read_command(script: &[u8], place: usize) -> Result<(Command, usize), Cau
         0x13 => Command::Query(reader.query()?),
         0x14 => Command::Even,
         0x15 => Command::Total(reader.total()?),
+        0x17 => Command::Desk(reader.number()?),
         0x1c => Command::Knot,
         0x20 => Command::Refer(reader.with_issue(Reader::pair, |pair| &mut pair.value)?),
         0x21 => Command::Drop(reader.with_issue(Reader::pair, |pair| &mut pair.value)?),

@@ -14,7 +14,7 @@ use crate::work::{self, growing::sharing_a_bucket, MOST_ROWS};
 
 const MOST_CONSTRAINTS: usize = 16;
 const MOST_FILLINGS: usize = 8;
-const MOST_HELD: usize = 64;
+const MOST_HELD: usize = 16;
 
 /// The most operations that are repeated together.
 const MOST_REPEATED: usize = 128;

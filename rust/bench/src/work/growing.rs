@@ -7,7 +7,10 @@ use super::{
     column, constraint, drop, filling, join, load_and_drop, probe, query, refer, table, total, Work,
 };
 
-const MOST_HELD: u32 = 64;
+const MOST_HELD: u32 = 16;
+
+/// The teams of a ring.
+const TEAMS: u32 = 64;
 
 /// The works for a number of rows.
 pub fn works(rows: usize) -> Vec<Work> {
@@ -57,14 +60,17 @@ fn ring_design(rows: usize) -> Design {
     };
     let rows = rows as u32;
     for person in 0..rows {
-        design.add_row(0, &[1 + person, 1 + (person + 1) % rows, 1 + person % 64]);
+        design.add_row(
+            0,
+            &[1 + person, 1 + (person + 1) % rows, 1 + person % TEAMS],
+        );
     }
     design
 }
 
 /// All rows are loaded and dropped, from one team or another.
 fn ring(rows: usize) -> Work {
-    let operations = load_and_drop(0, 1..=MOST_HELD);
+    let operations = load_and_drop(0, 1..=TEAMS);
     Work::repeating(
         "ring: load and drop",
         ring_design(rows),
@@ -75,7 +81,7 @@ fn ring(rows: usize) -> Work {
 
 /// A second team is loaded and dropped while the first keeps all rows.
 fn ring_beside_a_value(rows: usize) -> Work {
-    let operations = load_and_drop(0, 2..=MOST_HELD);
+    let operations = load_and_drop(0, 2..=TEAMS);
     Work::repeating(
         "ring: load and drop beside a held value",
         ring_design(rows),
@@ -127,7 +133,7 @@ fn drops(rows: usize) -> Work {
     let loads = (1..=MOST_HELD).map(|value| refer(0, value));
     let drops = (1..=MOST_HELD).map(|value| drop(0, value));
     let operations: Vec<_> = loads.chain(drops).collect();
-    Work::repeating("64 values: loads, then drops", design, vec![], &operations)
+    Work::repeating("16 values: loads, then drops", design, vec![], &operations)
 }
 
 /// Five tables among whose rows a query of four joins has 819 lists of five, the

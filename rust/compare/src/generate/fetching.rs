@@ -29,14 +29,14 @@ pub fn visits(random: &mut Random) -> Vec<u8> {
     encode(&commands)
 }
 
-/// 62 to 65 different values held, by loads, queries or totals, or nearly all of
+/// 14 to 17 different values held, by loads, queries or totals, or nearly all of
 /// them, and then a query or total of another that is a candidate: it takes the
-/// last place, or is sent until one is dropped.
+/// last place, or is sent until one is dropped. Other desks may hold values too.
 pub fn last_place(random: &mut Random) -> Vec<u8> {
     let shape = Shape {
         tables: 1..=2,
         fillings: 1..=1,
-        values: 64..=80,
+        values: 16..=80,
         ..Shape::SPARSE
     };
     let mut draft = Draft::random(random, &shape);
@@ -53,12 +53,19 @@ pub fn last_place(random: &mut Random) -> Vec<u8> {
             column: column.column,
         })
     };
-    let mut values: Vec<Value> = (0..66).map(|place| draft.values.get(place)).collect();
+    let mut values: Vec<Value> = (0..18).map(|place| draft.values.get(place)).collect();
     random.shuffle(&mut values);
-    let (held, others) = values.split_at(random.within(62..=65));
+    let (held, others) = values.split_at(random.within(14..=17));
     let pair = |value| Pair { filling: 0, value };
     let asked = random.below(101);
     let mut commands = draft.design.commands();
+    if random.percent(50) {
+        commands.push(Command::Desk(3));
+        for place in 18..random.within(18..=36) {
+            commands.push(Command::Refer(pair(draft.values.get(place))));
+        }
+        commands.push(Command::Desk(random.below(3) as u8));
+    }
     for &value in held {
         commands.push(if random.percent(asked) {
             ask(random, value)

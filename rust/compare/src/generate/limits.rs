@@ -6,7 +6,7 @@ use notation::{encode, Column, Command, Constraint, Design, Filling, Join, Pair,
 
 use super::design::{Draft, Shape, Values};
 use super::fetching::around;
-use super::operations::Operator;
+use super::operations::{Operator, DESKS};
 use super::spoil::spoil;
 use super::with_operations;
 use crate::random::Random;
@@ -77,20 +77,30 @@ fn last_of_each_kind(commands: &[Command]) -> Vec<usize> {
     (0..commands.len()).filter(is_last).collect()
 }
 
-/// 62 to 66 loads of different values before any other operation.
+/// 14 to 18 loads of different values before any other operation, by one desk or
+/// by each of some.
 pub fn held_values(random: &mut Random) -> Vec<u8> {
     let shape = Shape {
         fillings: 1..=1,
-        values: 64..=80,
+        values: 16..=80,
         ..Shape::SPARSE
     };
     let mut draft = Draft::random(random, &shape);
     let (low, high) = *random.pick(&[(1, u32::MAX), (1, 99), (u32::MAX - 98, u32::MAX)]);
     let candidates = &mut draft.design.fillings[0];
     (candidates.low, candidates.high) = (low, high);
-    let loads = 0..random.within(62..=66) as u32;
-    let loads: Vec<Command> = loads.map(|step| refer(low + step)).collect();
-    let commands = [draft.design.commands(), loads].concat();
+    let mut commands = draft.design.commands();
+    let mut desks: Vec<u8> = (0..DESKS as u8).collect();
+    random.shuffle(&mut desks);
+    desks.truncate(random.within(1..=DESKS));
+    let mut first = low;
+    for desk in desks {
+        let count = random.within(14..=18) as u32;
+        commands.push(Command::Desk(desk));
+        commands.extend((first..first + count).map(refer));
+        // The next desk may hold some of these too.
+        first = (first + random.below(19) as u32).min(high - 18);
+    }
     with_operations(random, &draft, commands, 30)
 }
 

@@ -3,9 +3,11 @@
 
 mod damage;
 mod design;
+mod desks;
 mod even;
 mod extremes;
 mod fetching;
+mod grounds;
 mod limits;
 mod operations;
 mod spoil;
@@ -21,7 +23,7 @@ use spoil::spoil;
 /// A way to make a script, with its share among all scripts.
 type Kind = (usize, fn(&mut Random) -> Vec<u8>);
 
-const KINDS: [Kind; 25] = [
+const KINDS: [Kind; 28] = [
     (40, |random| ordinary(random, &Shape::SPARSE)),
     (25, |random| ordinary(random, &Shape::DENSE)),
     (15, |random| worked(random, Draft::chain)),
@@ -44,6 +46,9 @@ const KINDS: [Kind; 25] = [
     (6, even::most_rounds),
     (20, fetching::visits),
     (10, fetching::last_place),
+    (8, grounds::unique_columns),
+    (16, desks::shared),
+    (6, desks::full),
     (8, totals::largest),
     (6, totals::crowd),
     (6, totals::beside_a_group),

@@ -7,6 +7,9 @@ use super::design::{Draft, Values, ISSUES};
 use super::spoil::spoil;
 use crate::random::Random;
 
+/// The number of desks.
+pub const DESKS: usize = 4;
+
 /// In how many of a hundred cases an operation is spoilt.
 const SPOILT: usize = 8;
 
@@ -18,7 +21,10 @@ const MISPLACED: usize = 2;
 pub struct Operator<'a> {
     design: &'a Design,
     values: Values,
-    referred: Vec<Pair>,
+    /// The named desk.
+    desk: usize,
+    /// What each desk referred to.
+    referred: [Vec<Pair>; DESKS],
 }
 
 impl<'a> Operator<'a> {
@@ -26,7 +32,8 @@ impl<'a> Operator<'a> {
         Operator {
             design: &draft.design,
             values: draft.values,
-            referred: Vec::new(),
+            desk: 0,
+            referred: Default::default(),
         }
     }
 
@@ -34,7 +41,8 @@ impl<'a> Operator<'a> {
         if random.percent(MISPLACED) {
             return *random.pick(&self.design.commands());
         }
-        let operation = match random.below(24) {
+        let operation = match random.below(25) {
+            24 => self.name(random),
             0..=6 => Command::Refer(self.refer(random)),
             7..=10 => Command::Drop(self.drop(random)),
             11..=14 => Command::Probe(self.probe(random)),
@@ -94,19 +102,39 @@ impl<'a> Operator<'a> {
         }
     }
 
-    /// A pair to refer to, remembered from now on.
-    fn refer(&mut self, random: &mut Random) -> Pair {
-        let pair = self.pair(random);
-        self.referred.push(pair);
+    /// Names a desk.
+    pub fn name(&mut self, random: &mut Random) -> Command {
+        self.desk = random.below(DESKS);
+        Command::Desk(self.desk as u8)
+    }
+
+    /// A pair to refer to, remembered from now on. It may be another desk's.
+    pub fn refer(&mut self, random: &mut Random) -> Pair {
+        let pair = match self.referred_by_any(random) {
+            Some(pair) if random.percent(10) => pair,
+            _ => self.pair(random),
+        };
+        self.referred[self.desk].push(pair);
         pair
     }
 
-    fn drop(&mut self, random: &mut Random) -> Pair {
-        if self.referred.is_empty() || random.percent(10) {
+    pub fn drop(&mut self, random: &mut Random) -> Pair {
+        match self.referred_by_any(random) {
+            Some(pair) if random.percent(10) => return pair,
+            _ => {}
+        }
+        let own = &mut self.referred[self.desk];
+        if own.is_empty() || random.percent(10) {
             return self.pair(random);
         }
-        let place = random.below(self.referred.len());
-        self.referred.remove(place)
+        let place = random.below(own.len());
+        own.remove(place)
+    }
+
+    /// A pair that some desk referred to.
+    fn referred_by_any(&self, random: &mut Random) -> Option<Pair> {
+        let desk = random.pick(&self.referred);
+        random.pick_any(desk).copied()
     }
 
     /// A pair whose value is near an end of the candidates or one of the
@@ -128,13 +156,14 @@ impl<'a> Operator<'a> {
         }
     }
 
-    /// A column and a value: referred to before, found in a row, demanded by one,
-    /// or any.
+    /// A column and a value: referred to before, found in a row, in a unique column
+    /// or in any, demanded by one, or any.
     fn probe(&self, random: &mut Random) -> Probe {
-        let found = match random.below(12) {
+        let found = match random.below(14) {
             0..=3 => self.referred_probe(random),
-            4..=7 => self.row_probe(random),
-            8 | 9 => self.demanded_probe(random),
+            4..=7 => self.row_probe(random, |_| true),
+            8 | 9 => self.unique_probe(random),
+            10 | 11 => self.demanded_probe(random),
             _ => None,
         };
         found.unwrap_or_else(|| Probe {
@@ -144,7 +173,11 @@ impl<'a> Operator<'a> {
     }
 
     fn referred_probe(&self, random: &mut Random) -> Option<Probe> {
-        self.probe_of(*random.pick_any(&self.referred)?)
+        let pair = match random.pick_any(&self.referred[self.desk]) {
+            Some(pair) if random.percent(70) => *pair,
+            _ => self.referred_by_any(random)?,
+        };
+        self.probe_of(pair)
     }
 
     /// The filling's column and the value of a pair.
@@ -156,18 +189,24 @@ impl<'a> Operator<'a> {
         })
     }
 
-    fn row_probe(&self, random: &mut Random) -> Option<Probe> {
+    /// A value of a row, in one of the columns that pass a test.
+    fn row_probe(&self, random: &mut Random, test: impl Fn(Column) -> bool) -> Option<Probe> {
         let row = random.pick_any(&self.design.rows)?;
-        let columns = self.design.tables[usize::from(row.table)].columns;
-        let column = random.below(usize::from(columns));
-        let value = row.cell(column);
-        (value.number != 0).then_some(Probe {
-            column: Column {
-                table: row.table,
-                column: column as u8,
-            },
-            value,
-        })
+        let mut columns = self.design.columns();
+        columns.retain(|&column| column.table == row.table && test(column));
+        let column = *random.pick_any(&columns)?;
+        let value = row.cell(column.column.into());
+        (value.number != 0).then_some(Probe { column, value })
+    }
+
+    /// A value of a row in a unique column.
+    pub fn unique_probe(&self, random: &mut Random) -> Option<Probe> {
+        self.row_probe(random, |column| self.is_unique(column))
+    }
+
+    fn is_unique(&self, column: Column) -> bool {
+        let table = self.design.tables[usize::from(column.table)];
+        table.unique >> column.column & 1 == 1
     }
 
     /// Where a constraint ends, with a value that a row has where it starts.
@@ -187,7 +226,7 @@ impl<'a> Operator<'a> {
         let Probe { column, value } = probe;
         let mut fillings = (0..).zip(&self.design.fillings);
         if let Some((filling, _)) = fillings.find(|(_, filling)| filling.column == column) {
-            self.referred.push(Pair { filling, value });
+            self.referred[self.desk].push(Pair { filling, value });
         }
         let mut tables = vec![column.table];
         let mut joins = Vec::new();

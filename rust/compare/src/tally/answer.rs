@@ -63,6 +63,7 @@ impl Answer<'_> {
             ["total", _] => "total above 0".into(),
             ["refused", cause, _] => format!("refused {cause}"),
             ["ground", ground, ..] => format!("ground {ground}"),
+            ["desk", _] => "desk named".into(),
             ["loaded", ..] => "loaded".into(),
             ["dropped", ..] => "dropped".into(),
             _ => self.text.into(),

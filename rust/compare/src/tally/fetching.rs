@@ -3,20 +3,19 @@
 
 use reference::design::Design;
 use reference::desk::Answer;
+use reference::held::Owned;
 use reference::refusal::Cause;
 use reference::script::{Column, Command, Pair, Value};
 
 use crate::replay::{query_of, Replay};
 
-const MOST_HELD: usize = 64;
-
 /// A script on its way.
 #[derive(Default)]
 pub struct Watch {
-    /// The pairs held, and whether a query or total referred them.
-    held: Vec<(Pair, bool)>,
-    /// The pairs whose reference was undone last, and which aren't held.
-    undone: Vec<Pair>,
+    /// The held values that a query or total referred.
+    asked: Vec<Owned>,
+    /// The values whose reference was undone last, and which aren't held.
+    undone: Vec<Owned>,
 }
 
 impl Watch {
@@ -24,12 +23,16 @@ impl Watch {
     pub fn perform(&mut self, replay: &mut Replay, command: &Command) -> Option<&'static str> {
         let (ground, fetches) = (replay.ground(), replay.fetches());
         let answer = replay.perform()?;
+        let desk = replay.held().desk;
         if let Some(query) = query_of(command) {
             let pair = pair(replay.design(), query.column, query.value);
             let is_total = matches!(command, Command::Total(_));
             let is_candidate = pair.is_some_and(|pair| is_candidate(replay.design(), pair));
             return match (&answer, pair) {
-                (_, Some(pair)) if fetches => Some(self.fetch(pair, &answer)),
+                (_, Some(pair)) if fetches => {
+                    let is_last = !replay.held().has_room();
+                    Some(self.fetch(Owned { desk, pair }, &answer, is_last))
+                }
                 (Ok(Answer::Sent), pair) => Some(sent(pair.is_some(), is_candidate, is_total)),
                 (Ok(_), Some(_)) if matches!(ground, Some(2 | 3)) => {
                     is_candidate.then_some(match is_total {
@@ -41,47 +44,51 @@ impl Watch {
             };
         }
         match (*command, answer) {
-            (Command::Refer(pair), Ok(answer)) => self.refer(pair, &answer),
+            (Command::Refer(pair), Ok(answer)) => self.refer(Owned { desk, pair }, &answer),
             (Command::Drop(pair), Ok(_)) => {
-                let place = self.held.iter().position(|(held, _)| *held == pair)?;
-                let (_, asked) = self.held.remove(place);
-                asked.then_some("drop of what a query or total referred")
+                let owned = Owned { desk, pair };
+                let place = self.asked.iter().position(|asked| *asked == owned)?;
+                self.asked.remove(place);
+                Some("drop of what a query or total referred")
             }
             _ => None,
         }
     }
 
-    fn refer(&mut self, pair: Pair, answer: &Answer) -> Option<&'static str> {
+    fn refer(&mut self, owned: Owned, answer: &Answer) -> Option<&'static str> {
         match answer {
             Answer::Loaded { .. } => {
-                self.held.push((pair, false));
-                let undone = self.undone.contains(&pair);
-                self.undone.retain(|other| *other != pair);
+                let undone = self.undone.contains(&owned);
+                self.undone.retain(|other| *other != owned);
                 undone.then_some("load behind an undone reference")
             }
-            Answer::Held if self.held.contains(&(pair, true)) => {
-                Some("held since a query or total")
-            }
+            Answer::Held if self.asked.contains(&owned) => Some("held since a query or total"),
             _ => None,
         }
     }
 
-    /// What came of a query or total that referred the pair first.
-    fn fetch(&mut self, pair: Pair, answer: &Result<Answer, Cause>) -> &'static str {
-        self.undone.retain(|other| *other != pair);
+    /// What came of a query or total that referred the value first. It may have
+    /// taken the last place of its desk.
+    fn fetch(
+        &mut self,
+        owned: Owned,
+        answer: &Result<Answer, Cause>,
+        is_last: bool,
+    ) -> &'static str {
+        self.undone.retain(|other| *other != owned);
         let Ok(answer) = answer else {
-            self.undone.push(pair);
+            self.undone.push(owned);
             return match answer {
                 Err(Cause::TotalTooLarge) => "total refused 13, its reference undone",
                 _ => "query refused 11, its reference undone",
             };
         };
-        self.held.push((pair, true));
-        match (answer, self.held.len()) {
-            (Answer::Total(_), MOST_HELD) => "total referred at 63 held values",
-            (Answer::Total(_), _) => "total referred",
-            (_, MOST_HELD) => "query referred at 63 held values",
-            (Answer::Lists(lists), _) if lists.is_empty() => "query referred without lists",
+        self.asked.push(owned);
+        match answer {
+            Answer::Total(_) if is_last => "total referred at 15 held values",
+            Answer::Total(_) => "total referred",
+            _ if is_last => "query referred at 15 held values",
+            Answer::Lists(lists) if lists.is_empty() => "query referred without lists",
             _ => "query referred with lists",
         }
     }
@@ -94,8 +101,8 @@ fn sent(has_filling: bool, is_candidate: bool, is_total: bool) -> &'static str {
         (false, _, true) => "total sent for no filling",
         (true, false, false) => "query sent for no candidate",
         (true, false, true) => "total sent for no candidate",
-        (true, true, false) => "query sent at 64 held values",
-        (true, true, true) => "total sent at 64 held values",
+        (true, true, false) => "query sent at 16 held values",
+        (true, true, true) => "total sent at 16 held values",
     }
 }
 
@@ -185,21 +192,21 @@ mod tests {
 
     #[test]
     fn queries_that_are_sent() {
-        let held: String = (1..=64).map(|value| format!("refer 0 {value}\n")).collect();
-        let operations = format!("query 1.0 = 1\nquery 0.0 = 91\n{held}query 0.0 = 65\n");
+        let held: String = (1..=16).map(|value| format!("refer 0 {value}\n")).collect();
+        let operations = format!("query 1.0 = 1\nquery 0.0 = 91\n{held}query 0.0 = 17\n");
         let expected = [
             "query sent for no filling",
             "query sent for no candidate",
-            "query sent at 64 held values",
+            "query sent at 16 held values",
         ];
         assert_eq!(outcomes_of(&operations), expected);
     }
 
     #[test]
     fn the_last_place_is_told_apart() {
-        let held: String = (1..=63).map(|value| format!("refer 0 {value}\n")).collect();
-        let expected = ["query referred at 63 held values"];
-        assert_eq!(outcomes_of(&format!("{held}query 0.0 = 64\n")), expected);
+        let held: String = (1..=15).map(|value| format!("refer 0 {value}\n")).collect();
+        let expected = ["query referred at 15 held values"];
+        assert_eq!(outcomes_of(&format!("{held}query 0.0 = 16\n")), expected);
     }
 
     #[test]

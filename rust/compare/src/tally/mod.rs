@@ -6,10 +6,12 @@
 //! - `links` tells how a design's tables are linked, and `evenness` what is rare among
 //!   designs that a report is on.
 //! - `issues` tells where the issue of a value shows.
+//! - `desks` tells what one desk meets of another.
 //! - `fetching` tells what came of queries and totals that refer.
 //! - `totals` tells what a total shows beside other questions.
 
 mod answer;
+mod desks;
 mod evenness;
 mod fetching;
 mod issues;
@@ -235,6 +237,7 @@ fn replayed(script: &[u8]) -> Vec<&'static str> {
     while let Some(command) = replay.command() {
         outcomes.extend(totals::outcomes(&replay, &command));
         outcomes.extend(issues::outcomes(&replay, &command));
+        outcomes.extend(desks::outcomes(&replay, &command));
         outcomes.extend(fetching.perform(&mut replay, &command));
     }
     outcomes

@@ -11,7 +11,7 @@ use notation::{Command, Piece, Value};
 /// 3. Causes 7 and 12 are about lent memory, which no script can spoil. No
 /// answer needs 4,097 words: that has no divisor from 2 to 5, and 512 rows make
 /// no more than 512 lists of one.
-pub const OUTCOMES: [(u32, &str); 104] = [
+pub const OUTCOMES: [(u32, &str); 113] = [
     (0, "design accepted"),
     (0, "design refused 1"),
     (0, "design refused 2"),
@@ -38,10 +38,10 @@ pub const OUTCOMES: [(u32, &str); 104] = [
     (0, "query of a candidate by ground 2 or 3"),
     (0, "query sent for no filling"),
     (0, "query sent for no candidate"),
-    (0, "query sent at 64 held values"),
+    (7, "query sent at 16 held values"),
     (2, "query referred with lists"),
     (2, "query referred without lists"),
-    (2, "query referred at 63 held values"),
+    (7, "query referred at 15 held values"),
     (2, "query refused 11, its reference undone"),
     (2, "held since a query or total"),
     (2, "drop of what a query or total referred"),
@@ -52,9 +52,9 @@ pub const OUTCOMES: [(u32, &str); 104] = [
     (3, "total of a candidate by ground 2 or 3"),
     (3, "total sent for no filling"),
     (3, "total sent for no candidate"),
-    (3, "total sent at 64 held values"),
+    (7, "total sent at 16 held values"),
     (3, "total referred"),
-    (3, "total referred at 63 held values"),
+    (7, "total referred at 15 held values"),
     (3, "total refused 13, its reference undone"),
     (3, "total refused 5 for its position or column"),
     (1, "even"),
@@ -63,6 +63,15 @@ pub const OUTCOMES: [(u32, &str); 104] = [
     (1, "uneven with i < j"),
     (1, "uneven with i > j"),
     (1, "uneven by a way of 7 steps"),
+    (7, "desk named"),
+    (7, "desk refused 5"),
+    (7, "load of what another desk holds"),
+    (7, "load beside a full desk"),
+    (7, "load of the 64th value"),
+    (7, "drop of what another desk holds too"),
+    (7, "query or total of what another desk holds"),
+    (7, "refused 8 while another desk has room"),
+    (7, "refused 10 for what another desk holds"),
     (11, "knot of 1 constraint"),
     (11, "knot of 2 constraints"),
     (11, "knot of 3 constraints"),
@@ -75,7 +84,7 @@ pub const OUTCOMES: [(u32, &str); 104] = [
     (0, "refused 2"),
     (0, "refused 3"),
     (0, "refused 5"),
-    (0, "refused 8"),
+    (7, "refused 8"),
     (0, "refused 9"),
     (0, "refused 10"),
     (0, "refused 11"),
@@ -119,7 +128,7 @@ pub const OUTCOMES: [(u32, &str); 104] = [
 ];
 
 /// The kinds of commands, and last what can't be read as one.
-pub const COMMANDS: [&str; 19] = [
+pub const COMMANDS: [&str; 20] = [
     "table",
     "constraint",
     "filling",
@@ -138,6 +147,7 @@ pub const COMMANDS: [&str; 19] = [
     "query with an issue",
     "total with an issue",
     "knot",
+    "desk",
     "no command",
 ];
 
@@ -166,5 +176,6 @@ pub fn kind(piece: &Piece) -> &'static str {
         Command::Total(total) if has_issue(total.query.value) => "total with an issue",
         Command::Total(_) => "total",
         Command::Knot => "knot",
+        Command::Desk(_) => "desk",
     }
 }

@@ -1,5 +1,6 @@
 //! Desks that are right but for one thing: the comparison has to find it.
 
+mod desks;
 mod fetching;
 mod grounds;
 mod issues;

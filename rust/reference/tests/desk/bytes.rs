@@ -74,6 +74,11 @@ pub fn total_of(query: &[u8], cell: (u8, u8)) -> Vec<u8> {
     [&[0x15], &query[1..], &[cell.0, cell.1]].concat()
 }
 
+/// Names a desk.
+pub fn desk(number: u8) -> Vec<u8> {
+    vec![0x17, number]
+}
+
 pub fn knot() -> Vec<u8> {
     vec![0x1c]
 }
@@ -120,6 +125,7 @@ pub fn operations() -> Vec<(&'static str, Vec<u8>)> {
         ("even", even()),
         ("total", total.clone()),
         ("knot", knot()),
+        ("desk", desk(1)),
         ("refer with an issue", with_issue(1, &refer(0, 1))),
         ("drop with an issue", with_issue(1, &drop(0, 1))),
         ("probe with an issue", with_issue(1, &probe((0, 0), 1))),
@@ -162,4 +168,21 @@ pub const DESIGN_A_LENGTH: usize = 9 + 10 + 11 + 272 + 1;
 /// Case A's design followed by operations.
 pub fn script_a(operations: &[Vec<u8>]) -> Vec<u8> {
     [design_a(), operations.concat()].concat()
+}
+
+/// Document 01's case B without its operations, followed by others.
+pub fn script_b(operations: &[Vec<u8>]) -> Vec<u8> {
+    [
+        table(2, 0),
+        table(1, 0),
+        constraint((0, 1), (1, 0)),
+        constraint((1, 0), (0, 1)),
+        filling((0, 0), 1, 2),
+        row(0, &[1, 5]),
+        row(0, &[2, 5]),
+        row(1, &[5]),
+        end(),
+        operations.concat(),
+    ]
+    .concat()
 }

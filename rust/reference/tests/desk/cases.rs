@@ -59,23 +59,13 @@ fn the_answer_of_case_a_needs_six_words() {
 
 #[test]
 fn case_b() {
-    let script = [
-        table(2, 0),
-        table(1, 0),
-        constraint((0, 1), (1, 0)),
-        constraint((1, 0), (0, 1)),
-        filling((0, 0), 1, 2),
-        row(0, &[1, 5]),
-        row(0, &[2, 5]),
-        row(1, &[5]),
-        end(),
+    let script = script_b(&[
         refer(0, 1),
         probe((0, 0), 2),
         refer(0, 2),
         drop(0, 1),
         drop(0, 2),
-    ]
-    .concat();
+    ]);
     let expected = "\
 design 2 2 1 3
 0 loaded 3 2

@@ -172,7 +172,7 @@ fn loop_from(column: Column, tables: &[u8]) -> Vec<(Column, Column)> {
 
 #[test]
 fn it_is_answered_whatever_is_held_and_changes_nothing() {
-    let held: Vec<u8> = (1..=64).flat_map(|value| refer(0, value)).collect();
+    let held: Vec<u8> = (1..=16).flat_map(|value| refer(0, value)).collect();
     let script = [
         table(2, 0b01),
         constraint((0, 1), (0, 0)),
@@ -183,7 +183,7 @@ fn it_is_answered_whatever_is_held_and_changes_nothing() {
         even(),
         held,
         even(),
-        refer(0, 65),
+        refer(0, 17),
         even(),
         drop(0, 1),
         even(),
@@ -193,7 +193,7 @@ fn it_is_answered_whatever_is_held_and_changes_nothing() {
     let report = report(&script);
     let place = script.len() - 7 - 1 - 6 - 1 - 6;
     let expected = format!(
-        "65 uneven 0 0\n66 refused 8 {place}\n67 uneven 0 0\n68 dropped 2\n69 uneven 0 0\n70 sent\n"
+        "17 uneven 0 0\n18 refused 8 {place}\n19 uneven 0 0\n20 dropped 2\n21 uneven 0 0\n22 sent\n"
     );
     assert!(
         report.contains("\n0 uneven 0 0\n1 loaded 2 1\n"),

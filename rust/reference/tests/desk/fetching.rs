@@ -89,8 +89,8 @@ fn an_undone_reference_leaves_the_rest_of_the_cache() {
 }
 
 #[test]
-fn at_64_held_values_a_query_is_sent_and_not_refused() {
-    let held: Vec<Vec<u8>> = (10..=73).map(|value| refer(0, value)).collect();
+fn at_16_held_values_a_query_is_sent_and_not_refused() {
+    let held: Vec<Vec<u8>> = (10..=25).map(|value| refer(0, value)).collect();
     let script = script_a(&[
         held.concat(),
         query((0, 1), 3, &[]),
@@ -99,39 +99,39 @@ fn at_64_held_values_a_query_is_sent_and_not_refused() {
         query((0, 1), 3, &[]),
     ]);
     let expected = [
-        "64 sent",
-        "65 refused 8 703",
-        "66 dropped 0",
-        "67 answer 2",
+        "16 sent",
+        "17 refused 8 415",
+        "18 dropped 0",
+        "19 answer 2",
         "0",
         "1",
     ];
-    assert_eq!(lines(&script)[64..], expected);
+    assert_eq!(lines(&script)[16..], expected);
 }
 
 #[test]
 fn queries_take_the_places_of_held_values() {
-    let queries: Vec<Vec<u8>> = (10..=73).map(|value| query((0, 1), value, &[])).collect();
+    let queries: Vec<Vec<u8>> = (10..=25).map(|value| query((0, 1), value, &[])).collect();
     let script = script_a(&[
         queries.concat(),
-        query((0, 1), 74, &[]),
-        query((0, 1), 73, &[]),
-        refer(0, 74),
-        drop(0, 73),
-        refer(0, 74),
+        query((0, 1), 26, &[]),
+        query((0, 1), 25, &[]),
+        refer(0, 26),
+        drop(0, 25),
+        refer(0, 26),
     ]);
     let lines = lines(&script);
-    let place = DESIGN_A_LENGTH + 66 * 16;
-    let refused = format!("66 refused 8 {place}");
+    let place = DESIGN_A_LENGTH + 18 * 16;
+    let refused = format!("18 refused 8 {place}");
     let expected = [
-        "63 answer 0",
-        "64 sent",
-        "65 answer 0",
+        "15 answer 0",
+        "16 sent",
+        "17 answer 0",
         &refused,
-        "67 dropped 0",
-        "68 loaded 0 0",
+        "19 dropped 0",
+        "20 loaded 0 0",
     ];
-    assert_eq!(lines[63..], expected);
+    assert_eq!(lines[15..], expected);
 }
 
 /// The value has ground 2, so it isn't referred, though it is a candidate.

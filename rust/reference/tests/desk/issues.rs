@@ -239,20 +239,20 @@ fn byte_0x24_is_unknown() {
     assert_eq!(lines, ["0 even", &refused]);
 }
 
-/// Each issue of a held number has its own place among the 64.
+/// Each issue of a held number has its own place among the 16.
 #[test]
 fn issues_take_places_of_their_own() {
-    let held: Vec<u8> = (0..64)
+    let held: Vec<u8> = (0..16)
         .flat_map(|issue| with_issue(issue, &refer(0, 8)))
         .collect();
     let lines = lines_after(&[
         held,
-        with_issue(64, &refer(0, 8)),
-        with_issue(63, &refer(0, 8)),
-        with_issue(64, &query((0, 0), 8, &[])),
+        with_issue(16, &refer(0, 8)),
+        with_issue(15, &refer(0, 8)),
+        with_issue(16, &query((0, 0), 8, &[])),
     ]);
-    let refused = format!("64 refused 8 {}", reissued().len() + 64 * 7);
-    assert_eq!(lines[64..], [refused.as_str(), "65 held", "66 sent"]);
+    let refused = format!("16 refused 8 {}", reissued().len() + 16 * 7);
+    assert_eq!(lines[16..], [refused.as_str(), "17 held", "18 sent"]);
 }
 
 /// Demands, joins and the rounds of a load go by number and issue too.

@@ -77,23 +77,23 @@ fn script_length_is_looked_at_before_any_command() {
 
 #[test]
 fn held_values() {
-    let first: Vec<u8> = (1..=64).flat_map(|value| refer(0, value)).collect();
+    let first: Vec<u8> = (1..=16).flat_map(|value| refer(0, value)).collect();
     let head = [table(1, 0), filling((0, 0), 1, 99), end(), first].concat();
     let after = [
-        refer(0, 65),
-        refer(0, 64),
+        refer(0, 17),
+        refer(0, 16),
         refer(0, 100),
         drop(0, 1),
-        refer(0, 65),
+        refer(0, 17),
         refer(0, 1),
     ];
     let place = head.len();
     let expected = format!(
-        "64 refused 8 {place}\n65 held\n66 no candidate\n67 dropped 0\n68 loaded 0 0\n69 refused 8 {}\n",
+        "16 refused 8 {place}\n17 held\n18 no candidate\n19 dropped 0\n20 loaded 0 0\n21 refused 8 {}\n",
         place + 5 * 6
     );
     let report = report(&[head, after.concat()].concat());
-    assert!(report.contains("\n63 loaded 0 0\n64 refused"));
+    assert!(report.contains("\n15 loaded 0 0\n16 refused"));
     assert!(report.ends_with(&expected), "{report}");
 }
 

@@ -4,6 +4,7 @@
 mod bytes;
 mod cases;
 mod design_refusals;
+mod desks;
 mod even;
 mod fetching;
 mod generated;

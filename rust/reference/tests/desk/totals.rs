@@ -118,8 +118,8 @@ fn a_total_refers_its_value_as_a_query_does() {
 }
 
 #[test]
-fn at_64_held_values_a_total_is_sent() {
-    let held: Vec<u8> = (10..=73).flat_map(|value| refer(0, value)).collect();
+fn at_16_held_values_a_total_is_sent() {
+    let held: Vec<u8> = (10..=25).flat_map(|value| refer(0, value)).collect();
     let script = script_a(&[
         held,
         total((0, 1), 3, &[], (0, 0)),
@@ -127,8 +127,8 @@ fn at_64_held_values_a_total_is_sent() {
         total((0, 1), 3, &[], (0, 0)),
         total((0, 1), 4, &[], (0, 0)),
     ]);
-    let expected = ["64 sent", "65 dropped 0", "66 total 15", "67 sent"];
-    assert_eq!(lines(&script)[64..], expected);
+    let expected = ["16 sent", "17 dropped 0", "18 total 15", "19 sent"];
+    assert_eq!(lines(&script)[16..], expected);
 }
 
 #[test]
