@@ -20,7 +20,7 @@ use Rattle.model.specs.Runs.{Operation, ask, probe, heldFrom, marked}
 use Rattle.model.specs.Answers.{Answer, refused, ground, sent, orAnswer, groundOf, Yes, answer}
 use Rattle.model.proofs.CellLaws.{numbered-full}
 use Rattle.model.proofs.Exact.{exact}
-use Rattle.model.proofs.HoldingLaws.{HoldingFits, step-fit}
+use Rattle.model.proofs.HoldingLaws.{HoldingFits, values-few, step-fit}
 use Rattle.state.specs.declared.design.Design.{Design}
 use Rattle.state.specs.Meaning.{schemeOf, databaseOf, holdingOf}
 use Rattle.state.specs.Lent.{State, database, cache, answerAt}
@@ -64,7 +64,7 @@ module _ (b : Buffers) (p : Draft) (i : ℕ) (w : Begun b p i) (os : List Operat
       subst (SameRows (rowsOf p)) (λ x. databaseOf (sym (called .design) x .rows) (sym (called .cells) x) (sym (called .tables) x)) (same-back (w .rows))
 
   holding-is : holdingOf (e .held) ≡ heldWith p os
-  holding-is = ap holdingOf (called .held) ∙ holding-back (heldWith p os) (run-fit S (rowsOf p) nothingHeld os (none-fit S) .few)
+  holding-is = ap holdingOf (called .held) ∙ holding-back (heldWith p os) (values-few (run-fit S (rowsOf p) nothingHeld os (none-fit S) .values))
 
   module _ (k : Column) (v : Cell) where
     -- the state's answer is the model's, with the design's scheme

@@ -14,7 +14,7 @@ use Rattle.finite.proofs.Bools.{dec, cond-true, cond-false}
 use Rattle.finite.proofs.Tables.{length-tab}
 use Rattle.model.specs.Scheme.{Scheme}
 use Rattle.model.specs.Database.{Database, Lawful}
-use Rattle.model.specs.Holding.{nothingHeld, pairsHold}
+use Rattle.model.specs.Holding.{ownAmong, nothingHeld, pairsHold}
 use Rattle.model.specs.Runs.{marks, emptyCache}
 use Rattle.model.proofs.Loads.{one-smallest, none-smallest}
 use Rattle.model.proofs.RunLaws.{held-smallest}
@@ -26,7 +26,7 @@ use Rattle.state.specs.declared.design.Design.{Design}
 use Rattle.state.specs.declared.held.Held.{Held}
 use Rattle.state.specs.Design.{emptyDesign}
 use Rattle.state.specs.Held.{noneHeld}
-use Rattle.state.specs.Meaning.{schemeOf, databaseOf, pairsOf, holdingOf, heldOf, cacheOf}
+use Rattle.state.specs.Meaning.{schemeOf, databaseOf, valuesOf, holdingOf, heldOf, cacheOf}
 use Rattle.state.specs.Lawful.{lawfulDesign, lawfulRows, lawfulHeld}
 use Rattle.state.specs.Lent.{State, lent, scheme, database, cache, longEnough, sound}
 use Rattle.lawful.specs.LawfulState.{LawfulRows}
@@ -49,12 +49,22 @@ unfolding noneHeld heldOf
 none-held = refl
 
 pub none-holding : holdingOf noneHeld ≡ nothingHeld
-unfolding pairsOf noneHeld tab
+unfolding valuesOf noneHeld tab
 none-holding = refl
 
 pub none-fit : (S : Scheme) → HoldingFits S nothingHeld
+unfolding ownAmong
 none-fit S =
-    record { few = omega arith; filling = λ i l. absurd (omega arith); value = λ i l. absurd (omega arith); once = λ i j l m. absurd (omega arith) }
+    record {
+      named = omega arith;
+      values = record {
+        desk = λ i l. absurd (omega arith);
+        few = λ d l. omega arith;
+        filling = λ i l. absurd (omega arith);
+        value = λ i l. absurd (omega arith);
+        once = λ i j l m. absurd (omega arith);
+      };
+    }
 
 none-lawful : (d : Design) → lawfulHeld d noneHeld ≡ true
 none-lawful d = subst (λ (h : Held). lawfulHeld d h ≡ true) (sym none-held) (fit-held d nothingHeld (none-fit (schemeOf d)))

@@ -2,7 +2,7 @@
 use Prim.Native.Nat.{ℕ}
 use native.Mathlib.Omega.{arith}
 use mathlib.Core.Path.{_≡_, refl, sym, ap, _∙_}
-use mathlib.Core.Bool.{true, false, not, and-eq-true-iff}
+use mathlib.Core.Bool.{Bool, true, false, not, cond, and-eq-true-iff}
 use mathlib.Core.List.{List, []}
 use mathlib.Core.Logic.{⊎-elim}
 use borrow.Author.Tests.{ltb-true, lt-ltb, not-true}
@@ -11,10 +11,10 @@ use lib.ListN.{length}
 use lib.Seq.{sets}
 use Rattle.finite.proofs.Bools.{dec, cond-false}
 use Rattle.model.specs.Scheme.{candidate}
-use Rattle.model.specs.Holding.{Pair, Holding, holds, hasRoom}
+use Rattle.model.specs.Holding.{Pair, Holding, desks, holds, hasRoom}
 use Rattle.model.specs.Query.{wordsOf, fullLists}
-use Rattle.model.specs.Runs.{Operation, refer, drop, ask, query, taken, cacheAfter}
-use Rattle.model.specs.Answers.{Answer, refused, shown, hasLists, answer, writtenWith, queryWords, written}
+use Rattle.model.specs.Runs.{Operation, refer, drop, ask, query, name, taken, atDesk, cacheAfter}
+use Rattle.model.specs.Answers.{Answer, refused, named, unless, shown, hasLists, answer, writtenWith, queryWords, written}
 use Rattle.model.proofs.HoldingLaws.{listed-fits, listed-candidate}
 use Rattle.model.proofs.Referring.{query-refused-keeps}
 use Rattle.state.specs.Meaning.{schemeOf, holdingOf}
@@ -50,12 +50,17 @@ module _ (s : State) (e : sound s ≡ true) (n : ℕ) where
       let S = scheme s in
       let held = holdingOf (s .held) in
       ⊎-elim (λ (t : holds held p ≡ true).
-      let f = listed-fits S (held .pairs) (holding-fits (s .design) (s .held) (parts s e .held)) p t in
-      let k = listed-candidate S (held .pairs) (holding-fits (s .design) (s .held) (parts s e .held)) p t in
+      let f = listed-fits S held (holding-fits (s .design) (s .held) (parts s e .held)) p t in
+      let k = listed-candidate S held (holding-fits (s .design) (s .held) (parts s e .held)) p t in
       let l = drop-drops S (database s) (cache s) p (lt-ltb _ _ f) (low-full (s .design) (parts s e .design) (p .filling) f (p .value) k) t in
       absurd (let z : _≡_ {A = ℕ} 0 1 = cc in omega arith))
       (λ (t : holds held p ≡ false). cond-false (holds held p) _ (cache s) t)
       (dec (holds held p))
+
+  -- a desk that names nothing is refused, and the desk that was named stays
+  name-keeps : (b : Bool) (d : ℕ) → unless (not b) 5 (named d) ≡ refused n → cond b (atDesk (cache s) d) (cache s) ≡ cache s
+  name-keeps true d h = absurd (let z : _≡_ {A = ℕ} 0 1 = cc in omega arith)
+  name-keeps false d h = refl
 
   refused-keeps : (o : Operation) → answer (scheme s) (database s) (cache s) o ≡ refused n →
       cacheAfter (scheme s) (database s) (cache s) o ≡ cache s
@@ -63,6 +68,7 @@ module _ (s : State) (e : sound s ≡ true) (n : ℕ) where
   refused-keeps (refer p) h = refer-keeps p h
   refused-keeps (drop p) h = drop-keeps p h
   refused-keeps (ask q) h = refl
+  refused-keeps (name d) h = name-keeps (ltb d desks) d h
   refused-keeps (query q out) h = query-refused-keeps (scheme s) (database s) (cache s) q out n h
 
   -- no words go with a refusal
@@ -71,6 +77,7 @@ module _ (s : State) (e : sound s ≡ true) (n : ℕ) where
   refused-wordless (refer p) h = refl
   refused-wordless (drop p) h = refl
   refused-wordless (ask q) h = refl
+  refused-wordless (name d) h = refl
   refused-wordless (query q out) h = ap (λ (a : Answer). writtenWith a (wordsOf (fullLists (scheme s) (database s) q))) h
 
   -- a record of held values has 64 places, as its type says

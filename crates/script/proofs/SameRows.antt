@@ -15,7 +15,7 @@ use Rattle.model.specs.Cache.{RowSet, Inside, Held, Complete, Holds, Meets, Sma
 use Rattle.model.specs.Probe.{probe}
 use Rattle.model.specs.Holding.{Holding, withPair, heldIn}
 use Rattle.model.specs.Query.{Query, joinsOf, operandsFit, fitting, wordsOf, fullLists, totalOver, fullTotal, positionFits}
-use Rattle.model.specs.Runs.{Output, asLists, asTotal, Operation, refer, drop, ask, query, taken, cachedFor, pairFor, outputFits, withinLimit, answerable, refers, heldAfter, heldFrom}
+use Rattle.model.specs.Runs.{Output, asLists, asTotal, Operation, refer, drop, ask, query, name, taken, cachedFor, pairFor, outputFits, withinLimit, answerable, refers, heldAfter, heldFrom}
 use Rattle.model.proofs.Loads.{one-smallest}
 use Rattle.model.proofs.RunLaws.{held-smallest}
 use Rattle.model.proofs.QueryLaws.{SameOn, operands-joins, fitting-reads, probe-reads}
@@ -147,6 +147,7 @@ module _ (S : Scheme) {D E : Database} (w : SameRows D E) where
   after-same h (refer p) = refl
   after-same h (drop p) = refl
   after-same h (ask q) = refl
+  after-same h (name d) = refl
   after-same h (query q out) = ap (λ (b : Bool). cond b (withPair h (pairFor S q)) h) (refers-same h q out)
 
   pub held-same : (h : Holding) (os : List Operation) → heldFrom S D h os ≡ heldFrom S E h os

@@ -12,6 +12,7 @@ use lib.ListN.{length, take, drop as past}
 use lib.Seq.{take-at, drop-at}
 use Rattle.finite.proofs.Bools.{both, clash, cond-true, cond-false}
 use Rattle.model.specs.Runs as Runs
+use Rattle.model.proofs.HoldingLaws.{values-few}
 use Rattle.model.proofs.Fresh.{step-fresh}
 use Rattle.state.specs.declared.operation.Operation.{Operation}
 use Rattle.state.specs.Meaning.{holdingOf, heldOf, operationOf}
@@ -36,8 +37,8 @@ pub record Settled (s : State) : Type 0 where
   pub held : s .held ≡ heldOf (holdingOf (s .held))
 
 module _ (s : State) (e : sound s ≡ true) (o : Runs.Operation) where
-  few : length (after s o .held .pairs) ≤ 64
-  few = after-fit s e o .few
+  few : length (after s o .held .values) ≤ 64
+  few = values-few (after-fit s e o .values)
 
   long : length (after s o .marks) ≡ 512
   long = fresh-long (s .design) (s .cells) (s .tables) (after s o) (step-fresh (scheme s) (database s) (cache s) o (sound-fresh s e))
