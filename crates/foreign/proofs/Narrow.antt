@@ -21,7 +21,7 @@ use Rattle.state.specs.Lawful.{lawfulDesign, lawfulHeld}
 use Rattle.lawful.specs.LawfulState.{LawfulTable, LawfulDesign}
 use Rattle.lawful.proofs.DesignLaws.{design-says}
 use Rattle.lawful.proofs.HeldLaws.{held-says}
-use Rattle.foreign.proofs.WordLaws.{NarrowTable, NarrowColumn, NarrowConstraint, NarrowFilling, NarrowValue, NarrowDesign}
+use Rattle.foreign.proofs.WordLaws.{NarrowTable, NarrowColumn, NarrowConstraint, NarrowFilling, NarrowHeld, NarrowDesign}
 
 -- what holds of every place: it holds of the first m, and the rest are e
 in-places : {A : Type 0} (f : ℕ → A) (e : A) (n m : ℕ) (P : A → Type 0) → ((i : ℕ) → i < m → P (f i)) → ((i : ℕ) → i < n → m ≤ i → f i ≡ e) → P e →
@@ -52,10 +52,13 @@ narrow-design d e =
           (λ i l. narrow-column d w _ (w .filling i l .column)) (w .fillingRest) (omega arith, omega arith);
     }
 
-pub narrow-held : (d : Design) (h : Held) → lawfulDesign d ≡ true → lawfulHeld d h ≡ true → ((i : ℕ) → i < 64 → heldAt h i .value .issue < 256) →
-    (i : ℕ) → i < 64 → NarrowValue (heldAt h i)
-narrow-held d h e f g i l =
+pub narrow-held : (d : Design) (h : Held) → lawfulDesign d ≡ true → lawfulHeld d h ≡ true → ((i : ℕ) → i < 64 → heldAt h i .pair .value .issue < 256) → NarrowHeld h
+narrow-held d h e f g =
     let w = held-says d h e f in let v = design-says d e in (
-      in-places (heldAt h) noValue 64 (h .count) (λ u. u .filling < 256) (λ j b. omega (arith, w .pair j b .filling, v .fillings)) (w .rest) (omega arith) i l,
-      g i l,
+      omega (arith, w .named),
+      λ i l. (
+        in-places (heldAt h) noValue 64 (h .count) (λ u. u .desk < 256) (λ j b. omega (arith, w .desk j b)) (w .rest) (omega arith) i l,
+        in-places (heldAt h) noValue 64 (h .count) (λ u. u .pair .filling < 256) (λ j b. omega (arith, w .pair j b .filling, v .fillings)) (w .rest) (omega arith) i l,
+        g i l,
+      ),
     )

@@ -12,7 +12,7 @@ use lib.Seq.{sets, length-sets}
 use Rattle.finite.proofs.Tables.{length-tab, tab-at}
 use Rattle.state.specs.Cells.{Cells}
 use Rattle.state.specs.declared.design.Design.{Design}
-use Rattle.state.specs.declared.held.HeldValue.{HeldValue}
+use Rattle.state.specs.declared.held.OwnedValue.{OwnedValue}
 use Rattle.state.specs.Held.{noneHeld, noValue, heldAt}
 use Rattle.state.specs.Lent.{lent, sound, longEnough}
 use Rattle.state.specs.Design.{emptyDesign}
@@ -111,9 +111,9 @@ none-long : length (noneHeld .values) ≡ 64
 unfolding noneHeld
 none-long = length-tab 64 (λ _. noValue)
 
-none-issues : (i : ℕ) → i < 64 → heldAt noneHeld i .value .issue < 256
+none-issues : (i : ℕ) → i < 64 → heldAt noneHeld i .pair .value .issue < 256
 unfolding noneHeld
-none-issues i l = subst (λ (v : HeldValue). v .value .issue < 256) (sym (tab-at noValue 64 (λ _. noValue) i l)) (lit< tt)
+none-issues i l = subst (λ (v : OwnedValue). v .pair .value .issue < 256) (sym (tab-at noValue 64 (λ _. noValue) i l)) (lit< tt)
 
 module _ (script : List ℕ) (cs : Cells) (ts ms ds hs : List ℕ) (n : ℕ) (cs′ : Cells) (ts′ ms′ ds′ hs′ : List ℕ)
     (o : Opened (opening script cs ts ms ds hs) n cs cs′ ts ts′ ms ms′ ds ds′ hs hs′) (k k′ : Arrays)

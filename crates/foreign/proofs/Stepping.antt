@@ -54,7 +54,7 @@ module _ (ds : List ℕ) (cs : Cells) (ts ms hs : List ℕ) (k : Arrays) (d : De
 
     -- its held values are stored
     module _ (hs′ : List ℕ) (stored : hs′ ≡ sets hs 0 (heldWords kept)) (long : length (kept .values) ≡ 64)
-        (issues : (i : ℕ) → i < 64 → heldAt kept i .value .issue < 256) where
+        (issues : (i : ℕ) → i < 64 → heldAt kept i .pair .value .issue < 256) where
       back : wordsHeld hs′ ≡ kept
       back =
           let p = parts (lent d cs ts ms′ kept) still in
@@ -94,7 +94,7 @@ module _ (ds : List ℕ) (cs : Cells) (ts ms hs : List ℕ) (k : Arrays) (d : De
       step-few = left-few (R .state) (R .words) R-sound ms′ ws′ (t .held) step-left
 
       pub step-taken : (hs′ : List ℕ) → hs′ ≡ sets hs 0 (heldWords (t .held)) → length (t .held .values) ≡ 64 →
-          ((j : ℕ) → j < 64 → heldAt (t .held) j .value .issue < 256) → (n : ℕ) (ns′ : List ℕ) (q′ : ℕ) →
+          ((j : ℕ) → j < 64 → heldAt (t .held) j .pair .value .issue < 256) → (n : ℕ) (ns′ : List ℕ) (q′ : ℕ) →
           Told (answerOf (t .answer)) n ns′ q′ → StepTaken R n ns′ q′ ds cs ts k ms′ ws′ hs hs′
       step-taken hs′ stored long issues n ns′ q′ told =
           record {
@@ -118,5 +118,5 @@ module _ (ds : List ℕ) (cs : Cells) (ts ms hs : List ℕ) (k : Arrays) (d : De
       run-few = left-few (l .state) (l .words) l-sound ms′ ws′ kept run-left
 
       pub run-made : (hs′ : List ℕ) → hs′ ≡ sets hs 0 (heldWords kept) → length (kept .values) ≡ 64 →
-          ((j : ℕ) → j < 64 → heldAt kept j .value .issue < 256) → RunMade l ds cs ts k ms′ ws′ hs hs′
+          ((j : ℕ) → j < 64 → heldAt kept j .pair .value .issue < 256) → RunMade l ds cs ts k ms′ ws′ hs hs′
       run-made = left-kept (l .state) (l .words) l-sound ms′ ws′ kept run-left

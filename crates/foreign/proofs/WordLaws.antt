@@ -14,7 +14,7 @@ use Rattle.state.specs.declared.design.Column.{Column}
 use Rattle.state.specs.declared.design.Constraint.{Constraint}
 use Rattle.state.specs.declared.design.Filling.{Filling}
 use Rattle.state.specs.declared.design.Design.{Design}
-use Rattle.state.specs.declared.held.HeldValue.{HeldValue}
+use Rattle.state.specs.declared.held.OwnedValue.{OwnedValue}
 use Rattle.state.specs.declared.held.Held.{Held}
 use Rattle.state.specs.Design.{noTable, noConstraint, noFilling, tableAt, constraintAt, fillingAt}
 use Rattle.state.specs.Held.{noValue, heldAt}
@@ -40,8 +40,8 @@ length-constraints = length-places 16 4 noConstraint constraintWords (λ c. refl
 length-fillings : (fs : List Filling) → length (fillingsWords fs) ≡ 32
 length-fillings = length-places 8 4 noFilling fillingWords (λ f. refl)
 
-length-values : (vs : List HeldValue) → length (valuesWords vs) ≡ 192
-length-values = length-places 64 3 noValue valueWords (λ v. refl)
+length-values : (vs : List OwnedValue) → length (valuesWords vs) ≡ 256
+length-values = length-places 64 4 noValue valueWords (λ v. refl)
 
 pub length-design : (d : Design) → length (designWords d) ≡ 116
 unfolding designWords
@@ -57,7 +57,7 @@ length-design d =
       length-fillings (d .filling),
     )
 
-pub length-held : (h : Held) → length (heldWords h) ≡ 193
+pub length-held : (h : Held) → length (heldWords h) ≡ 258
 unfolding heldWords
 length-held h = omega (arith, length-values (h .values))
 
@@ -76,9 +76,9 @@ stored-design d l x y z u p q r s =
     ap (λ (m : List ℕ). sets m 20 (c ++ e)) q ∙ sets-then b (c ++ e) x 4 20 (omega (arith, length-tables (d .table))) ∙
     ap (λ (m : List ℕ). sets m 4 (b ++ (c ++ e))) p ∙ sets-then a (b ++ (c ++ e)) l 0 4 refl
 
-pub stored-held : (h : Held) (l x : List ℕ) → x ≡ sets (set l 0 (h .count)) 1 (valuesWords (h .values)) → x ≡ sets l 0 (heldWords h)
+pub stored-held : (h : Held) (l x y : List ℕ) → x ≡ sets l 0 (h .desk ∷ h .count ∷ []) → y ≡ sets x 2 (valuesWords (h .values)) → y ≡ sets l 0 (heldWords h)
 unfolding heldWords
-stored-held h l x e = e
+stored-held h l x y p q = stored-behind l x y 0 (h .desk) (h .count) (valuesWords (h .values)) p q
 
 -- ---- how they are read, part by part
 
@@ -89,9 +89,10 @@ unfolding wordsDesign
 design-is ws a b c e ts cs fs p q r s t u v =
     λ x. record { tables = p x; table = q x; constraints = r x; constraint = s x; fillings = t x; filling = u x; rows = v x }
 
-pub held-is : (ws : List ℕ) (n : ℕ) (vs : List HeldValue) → n ≡ wordAt ws 0 → vs ≡ valuesFrom ws → record { count = n; values = vs } ≡ wordsHeld ws
+pub held-is : (ws : List ℕ) (d n : ℕ) (vs : List OwnedValue) → d ≡ byteOf ws 0 → n ≡ wordAt ws 1 → vs ≡ valuesFrom ws →
+    record { desk = d; count = n; values = vs } ≡ wordsHeld ws
 unfolding wordsHeld
-held-is ws n vs p q = λ x. record { count = p x; values = q x }
+held-is ws d n vs o p q = λ x. record { desk = o x; count = p x; values = q x }
 
 -- ---- reading them back
 
@@ -108,8 +109,12 @@ NarrowConstraint c = NarrowColumn (c .source) × NarrowColumn (c .target)
 abbrev pub NarrowFilling : Filling → Type 0
 NarrowFilling f = NarrowColumn (f .column)
 
-abbrev pub NarrowValue : HeldValue → Type 0
-NarrowValue v = (v .filling < 256) × (v .value .issue < 256)
+abbrev pub NarrowValue : OwnedValue → Type 0
+NarrowValue v = (v .desk < 256) × (v .pair .filling < 256) × (v .pair .value .issue < 256)
+
+-- the named desk too
+abbrev pub NarrowHeld : Held → Type 0
+NarrowHeld h = (h .desk < 256) × ((i : ℕ) → i < 64 → NarrowValue (heldAt h i))
 
 pub record NarrowDesign (d : Design) : Type 0 where
   pub table : (i : ℕ) → i < 8 → NarrowTable (tableAt d i)
@@ -133,11 +138,14 @@ module _ (s : List ℕ) (i : ℕ) where
   column-back k h n =
       λ x. record { table = byte-back s _ i h 0 i (omega arith) (omega arith) (n .0) x; place = byte-back s _ i h 1 (i + 1) (omega arith) refl (n .1) x }
 
-  value-back : (v : HeldValue) → Stands s i (valueWords v) → NarrowValue v → v ≡ valueFrom s i
+  value-back : (v : OwnedValue) → Stands s i (valueWords v) → NarrowValue v → v ≡ valueFrom s i
   value-back v h n =
       λ x. record {
-        filling = byte-back s _ i h 0 i (omega arith) (omega arith) (n .0) x;
-        value = record { number = word-back s _ i h 1 (i + 1) (omega arith) refl x; issue = byte-back s _ i h 2 (i + 2) (omega arith) refl (n .1) x };
+        desk = byte-back s _ i h 0 i (omega arith) (omega arith) (n .0) x;
+        pair = record {
+          filling = byte-back s _ i h 1 (i + 1) (omega arith) refl (n .1) x;
+          value = record { number = word-back s _ i h 2 (i + 2) (omega arith) refl x; issue = byte-back s _ i h 3 (i + 3) (omega arith) refl (n .2) x };
+        };
       }
 
 constraint-back : (s : List ℕ) (i : ℕ) (c : Constraint) → Stands s i (constraintWords c) → NarrowConstraint c → c ≡ constraintFrom s i
@@ -212,20 +220,20 @@ module _ (d : Design) (s : List ℕ) (h : Stands s 0 (designWords d)) where
         sym (design-is s _ _ _ _ _ _ _ (count-back 0 (omega arith)) tables-back (count-back 1 (omega arith)) constraints-back (count-back 2 (omega arith))
         fillings-back (count-back 3 (omega arith)))
 
-module _ (h : Held) (z : length (h .values) ≡ 64) (n : (i : ℕ) → i < 64 → NarrowValue (heldAt h i)) where
+module _ (h : Held) (z : length (h .values) ≡ 64) (n : NarrowHeld h) where
   held-stands : (s : List ℕ) → Stands s 0 (heldWords h) → wordsHeld s ≡ h
   unfolding heldWords
   held-stands s e =
-      let first : List ℕ = h .count ∷ [] in let rest = valuesWords (h .values) in
-      let behind = stands-part s _ first rest [] 0 1 e (ap (λ (l : List ℕ). first ++ l) (sym (append-nil rest))) refl in
-      sym (held-is s _ _ (word-back s _ 0 e 0 0 (omega arith) refl)
-      (places-back 64 1 3 noValue valueWords valueFrom NarrowValue (λ v. refl) value-back s (h .values) behind z n))
+      let first : List ℕ = h .desk ∷ h .count ∷ [] in let rest = valuesWords (h .values) in
+      let behind = stands-part s _ first rest [] 0 2 e (ap (λ (l : List ℕ). first ++ l) (sym (append-nil rest))) refl in
+      sym (held-is s _ _ _ (byte-back s _ 0 e 0 0 (omega arith) refl (n .0)) (word-back s _ 0 e 1 1 (omega arith) refl)
+      (places-back 64 2 4 noValue valueWords valueFrom NarrowValue (λ v. refl) value-back s (h .values) behind z (n .1)))
 
   pub held-back : (rest : List ℕ) → wordsHeld (heldWords h ++ rest) ≡ h
   held-back rest = held-stands _ (stands-first (heldWords h) rest)
 
   -- also where they were stored
-  pub held-stored : (l : List ℕ) → 193 ≤ length l → wordsHeld (sets l 0 (heldWords h)) ≡ h
+  pub held-stored : (l : List ℕ) → 258 ≤ length l → wordsHeld (sets l 0 (heldWords h)) ≡ h
   held-stored l m = ap wordsHeld (sets-eq (heldWords h) l 0 (omega (arith, length-held h))) ∙ held-back (drop (0 + length (heldWords h)) l)
 
 module _ (d : Design) (z : Sized d) (n : NarrowDesign d) where

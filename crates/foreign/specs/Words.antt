@@ -1,5 +1,5 @@
--- A design and held values as lists of u32 words, 116 and 193 of them, and the design and held values that such a list stands for. The words of a
--- design are its four counts, then each table, constraint and filling; those of held values the count, then each pair. Assumes nothing.
+-- A design and held values as lists of u32 words, 116 and 258 of them, and the design and held values that such a list stands for. The words of a
+-- design are its four counts, then each table, constraint and filling; those of held values the named desk, the count, then each value with its desk. Assumes nothing.
 use Prim.Native.Nat.{ℕ, _+_, _*_, _%_}
 use mathlib.Core.Bool.{true}
 use mathlib.Core.List.{List, [], _∷_, _++_}
@@ -10,7 +10,7 @@ use Rattle.state.specs.declared.design.Column.{Column}
 use Rattle.state.specs.declared.design.Constraint.{Constraint}
 use Rattle.state.specs.declared.design.Filling.{Filling}
 use Rattle.state.specs.declared.design.Design.{Design}
-use Rattle.state.specs.declared.held.HeldValue.{HeldValue}
+use Rattle.state.specs.declared.held.OwnedValue.{OwnedValue}
 use Rattle.state.specs.declared.held.Held.{Held}
 use Rattle.state.specs.Design.{noTable, noConstraint, noFilling}
 use Rattle.state.specs.Held.{noValue}
@@ -20,7 +20,7 @@ abbrev pub designLength : ℕ
 designLength = 116
 
 abbrev pub heldLength : ℕ
-heldLength = 193
+heldLength = 258
 
 -- ---- to words
 
@@ -33,8 +33,8 @@ constraintWords c = c .source .table ∷ c .source .place ∷ c .target .table �
 abbrev pub fillingWords : Filling → List ℕ
 fillingWords f = f .column .table ∷ f .column .place ∷ f .low ∷ f .high ∷ []
 
-abbrev pub valueWords : HeldValue → List ℕ
-valueWords v = v .filling ∷ v .value .number ∷ v .value .issue ∷ []
+abbrev pub valueWords : OwnedValue → List ℕ
+valueWords v = v .desk ∷ v .pair .filling ∷ v .pair .value .number ∷ v .pair .value .issue ∷ []
 
 abbrev pub countsWords : Design → List ℕ
 countsWords d = d .tables ∷ d .constraints ∷ d .fillings ∷ d .rows ∷ []
@@ -52,14 +52,14 @@ constraintsWords = placesWords 16 noConstraint constraintWords
 abbrev pub fillingsWords : List Filling → List ℕ
 fillingsWords = placesWords 8 noFilling fillingWords
 
-abbrev pub valuesWords : List HeldValue → List ℕ
+abbrev pub valuesWords : List OwnedValue → List ℕ
 valuesWords = placesWords 64 noValue valueWords
 
 unfoldable pub designWords : Design → List ℕ
 designWords d = countsWords d ++ (tablesWords (d .table) ++ (constraintsWords (d .constraint) ++ fillingsWords (d .filling)))
 
 unfoldable pub heldWords : Held → List ℕ
-heldWords h = h .count ∷ valuesWords (h .values)
+heldWords h = h .desk ∷ h .count ∷ valuesWords (h .values)
 
 -- ---- from words
 
@@ -82,8 +82,12 @@ constraintFrom ws i = record { source = columnFrom ws i; target = columnFrom ws 
 abbrev pub fillingFrom : List ℕ → ℕ → Filling
 fillingFrom ws i = record { column = columnFrom ws i; low = wordAt ws (i + 2); high = wordAt ws (i + 3) }
 
-abbrev pub valueFrom : List ℕ → ℕ → HeldValue
-valueFrom ws i = record { filling = byteOf ws i; value = record { number = wordAt ws (i + 1); issue = byteOf ws (i + 2) } }
+abbrev pub valueFrom : List ℕ → ℕ → OwnedValue
+valueFrom ws i =
+    record {
+      desk = byteOf ws i;
+      pair = record { filling = byteOf ws (i + 1); value = record { number = wordAt ws (i + 2); issue = byteOf ws (i + 3) } };
+    }
 
 -- the n places of an array, each of w words, the first at word a
 abbrev pub placesFrom : {A : Type 0} → ℕ → ℕ → ℕ → (List ℕ → ℕ → A) → List ℕ → List A
@@ -98,8 +102,8 @@ constraintsFrom = placesFrom 16 20 4 constraintFrom
 abbrev pub fillingsFrom : List ℕ → List Filling
 fillingsFrom = placesFrom 8 84 4 fillingFrom
 
-abbrev pub valuesFrom : List ℕ → List HeldValue
-valuesFrom = placesFrom 64 1 3 valueFrom
+abbrev pub valuesFrom : List ℕ → List OwnedValue
+valuesFrom = placesFrom 64 2 4 valueFrom
 
 unfoldable pub wordsDesign : List ℕ → Design
 wordsDesign ws =
@@ -114,4 +118,4 @@ wordsDesign ws =
     }
 
 unfoldable pub wordsHeld : List ℕ → Held
-wordsHeld ws = record { count = wordAt ws 0; values = valuesFrom ws }
+wordsHeld ws = record { desk = byteOf ws 0; count = wordAt ws 1; values = valuesFrom ws }

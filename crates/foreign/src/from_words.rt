@@ -11,6 +11,7 @@ use state::Design;
 use state::Filling;
 use state::Held;
 use state::HeldValue;
+use state::OwnedValue;
 use state::Table;
 
 // A word where a u8 is kept. Constant time, as are the next five.
@@ -66,15 +67,17 @@ fn filling_from(words: &[u32], at: usize) -> Filling
     Filling { column, low, high }
 }
 
-fn value_from(words: &[u32], at: usize) -> HeldValue
-    requires { ⌜ at + 3 ≤ length (now words) ⌝ }
+fn value_from(words: &[u32], at: usize) -> OwnedValue
+    requires { ⌜ at + 4 ≤ length (now words) ⌝ }
     ensures { λ v. ⌜ v ≡ valueFrom (now (words .entry)) at ⌝ }
 {
-    let filling = byte_at(words, at);
-    let number = words[at + 1];
-    let issue = byte_at(words, at + 2);
+    let desk = byte_at(words, at);
+    let filling = byte_at(words, at + 1);
+    let number = words[at + 2];
+    let issue = byte_at(words, at + 3);
     let value = Cell { number, issue };
-    HeldValue { filling, value }
+    let pair = HeldValue { filling, value };
+    OwnedValue { desk, pair }
 }
 
 // All places of an array. One step for each.
@@ -126,19 +129,22 @@ fn fillings_from(words: &[u32]) -> [Filling; 8]
     fs
 }
 
-fn values_from(words: &[u32]) -> [HeldValue; 64]
-    requires { ⌜ 193 ≤ length (now words) ⌝ }
+fn values_from(words: &[u32]) -> [OwnedValue; 64]
+    requires { ⌜ 258 ≤ length (now words) ⌝ }
     ensures { λ vs. ⌜ vs ≡ valuesFrom (now (words .entry)) ⌝ }
 {
-    let mut vs = [HeldValue {
-        filling: 0,
-        value: Cell {
-            number: 0,
-            issue: 0,
+    let mut vs = [OwnedValue {
+        desk: 0,
+        pair: HeldValue {
+            filling: 0,
+            value: Cell {
+                number: 0,
+                issue: 0,
+            },
         },
     }; 64];
     for i in 0..64usize {
-        let v = value_from(words, 1 + 3 * i);
+        let v = value_from(words, 2 + 4 * i);
         vs[i] = v;
     }
     vs
@@ -167,12 +173,17 @@ pub(crate) fn design_from(words: &[u32]) -> Design
     }
 }
 
-// The held values that the first 193 words stand for. One step for each of their 64 places.
+// The held values that the first 258 words stand for. One step for each of their 64 places.
 pub(crate) fn held_from(words: &[u32]) -> Held
-    requires { ⌜ 193 ≤ length (now words) ⌝ }
+    requires { ⌜ 258 ≤ length (now words) ⌝ }
     ensures { λ h. ⌜ h ≡ wordsHeld (now (words .entry)) ⌝ }
 {
-    let count = count_at(words, 0);
+    let desk = byte_at(words, 0);
+    let count = count_at(words, 1);
     let values = values_from(words);
-    Held { count, values }
+    Held {
+        desk,
+        count,
+        values,
+    }
 }

@@ -26,7 +26,7 @@ use state::Held;
 // How many words a design takes, and held values.
 const DESIGN_WORDS: usize = 116;
 
-const HELD_WORDS: usize = 193;
+const HELD_WORDS: usize = 258;
 
 // Reads a design into lent buffers and makes the catalog of its rows: 0, or the cause of its refusal, which leaves all of them as they were. The cost
 // of `read_catalogued`.

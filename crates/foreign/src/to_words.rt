@@ -11,7 +11,7 @@ use state::Constraint;
 use state::Design;
 use state::Filling;
 use state::Held;
-use state::HeldValue;
+use state::OwnedValue;
 use state::Table;
 
 // Two words, and four, from word `at` on. Constant time, as are the next five.
@@ -64,13 +64,20 @@ fn put_filling(words: &mut [u32], at: usize, f: Filling)
 }
 
 // The issue is a byte, as its type says: a word that is read as a byte gives it back.
-fn put_value(words: &mut [u32], at: usize, v: HeldValue)
-    requires { ⌜ at + 3 ≤ length (now words) ⌝ }
-    ensures { λ _. ⌜ (now (words .exit) ≡ sets (now (words .entry)) at (valueWords v)) × (v .value .issue < 256) ⌝ }
+fn put_value(words: &mut [u32], at: usize, v: OwnedValue)
+    requires { ⌜ at + 4 ≤ length (now words) ⌝ }
+    ensures { λ _. ⌜ (now (words .exit) ≡ sets (now (words .entry)) at (valueWords v)) × (v .pair .value .issue < 256) ⌝ }
 {
-    let value = v.value;
-    put_two(words, at, v.filling as u32, value.number);
-    words[at + 2] = value.issue as u32;
+    let pair = v.pair;
+    let value = pair.value;
+    put_four(
+        words,
+        at,
+        v.desk as u32,
+        pair.filling as u32,
+        value.number,
+        value.issue as u32,
+    );
 }
 
 // The four counts of a design.
@@ -116,12 +123,12 @@ fn put_fillings(fs: [Filling; 8], words: &mut [u32])
     }
 }
 
-fn put_values(vs: [HeldValue; 64], words: &mut [u32])
-    requires { ⌜ 193 ≤ length (now words) ⌝ }
-    ensures { λ _. ⌜ (now (words .exit) ≡ sets (now (words .entry)) 1 (valuesWords vs)) × ((i : ℕ) → i < 64 → getD vs i noValue .value .issue < 256) ⌝ }
+fn put_values(vs: [OwnedValue; 64], words: &mut [u32])
+    requires { ⌜ 258 ≤ length (now words) ⌝ }
+    ensures { λ _. ⌜ (now (words .exit) ≡ sets (now (words .entry)) 2 (valuesWords vs)) × ((i : ℕ) → i < 64 → getD vs i noValue .pair .value .issue < 256) ⌝ }
 {
     for i in 0..64usize {
-        put_value(words, 1 + 3 * i, vs[i]);
+        put_value(words, 2 + 4 * i, vs[i]);
     }
 }
 
@@ -139,13 +146,13 @@ pub(crate) fn put_design(d: Design, words: &mut [u32])
     put_fillings(filling, words);
 }
 
-// The held values as the first 193 words; their array has 64 places, and their issues are bytes, as their types say. One step for each place.
+// The held values as the first 258 words; their array has 64 places, and their issues are bytes, as their types say. One step for each place.
 pub(crate) fn put_held(h: Held, words: &mut [u32])
-    requires { ⌜ (193 ≤ length (now words)) × (h .count ≤ 64) ⌝ }
+    requires { ⌜ (258 ≤ length (now words)) × (h .count ≤ 64) ⌝ }
     ensures { λ _. ⌜ (now (words .exit) ≡ sets (now (words .entry)) 0 (heldWords h)) × (length (h .values) ≡ 64)
-        × ((i : ℕ) → i < 64 → heldAt h i .value .issue < 256) ⌝ }
+        × ((i : ℕ) → i < 64 → heldAt h i .pair .value .issue < 256) ⌝ }
 {
-    words[0] = h.count as u32;
+    put_two(words, 0, h.desk as u32, h.count as u32);
     let values = h.values;
     put_values(values, words);
 }

@@ -4,9 +4,10 @@ use Rattle.foreign.proofs.from_words.value_from.Statement.{statement}
 use Rattle.foreign.proofs.from_words.value_from.Tie as tie
 
 returns : tie.Need-returns
-returns c = cc (c .before .before .byte-at .ensures, c .byte-at2 .ensures)
+returns c = cc (c .before .before .before .byte-at .ensures, c .before .before .byte-at2 .ensures, c .byte-at3 .ensures)
 
 pub value-from-spec : {M : Type 1} → statement M
 value-from-spec =
     tie.close
-    (tie.spec (λ c κs. search needs) (λ c. search needs) (λ c. search needs) (λ c. search needs) (λ c. search needs) (λ c κs. search needs) returns)
+    (tie.spec (λ c κs. search needs) (λ c. search needs) (λ c κs. search needs) (λ c. search needs) (λ c. search needs) (λ c. search needs) (λ c. search needs)
+    (λ c κs. search needs) returns)

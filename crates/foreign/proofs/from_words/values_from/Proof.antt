@@ -12,7 +12,7 @@ use Rattle.foreign.proofs.from_words.values_from.Tie as tie
 pub values-from-spec : {M : Type 1} → statement M
 values-from-spec =
     tie.close
-    (tie.spec (λ words vs₀ i₀ vs i. Reading 64 1 3 noValue valueFrom words vs₀ vs i) (λ words vs₀ i₀ vs i. 64 - i)
+    (tie.spec (λ words vs₀ i₀ vs i. Reading 64 2 4 noValue valueFrom words vs₀ vs i) (λ words vs₀ i₀ vs i. 64 - i)
     (λ c. reading-start refl) (λ c. search needs) (λ c. omega arith) (λ c κs. omega arith) (λ c. search needs) (λ c. search needs)
     (λ c. omega arith) (λ c. omega arith)
     (λ c. reading-more (c .before .before .loop .inv) (c .before .loop-test .taken) (c .value-from .ensures))

@@ -13,7 +13,7 @@ use Rattle.foreign.proofs.to_words.put_values.Tie as tie
 pub put-values-spec : {M : Type 1} → statement M
 put-values-spec =
     tie.close
-    (tie.spec (λ words₀ vs i₀ words i. Storing 64 1 3 noValue valueWords vs words₀ words i × ((j : ℕ) → j < i → getD vs j noValue .value .issue < 256)) (λ words₀ vs i₀ words i. 64 - i)
+    (tie.spec (λ words₀ vs i₀ words i. Storing 64 2 4 noValue valueWords vs words₀ words i × ((j : ℕ) → j < i → getD vs j noValue .pair .value .issue < 256)) (λ words₀ vs i₀ words i. 64 - i)
     (λ c. (storing-start, λ j l. absurd (omega arith))) (λ c. search needs) (λ c. omega arith) (λ c. search needs) (λ c. search needs) (λ c κs. omega arith) (λ c. omega arith)
     (λ c. omega arith)
     (λ c. (
