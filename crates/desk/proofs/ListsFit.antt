@@ -12,13 +12,13 @@ use Rattle.model.specs.Cell.{numberless}
 use Rattle.model.specs.Scheme.{Scheme, isColumn, candidate}
 use Rattle.model.specs.Database.{Database}
 use Rattle.model.specs.Probe
-use Rattle.model.specs.Holding.{Pair, holds, hasRoom, heldIn}
+use Rattle.model.specs.Holding.{desks, Pair, holds, hasRoom, heldIn}
 use Rattle.model.specs.Even.{lowestUneven}
 use Rattle.model.specs.Knot.{isUnevenScheme}
-use Rattle.model.specs.Runs.{Question, probe, evenness, smallestKnot, asLists, asTotal, refer, drop, outputFits, withinLimit, marked, Cache}
+use Rattle.model.specs.Runs.{Question, probe, evenness, smallestKnot, asLists, asTotal, refer, drop, name, outputFits, withinLimit, marked, Cache}
 use Rattle.model.specs.Query as Q
 use Rattle.model.specs.Query.{joinsOf, operandsFit, wordsOf, fullLists, fullTotal, mostJoins}
-use Rattle.model.specs.Answers.{Answer, held, noCandidate, ground, sent, lists, even, uneven, knot, evenAnswer, knotAnswer, shown, hasLists, unless, orAnswer, questionAnswer, isAnswered, fullAnswer, queryAnswer, answer}
+use Rattle.model.specs.Answers.{Answer, held, noCandidate, ground, sent, lists, even, uneven, knot, named, evenAnswer, knotAnswer, shown, hasLists, unless, orAnswer, questionAnswer, isAnswered, fullAnswer, queryAnswer, answer}
 use Rattle.model.proofs.ListLaws.{fitting-words}
 use Rattle.state.specs.declared.design.Table as State-table
 use Rattle.state.specs.declared.design.Constraint as State-constraint
@@ -81,6 +81,10 @@ module _ (p room : ℕ) where
     question-within evenness = or-within (ltb (lowestUneven S) (S .constraints)) (uneven _ _) even (λ h. clash h refl) (λ h. clash h refl)
     question-within smallestKnot = or-within (isUnevenScheme S) (knot _) even (λ h. clash h refl) (λ h. clash h refl)
 
+    name-within : (d : ℕ) → Within (answer S D c (name d))
+    unfolding answer hasLists shown
+    name-within d = unless-within (not (ltb d desks)) 5 (named d) (λ _ h. clash h refl)
+
     module _ (q : Q.Query) (four : length (q .pairs) ≡ 4) (positions : q .joins + 1 ≡ p) where
       -- as many lists as there are
       all-within : operandsFit S q ≡ true → length (wordsOf (fullLists S D q)) ≤ room → length (fullLists S D q) * p ≤ room
@@ -128,26 +132,28 @@ module _ (s : State) (words script : List ℕ) (i : ℕ) where
   -- the operation at place i of the byte b, whose value has the issue w
   issued-within : (b w : ℕ) → Here (answerAt s (operationOf (issuedAt b script w i) (length words)))
   unfolding answerAt answer issuedAt
-  issued-within b w = go (eqb b 0x10) (eqb b 0x11) (eqb b 0x12) (eqb b 0x14) (eqb b 0x15) (eqb b 0x1C)
+  issued-within b w = go (eqb b 0x10) (eqb b 0x11) (eqb b 0x12) (eqb b 0x14) (eqb b 0x15) (eqb b 0x17) (eqb b 0x1C)
     where
-      op : Bool → Bool → Bool → Bool → Bool → Bool → Operation
-      op x y z v t k =
+      op : Bool → Bool → Bool → Bool → Bool → Bool → Bool → Operation
+      op x y z v t d k =
           cond x (O.Refer (heldValueAt script w i))
           (cond y (O.Drop (heldValueAt script w i))
           (cond z (O.Probe (columnAt script (i + 1)) (valueAt script w (i + 3)))
           (cond v O.Evenness
           (cond t (O.Total (totalAt script w i))
+          (cond d (O.Name (byteAt script (i + 1)))
           (cond k O.SmallestKnot
-          (O.Query (queryAt script w i)))))))
+          (O.Query (queryAt script w i))))))))
 
-      go : (x y z v t k : Bool) → Here (answerAt s (operationOf (op x y z v t k) (length words)))
-      go true y z v t k = guarded-within _ (refer-within _ _ (scheme s) (database s) (cache s) _)
-      go false true z v t k = guarded-within _ (drop-within _ _ (scheme s) (database s) (cache s) _)
-      go false false true v t k = guarded-within _ (question-within _ _ (scheme s) (database s) (cache s) _)
-      go false false false true t k = guarded-within _ (question-within _ _ (scheme s) (database s) (cache s) _)
-      go false false false false true k = guarded-within _ (total-within _ _ (scheme s) (database s) (cache s) _ _ _)
-      go false false false false false true = guarded-within _ (question-within _ _ (scheme s) (database s) (cache s) _)
-      go false false false false false false = guarded-within _ (query-within _ _ (scheme s) (database s) (cache s) _ refl refl)
+      go : (x y z v t d k : Bool) → Here (answerAt s (operationOf (op x y z v t d k) (length words)))
+      go true y z v t d k = guarded-within _ (refer-within _ _ (scheme s) (database s) (cache s) _)
+      go false true z v t d k = guarded-within _ (drop-within _ _ (scheme s) (database s) (cache s) _)
+      go false false true v t d k = guarded-within _ (question-within _ _ (scheme s) (database s) (cache s) _)
+      go false false false true t d k = guarded-within _ (question-within _ _ (scheme s) (database s) (cache s) _)
+      go false false false false true d k = guarded-within _ (total-within _ _ (scheme s) (database s) (cache s) _ _ _)
+      go false false false false false true k = guarded-within _ (name-within _ _ (scheme s) (database s) (cache s) (byteAt script (i + 1)))
+      go false false false false false false true = guarded-within _ (question-within _ _ (scheme s) (database s) (cache s) _)
+      go false false false false false false false = guarded-within _ (query-within _ _ (scheme s) (database s) (cache s) _ refl refl)
 
   -- the operation at place i, whose byte is b
   operation-within : (b : ℕ) → Here (answerAt s (operationOf (operationAt b script i) (length words)))
