@@ -16,6 +16,7 @@ use state::Held;
 use state::HeldValue;
 use state::Join;
 use state::Operation;
+use state::OwnedValue;
 use state::Query;
 use state::Table;
 use state::is_blank;
@@ -126,13 +127,19 @@ fn with_held(mut h: Held, kind: usize, i: usize, v: usize) -> Held {
         h.count = v;
         return h;
     }
+    if kind == 14 {
+        h.desk = low_byte(v);
+        return h;
+    }
     if i < Held::PLACES {
         let number = low_word(v % 1000);
-        let issue = low_byte(v / 100000);
-        h.values[i] = HeldValue {
+        let issue = low_byte(v / 100000 % 100);
+        let pair = HeldValue {
             filling: low_byte(v / 1000 % 100),
             value: Cell { number, issue },
         };
+        let desk = low_byte(v / 10000000);
+        h.values[i] = OwnedValue { desk, pair };
     }
     h
 }
@@ -160,14 +167,14 @@ fn with_row(mut s: State, kind: usize, i: usize, v: usize) -> State {
     s
 }
 
-// Kinds: 0 a cell, 1 a row table, 2 a mark, 3 how many are held, 4 a held pair (100,000 × issue + 1,000 × filling + value), 5 to 8 how many tables,
-// constraints, fillings and rows, 9 the columns of table 0, 10 those of table 7, 11 the target table of constraint 1, then from 0.0, 12 low of filling
-// 0, 13 a cell's issue; any other, nothing.
+// Kinds: 0 a cell, 1 a row table, 2 a mark, 3 how many are held, 4 a held pair (10,000,000 × desk + 100,000 × issue + 1,000 × filling + value), 5 to 8
+// how many tables, constraints, fillings and rows, 9 the columns of table 0, 10 those of table 7, 11 the target table of constraint 1, then from 0.0,
+// 12 low of filling 0, 13 a cell's issue, 14 the named desk; any other, nothing.
 pub(crate) fn changed(mut s: State, kind: usize, i: usize, v: usize) -> State {
     if kind < 3 || kind == 13 {
         return with_row(s, kind, i, v);
     }
-    if kind < 5 {
+    if kind == 3 || kind == 4 || kind == 14 {
         let h = s.held;
         s.held = with_held(h, kind, i, v);
         return s;
@@ -257,6 +264,9 @@ fn same_value(a: Cell, b: Cell) -> bool {
 
 // Whether two records of held values are the same. One step for each place.
 fn same_held(a: Held, b: Held) -> bool {
+    if a.desk != b.desk {
+        return false;
+    }
     if a.count != b.count {
         return false;
     }
@@ -264,10 +274,15 @@ fn same_held(a: Held, b: Held) -> bool {
     while i < Held::PLACES {
         let x = a.values[i];
         let y = b.values[i];
-        if x.filling != y.filling {
+        let p = x.pair;
+        let q = y.pair;
+        if x.desk != y.desk {
             return false;
         }
-        if !same_value(x.value, y.value) {
+        if p.filling != q.filling {
+            return false;
+        }
+        if !same_value(p.value, q.value) {
             return false;
         }
         i += 1;

@@ -14,6 +14,9 @@ abbrev μ-loop : tie.MeasureT-loop
 returns : tie.Need-returns Inv-loop μ-loop
 returns c = tt
 
+returns-2 : tie.Need-returns-2 Inv-loop μ-loop
+returns-2 c = tt
+
 loop-holds : tie.Need-loop-holds Inv-loop μ-loop
 loop-holds c = tt
 
@@ -29,14 +32,17 @@ mul-y c = search needs
 element-copy-out-y : tie.Need-element-copy-out-y Inv-loop μ-loop
 element-copy-out-y c = search needs
 
-returns-2 : tie.Need-returns-2 Inv-loop μ-loop
-returns-2 c = tt
+returns-3 : tie.Need-returns-3 Inv-loop μ-loop
+returns-3 c = tt
+
+returns-4 : tie.Need-returns-4 Inv-loop μ-loop
+returns-4 c = tt
 
 same-value-requires : tie.Need-same-value-requires Inv-loop μ-loop
 same-value-requires c κs = search needs
 
-returns-3 : tie.Need-returns-3 Inv-loop μ-loop
-returns-3 c = tt
+returns-5 : tie.Need-returns-5 Inv-loop μ-loop
+returns-5 c = tt
 
 add-i : tie.Need-add-i Inv-loop μ-loop
 add-i c = omega arith
@@ -47,8 +53,8 @@ loop-less c = omega arith
 loop-again : tie.Need-loop-again Inv-loop μ-loop
 loop-again c = tt
 
-returns-4 : tie.Need-returns-4 Inv-loop μ-loop
-returns-4 c = tt
+returns-6 : tie.Need-returns-6 Inv-loop μ-loop
+returns-6 c = tt
 
 pub same-held-spec : {M : Type 1} → statement M
 same-held-spec =
@@ -57,15 +63,17 @@ same-held-spec =
     Inv-loop
     μ-loop
     returns
+    returns-2
     loop-holds
     mul-x
     element-copy-out-x
     mul-y
     element-copy-out-y
-    returns-2
-    same-value-requires
     returns-3
+    returns-4
+    same-value-requires
+    returns-5
     add-i
     loop-less
     loop-again
-    returns-4)
+    returns-6)
