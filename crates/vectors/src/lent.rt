@@ -133,12 +133,12 @@ fn with_held(mut h: Held, kind: usize, i: usize, v: usize) -> Held {
     }
     if i < Held::PLACES {
         let number = low_word(v % 1000);
-        let issue = low_byte(v / 100000 % 100);
+        let issue = low_byte(v / 100000 % 10);
         let pair = HeldValue {
             filling: low_byte(v / 1000 % 100),
             value: Cell { number, issue },
         };
-        let desk = low_byte(v / 10000000);
+        let desk = low_byte(v / 1000000);
         h.values[i] = OwnedValue { desk, pair };
     }
     h
@@ -167,7 +167,7 @@ fn with_row(mut s: State, kind: usize, i: usize, v: usize) -> State {
     s
 }
 
-// Kinds: 0 a cell, 1 a row table, 2 a mark, 3 how many are held, 4 a held pair (10,000,000 × desk + 100,000 × issue + 1,000 × filling + value), 5 to 8
+// Kinds: 0 a cell, 1 a row table, 2 a mark, 3 how many are held, 4 a held pair (1,000,000 × desk + 100,000 × issue + 1,000 × filling + value), 5 to 8
 // how many tables, constraints, fillings and rows, 9 the columns of table 0, 10 those of table 7, 11 the target table of constraint 1, then from 0.0,
 // 12 low of filling 0, 13 a cell's issue, 14 the named desk; any other, nothing.
 pub(crate) fn changed(mut s: State, kind: usize, i: usize, v: usize) -> State {

@@ -17,7 +17,7 @@ const ROWS: usize = 512;
 const DESIGN_WORDS: usize = 116;
 
 /// The words that the held values take.
-const HELD_WORDS: usize = 193;
+const HELD_WORDS: usize = 258;
 
 /// The catalog's arrays: for each cell, for each row and constraint, for each
 /// different value of a column twice, and for each column.
