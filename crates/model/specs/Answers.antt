@@ -7,19 +7,20 @@ use mathlib.Core.List.{List, [], _∷_}
 use lib.Dec.{eqb, leb, ltb}
 use lib.ListN.{length}
 use Rattle.finite.specs.Finite.{count}
-use Rattle.model.specs.Cell.{numberless}
-use Rattle.model.specs.Scheme.{candidate, Scheme, isColumn}
+use Rattle.model.specs.Cell.{Cell, numberless}
+use Rattle.model.specs.Scheme.{Column, candidate, Scheme, isColumn}
 use Rattle.model.specs.Database.{Database}
 use Rattle.model.specs.Probe
 use Rattle.model.specs.Rounds.{addedRows, laterRounds, reached}
 use Rattle.model.specs.Even.{unevenFrom, lowestUneven}
 use Rattle.model.specs.Knot.{isUnevenScheme, knotOf}
 use Rattle.model.specs.Holding.{desks, holds, hasRoom, withoutPair, heldIn}
-use Rattle.model.specs.Runs.{Question, probe, evenness, smallestKnot, Output, asLists, asTotal, Operation, refer, drop, ask, query, name, taken, pairFor, outputFits, withinLimit, marked, Cache, referLevels, reloadLevels}
+use Rattle.model.specs.Opener.{isOpen, lowestFilling, lowestNumber, lowestIssue}
+use Rattle.model.specs.Runs.{Question, probe, evenness, smallestKnot, opener, Output, asLists, asTotal, Operation, refer, drop, ask, query, name, taken, pairFor, outputFits, withinLimit, marked, Cache, referLevels, reloadLevels}
 use Rattle.model.specs.Query.{Query, wordsOf, fullLists, fullTotal}
 
 -- `loaded` rows rounds, `held`, `no candidate`, `dropped` rows, `ground` g rows, `sent`, `answer` lists, `refused` number; `even`, `uneven` i j (02, Req 01);
--- `total` n (02, Req 03); `knot` constraints (02, Req 11); `desk` d (02, Req 07)
+-- `total` n (02, Req 03); `knot` constraints (02, Req 11); `desk` d (02, Req 07); `open`, filling number issue, `none` (02, Req 09)
 pub data Answer : Type 0 where
   loaded : ℕ → ℕ → Answer
   held noCandidate : Answer
@@ -33,6 +34,9 @@ pub data Answer : Type 0 where
   total : ℕ → Answer
   knot : List ℕ → Answer
   named : ℕ → Answer
+  opened : Answer
+  openedBy : ℕ → ℕ → ℕ → Answer
+  noOpener : Answer
 
 -- an answer as the report shows it: its word, by number, and the numbers behind it. Whatever depends on what an answer is goes through this
 pub record Shown : Type 0 where
@@ -59,6 +63,9 @@ shown (uneven i j) = record { word = 9; numbers = i ∷ j ∷ [] }
 shown (total n) = record { word = 10; numbers = n ∷ [] }
 shown (knot ks) = record { word = 11; numbers = ks }
 shown (named d) = record { word = 12; numbers = d ∷ [] }
+shown opened = record { word = 13; numbers = [] }
+shown (openedBy f n i) = record { word = 14; numbers = f ∷ n ∷ i ∷ [] }
+shown noOpener = record { word = 15; numbers = [] }
 
 -- the answer has lists; the answer is a refusal
 unfoldable pub hasLists : Answer → Bool
@@ -92,6 +99,14 @@ evenAnswer S = orAnswer (ltb (lowestUneven S) (S .constraints)) (uneven (lowestU
 unfoldable pub knotAnswer : Scheme → Answer
 knotAnswer S = orAnswer (isUnevenScheme S) (knot (knotOf S)) even
 
+-- "`open` if the probe has a ground; else the lowest filling, then the lowest value, then issue, whose single reference would give one ..; else `none`"
+-- (02, Req 09)
+unfoldable pub openerAnswer : Scheme → Database → Cache → Column → Cell → Answer
+openerAnswer S D c k v =
+    let f = lowestFilling S D k v c in
+    let n = lowestNumber S D k v c f in
+    orAnswer (isOpen S D k v c) opened (orAnswer (ltb f (S .fillings)) (openedBy f n (lowestIssue S D k v c f n)) noOpener)
+
 -- what a question answers
 unfoldable pub questionAnswer : Scheme → Database → Cache → Question → Answer
 questionAnswer S D c (probe k v) =
@@ -100,6 +115,7 @@ questionAnswer S D c (probe k v) =
     (groundOf (Probe.probe S D (heldIn S (c .held)) (marked (c .marks)) k v) (Probe.cachedRows D (marked (c .marks)) k v)))
 questionAnswer S D c evenness = evenAnswer S
 questionAnswer S D c smallestKnot = knotAnswer S
+questionAnswer S D c (opener k v) = unless (not (isColumn S k)) 5 (unless (numberless v) 9 (openerAnswer S D c k v))
 
 -- ---- queries
 

@@ -10,6 +10,8 @@ pub mod Knot
 pub mod Holding
 pub mod Query
 pub mod Runs
+pub mod Opener
+pub mod Turned
 pub mod Answers
 pub mod Desks
 pub mod Demand
