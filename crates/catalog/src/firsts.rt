@@ -80,7 +80,7 @@ fn add_firsts(
 }
 
 // Stores the first rows that the constraints demand of each row, whatever stood there. One step for each constraint and row number.
-pub(crate) fn make_firsts(
+pub fn make_firsts(
     d: Design,
     cells: &[u32],
     issues: &[u8],

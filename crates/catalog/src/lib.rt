@@ -11,4 +11,5 @@ mod making;
 mod scanning;
 
 pub use finding::find;
+pub use firsts::make_firsts;
 pub use making::build;

@@ -148,6 +148,7 @@ operationOf O.Evenness room = Runs.ask Runs.evenness
 operationOf O.SmallestKnot room = Runs.ask Runs.smallestKnot
 operationOf (O.Total t) room = Runs.query (queryOf (t .query)) (Runs.asTotal (t .position) (t .column))
 operationOf (O.Name d) room = Runs.name d
+operationOf (O.Opener k v) room = Runs.ask (Runs.opener (columnOf k) (cellOf v))
 
 -- ---- sets of constraints
 
@@ -171,6 +172,9 @@ answerOf (A.Uneven i j) = Answers.uneven i j
 answerOf (A.Total n) = Answers.total n
 answerOf (A.Knot mask) = Answers.knot (maskMembers mask)
 answerOf (A.Named d) = Answers.named d
+answerOf A.Open = Answers.opened
+answerOf (A.OpenedBy f n i) = Answers.openedBy f n i
+answerOf A.NoOpener = Answers.noOpener
 
 -- an array of sixteen numbers, 0 behind the last
 abbrev pub sixteen : List ℕ → List ℕ

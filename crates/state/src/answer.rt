@@ -31,6 +31,10 @@ pub enum Answer {
     Knot(u16),
     // the desk that was named
     Named(u8),
+    Open,
+    // the filling, the number and the issue whose reference would give a ground
+    OpenedBy(u8, u32, u8),
+    NoOpener,
 }
 
 // An answer as the report shows it: its word, by number, how many numbers stand behind it, and these, 0 behind the last.
@@ -40,18 +44,26 @@ pub struct Shown {
     pub numbers: [u64; 16],
 }
 
-// A word with its numbers, of which there are at most two. Constant time, as are the other functions but `members`.
-fn words(word: u8, count: u8, first: u64, second: u64) -> Shown
-    ensures { λ s. ⌜ s ≡ record { word = word; count = count; numbers = sixteen (first ∷ second ∷ []) } ⌝ }
+// A word with its numbers, of which there are at most three. Constant time, as are the other functions but `members`.
+fn words_three(word: u8, count: u8, first: u64, second: u64, third: u64) -> Shown
+    ensures { λ s. ⌜ s ≡ record { word = word; count = count; numbers = sixteen (first ∷ second ∷ third ∷ []) } ⌝ }
 {
     let mut numbers = [0u64; 16];
     numbers[0] = first;
     numbers[1] = second;
+    numbers[2] = third;
     Shown {
         word,
         count,
         numbers,
     }
+}
+
+// The same with at most two.
+fn words(word: u8, count: u8, first: u64, second: u64) -> Shown
+    ensures { λ s. ⌜ s ≡ record { word = word; count = count; numbers = sixteen (first ∷ second ∷ []) } ⌝ }
+{
+    words_three(word, count, first, second, 0)
 }
 
 // Whether the mask has constraint e.
@@ -108,6 +120,9 @@ pub fn show(answer: Answer) -> Shown
         Answer::Total(n) => words(10, 1, n, 0),
         Answer::Knot(mask) => members(11, mask),
         Answer::Named(desk) => words(12, 1, desk as u64, 0),
+        Answer::Open => words(13, 0, 0, 0),
+        Answer::OpenedBy(f, n, i) => words_three(14, 3, f as u64, n as u64, i as u64),
+        Answer::NoOpener => words(15, 0, 0, 0),
     }
 }
 

@@ -39,4 +39,6 @@ pub enum Operation {
     SmallestKnot,
     // the desk for what follows
     Name(u8),
+    // the value whose reference would give the probe a ground
+    Opener(Column, Cell),
 }

@@ -100,6 +100,33 @@ cast-words-5 c = search needs
 words-requires-12 : tie.Need-words-requires-12
 words-requires-12 c κs = search needs
 
+enum-told-5 : tie.Need-enum-told-5
+enum-told-5 c = search needs
+
+words-requires-13 : tie.Need-words-requires-13
+words-requires-13 c κs = search needs
+
+enum-known-answer-10 : tie.Need-enum-known-answer-10
+enum-known-answer-10 c = search needs
+
+cast-words-three : tie.Need-cast-words-three
+cast-words-three c = search needs
+
+cast-words-three-2 : tie.Need-cast-words-three-2
+cast-words-three-2 c = search needs
+
+cast-words-three-3 : tie.Need-cast-words-three-3
+cast-words-three-3 c = search needs
+
+words-three-requires : tie.Need-words-three-requires
+words-three-requires c κs = search needs
+
+enum-told-6 : tie.Need-enum-told-6
+enum-told-6 c = search needs
+
+words-requires-14 : tie.Need-words-requires-14
+words-requires-14 c κs = search needs
+
 returns : tie.Need-returns
 unfolding shown tab
 returns c = shows-case (c .words .ensures) (c .before .before .answer .given .1) refl
@@ -152,6 +179,18 @@ returns-13 : tie.Need-returns-13
 unfolding shown tab
 returns-13 c = shows-case (c .words12 .ensures) (c .before .before .answer9 .given .1) refl
 
+returns-14 : tie.Need-returns-14
+unfolding shown tab
+returns-14 c = shows-case (c .words13 .ensures) (c .before .enum-told5 .given .1) refl
+
+returns-15 : tie.Need-returns-15
+unfolding shown tab
+returns-15 c = shows-case (c .words-three .ensures) (c .before .before .answer10 .given .1) refl
+
+returns-16 : tie.Need-returns-16
+unfolding shown tab
+returns-16 c = shows-case (c .words14 .ensures) (c .before .enum-told6 .given .1) refl
+
 pub show-spec : {M : Type 1} → statement M
 show-spec =
     tie.close
@@ -187,6 +226,15 @@ show-spec =
     enum-known-answer-9
     cast-words-5
     words-requires-12
+    enum-told-5
+    words-requires-13
+    enum-known-answer-10
+    cast-words-three
+    cast-words-three-2
+    cast-words-three-3
+    words-three-requires
+    enum-told-6
+    words-requires-14
     returns
     returns-2
     returns-3
@@ -199,4 +247,7 @@ show-spec =
     returns-10
     returns-11
     returns-12
-    returns-13)
+    returns-13
+    returns-14
+    returns-15
+    returns-16)
