@@ -1,0 +1,3 @@
+-- Turning: a design with its constraints turned round. Reading: the answer, read off the rows that lead on to one which would give a ground.
+pub mod Turning
+pub mod Reading
