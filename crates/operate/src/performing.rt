@@ -16,6 +16,7 @@ use cache::probe_lawful;
 use cache::refer_lawful;
 use even::evenness;
 use even::smallest_knot;
+use opener::opener_lawful;
 use state::Answer;
 use state::Design;
 use state::Held;
@@ -24,7 +25,8 @@ use state::Operation;
 // The operation on a state known sound, with the catalog of its rows: no test for causes 7 and 12. The last four arrays are working memory, whatever
 // stands in them. REFER costs one load, DROP one reload, PROBE a look for the value for each constraint that ends at the column, QUERY the probe of
 // its first position, a load if that has no ground and its value is taken, the counting of its lists and the writing of their words, and a total the same
-// with two sums by weights in place of the lists. Naming a desk costs a copy of the held values.
+// with two sums by weights in place of the lists. Naming a desk costs a copy of the held values. The value that would open a query costs its probe and,
+// without a ground, a search of the directory for each constraint and row, one load, and a pass over the rows for each filling.
 pub fn perform_lawful(
     op: Operation,
     design: Design,
@@ -149,6 +151,23 @@ pub fn perform_lawful(
             Outcome { held, answer }
         }
         Operation::Name(desk) => name_lawful(held, desk),
+        Operation::Opener(k, v) => {
+            let answer = opener_lawful(
+                design,
+                cells,
+                issues,
+                tables,
+                next,
+                keys,
+                heads,
+                starts,
+                marks,
+                held,
+                k,
+                v,
+            );
+            Outcome { held, answer }
+        }
     }
 }
 

@@ -56,6 +56,12 @@ enum-known-op-6 c = search needs
 name-lawful-requires : tie.Need-name-lawful-requires
 name-lawful-requires c κs = search needs
 
+enum-known-op-7 : tie.Need-enum-known-op-7
+enum-known-op-7 c = search needs
+
+opener-lawful-requires : tie.Need-opener-lawful-requires
+opener-lawful-requires c κs = search needs
+
 same-length : tie.Need-same-length
 same-length c = search needs
 
@@ -111,6 +117,15 @@ returns-8 c =
     let b = c .before .before .before .before .before .before .before .before .before in
     in-case _ _ _ _ _ _ _ _ (c .before .before .op6 .given .1) (name-performs _ (b .pre .0) _ _ _ _ (c .name-lawful .ensures _ _ _ _ (b .pre .0)))
 
+same-length-8 : tie.Need-same-length-8
+same-length-8 c = search needs
+
+returns-9 : tie.Need-returns-9
+returns-9 c =
+    let b = c .before .before .before .before .before .before .before .before .before .before in
+    in-case _ _ _ _ _ _ _ _ (c .before .before .before .op7 .given .1)
+    (ask-performs _ (b .pre .0) _ (held-sized (b .args .held) _ (b .good .1 .1 .1 .1 .1 .1 .1 .1 .1 .1 .1 .0)) _ _ (c .opener-lawful .ensures))
+
 pub perform-lawful-spec : {M : Type 1} → statement M
 perform-lawful-spec =
     tie.close
@@ -131,6 +146,8 @@ perform-lawful-spec =
     smallest-knot-requires
     enum-known-op-6
     name-lawful-requires
+    enum-known-op-7
+    opener-lawful-requires
     same-length
     returns
     same-length-2
@@ -145,4 +162,6 @@ perform-lawful-spec =
     same-length-7
     returns-6
     returns-7
-    returns-8)
+    returns-8
+    same-length-8
+    returns-9)
