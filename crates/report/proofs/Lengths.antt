@@ -20,7 +20,7 @@ use Rattle.report.proofs.Decimals.{decimal-short, decimal-short-32}
 
 -- ---- how long
 
-word-short : (w : ℕ) → length (wordText w) ≤ 12
+word-short : (w : ℕ) → length (wordText w) ≤ 13
 unfolding wordText
 word-short zero = omega arith
 word-short (suc zero) = omega arith
@@ -35,7 +35,10 @@ word-short (suc (suc (suc (suc (suc (suc (suc (suc (suc zero))))))))) = omega ar
 word-short (suc (suc (suc (suc (suc (suc (suc (suc (suc (suc zero)))))))))) = omega arith
 word-short (suc (suc (suc (suc (suc (suc (suc (suc (suc (suc (suc zero))))))))))) = omega arith
 word-short (suc (suc (suc (suc (suc (suc (suc (suc (suc (suc (suc (suc zero)))))))))))) = omega arith
-word-short (suc (suc (suc (suc (suc (suc (suc (suc (suc (suc (suc (suc (suc w))))))))))))) = omega arith
+word-short (suc (suc (suc (suc (suc (suc (suc (suc (suc (suc (suc (suc (suc zero))))))))))))) = omega arith
+word-short (suc (suc (suc (suc (suc (suc (suc (suc (suc (suc (suc (suc (suc (suc zero)))))))))))))) = omega arith
+word-short (suc (suc (suc (suc (suc (suc (suc (suc (suc (suc (suc (suc (suc (suc (suc zero))))))))))))))) = omega arith
+word-short (suc (suc (suc (suc (suc (suc (suc (suc (suc (suc (suc (suc (suc (suc (suc (suc w)))))))))))))))) = omega arith
 
 -- numbers, each behind a space
 spaced-short : (k : ℕ) (f : ℕ → ℕ) → length (collect k (λ _. true) (λ i. spaced (f i))) ≤ 21 * k
@@ -45,7 +48,7 @@ numbers-short : (ns : List ℕ) → length (numbersText ns) ≤ 21 * length ns
 unfolding numbersText
 numbers-short ns = spaced-short (length ns) (λ i. getD ns i 0)
 
-answer-short : (a : Answer) (place : ℕ) → length (answerText (answerOf a) place) ≤ 369
+answer-short : (a : Answer) (place : ℕ) → length (answerText (answerOf a) place) ≤ 370
 unfolding answerText
 answer-short a place =
     let s = shown (answerOf a) in
@@ -107,14 +110,14 @@ module _ (o o′ : List ℕ) (n z : ℕ) where
   pub spaced-reach-32 : (v : ℕ) → v < 2 ^ 32 → Wrote o o′ n z (spaced v) → z ≤ n + 11
   spaced-reach-32 v b = reach o o′ n z (spaced v) 11 (omega (arith, decimal-short-32 v b))
 
-  pub word-reach : (w : ℕ) → Wrote o o′ n z (wordText w) → z ≤ n + 12
-  word-reach w = reach o o′ n z (wordText w) 12 (word-short w)
+  pub word-reach : (w : ℕ) → Wrote o o′ n z (wordText w) → z ≤ n + 13
+  word-reach w = reach o o′ n z (wordText w) 13 (word-short w)
 
   pub numbers-reach : (k : ℕ) (ns : List ℕ) → Wrote o o′ n z (collect k (λ _. true) (λ i. spaced (getD ns i 0))) → z ≤ n + 21 * k
   numbers-reach k ns = reach o o′ n z _ (21 * k) (spaced-short k (λ i. getD ns i 0))
 
-  pub answer-reach : (a : Answer) (place : ℕ) → Wrote o o′ n z (answerText (answerOf a) place) → z ≤ n + 369
-  answer-reach a place = reach o o′ n z (answerText (answerOf a) place) 369 (answer-short a place)
+  pub answer-reach : (a : Answer) (place : ℕ) → Wrote o o′ n z (answerText (answerOf a) place) → z ≤ n + 370
+  answer-reach a place = reach o o′ n z (answerText (answerOf a) place) 370 (answer-short a place)
 
   pub command-line-reach : (number : ℕ) (a : Answer) (place : ℕ) → Wrote o o′ n z (commandLine number (answerOf a) place) → z ≤ n + 391
   command-line-reach number a place = reach o o′ n z (commandLine number (answerOf a) place) 391 (command-line-short number a place)

@@ -31,7 +31,7 @@ decimal n = decimalBy 20 n
 abbrev pub spaced : ℕ → List ℕ
 spaced n = space ∷ decimal n
 
--- "loaded", "held", "no candidate", "dropped", "ground", "sent", "answer", "refused", "even", "uneven", "total", "knot", "desk", "design"
+-- "loaded", "held", "no candidate", "dropped", "ground", "sent", "answer", "refused", "even", "uneven", "total", "knot", "desk", "open", "none", "design"
 abbrev pub loaded-word : List ℕ
 loaded-word = 108 ∷ 111 ∷ 97 ∷ 100 ∷ 101 ∷ 100 ∷ []
 
@@ -71,27 +71,38 @@ knot-word = 107 ∷ 110 ∷ 111 ∷ 116 ∷ []
 abbrev pub desk-word : List ℕ
 desk-word = 100 ∷ 101 ∷ 115 ∷ 107 ∷ []
 
+abbrev pub open-word : List ℕ
+open-word = 111 ∷ 112 ∷ 101 ∷ 110 ∷ []
+
+abbrev pub none-word : List ℕ
+none-word = 110 ∷ 111 ∷ 110 ∷ 101 ∷ []
+
 abbrev pub design-word : List ℕ
 design-word = 100 ∷ 101 ∷ 115 ∷ 105 ∷ 103 ∷ 110 ∷ []
 
--- the words of the answers, in the order of their numbers (`shown`)
+-- the words of the answers, in the order of their numbers (`shown`). One has none: "printed as these three numbers" (02, Req 09)
 abbrev pub answer-words : List (List ℕ)
-answer-words = loaded-word ∷ held-word ∷ no-candidate-words ∷ dropped-word ∷ ground-word ∷ sent-word ∷ answer-word ∷ refused-word ∷ even-word ∷ uneven-word ∷ total-word ∷ knot-word ∷ desk-word ∷ []
+answer-words = loaded-word ∷ held-word ∷ no-candidate-words ∷ dropped-word ∷ ground-word ∷ sent-word ∷ answer-word ∷ refused-word ∷ even-word ∷ uneven-word ∷ total-word ∷ knot-word ∷ desk-word ∷ open-word ∷ [] ∷ none-word ∷ []
+
+-- a space, then the word, if there is one
+abbrev pub spacedWord : List ℕ → List ℕ
+spacedWord [] = []
+spacedWord (x ∷ xs) = space ∷ x ∷ xs
 
 unfoldable pub wordText : ℕ → List ℕ
-wordText w = getD answer-words w []
+wordText w = spacedWord (getD answer-words w [])
 
 -- numbers, each behind a space
 unfoldable pub numbersText : List ℕ → List ℕ
 numbersText ns = collect (length ns) (λ _. true) (λ i. spaced (getD ns i 0))
 
--- an answer in words; the place goes with a refusal
+-- an answer: its word and its numbers, each behind a space; the place goes with a refusal
 unfoldable pub answerText : Answer → ℕ → List ℕ
 answerText a place = wordText (shown a .word) ++ (numbersText (shown a .numbers) ++ cond (isRefusal a) (spaced place) [])
 
 -- "for each command after END .. its number from 0 and" its answer
 unfoldable pub commandLine : ℕ → Answer → ℕ → List ℕ
-commandLine number a place = decimal number ++ ((space ∷ answerText a place) ++ (newline ∷ []))
+commandLine number a place = decimal number ++ (answerText a place ++ (newline ∷ []))
 
 -- "design with tables, constraints, fillings and rows"
 unfoldable pub designLine : Design → List ℕ

@@ -16,25 +16,29 @@ use state::Shown;
 use state::is_refusal;
 use state::show;
 
-// Writes the word of an answer, by its number: at most 12 bytes.
+// Writes the word of an answer, by its number, behind a space, if it has one: at most 13 bytes.
 fn put_word(out: &mut [u8], at: usize, word: u8) -> usize
-    requires { ⌜ at + 12 ≤ length (now out) ⌝ }
+    requires { ⌜ at + 13 ≤ length (now out) ⌝ }
     ensures { λ z. ⌜ Wrote (now (out .entry)) (now (out .exit)) at z (wordText word) ⌝ }
 {
     match word {
-        0 => put_bytes(out, at, b"loaded", 6),
-        1 => put_bytes(out, at, b"held", 4),
-        2 => put_bytes(out, at, b"no candidate", 12),
-        3 => put_bytes(out, at, b"dropped", 7),
-        4 => put_bytes(out, at, b"ground", 6),
-        5 => put_bytes(out, at, b"sent", 4),
-        6 => put_bytes(out, at, b"answer", 6),
-        7 => put_bytes(out, at, b"refused", 7),
-        8 => put_bytes(out, at, b"even", 4),
-        9 => put_bytes(out, at, b"uneven", 6),
-        10 => put_bytes(out, at, b"total", 5),
-        11 => put_bytes(out, at, b"knot", 4),
-        12 => put_bytes(out, at, b"desk", 4),
+        0 => put_bytes(out, at, b" loaded", 7),
+        1 => put_bytes(out, at, b" held", 5),
+        2 => put_bytes(out, at, b" no candidate", 13),
+        3 => put_bytes(out, at, b" dropped", 8),
+        4 => put_bytes(out, at, b" ground", 7),
+        5 => put_bytes(out, at, b" sent", 5),
+        6 => put_bytes(out, at, b" answer", 7),
+        7 => put_bytes(out, at, b" refused", 8),
+        8 => put_bytes(out, at, b" even", 5),
+        9 => put_bytes(out, at, b" uneven", 7),
+        10 => put_bytes(out, at, b" total", 6),
+        11 => put_bytes(out, at, b" knot", 5),
+        12 => put_bytes(out, at, b" desk", 5),
+        13 => put_bytes(out, at, b" open", 5),
+        // three numbers alone
+        14 => at,
+        15 => put_bytes(out, at, b" none", 5),
         _ => at,
     }
 }
@@ -54,9 +58,9 @@ fn put_numbers(out: &mut [u8], at: usize, shown: Shown) -> usize
     z
 }
 
-// Writes an answer in words; the place goes with a refusal. At most 369 bytes.
+// Writes an answer, behind a space; the place goes with a refusal. At most 370 bytes.
 fn put_answer(out: &mut [u8], at: usize, answer: Answer, place: usize) -> usize
-    requires { ⌜ at + 369 ≤ length (now out) ⌝ }
+    requires { ⌜ at + 370 ≤ length (now out) ⌝ }
     ensures { λ z. ⌜ Wrote (now (out .entry)) (now (out .exit)) at z (answerText (answerOf answer) place) ⌝ }
 {
     let s = show(answer);
@@ -80,9 +84,8 @@ pub fn put_command_line(
     ensures { λ z. ⌜ Wrote (now (out .entry)) (now (out .exit)) at z (commandLine number (answerOf answer) place) ⌝ }
 {
     let z = put_decimal(out, at, number as u64);
-    let y = put_byte(out, z, 32);
-    let x = put_answer(out, y, answer, place);
-    put_byte(out, x, 10)
+    let y = put_answer(out, z, answer, place);
+    put_byte(out, y, 10)
 }
 
 // Writes an accepted design's line: its counts. At most 91 bytes.

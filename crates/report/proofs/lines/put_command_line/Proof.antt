@@ -10,16 +10,13 @@ use Rattle.report.proofs.lines.put_command_line.Tie as tie
 put-decimal-requires : tie.Need-put-decimal-requires
 put-decimal-requires c κs = search needs
 
-put-byte-requires : tie.Need-put-byte-requires
-put-byte-requires c κs = omega (arith, decimal-reach _ _ _ _ _ (c .before .before .before .put-decimal .ensures))
-
 put-answer-requires : tie.Need-put-answer-requires
-put-answer-requires c κs = omega (arith, decimal-reach _ _ _ _ _ (c .before .before .before .before .before .before .before .put-decimal .ensures))
+put-answer-requires c κs = omega (arith, decimal-reach _ _ _ _ _ (c .before .before .before .put-decimal .ensures))
 
-put-byte-requires-2 : tie.Need-put-byte-requires-2
-put-byte-requires-2 c κs =
+put-byte-requires : tie.Need-put-byte-requires
+put-byte-requires c κs =
     let a = c .before .before .before in
-    let n = a .before .before .before .before .before .before .before .before in
+    let n = a .before .before .before .before in
     let start = n .before .before .before in
     omega (arith, decimal-reach _ _ _ _ _ (n .put-decimal .ensures), answer-reach _ _ _ _ (start .args .answer) (start .args .place) (a .put-answer .ensures))
 
@@ -31,17 +28,8 @@ unfolding commandLine
 returns c =
     let l = c .before .before in
     let a = l .before .before .before .before in
-    let s = a .before .before .before .before in
-    let n = s .before .before .before .before in
-    behind (n .put-decimal .ensures) (behind (behind (s .put-byte .ensures) (a .put-answer .ensures)) (l .put-byte2 .ensures))
+    let n = a .before .before .before .before in
+    behind (n .put-decimal .ensures) (behind (a .put-answer .ensures) (l .put-byte .ensures))
 
 pub put-command-line-spec : {M : Type 1} → statement M
-put-command-line-spec =
-    tie.close
-    (tie.spec
-    put-decimal-requires
-    put-byte-requires
-    put-answer-requires
-    put-byte-requires-2
-    same-length
-    returns)
+put-command-line-spec = tie.close (tie.spec put-decimal-requires put-answer-requires put-byte-requires same-length returns)

@@ -1,6 +1,6 @@
 -- `report::lines::put_word` meets its contract: each arm writes its word. Assumes nothing.
 use Rattle.report.specs.Report.{wordText}
-use Rattle.report.proofs.Answers.{in-word, past-words, no-word}
+use Rattle.report.proofs.Answers.{in-word, past-words, no-word, empty-word}
 use borrow.Author.Needs.{needs}
 use Rattle.report.proofs.lines.put_word.Statement.{statement}
 use Rattle.report.proofs.lines.put_word.Tie as tie
@@ -82,6 +82,18 @@ slice-aggregate-put-bytes-13 c = search needs
 
 put-bytes-requires-13 : tie.Need-put-bytes-requires-13
 put-bytes-requires-13 c κs = search needs
+
+slice-aggregate-put-bytes-14 : tie.Need-slice-aggregate-put-bytes-14
+slice-aggregate-put-bytes-14 c = search needs
+
+put-bytes-requires-14 : tie.Need-put-bytes-requires-14
+put-bytes-requires-14 c κs = search needs
+
+slice-aggregate-put-bytes-15 : tie.Need-slice-aggregate-put-bytes-15
+slice-aggregate-put-bytes-15 c = search needs
+
+put-bytes-requires-15 : tie.Need-put-bytes-requires-15
+put-bytes-requires-15 c κs = search needs
 
 same-length : tie.Need-same-length
 same-length c = search needs
@@ -174,11 +186,29 @@ returns-13 : tie.Need-returns-13
 unfolding wordText
 returns-13 c = in-word (c .before .before .before .before .before .match .keys13) (c .before .before .put-bytes13 .ensures)
 
+same-length-14 : tie.Need-same-length-14
+same-length-14 c = search needs
+
 returns-14 : tie.Need-returns-14
-returns-14 c =
+unfolding wordText
+returns-14 c = in-word (c .before .before .before .before .before .match .keys14) (c .before .before .put-bytes14 .ensures)
+
+returns-15 : tie.Need-returns-15
+returns-15 c = in-word (c .match .keys15) (empty-word _ _)
+
+same-length-15 : tie.Need-same-length-15
+same-length-15 c = search needs
+
+returns-16 : tie.Need-returns-16
+unfolding wordText
+returns-16 c = in-word (c .before .before .before .before .before .match .keys16) (c .before .before .put-bytes15 .ensures)
+
+returns-17 : tie.Need-returns-17
+returns-17 c =
     let r = c .match .rest in
-    let q = r .0 .0 .0 .0 .0 .0 in
-    no-word _ _ _ (past-words _ (q .0 .0 .0 .0 .0 .0 .1) (q .0 .0 .0 .0 .0 .1) (q .0 .0 .0 .0 .1) (q .0 .0 .0 .1) (q .0 .0 .1) (q .0 .1) (q .1) (r .0 .0 .0 .0 .0 .1) (r .0 .0 .0 .0 .1) (r .0 .0 .0 .1) (r .0 .0 .1) (r .0 .1) (r .1))
+    let q = r .0 .0 .0 .0 .0 .0 .0 .0 in
+    no-word _ _ _ (past-words _ (q .0 .0 .0 .0 .0 .0 .0 .1) (q .0 .0 .0 .0 .0 .0 .1) (q .0 .0 .0 .0 .0 .1) (q .0 .0 .0 .0 .1) (q .0 .0 .0 .1) (q .0 .0 .1) (q .0 .1) (q .1)
+    (r .0 .0 .0 .0 .0 .0 .0 .1) (r .0 .0 .0 .0 .0 .0 .1) (r .0 .0 .0 .0 .0 .1) (r .0 .0 .0 .0 .1) (r .0 .0 .0 .1) (r .0 .0 .1) (r .0 .1) (r .1))
 
 pub put-word-spec : {M : Type 1} → statement M
 put-word-spec =
@@ -210,6 +240,10 @@ put-word-spec =
     put-bytes-requires-12
     slice-aggregate-put-bytes-13
     put-bytes-requires-13
+    slice-aggregate-put-bytes-14
+    put-bytes-requires-14
+    slice-aggregate-put-bytes-15
+    put-bytes-requires-15
     same-length
     returns
     same-length-2
@@ -236,4 +270,9 @@ put-word-spec =
     returns-12
     same-length-13
     returns-13
-    returns-14)
+    same-length-14
+    returns-14
+    returns-15
+    same-length-15
+    returns-16
+    returns-17)
