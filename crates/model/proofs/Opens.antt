@@ -24,7 +24,7 @@ use Rattle.model.proofs.Marks.{marks-smallest}
 use Rattle.model.proofs.RunLaws.{Sound, refer-smallest, held-more, held-wants}
 use Rattle.model.proofs.TurnedLaws.{Common, then-cached, then-wanted}
 
-or-second : (a b : Bool) → b ≡ true → a || b ≡ true
+pub or-second : (a b : Bool) → b ≡ true → a || b ≡ true
 or-second true b e = refl
 or-second false b e = e
 
