@@ -37,12 +37,13 @@ operationWidth b =
     (cond (eqb b 0x14) 1
     (cond (eqb b 0x15) 18
     (cond (eqb b 0x17) 2
+    (cond (eqb b 0x19) 8
     (cond (eqb b 0x1C) 1
     (cond (eqb b 0x20) 7
     (cond (eqb b 0x21) 7
     (cond (eqb b 0x22) 8
     (cond (eqb b 0x23) 17
-    (cond (eqb b 0x25) 19 0))))))))))))
+    (cond (eqb b 0x25) 19 0)))))))))))))
 
 unfoldable pub widthOf : ℕ → ℕ
 widthOf b = cond (ltb b 0x10) (designWidth b) (operationWidth b)
@@ -97,7 +98,7 @@ designCommandAt b s i =
     (cond (eqb b 0x05) End
     (Row (byteAt s (i + 1))))))
 
--- the operation of the byte b, whose value has the issue v
+-- the operation of the byte b, whose value has the issue v; 0x19 "takes PROBE's operands with an issue byte at the end" always (02, Req 09)
 unfoldable pub issuedAt : ℕ → List ℕ → ℕ → ℕ → Operation
 issuedAt b s v i =
     cond (eqb b 0x10) (O.Refer (heldValueAt s v i))
@@ -106,8 +107,9 @@ issuedAt b s v i =
     (cond (eqb b 0x14) O.Evenness
     (cond (eqb b 0x15) (O.Total (totalAt s v i))
     (cond (eqb b 0x17) (O.Name (byteAt s (i + 1)))
+    (cond (eqb b 0x19) (O.Opener (columnAt s (i + 1)) (valueAt s (byteAt s (i + 7)) (i + 3)))
     (cond (eqb b 0x1C) O.SmallestKnot
-    (O.Query (queryAt s v i))))))))
+    (O.Query (queryAt s v i)))))))))
 
 -- "Operations 0x20 to 0x23 are REFER, DROP, PROBE and QUERY with an issue byte at the end, 0x25 likewise for totals; the old bytes mean issue 0" (02, Req 06)
 unfoldable pub operationAt : ℕ → List ℕ → ℕ → Operation

@@ -59,6 +59,7 @@ fn operation_width(b: u8) -> usize
         0x14 => 1,
         0x15 => 18,
         0x17 => 2,
+        0x19 => 8,
         0x1C => 1,
         0x20 => 7,
         0x21 => 7,
@@ -220,7 +221,7 @@ fn design_operands(b: u8, script: &[u8], i: usize) -> Command
     Command::Row(script[i + 1])
 }
 
-// The operation of a byte below 0x20, whose value has this issue.
+// The operation of a byte below 0x20, whose value has this issue; 0x19 has one of its own behind PROBE's operands.
 fn issued_at(b: u8, script: &[u8], issue: u8, i: usize) -> Operation
     requires { ⌜ (operationWidth b ≡ 0 → ⊥) × (b < 0x20) × (i + operationWidth b ≤ length (now script)) ⌝ }
     ensures { λ r. ⌜ r ≡ issuedAt b (now (script .entry)) issue i ⌝ }
@@ -234,6 +235,10 @@ fn issued_at(b: u8, script: &[u8], issue: u8, i: usize) -> Operation
         0x17 => {
             let desk = script[i + 1];
             Operation::Name(desk)
+        }
+        0x19 => {
+            let own = script[i + 7];
+            Operation::Opener(column_at(script, i + 1), value_at(script, own, i + 3))
         }
         0x1C => Operation::SmallestKnot,
         _ => Operation::Query(query_at(script, issue, i)),
