@@ -6,7 +6,7 @@ use mathlib.Core.Bool.{cond}
 use mathlib.Core.List.{List}
 use lib.Dec.{eqb}
 use lib.ListN.{length, getD, take}
-use Rattle.model.specs.Answers.{Answer, loaded, held, noCandidate, dropped, ground, sent, lists, refused, even, uneven, total, knot, named, shown, listsWord}
+use Rattle.model.specs.Answers.{Answer, loaded, held, noCandidate, dropped, ground, sent, lists, refused, even, uneven, total, knot, named, opened, openedBy, noOpener, shown, listsWord}
 use Rattle.state.specs.Meaning.{sixteen}
 
 -- the word's number n, the buffer ns and the count k tell the answer a
@@ -31,4 +31,7 @@ answerIn n ns k =
     (cond (eqb n 10) (total (getD ns 0 0))
     (cond (eqb n 11) (knot (take k ns))
     (cond (eqb n 12) (named (getD ns 0 0))
-    (refused (getD ns 0 0)))))))))))))
+    (cond (eqb n 13) opened
+    (cond (eqb n 14) (openedBy (getD ns 0 0) (getD ns 1 0) (getD ns 2 0))
+    (cond (eqb n 15) noOpener
+    (refused (getD ns 0 0))))))))))))))))
