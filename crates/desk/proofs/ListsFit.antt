@@ -15,10 +15,11 @@ use Rattle.model.specs.Probe
 use Rattle.model.specs.Holding.{desks, Pair, holds, hasRoom, heldIn}
 use Rattle.model.specs.Even.{lowestUneven}
 use Rattle.model.specs.Knot.{isUnevenScheme}
-use Rattle.model.specs.Runs.{Question, probe, evenness, smallestKnot, asLists, asTotal, refer, drop, name, outputFits, withinLimit, marked, Cache}
+use Rattle.model.specs.Opener.{isOpen, lowestFilling}
+use Rattle.model.specs.Runs.{Question, probe, evenness, smallestKnot, opener, asLists, asTotal, refer, drop, name, outputFits, withinLimit, marked, Cache}
 use Rattle.model.specs.Query as Q
 use Rattle.model.specs.Query.{joinsOf, operandsFit, wordsOf, fullLists, fullTotal, mostJoins}
-use Rattle.model.specs.Answers.{Answer, held, noCandidate, ground, sent, lists, even, uneven, knot, named, evenAnswer, knotAnswer, shown, hasLists, unless, orAnswer, questionAnswer, isAnswered, fullAnswer, queryAnswer, answer}
+use Rattle.model.specs.Answers.{Answer, held, noCandidate, ground, sent, lists, even, uneven, knot, named, opened, openedBy, noOpener, evenAnswer, knotAnswer, openerAnswer, shown, hasLists, unless, orAnswer, questionAnswer, isAnswered, fullAnswer, queryAnswer, answer}
 use Rattle.model.proofs.ListLaws.{fitting-words}
 use Rattle.state.specs.declared.design.Table as State-table
 use Rattle.state.specs.declared.design.Constraint as State-constraint
@@ -74,12 +75,16 @@ module _ (p room : ℕ) where
         unless-within (not (holds (c .held) x)) 10 _ (λ _ h. clash h refl)))
 
     question-within : (q : Question) → Within (questionAnswer S D c q)
-    unfolding questionAnswer evenAnswer knotAnswer hasLists shown
+    unfolding questionAnswer evenAnswer knotAnswer openerAnswer hasLists shown
     question-within (probe k v) =
         let g = Probe.probe S D (heldIn S (c .held)) (marked (c .marks)) k v in
         unless-within (not (isColumn S k)) 5 _ (λ _. unless-within (numberless v) 9 _ (λ _. or-within (ltb 0 g) (ground g (Probe.cachedRows D (marked (c .marks)) k v)) sent (λ h. clash h refl) (λ h. clash h refl)))
     question-within evenness = or-within (ltb (lowestUneven S) (S .constraints)) (uneven _ _) even (λ h. clash h refl) (λ h. clash h refl)
     question-within smallestKnot = or-within (isUnevenScheme S) (knot _) even (λ h. clash h refl) (λ h. clash h refl)
+    question-within (opener k v) =
+        unless-within (not (isColumn S k)) 5 _ (λ _. unless-within (numberless v) 9 _ (λ _.
+        or-within (isOpen S D k v c) opened _ (λ h. clash h refl)
+        (or-within (ltb (lowestFilling S D k v c) (S .fillings)) (openedBy _ _ _) noOpener (λ h. clash h refl) (λ h. clash h refl))))
 
     name-within : (d : ℕ) → Within (answer S D c (name d))
     unfolding answer hasLists shown
@@ -132,28 +137,30 @@ module _ (s : State) (words script : List ℕ) (i : ℕ) where
   -- the operation at place i of the byte b, whose value has the issue w
   issued-within : (b w : ℕ) → Here (answerAt s (operationOf (issuedAt b script w i) (length words)))
   unfolding answerAt answer issuedAt
-  issued-within b w = go (eqb b 0x10) (eqb b 0x11) (eqb b 0x12) (eqb b 0x14) (eqb b 0x15) (eqb b 0x17) (eqb b 0x1C)
+  issued-within b w = go (eqb b 0x10) (eqb b 0x11) (eqb b 0x12) (eqb b 0x14) (eqb b 0x15) (eqb b 0x17) (eqb b 0x19) (eqb b 0x1C)
     where
-      op : Bool → Bool → Bool → Bool → Bool → Bool → Bool → Operation
-      op x y z v t d k =
+      op : Bool → Bool → Bool → Bool → Bool → Bool → Bool → Bool → Operation
+      op x y z v t d o k =
           cond x (O.Refer (heldValueAt script w i))
           (cond y (O.Drop (heldValueAt script w i))
           (cond z (O.Probe (columnAt script (i + 1)) (valueAt script w (i + 3)))
           (cond v O.Evenness
           (cond t (O.Total (totalAt script w i))
           (cond d (O.Name (byteAt script (i + 1)))
+          (cond o (O.Opener (columnAt script (i + 1)) (valueAt script (byteAt script (i + 7)) (i + 3)))
           (cond k O.SmallestKnot
-          (O.Query (queryAt script w i))))))))
+          (O.Query (queryAt script w i)))))))))
 
-      go : (x y z v t d k : Bool) → Here (answerAt s (operationOf (op x y z v t d k) (length words)))
-      go true y z v t d k = guarded-within _ (refer-within _ _ (scheme s) (database s) (cache s) _)
-      go false true z v t d k = guarded-within _ (drop-within _ _ (scheme s) (database s) (cache s) _)
-      go false false true v t d k = guarded-within _ (question-within _ _ (scheme s) (database s) (cache s) _)
-      go false false false true t d k = guarded-within _ (question-within _ _ (scheme s) (database s) (cache s) _)
-      go false false false false true d k = guarded-within _ (total-within _ _ (scheme s) (database s) (cache s) _ _ _)
-      go false false false false false true k = guarded-within _ (name-within _ _ (scheme s) (database s) (cache s) (byteAt script (i + 1)))
-      go false false false false false false true = guarded-within _ (question-within _ _ (scheme s) (database s) (cache s) _)
-      go false false false false false false false = guarded-within _ (query-within _ _ (scheme s) (database s) (cache s) _ refl refl)
+      go : (x y z v t d o k : Bool) → Here (answerAt s (operationOf (op x y z v t d o k) (length words)))
+      go true y z v t d o k = guarded-within _ (refer-within _ _ (scheme s) (database s) (cache s) _)
+      go false true z v t d o k = guarded-within _ (drop-within _ _ (scheme s) (database s) (cache s) _)
+      go false false true v t d o k = guarded-within _ (question-within _ _ (scheme s) (database s) (cache s) _)
+      go false false false true t d o k = guarded-within _ (question-within _ _ (scheme s) (database s) (cache s) _)
+      go false false false false true d o k = guarded-within _ (total-within _ _ (scheme s) (database s) (cache s) _ _ _)
+      go false false false false false true o k = guarded-within _ (name-within _ _ (scheme s) (database s) (cache s) (byteAt script (i + 1)))
+      go false false false false false false true k = guarded-within _ (question-within _ _ (scheme s) (database s) (cache s) _)
+      go false false false false false false false true = guarded-within _ (question-within _ _ (scheme s) (database s) (cache s) _)
+      go false false false false false false false false = guarded-within _ (query-within _ _ (scheme s) (database s) (cache s) _ refl refl)
 
   -- the operation at place i, whose byte is b
   operation-within : (b : ℕ) → Here (answerAt s (operationOf (operationAt b script i) (length words)))
