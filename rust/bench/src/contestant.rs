@@ -127,6 +127,12 @@ pub enum Answer {
     Knot(Vec<usize>),
     /// The desk that is named from now on.
     Desk(usize),
+    /// The probe has a ground already.
+    Open,
+    /// The filling, the number and the issue whose load would give it one.
+    Opener(usize, u32, u8),
+    /// No load would.
+    NoOpener,
     /// A cause of refusal.
     Refused(u8),
     /// Given up after [`TIME_LIMIT`].

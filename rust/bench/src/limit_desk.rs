@@ -1,5 +1,6 @@
 //! The desk written for speed alone as a contestant.
 
+use limit::design::number;
 use limit::{Answer as LimitAnswer, Desk};
 
 use crate::contestant::{Answer, Contestant, OpenDesk, Opening, Operation, Operations};
@@ -39,6 +40,11 @@ impl OpenDesk for Desk {
             LimitAnswer::Even => Answer::Even,
             LimitAnswer::Uneven { i, j } => Answer::Uneven(usize::from(i), usize::from(j)),
             LimitAnswer::Total(total) => Answer::Total(total),
+            LimitAnswer::Open => Answer::Open,
+            LimitAnswer::Opener { filling, value } => {
+                Answer::Opener(filling.into(), number(value), value as u8)
+            }
+            LimitAnswer::NoOpener => Answer::NoOpener,
             LimitAnswer::Desk(desk) => Answer::Desk(desk.into()),
             LimitAnswer::Knot(knot) => {
                 Answer::Knot((0..16).filter(|i| knot >> i & 1 == 1).collect())

@@ -5,7 +5,7 @@ use std::hint::black_box;
 use reference::design::Design as ReferenceDesign;
 use reference::desk::{Answer as ReferenceAnswer, Desk};
 use reference::refusal::Cause;
-use reference::script::read_command;
+use reference::script::{read_command, Pair};
 use reference::ANSWER_WORDS;
 
 use crate::contestant::{
@@ -61,6 +61,11 @@ fn answered(answer: ReferenceAnswer) -> Answer {
         ReferenceAnswer::Even => Answer::Even,
         ReferenceAnswer::Uneven { i, j } => Answer::Uneven(i, j),
         ReferenceAnswer::Total(total) => Answer::Total(total),
+        ReferenceAnswer::Open => Answer::Open,
+        ReferenceAnswer::Opener(Pair { filling, value }) => {
+            Answer::Opener(filling, value.number, value.issue)
+        }
+        ReferenceAnswer::NoOpener => Answer::NoOpener,
         ReferenceAnswer::Desk(desk) => Answer::Desk(desk),
         ReferenceAnswer::Knot(knot) => Answer::Knot(knot),
     }

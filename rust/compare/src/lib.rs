@@ -4,6 +4,7 @@
 //! - [`generate`] makes the scripts from a seed, each from its own number.
 //! - [`level`] takes out of them, and of replies, what a request of document 02
 //!   has changed.
+//! - [`answers`] takes a report apart.
 //! - [`desk`] runs the desk program as a child process.
 //! - [`run`] puts the two side by side and stops at the first difference.
 //! - [`examples`] are scripts with their reports, which the desk is held to too.
@@ -15,6 +16,7 @@
 
 #![forbid(unsafe_code)]
 
+pub mod answers;
 pub mod desk;
 pub mod examples;
 pub mod faults;

@@ -8,6 +8,9 @@ use reference::refusal::Cause;
 use reference::script::{read_command, Command, Probe, Query};
 use reference::ANSWER_WORDS;
 
+/// What a command would answer.
+pub type Tried = Result<Answer, Cause>;
+
 /// A script with an accepted design, up to some command behind END.
 pub struct Replay<'a> {
     script: &'a [u8],
@@ -48,8 +51,14 @@ impl Replay<'_> {
     }
 
     /// What a command would answer in the next one's place.
-    pub fn try_out(&self, command: &Command) -> Result<Answer, Cause> {
+    pub fn try_out(&self, command: &Command) -> Tried {
         self.desk.clone().perform(command)
+    }
+
+    /// What two commands would answer there, one after the other.
+    pub fn try_out_both(&self, one: &Command, other: &Command) -> (Tried, Tried) {
+        let mut desk = self.desk.clone();
+        (desk.perform(one), desk.perform(other))
     }
 
     /// The ground of the value that the next command asks for, if it is a query

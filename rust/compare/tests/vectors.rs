@@ -6,6 +6,7 @@
 use std::fs;
 use std::path::Path;
 
+use compare::answers::answers;
 use reference::report_lending;
 
 /// One of the files.
@@ -75,13 +76,11 @@ fn line(vector: &Vector) -> String {
     if report.starts_with("refused ") {
         return report.trim_end().into();
     }
+    let (_, operations) = report.split_once('\n').expect("a head");
     let (command, _) = vector.expected.split_once(' ').expect("a line");
-    let start = format!("{command} ");
-    let is_line = |line: &&str| match line.strip_prefix(&start) {
-        Some(answer) => answer.starts_with(char::is_alphabetic),
-        None => false,
-    };
-    report.lines().find(is_line).unwrap_or_default().into()
+    let answers = answers(operations);
+    let answer = answers.get(number(command)).expect("a command");
+    format!("{command} {}", answer.text)
 }
 
 /// The words lent behind a command, 9 each before.
@@ -92,17 +91,12 @@ fn words_behind(vector: &Vector) -> String {
     };
     let mut words = vec!["9"; lent];
     let report = report_lending(&vector.script, lent);
-    let mut place = 0;
-    for line in report.lines().skip(1) {
-        let (number, answer) = line.split_once(' ').unwrap_or((line, ""));
-        if !answer.starts_with(char::is_alphabetic) {
-            let list: Vec<&str> = line.split(' ').collect();
-            words[place..place + list.len()].copy_from_slice(&list);
-            place += list.len();
-        } else if number.parse::<usize>().expect("a number") > self::number(vector.rest) {
-            break;
-        } else {
-            place = 0;
+    let (_, operations) = report.split_once('\n').expect("a head");
+    let answers = answers(operations);
+    for answer in &answers[..=number(vector.rest)] {
+        let lists = answer.lists.iter().flat_map(|list| list.split(' '));
+        for (word, row) in words.iter_mut().zip(lists) {
+            *word = row;
         }
     }
     words.iter().map(|word| format!("{word:0>2} ")).collect()

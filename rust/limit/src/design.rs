@@ -109,15 +109,24 @@ pub fn u32_at(bytes: &[u8], place: usize) -> u32 {
     u32::from_le_bytes(four)
 }
 
-/// The value whose number is at a place of an operation. The bytes from 0x20 on have
-/// its issue at their end.
+/// The value whose number is at a place of an operation. The bytes from 0x20 on, and
+/// 0x19, have its issue at their end.
 #[inline(always)]
 pub fn value_at(bytes: &[u8], place: usize) -> Value {
     let issue = match bytes[0] {
-        0x20.. => bytes[bytes.len() - 1],
+        0x19 | 0x20.. => bytes[bytes.len() - 1],
         _ => 0,
     };
     value(u32_at(bytes, place), issue)
+}
+
+/// The column that an operation names first.
+#[inline(always)]
+pub fn column_at(bytes: &[u8]) -> Column {
+    Column {
+        table: bytes[1],
+        place: bytes[2],
+    }
 }
 
 /// How many bytes the command with this first byte has; 0 if there is none.
@@ -135,7 +144,7 @@ pub fn width(command: u8) -> usize {
         0x12 | 0x20 | 0x21 => 7,
         0x13 => 16,
         0x15 => 18,
-        0x22 => 8,
+        0x19 | 0x22 => 8,
         0x23 => 17,
         0x25 => 19,
         _ => 0,

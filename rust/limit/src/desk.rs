@@ -4,9 +4,10 @@ use std::hint::black_box;
 
 use crate::cache::Cache;
 use crate::catalog::Catalog;
-use crate::design::{value_at, width, Column, Design, Refusal};
+use crate::design::{column_at, value_at, width, Design, Refusal, Value};
 use crate::even::Evenness;
 use crate::knot::Knot;
+use crate::opener::Opening;
 use crate::query::Listing;
 
 /// What a command answers.
@@ -52,6 +53,17 @@ pub enum Answer {
     Knot(u16),
     /// The desk that is named from now on.
     Desk(u8),
+    /// The probe has a ground already.
+    Open,
+    /// The load that would give it one.
+    Opener {
+        /// The filling.
+        filling: u8,
+        /// The value.
+        value: Value,
+    },
+    /// No load would.
+    NoOpener,
     /// A cause of refusal.
     Refused(u8),
 }
@@ -64,6 +76,7 @@ pub struct Desk {
     listing: Listing,
     evenness: Evenness,
     knot: Knot,
+    opening: Opening,
 }
 
 impl Desk {
@@ -127,12 +140,13 @@ impl Desk {
                 self.cache.drop(design, catalog, bytes[1], value)
             }
             0x12 | 0x22 => {
-                let column = Column {
-                    table: bytes[1],
-                    place: bytes[2],
-                };
                 let value = value_at(bytes, 3);
-                self.cache.probe(design, catalog, column, value)
+                self.cache.probe(design, catalog, column_at(bytes), value)
+            }
+            0x19 => {
+                let value = value_at(bytes, 3);
+                let (cache, column) = (&self.cache, column_at(bytes));
+                self.opening.opener(design, catalog, cache, column, value)
             }
             0x13 | 0x23 => self.listing.query(design, catalog, &mut self.cache, bytes),
             0x14 => self.evenness.of(design),

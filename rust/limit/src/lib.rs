@@ -11,7 +11,7 @@
 //! - [`catalog`] has the groups and the links between them.
 //! - [`cache`] has the cached rows and loads values.
 //! - [`dropping`] drops them.
-//! - [`probe`], [`query`], [`total`], [`even`] and [`knot`] answer.
+//! - [`probe`], [`query`], [`total`], [`opener`], [`even`] and [`knot`] answer.
 //! - [`desk`] carries out a script's commands.
 //! - [`mod@report`] prints.
 //!
@@ -27,6 +27,7 @@ pub mod desk;
 pub mod dropping;
 pub mod even;
 pub mod knot;
+pub mod opener;
 pub mod probe;
 pub mod query;
 pub mod report;

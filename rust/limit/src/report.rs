@@ -2,6 +2,7 @@
 
 use std::io::{self, Write};
 
+use crate::design::number;
 use crate::desk::{Answer, Desk};
 use crate::ROWS;
 
@@ -105,6 +106,12 @@ fn put_answer(text: &mut Vec<u8>, answer: Answer, place: u64) {
         Answer::Uneven { i, j } => (b"uneven ", &[u64::from(i), u64::from(j)]),
         Answer::Total(total) => (b"total ", &[total]),
         Answer::Desk(desk) => (b"desk ", &[u64::from(desk)]),
+        Answer::Open => (b"open", &[]),
+        Answer::Opener { filling, value } => {
+            let (number, issue) = (u64::from(number(value)), value & 0xff);
+            (b"", &[u64::from(filling), number, issue])
+        }
+        Answer::NoOpener => (b"none", &[]),
         Answer::Knot(knot) => {
             text.extend_from_slice(b"knot ");
             let numbers: Vec<u64> = (0..16).filter(|i| knot >> i & 1 == 1).collect();

@@ -90,6 +90,7 @@ impl<'a> Operands<'a> {
             "even" => Command::Even,
             "total" => Command::Total(self.total()?),
             "knot" => Command::Knot,
+            "opener" => Command::Opener(self.probe()?),
             "desk" => Command::Desk(self.u8("a desk's number")?),
             "bytes" => return self.raw_bytes(),
             other => return fault(name.column, format!("`{other}` is no command")),

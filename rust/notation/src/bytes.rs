@@ -18,6 +18,7 @@ const EVEN: u8 = 0x14;
 const TOTAL: u8 = 0x15;
 const ROW_WITH_ISSUES: u8 = 0x07;
 const DESK: u8 = 0x17;
+const OPENER: u8 = 0x19;
 const KNOT: u8 = 0x1c;
 
 /// The operations that name a value.
@@ -27,7 +28,7 @@ const WITH_VALUE: [u8; 5] = [REFER, DROP, PROBE, QUERY, TOTAL];
 const WITH_ISSUE: u8 = 0x10;
 
 /// The bytes that begin a command.
-pub const COMMAND_BYTES: [u8; 19] = [
+pub const COMMAND_BYTES: [u8; 20] = [
     TABLE,
     CONSTRAINT,
     FILLING,
@@ -46,6 +47,7 @@ pub const COMMAND_BYTES: [u8; 19] = [
     QUERY + WITH_ISSUE,
     TOTAL + WITH_ISSUE,
     DESK,
+    OPENER,
     KNOT,
 ];
 
@@ -78,6 +80,10 @@ impl Command {
             }),
             Command::Knot => writer.u8(KNOT),
             Command::Desk(desk) => writer.u8(DESK).u8(*desk),
+            Command::Opener(Probe { column, value }) => {
+                let writer = writer.u8(OPENER).column(*column).u32(value.number);
+                writer.u8(value.issue())
+            }
         };
         writer.0
     }
@@ -263,6 +269,10 @@ impl Reader<'_> {
             }),
             KNOT => Command::Knot,
             DESK => Command::Desk(self.u8()?),
+            OPENER => Command::Opener(Probe {
+                column: self.column()?,
+                value: Value::new(self.u32()?, self.u8()?),
+            }),
             _ => return None,
         })
     }

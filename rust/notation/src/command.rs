@@ -217,4 +217,7 @@ pub enum Command {
     Knot,
     /// Name the desk for what follows.
     Desk(u8),
+    /// Ask for the value whose load would give a ground. It always has an issue
+    /// byte.
+    Opener(Probe),
 }

@@ -20,12 +20,14 @@
 //!                                               total 0.1 = 3 join 0 by 0 of 1 column 2
 //! knot                                          knot
 //! desk NUMBER                                   desk 1
+//! opener COLUMN = VALUE                         opener 1.1 = 8
 //! bytes BYTE ..                                 bytes 0xff 0x01
 //! ```
 //!
 //! A blank cell is written `-`, and only so: a cell `0` is an error. Cells past
 //! those given are blank. A value or cell with an issue is written `7#1`, and then
-//! the command is the one that has a place for issues, even where it is `7#0`. The
+//! the command is the one that has a place for issues, even where it is `7#0`, if
+//! there are two. The
 //! notation checks that operands fit their widths and nothing else, so that scripts
 //! which the desk refuses can be written too.
 //!

@@ -95,6 +95,7 @@ fn messages() {
         ("knot 1", 6, "expected the end of the line, found `1`"),
         ("desk 256", 6, "a desk's number is at most 255, not 256"),
         ("desk 1 2", 8, "expected the end of the line, found `2`"),
+        ("opener 0.0 3", 12, "expected `=`, found `3`"),
         ("uneven", 1, "`uneven` is no command"),
         (
             "total 0.0 = 1",

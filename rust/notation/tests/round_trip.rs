@@ -69,6 +69,10 @@ fn one_of_each() -> Vec<Command> {
         }),
         Command::Knot,
         Command::Desk(3),
+        Command::Opener(Probe {
+            column,
+            value: issued,
+        }),
     ]
 }
 

@@ -193,7 +193,8 @@ impl Stage {
             | Command::Even
             | Command::Total(_)
             | Command::Knot
-            | Command::Desk(_) => None,
+            | Command::Desk(_)
+            | Command::Opener(_) => None,
         }
     }
 }

@@ -1,6 +1,6 @@
 //! The operations: loads, drops and probes, and how a question refers its value
 //! first (queries and totals are in [`crate::query`], the reports on designs in
-//! [`crate::even`] and [`crate::knot`]).
+//! [`crate::even`] and [`crate::knot`], what would open a probe in [`crate::opener`]).
 
 use crate::design::Design;
 use crate::held::Holding;
@@ -63,6 +63,12 @@ pub enum Answer {
     Knot(Vec<usize>),
     /// The desk that is named from now on.
     Desk(usize),
+    /// The probe has a ground already.
+    Open,
+    /// The pair whose reference would give it one.
+    Opener(Pair),
+    /// No reference would.
+    NoOpener,
 }
 
 impl Desk {
@@ -92,11 +98,12 @@ impl Desk {
         match command {
             Command::Refer(pair) => self.refer(*pair),
             Command::Drop(pair) => self.drop(*pair),
-            Command::Probe(Probe { column, value }) => self.probe(*column, *value),
+            Command::Probe(probe) => self.probe(*probe),
             Command::Query(query) => self.query(query),
             Command::Even => Ok(self.design.evenness()),
             Command::Total(total) => self.total(total),
             Command::Knot => Ok(self.knot()),
+            Command::Opener(probe) => self.opener(*probe),
             Command::Desk(desk) => self.held.name(*desk).map(|()| Answer::Desk(*desk)),
             _ => Err(Cause::OutOfOrder),
         }
@@ -136,7 +143,8 @@ impl Desk {
         Ok(Answer::Dropped { rows })
     }
 
-    fn probe(&self, column: Column, value: Value) -> Result<Answer, Cause> {
+    pub(crate) fn probe(&self, probe: Probe) -> Result<Answer, Cause> {
+        let Probe { column, value } = probe;
         Cause::WrongOperand.unless(self.design.has(column))?;
         Cause::ValueZero.unless(value.number != 0)?;
         Ok(self.search(column, value))
@@ -177,7 +185,7 @@ impl Desk {
     }
 
     /// Candidates go by number alone.
-    fn is_candidate(&self, pair: Pair) -> bool {
+    pub(crate) fn is_candidate(&self, pair: Pair) -> bool {
         let filling = self.design.fillings[pair.filling];
         (filling.low..=filling.high).contains(&pair.value.number)
     }
@@ -193,7 +201,7 @@ impl Desk {
 
     /// Holds a value from now on, and gives the number of later rounds that
     /// added a row.
-    fn hold(&mut self, pair: Pair) -> usize {
+    pub(crate) fn hold(&mut self, pair: Pair) -> usize {
         self.held.add(pair);
         self.load(pair)
     }
@@ -225,7 +233,7 @@ impl Desk {
 
     /// Searches the cached rows: a yes by the lowest ground on which the value is
     /// known to be complete in the column, or "sent".
-    fn search(&self, column: Column, value: Value) -> Answer {
+    pub(crate) fn search(&self, column: Column, value: Value) -> Answer {
         let ground = if self.is_held(column, value) {
             1
         } else if self.is_demanded_value(column, value) {

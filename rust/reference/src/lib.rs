@@ -14,6 +14,7 @@ pub mod desk;
 pub mod even;
 pub mod held;
 pub mod knot;
+pub mod opener;
 pub mod query;
 pub mod refusal;
 pub mod report;

@@ -5,7 +5,7 @@ use std::fmt;
 use crate::design::Design;
 use crate::desk::{Answer, Desk};
 use crate::refusal::Refusal;
-use crate::script::read_command;
+use crate::script::{read_command, Pair};
 
 /// The answer words that the program lends.
 pub const ANSWER_WORDS: usize = 4_096;
@@ -67,6 +67,11 @@ impl fmt::Display for Answer {
             Answer::Even => write!(out, "even"),
             Answer::Uneven { i, j } => write!(out, "uneven {i} {j}"),
             Answer::Total(total) => write!(out, "total {total}"),
+            Answer::Open => write!(out, "open"),
+            Answer::Opener(Pair { filling, value }) => {
+                write!(out, "{filling} {} {}", value.number, value.issue)
+            }
+            Answer::NoOpener => write!(out, "none"),
             Answer::Desk(desk) => write!(out, "desk {desk}"),
             Answer::Knot(knot) => write!(out, "knot {}", numbers(knot)),
         }

@@ -153,6 +153,8 @@ pub enum Command {
     Knot,
     /// Name the desk for what follows.
     Desk(usize),
+    /// Ask for the value whose reference would give a probe a ground.
+    Opener(Probe),
 }
 
 /// Reads the command that begins at `place`, and gives it with the place after
@@ -183,6 +185,7 @@ pub fn read_command(script: &[u8], place: usize) -> Result<(Command, usize), Cau
         0x14 => Command::Even,
         0x15 => Command::Total(reader.total()?),
         0x17 => Command::Desk(reader.number()?),
+        0x19 => Command::Opener(reader.with_issue(Reader::probe, |probe| &mut probe.value)?),
         0x1c => Command::Knot,
         0x20 => Command::Refer(reader.with_issue(Reader::pair, |pair| &mut pair.value)?),
         0x21 => Command::Drop(reader.with_issue(Reader::pair, |pair| &mut pair.value)?),

@@ -1,7 +1,6 @@
 //! Desks that hold the same values, and some that are full while others are not.
 
-use notation::encode;
-use notation::{Command, Probe, Query};
+use notation::{encode, Command, Pair, Probe, Query};
 
 use super::design::{Draft, Shape};
 use super::extremes::every_value;
@@ -51,15 +50,16 @@ pub fn full(random: &mut Random) -> Vec<u8> {
         let count = if random.percent(85) { 16 } else { 15 };
         for &place in &own[..count] {
             let value = draft.values.get(place);
-            commands.push(Command::Refer(notation::Pair { filling: 0, value }));
+            commands.push(Command::Refer(Pair { filling: 0, value }));
         }
     }
     for _ in 0..random.within(4..=12) {
         let value = draft.values.get(random.below(70));
-        commands.push(match random.below(6) {
+        commands.push(match random.below(7) {
+            6 => Command::Opener(Probe { column, value }),
             0 => operator.name(random),
-            1 => Command::Drop(notation::Pair { filling: 0, value }),
-            2 => Command::Refer(notation::Pair { filling: 0, value }),
+            1 => Command::Drop(Pair { filling: 0, value }),
+            2 => Command::Refer(Pair { filling: 0, value }),
             3 => Command::Probe(Probe { column, value }),
             4 => Command::Query(Query::new(column, value, &[])),
             _ => operator.operation(random),

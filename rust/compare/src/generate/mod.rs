@@ -9,6 +9,7 @@ mod extremes;
 mod fetching;
 mod grounds;
 mod limits;
+mod openings;
 mod operations;
 mod spoil;
 mod totals;
@@ -23,7 +24,7 @@ use spoil::spoil;
 /// A way to make a script, with its share among all scripts.
 type Kind = (usize, fn(&mut Random) -> Vec<u8>);
 
-const KINDS: [Kind; 28] = [
+const KINDS: [Kind; 30] = [
     (40, |random| ordinary(random, &Shape::SPARSE)),
     (25, |random| ordinary(random, &Shape::DENSE)),
     (15, |random| worked(random, Draft::chain)),
@@ -49,6 +50,8 @@ const KINDS: [Kind; 28] = [
     (8, grounds::unique_columns),
     (16, desks::shared),
     (6, desks::full),
+    (16, openings::openers),
+    (3, openings::far),
     (8, totals::largest),
     (6, totals::crowd),
     (6, totals::beside_a_group),

@@ -10,6 +10,9 @@ use crate::random::Random;
 /// The number of desks.
 pub const DESKS: usize = 4;
 
+/// The rows of a large design.
+const LARGE: usize = 60;
+
 /// In how many of a hundred cases an operation is spoilt.
 const SPOILT: usize = 8;
 
@@ -41,8 +44,9 @@ impl<'a> Operator<'a> {
         if random.percent(MISPLACED) {
             return *random.pick(&self.design.commands());
         }
-        let operation = match random.below(25) {
+        let operation = match random.below(26) {
             24 => self.name(random),
+            25 => self.opener(random),
             0..=6 => Command::Refer(self.refer(random)),
             7..=10 => Command::Drop(self.drop(random)),
             11..=14 => Command::Probe(self.probe(random)),
@@ -70,6 +74,16 @@ impl<'a> Operator<'a> {
             }
         }
         operation
+    }
+
+    /// What would open a probe. The second implementation tries every value, so that
+    /// there are few of these on large designs.
+    pub fn opener(&self, random: &mut Random) -> Command {
+        let probe = self.probe(random);
+        if self.design.rows.len() > LARGE && random.percent(95) {
+            return Command::Probe(probe);
+        }
+        Command::Opener(probe)
     }
 
     /// A query or a total of a value that may not be held, in a filling column,
@@ -287,7 +301,7 @@ pub fn report(random: &mut Random) -> Command {
 fn value_of(operation: &mut Command) -> Option<&mut Value> {
     match operation {
         Command::Refer(pair) | Command::Drop(pair) => Some(&mut pair.value),
-        Command::Probe(probe) => Some(&mut probe.value),
+        Command::Probe(probe) | Command::Opener(probe) => Some(&mut probe.value),
         Command::Query(query) => Some(&mut query.value),
         Command::Total(total) => Some(&mut total.query.value),
         _ => None,

@@ -18,6 +18,7 @@ pub fn spoil(random: &mut Random, design: &Design, command: Command) -> Command 
         Command::Filling(filling) => Command::Filling(spoil_filling(random, design, filling)),
         Command::Row(row) => Command::Row(spoil_row(random, design, row)),
         Command::End | Command::Even | Command::Knot => command,
+        Command::Opener(probe) => Command::Opener(spoil_probe(random, design, probe)),
         Command::Desk(_) => Command::Desk(random.within(4..=255) as u8),
         Command::Refer(pair) => Command::Refer(spoil_pair(random, design, pair)),
         Command::Drop(pair) => Command::Drop(spoil_pair(random, design, pair)),

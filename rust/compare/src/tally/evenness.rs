@@ -4,8 +4,8 @@ use notation::Piece;
 use reference::design::Design;
 use reference::desk::Answer as Reported;
 
-use super::answer::{number, Answer};
 use super::links::{has_cycle, links, way, Link};
+use crate::answers::{number, Answer};
 
 /// The outcomes of the reports on a design, each once.
 pub fn outcomes(
@@ -99,8 +99,8 @@ fn knot_without(design: &Design, out: usize) -> Option<Vec<usize>> {
 
 #[cfg(test)]
 mod tests {
-    use super::super::answer::answers;
     use super::*;
+    use crate::answers::answers;
     use notation::{assemble, split};
 
     /// The outcomes of the reports on a design.

@@ -2,21 +2,21 @@
 //! they and their reports show.
 //!
 //! - `names` has what is counted.
-//! - `answer` takes a report apart.
 //! - `links` tells how a design's tables are linked, and `evenness` what is rare among
 //!   designs that a report is on.
 //! - `issues` tells where the issue of a value shows.
 //! - `desks` tells what one desk meets of another.
+//! - `openers` tells which loads would open a probe, and how.
 //! - `fetching` tells what came of queries and totals that refer.
 //! - `totals` tells what a total shows beside other questions.
 
-mod answer;
 mod desks;
 mod evenness;
 mod fetching;
 mod issues;
 mod links;
 mod names;
+mod openers;
 mod totals;
 
 use std::collections::BTreeMap;
@@ -25,9 +25,9 @@ use std::fmt;
 use notation::{split, Command, Piece};
 use reference::ANSWER_WORDS;
 
+use crate::answers::{answers, number, Answer};
 use crate::level::Level;
 use crate::replay::Replay;
-use answer::{answers, number, Answer};
 use names::{kind, COMMANDS};
 
 pub use names::OUTCOMES;
@@ -156,7 +156,7 @@ impl Tally {
             ["total", "35184372088832"] => self.count("total over 2^45 lists".into(), 1),
             _ => {}
         }
-        match answer.list_words {
+        match answer.list_words() {
             4_095 => self.count("answer of 4,095 words".into(), 1),
             4_096 => self.count("answer of 4,096 words".into(), 1),
             _ => {}
@@ -238,6 +238,7 @@ fn replayed(script: &[u8]) -> Vec<&'static str> {
         outcomes.extend(totals::outcomes(&replay, &command));
         outcomes.extend(issues::outcomes(&replay, &command));
         outcomes.extend(desks::outcomes(&replay, &command));
+        outcomes.extend(openers::outcomes(&replay, &command));
         outcomes.extend(fetching.perform(&mut replay, &command));
     }
     outcomes

@@ -11,7 +11,7 @@ use notation::{Command, Piece, Value};
 /// 3. Causes 7 and 12 are about lent memory, which no script can spoil. No
 /// answer needs 4,097 words: that has no divisor from 2 to 5, and 512 rows make
 /// no more than 512 lists of one.
-pub const OUTCOMES: [(u32, &str); 113] = [
+pub const OUTCOMES: [(u32, &str); 127] = [
     (0, "design accepted"),
     (0, "design refused 1"),
     (0, "design refused 2"),
@@ -72,6 +72,20 @@ pub const OUTCOMES: [(u32, &str); 113] = [
     (7, "query or total of what another desk holds"),
     (7, "refused 8 while another desk has room"),
     (7, "refused 10 for what another desk holds"),
+    (9, "open"),
+    (9, "opener"),
+    (9, "none"),
+    (9, "opener of the probed value"),
+    (9, "opener of a lower value in the probed column"),
+    (9, "opener of another column"),
+    (9, "opener of a later filling"),
+    (9, "opener with an issue"),
+    (9, "opener by ground 2"),
+    (9, "opener by ground 3"),
+    (9, "opener through three rows or more"),
+    (9, "opener of a full desk"),
+    (9, "opener refused 5"),
+    (9, "opener refused 9"),
     (11, "knot of 1 constraint"),
     (11, "knot of 2 constraints"),
     (11, "knot of 3 constraints"),
@@ -128,7 +142,7 @@ pub const OUTCOMES: [(u32, &str); 113] = [
 ];
 
 /// The kinds of commands, and last what can't be read as one.
-pub const COMMANDS: [&str; 20] = [
+pub const COMMANDS: [&str; 21] = [
     "table",
     "constraint",
     "filling",
@@ -148,6 +162,7 @@ pub const COMMANDS: [&str; 20] = [
     "total with an issue",
     "knot",
     "desk",
+    "opener",
     "no command",
 ];
 
@@ -177,5 +192,6 @@ pub fn kind(piece: &Piece) -> &'static str {
         Command::Total(_) => "total",
         Command::Knot => "knot",
         Command::Desk(_) => "desk",
+        Command::Opener(_) => "opener",
     }
 }

@@ -5,6 +5,7 @@ mod fetching;
 mod grounds;
 mod issues;
 mod knots;
+mod openers;
 mod performing;
 mod totals;
 

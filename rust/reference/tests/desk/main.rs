@@ -14,6 +14,7 @@ mod issues;
 mod knots;
 mod limits;
 mod lines;
+mod openers;
 mod operation_refusals;
 mod queries;
 mod random;

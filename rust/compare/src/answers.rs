@@ -6,28 +6,31 @@ use std::cmp::Ordering;
 pub struct Answer<'a> {
     /// The line without the command's number.
     pub text: &'a str,
-    /// The words of all its lists.
-    pub list_words: usize,
+    /// The lines of its lists.
+    pub lists: Vec<&'a str>,
 }
 
-/// The answers of a report without its head.
+/// The answers of a report without its head. A query says how many lines follow it:
+/// by itself, a line of numbers may be a list, or what would open a probe.
 pub fn answers(operations: &str) -> Vec<Answer<'_>> {
-    let mut answers: Vec<Answer> = Vec::new();
-    for line in operations.lines() {
-        let (_, rest) = line.split_once(' ').unwrap_or((line, ""));
-        if rest.starts_with(char::is_alphabetic) {
-            answers.push(Answer {
-                text: rest,
-                list_words: 0,
-            });
-        } else if let Some(answer) = answers.last_mut() {
-            answer.list_words += line.split(' ').count();
-        }
+    let mut answers = Vec::new();
+    let mut lines = operations.lines();
+    while let Some(line) = lines.next() {
+        let (_, text) = line.split_once(' ').unwrap_or((line, ""));
+        let lists = text.strip_prefix("answer ").and_then(number);
+        let lists = lines.by_ref().take(lists.unwrap_or(0)).collect();
+        answers.push(Answer { text, lists });
     }
     answers
 }
 
 impl Answer<'_> {
+    /// The words of all its lists.
+    pub fn list_words(&self) -> usize {
+        let words = |list: &&str| list.split(' ').count();
+        self.lists.iter().map(words).sum()
+    }
+
     /// The words of its line.
     pub fn words(&self) -> Vec<&str> {
         self.text.split(' ').collect()
@@ -63,6 +66,7 @@ impl Answer<'_> {
             ["total", _] => "total above 0".into(),
             ["refused", cause, _] => format!("refused {cause}"),
             ["ground", ground, ..] => format!("ground {ground}"),
+            [filling, _, _] if number(filling).is_some() => "opener".into(),
             ["desk", _] => "desk named".into(),
             ["loaded", ..] => "loaded".into(),
             ["dropped", ..] => "dropped".into(),
