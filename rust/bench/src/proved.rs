@@ -289,6 +289,10 @@ impl OpenDesk for Lent {
                 let constraints = &numbers[..usize::from(count)];
                 Answer::Knot(constraints.iter().map(|&number| number as usize).collect())
             }
+            12 => Answer::Desk(number as usize),
+            13 => Answer::Open,
+            14 => Answer::Opener(number as usize, numbers[1] as u32, numbers[2] as u8),
+            15 => Answer::NoOpener,
             word => unreachable!("no answer has the word {word}"),
         }
     }
