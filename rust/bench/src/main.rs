@@ -37,6 +37,8 @@ fn run() -> Result<(), String> {
     println!("{}", side_by_side(&contestants)?);
     println!("Operations from 64 to 512 rows\n");
     println!("{}", growth(&contestants)?);
+    println!("Questions beside one load, from 64 to 512 rows\n");
+    println!("{}", questions()?);
     println!("Operations beside rows that they don't reach\n");
     println!("{}", beside_others(&contestants)?);
     println!("Opening a design of 8 unique columns, 16 constraints and 8 fillings\n");
@@ -145,6 +147,13 @@ fn works_at_sizes(
 
 fn growth(contestants: &Contestants) -> Result<String, String> {
     works_at_sizes(contestants, &SIZES, growing::works)
+}
+
+/// Questions that SQL has no statement for: without SQLite.
+fn questions() -> Result<String, String> {
+    let mut contestants = contestants();
+    contestants.retain(|contestant| contestant.name() != "SQLite");
+    works_at_sizes(&contestants, &SIZES, growing::questions)
 }
 
 fn beside_others(contestants: &Contestants) -> Result<String, String> {

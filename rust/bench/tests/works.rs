@@ -250,6 +250,21 @@ fn all_contestants_do_the_same() {
     assert!(measure(&contestants, small).is_ok());
 }
 
+/// SQL has no statement for these; the others say the same.
+#[test]
+fn questions_are_answered_alike() {
+    let mut contestants = contestants();
+    contestants.retain(|contestant| contestant.name() != "SQLite");
+    let works = growing::questions(SIZES[0]);
+    for work in &works {
+        assert_eq!(check(&contestants, work), Ok(()), "{}", work.name);
+    }
+    let mut first = works[1].clone();
+    first.timed.truncate(1);
+    let report = reference::report(&first.script());
+    assert_eq!(report.lines().last(), Some("0 0 1 0"));
+}
+
 /// No work asks for a report on its design, and SQLite has none. The others have
 /// to say the same all the same.
 #[test]

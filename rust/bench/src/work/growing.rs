@@ -4,7 +4,8 @@
 use notation::{Command, Design, Query};
 
 use super::{
-    column, constraint, drop, filling, join, load_and_drop, probe, query, refer, table, total, Work,
+    column, constraint, drop, filling, join, load_and_drop, opener, probe, query, refer, table,
+    total, Work,
 };
 
 const MOST_HELD: u32 = 16;
@@ -31,8 +32,13 @@ pub fn works(rows: usize) -> Vec<Work> {
     ]
 }
 
+/// Questions that SQL has no statement for, beside the load of as many rows.
+pub fn questions(rows: usize) -> Vec<Work> {
+    vec![chain(rows), opener_of_a_chain(rows)]
+}
+
 /// Each row demands the next, so that a load takes a round for each row.
-fn chain(rows: usize) -> Work {
+fn chain_design(rows: usize) -> Design {
     let mut design = Design {
         tables: vec![table(2, 0b01)],
         constraints: vec![constraint(column(0, 1), column(0, 0))],
@@ -42,8 +48,26 @@ fn chain(rows: usize) -> Work {
     for number in 1..=rows as u32 {
         design.add_row(0, &[number, number + 1]);
     }
+    design
+}
+
+fn chain(rows: usize) -> Work {
     let operations = load_and_drop(0, [1]);
+    let design = chain_design(rows);
     Work::repeating("chain: load and drop", design, vec![], &operations)
+}
+
+/// Nothing is cached, and every row of the chain leads to its last one: what
+/// opens that is the first.
+fn opener_of_a_chain(rows: usize) -> Work {
+    let operations = [opener(column(0, 0), rows as u32)];
+    let design = chain_design(rows);
+    Work::repeating(
+        "chain: what opens its last row",
+        design,
+        vec![],
+        &operations,
+    )
 }
 
 /// Staff, each with a supervisor, in a ring that is linked both ways.

@@ -118,6 +118,11 @@ fn probe(column: Column, value: u32) -> Command {
     Command::Probe(Probe { column, value })
 }
 
+fn opener(column: Column, value: u32) -> Command {
+    let value = value.into();
+    Command::Opener(Probe { column, value })
+}
+
 fn query(column: Column, value: u32, joins: &[Join]) -> Command {
     Command::Query(Query::new(column, value, joins))
 }
