@@ -1,8 +1,9 @@
 -- Searching, counting, tabulating and collecting over the numbers below n. One set of functions serves rows, columns, constraints,
 -- fillings and held values; the laws that a loop over these numbers needs are in `proofs/`. Assumes nothing.
 use Prim.Native.Nat.{ℕ, zero, suc, _+_, _-_}
-use mathlib.Core.Bool.{Bool, true, false, cond, _&&_, _||_}
+use mathlib.Core.Bool.{Bool, true, false, not, cond, _&&_, _||_}
 use mathlib.Core.List.{List, [], _∷_, _++_}
+use lib.Dec.{eqb, ltb}
 
 -- some i below n passes the test
 unfoldable pub any : ℕ → (ℕ → Bool) → Bool
@@ -41,3 +42,11 @@ firstFrom n p i = firstOf n (n - i) p i
 -- the least number below n that passes the test; n if none does
 abbrev pub first : ℕ → (ℕ → Bool) → ℕ
 first n p = firstFrom n p 0
+
+-- a is the lower number, or the two are the same and the rest decides
+unfoldable pub lowerThen : ℕ → ℕ → Bool → Bool
+lowerThen a b rest = ltb a b || (eqb a b && rest)
+
+-- the first number below n that passes the test, and that no other one that passes is lower than; n if none passes
+unfoldable pub lowestOf : ℕ → (ℕ → Bool) → (ℕ → ℕ → Bool) → ℕ
+lowestOf n p lower = first n (λ i. p i && not (any n (λ j. p j && lower j i)))

@@ -15,7 +15,8 @@ use Rattle.state.specs.declared.answer.Shown.{Shown}
 use Rattle.state.specs.Meaning.{answerOf, sixteen, shownOf}
 use Rattle.state.proofs.AnswerLaws.{few-numbers}
 use Rattle.model.specs.Answers.{shown, isRefusal}
-use Rattle.report.specs.Report.{spaced, answer-words, spacedWord, wordText, numbersText, answerText}
+use Rattle.finite.specs.Decimal.{spaced}
+use Rattle.report.specs.Report.{answer-words, spacedWord, wordText, numbersText, answerText}
 
 -- the word with number w, which is k
 pub in-word : {o o′ : List ℕ} {n z : ℕ} {w k : ℕ} → w ≡ k → Wrote o o′ n z (wordText k) → Wrote o o′ n z (wordText w)

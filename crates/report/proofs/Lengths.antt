@@ -5,18 +5,20 @@ use native.Mathlib.Omega.{arith}
 use mathlib.Core.Path.{_≡_, ap, _∙_}
 use mathlib.Core.Bool.{Bool, true, false, cond}
 use mathlib.Core.List.{List, []}
-use lib.ListN.{length, length-append, length-take, take, getD}
+use lib.ListN.{length, length-append, getD}
 use Rattle.finite.specs.Finite.{collect}
 use Rattle.finite.specs.Writing.{Wrote}
 use Rattle.finite.proofs.Collecting.{collect-most}
 use Rattle.finite.proofs.Writing.{reach}
+pub use Rattle.text.proofs.Reach.{bytes-reach, decimal-reach, decimal-reach-32, spaced-reach, spaced-reach-32}
 use Rattle.state.specs.declared.design.Design.{Design}
 use Rattle.state.specs.declared.answer.Answer.{Answer}
 use Rattle.state.specs.Meaning.{answerOf}
 use Rattle.state.proofs.AnswerLaws.{few-numbers}
 use Rattle.model.specs.Answers.{shown, isRefusal}
-use Rattle.report.specs.Report.{decimal, spaced, wordText, numbersText, answerText, commandLine, designLine, refusalLine, listLine, listLines}
-use Rattle.report.proofs.Decimals.{decimal-short, decimal-short-32}
+use Rattle.finite.specs.Decimal.{spaced}
+use Rattle.report.specs.Report.{wordText, numbersText, answerText, commandLine, designLine, refusalLine, listLine, listLines}
+use Rattle.finite.proofs.Decimals.{decimal-short, decimal-short-32}
 
 -- ---- how long
 
@@ -95,21 +97,6 @@ module _ (words : List ℕ) (small : (i : ℕ) → getD words i 0 < 2 ^ 32) wher
 
 -- a writer that wrote from n on stands at z
 module _ (o o′ : List ℕ) (n z : ℕ) where
-  pub bytes-reach : (k : ℕ) (t : List ℕ) → Wrote o o′ n z (take k t) → z ≤ n + k
-  bytes-reach k t = reach o o′ n z (take k t) k (omega (arith, length-take k t))
-
-  pub decimal-reach : (v : ℕ) → Wrote o o′ n z (decimal v) → z ≤ n + 20
-  decimal-reach v = reach o o′ n z (decimal v) 20 (decimal-short v)
-
-  pub decimal-reach-32 : (v : ℕ) → v < 2 ^ 32 → Wrote o o′ n z (decimal v) → z ≤ n + 10
-  decimal-reach-32 v b = reach o o′ n z (decimal v) 10 (decimal-short-32 v b)
-
-  pub spaced-reach : (v : ℕ) → Wrote o o′ n z (spaced v) → z ≤ n + 21
-  spaced-reach v = reach o o′ n z (spaced v) 21 (omega (arith, decimal-short v))
-
-  pub spaced-reach-32 : (v : ℕ) → v < 2 ^ 32 → Wrote o o′ n z (spaced v) → z ≤ n + 11
-  spaced-reach-32 v b = reach o o′ n z (spaced v) 11 (omega (arith, decimal-short-32 v b))
-
   pub word-reach : (w : ℕ) → Wrote o o′ n z (wordText w) → z ≤ n + 13
   word-reach w = reach o o′ n z (wordText w) 13 (word-short w)
 

@@ -1,5 +1,4 @@
--- Decimals: numbers in decimal, and how many digits they have. Answers: an answer's text by its case.
+-- Answers: an answer's text by its case.
 -- Lengths: how long texts and lines are, and how far a writer gets with them.
-pub mod Decimals
 pub mod Answers
 pub mod Lengths

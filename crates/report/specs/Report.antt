@@ -1,35 +1,15 @@
 -- The desk's report as ASCII text (01, "The desk program's report"). Assumes nothing.
-use Prim.Native.Nat.{ℕ, zero, suc, _+_, _-_, _*_, _/_, _%_}
+use Prim.Native.Nat.{ℕ, _+_, _-_, _*_}
 use mathlib.Core.Bool.{true, cond}
 use mathlib.Core.List.{List, [], _∷_, _++_}
-use lib.Dec.{ltb}
 use lib.ListN.{length, getD}
 use Rattle.finite.specs.Finite.{collect}
+use Rattle.finite.specs.Decimal.{space, decimal, spaced}
 use Rattle.state.specs.declared.design.Design.{Design}
 use Rattle.model.specs.Answers.{Answer, shown, isRefusal}
 
-abbrev pub space : ℕ
-space = 32
-
 abbrev pub newline : ℕ
 newline = 10
-
--- the digit of a number below 10
-abbrev pub digit : ℕ → ℕ
-digit n = 48 + n
-
--- a number in decimal, without leading zeros; f is a number of digits that suffices
-unfoldable pub decimalBy : ℕ → ℕ → List ℕ
-decimalBy zero n = []
-decimalBy (suc f) n = cond (ltb n 10) (digit n ∷ []) (decimalBy f (n / 10) ++ (digit (n % 10) ∷ []))
-
--- a number below 2 ^ 64 has at most 20 digits
-abbrev pub decimal : ℕ → List ℕ
-decimal n = decimalBy 20 n
-
--- a space, then the number
-abbrev pub spaced : ℕ → List ℕ
-spaced n = space ∷ decimal n
 
 -- "loaded", "held", "no candidate", "dropped", "ground", "sent", "answer", "refused", "even", "uneven", "total", "knot", "desk", "open", "none", "design"
 abbrev pub loaded-word : List ℕ

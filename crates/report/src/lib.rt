@@ -2,7 +2,6 @@
 // buffer is untouched. What is written is what specs/Report.antt says, and takes time in proportion to its bytes, whatever the number of rows and
 // constraints. A `requires` asks for room alone (and, for lists, for the words); proofs/Lengths.antt says how far each line reaches.
 mod lines;
-mod text;
 
 pub use lines::put_command_line;
 pub use lines::put_design_line;

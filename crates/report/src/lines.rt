@@ -4,17 +4,18 @@ ghost use mathlib.Core.Bool.{true};
 ghost use lib.ListN.{length, getD};
 ghost use Rattle.finite.specs.Finite.{collect};
 ghost use Rattle.finite.specs.Writing.{Wrote};
+ghost use Rattle.finite.specs.Decimal.{spaced};
 ghost use Rattle.state.specs.Meaning.{answerOf};
-ghost use Rattle.report.specs.Report.{spaced, wordText, answerText, commandLine, designLine, refusalLine, listLine, listLines};
-use crate::text::put_byte;
-use crate::text::put_bytes;
-use crate::text::put_decimal;
-use crate::text::put_spaced;
+ghost use Rattle.report.specs.Report.{wordText, answerText, commandLine, designLine, refusalLine, listLine, listLines};
 use state::Answer;
 use state::Design;
 use state::Shown;
 use state::is_refusal;
 use state::show;
+use text::put_byte;
+use text::put_bytes;
+use text::put_decimal;
+use text::put_spaced;
 
 // Writes the word of an answer, by its number, behind a space, if it has one: at most 13 bytes.
 fn put_word(out: &mut [u8], at: usize, word: u8) -> usize

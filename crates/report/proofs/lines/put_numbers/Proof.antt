@@ -8,7 +8,7 @@ use lib.ListN.{length, getD}
 use Rattle.finite.specs.Finite.{collect}
 use Rattle.finite.specs.Writing.{Wrote}
 use Rattle.finite.proofs.Writing.{written-none, written-more, written-end}
-use Rattle.report.specs.Report.{spaced}
+use Rattle.finite.specs.Decimal.{spaced}
 use Rattle.report.proofs.Lengths.{spaced-reach}
 use Rattle.report.proofs.lines.put_numbers.Statement.{statement}
 use Rattle.report.proofs.lines.put_numbers.Tie as tie

@@ -1,12 +1,12 @@
--- `report::text::put_bytes` meets its contract. The invariant: the bytes below i are written. Assumes nothing.
+-- `text::put_bytes` meets its contract. The invariant: the bytes below i are written. Assumes nothing.
 use Prim.Native.Nat.{_+_, _-_, _≤_}
 use native.Mathlib.Omega.{arith}
 use mathlib.Core.Path.{_≡_, refl}
 use lib.ListN.{length, take, length-set}
 use Rattle.finite.specs.Writing.{Wrote}
 use Rattle.finite.proofs.Writing.{copied-more, copied-end}
-use Rattle.report.proofs.text.put_bytes.Statement.{statement}
-use Rattle.report.proofs.text.put_bytes.Tie as tie
+use Rattle.text.proofs.put_bytes.Statement.{statement}
+use Rattle.text.proofs.put_bytes.Tie as tie
 
 abbrev Inv-loop : tie.InvT-loop
 Inv-loop out₀ at text n i₀ out i = (i ≤ n) × (length out ≡ length out₀) × Wrote out₀ out at (at + i) (take i text)

@@ -1,8 +1,8 @@
--- `report::text::put_spaced` meets its contract: a space, then the number. Assumes nothing.
+-- `text::put_spaced` meets its contract: a space, then the number. Assumes nothing.
 use borrow.Author.Needs.{needs}
 use Rattle.finite.proofs.Writing.{behind}
-use Rattle.report.proofs.text.put_spaced.Statement.{statement}
-use Rattle.report.proofs.text.put_spaced.Tie as tie
+use Rattle.text.proofs.put_spaced.Statement.{statement}
+use Rattle.text.proofs.put_spaced.Tie as tie
 
 put-byte-requires : tie.Need-put-byte-requires
 put-byte-requires c κs = search needs

@@ -9,8 +9,8 @@ use mathlib.Core.List.{List, [], _∷_, _++_}
 use borrow.Author.Tests.{lt-ltb, le-ltb, ltb-false}
 use lib.Dec.{ltb}
 use lib.ListN.{length, length-append}
 use Rattle.finite.proofs.Bools.{dec, cond-true, cond-false}
-use Rattle.report.specs.Report.{digit, decimal, decimalBy}
+use Rattle.finite.specs.Decimal.{digit, decimal, decimalBy}
 
 -- a digit is taken off the end
 shorter : (n k : ℕ) → n < 10 ^ suc k → n / 10 < 10 ^ k
@@ -59,9 +59,13 @@ decimalBy-short (suc f) k n h =
 pub decimal-short : (n : ℕ) → length (decimal n) ≤ 20
 decimal-short n = decimalBy-within 20 n
 
+-- a number below 10 ^ (k + 1) has at most k + 1
+pub decimal-within : (k n : ℕ) → n < 10 ^ suc k → length (decimal n) ≤ suc k
+decimal-within k n h = decimalBy-short 20 k n h
+
 -- a u32 has at most 10
 pub decimal-short-32 : (n : ℕ) → n < 2 ^ 32 → length (decimal n) ≤ 10
-decimal-short-32 n h = decimalBy-short 20 9 n (omega arith)
+decimal-short-32 n h = decimal-within 9 n (omega arith)
 
 -- the tenth of a u64 has at most 19
 pub tenth-short : (n : ℕ) → n < 2 ^ 64 → length (decimal (n / 10)) ≤ 19

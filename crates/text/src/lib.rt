@@ -1,12 +1,13 @@
-// Bytes and numbers, written into a lent buffer.
+// Bytes and numbers, written into a lent buffer from an index on; each function gives the index behind what it wrote, and the rest of the buffer is
+// untouched. The report and the reasons for rows are written with these. Each takes time in proportion to the bytes that it writes.
 ghost use mathlib.Core.List.{_∷_, []};
 ghost use Prim.Native.Nat.{_+_, _≤_};
 ghost use lib.ListN.{length, take};
 ghost use Rattle.finite.specs.Writing.{Wrote};
-ghost use Rattle.report.specs.Report.{decimal, spaced};
+ghost use Rattle.finite.specs.Decimal.{decimal, spaced};
 
 // Writes the first n bytes of a text.
-pub(crate) fn put_bytes(out: &mut [u8], at: usize, text: &[u8], n: usize) -> usize
+pub fn put_bytes(out: &mut [u8], at: usize, text: &[u8], n: usize) -> usize
     requires { ⌜ (n ≤ length (now text)) × (at + n ≤ length (now out)) ⌝ }
     ensures { λ z. ⌜ Wrote (now (out .entry)) (now (out .exit)) at z (take n (now (text .entry))) ⌝ }
 {
@@ -19,7 +20,7 @@ pub(crate) fn put_bytes(out: &mut [u8], at: usize, text: &[u8], n: usize) -> usi
 }
 
 // Writes one byte.
-pub(crate) fn put_byte(out: &mut [u8], at: usize, b: u8) -> usize
+pub fn put_byte(out: &mut [u8], at: usize, b: u8) -> usize
     requires { ⌜ at + 1 ≤ length (now out) ⌝ }
     ensures { λ z. ⌜ Wrote (now (out .entry)) (now (out .exit)) at z (b ∷ []) ⌝ }
 {
@@ -28,7 +29,7 @@ pub(crate) fn put_byte(out: &mut [u8], at: usize, b: u8) -> usize
 }
 
 // Writes a number in decimal, its leading digits first: at most 20 bytes.
-pub(crate) fn put_decimal(out: &mut [u8], at: usize, n: u64) -> usize
+pub fn put_decimal(out: &mut [u8], at: usize, n: u64) -> usize
     requires { ⌜ at + 20 ≤ length (now out) ⌝ }
     ensures { λ z. ⌜ Wrote (now (out .entry)) (now (out .exit)) at z (decimal n) ⌝ }
 {
@@ -40,7 +41,7 @@ pub(crate) fn put_decimal(out: &mut [u8], at: usize, n: u64) -> usize
 }
 
 // Writes a space and a number: at most 21 bytes.
-pub(crate) fn put_spaced(out: &mut [u8], at: usize, n: u64) -> usize
+pub fn put_spaced(out: &mut [u8], at: usize, n: u64) -> usize
     requires { ⌜ at + 21 ≤ length (now out) ⌝ }
     ensures { λ z. ⌜ Wrote (now (out .entry)) (now (out .exit)) at z (spaced n) ⌝ }
 {

@@ -1,18 +1,18 @@
--- `report::text::put_decimal` meets its contract: a number's tenth, then its last digit. Assumes nothing.
+-- `text::put_decimal` meets its contract: a number's tenth, then its last digit. Assumes nothing.
 use borrow.Author.Needs.{needs}
 use native.Mathlib.Omega.{arith}
 use mathlib.Core.Path.{refl, sym}
 use Rattle.finite.proofs.Writing.{behind, wrote-as}
-use Rattle.report.proofs.Decimals.{decimal-one, decimal-more, tenth-short}
+use Rattle.finite.proofs.Decimals.{decimal-one, decimal-more, tenth-short}
 use Prim.Native.Nat.{ℕ, _<_}
 use borrow.Fn.Kinds.{In}
 use borrow.Fn.PlainCycle.{Measures, is, falls, and}
-use Rattle.report.proofs.text.put_decimal.Reads as put-decimal
-use Rattle.report.proofs.text.put_decimal.Kinds as put-decimal-kinds
-use Rattle.report.proofs.text.+put_decimal.Lts-put_decimal as put-decimal-lts
-use Rattle.report.proofs.text.put_byte.Reads as put-byte-reads
-use Rattle.report.proofs.text.+put_decimal.{statement}
-use Rattle.report.proofs.text.+put_decimal.Tie.{close}
+use Rattle.text.proofs.put_decimal.Reads as put-decimal
+use Rattle.text.proofs.put_decimal.Kinds as put-decimal-kinds
+use Rattle.text.proofs.+put_decimal.Lts-put_decimal as put-decimal-lts
+use Rattle.text.proofs.put_byte.Reads as put-byte-reads
+use Rattle.text.proofs.+put_decimal.{statement}
+use Rattle.text.proofs.+put_decimal.Tie.{close}
 
 abbrev μ-put-decimal : Measures 1 put-decimal-kinds.ps ℕ
 μ-put-decimal κs a = a .1 .1 .0

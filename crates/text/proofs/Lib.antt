@@ -1,0 +1,2 @@
+-- Reach: how far a writer gets with bytes and numbers.
+pub mod Reach
