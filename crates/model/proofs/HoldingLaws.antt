@@ -9,27 +9,25 @@ use mathlib.Core.Path.{_≡_, refl, sym, ap, ap₂, subst, _∙_}
 use mathlib.Core.Logic.{_⊎_, inl, inr, ⊎-elim}
 use mathlib.Core.Bool.{Bool, true, false, not, cond, _&&_, _||_, and-eq-true-iff}
 use mathlib.Core.List.{List, [], _∷_, _++_}
-use borrow.Author.Tests.{ltb-true, eqb-true, ne-eqb, not-true}
+use borrow.Author.Tests.{ltb-true, eqb-true, eq-eqb, ne-eqb, not-true}
 use lib.Dec.{eqb, ltb}
 use lib.ListN.{length, getD}
-use Rattle.finite.specs.Finite.{count, tab}
+use Rattle.finite.specs.Finite.{any, count, tab}
 use Rattle.finite.specs.Sameness.{listed, placeOf, remove}
-use Rattle.finite.proofs.Bools.{clash, or-cases, same-number}
+use Rattle.finite.proofs.Bools.{both, clash, or-cases, same-number}
+use Rattle.finite.proofs.Search.{any-front, any-found, any-start, any-true}
 use Rattle.finite.proofs.Tables.{tab-more}
 use Rattle.finite.proofs.Sameness.{end-length, end-before, end-last, unlisted-at, skip, skip-rises, skip-le, remove-none, remove-length, remove-at}
-use Rattle.model.specs.Cell.{Cell, numbered}
+use Rattle.model.specs.Cell.{Cell, isBlank}
 use Rattle.model.specs.Scheme.{Column, Scheme, candidate, sameColumn}
-use Rattle.model.specs.Database.{Database}
-use Rattle.model.specs.Holding.{desks, places, Pair, samePair, Owned, sameOwned, ownAmong, Holding, withDesk, ownOf, mine, holds, hasRoom, withPair, withoutPair, one, pairsHold, heldIn}
+use Rattle.model.specs.Database.{Database, has}
+use Rattle.model.specs.Holding.{desks, places, Pair, samePair, Owned, sameOwned, ownAmong, Holding, withDesk, ownOf, mine, heldCount, heldPair, someHolds, holds, hasRoom, withPair, withoutPair, one, pairsHold, pairsWant, heldIn, wanted}
+pub use Rattle.model.specs.Holding.{noOwned}
 use Rattle.model.specs.Cache.{RowSet}
 use Rattle.model.specs.Probe as Probe
 use Rattle.model.specs.Query.{Query}
 use Rattle.model.specs.Runs.{Output, Operation, refer, drop, ask, query, name, taken, cachedFor, pairFor, answerable, refers, heldAfter}
-use Rattle.model.proofs.CellLaws.{equal-same}
-
--- what is read past a list's end
-abbrev pub noOwned : Owned
-noOwned = record { desk = 0; pair = record { filling = 0; value = numbered 0 } }
+use Rattle.model.proofs.CellLaws.{equal-same, equal-self}
 
 abbrev pub ownedAt : List Owned → ℕ → Owned
 ownedAt os i = getD os i noOwned
@@ -287,3 +285,40 @@ held-from S h H k v e = go (h .values) (H .values .filling) e
         ⊎-elim (λ y. (o .pair .filling, fits 0 (omega arith), and-eq-true-iff (sameColumn (S .filling (o .pair .filling) .column) k) _ .0 y .0))
         (λ y. go os (λ i l. fits (suc i) (omega arith)) y)
         (or-cases (one (S .filling (o .pair .filling) .column) (o .pair .value) k v) (pairsHold S os k v) x)
+
+-- ---- what is held, one by one, whatever its desk
+
+-- the same pair
+same-pair : (p q : Pair) → samePair p q ≡ true → p ≡ q
+unfolding samePair
+same-pair p q e =
+    let h = and-eq-true-iff (eqb (p .filling) (q .filling)) _ .0 e in
+    let v = equal-same (p .value) (q .value) (h .1) in
+    λ i. record { filling = eqb-true (p .filling) (q .filling) (h .0) i; value = v i }
+
+-- a pair that some desk holds stands somewhere
+pub held-at : (h : Holding) (p : Pair) → someHolds h p ≡ true → (i : ℕ) × (i < heldCount h) × (heldPair h i ≡ p)
+unfolding someHolds
+held-at h p e = let f = any-found (heldCount h) (λ i. samePair (heldPair h i) p) e in (f .0, f .1, same-pair (heldPair h (f .0)) p (f .2))
+
+-- a pair that stands somewhere is held by some desk, unless its value is blank
+pub at-held : (h : Holding) (i : ℕ) → i < heldCount h → isBlank (heldPair h i .value) ≡ false → someHolds h (heldPair h i) ≡ true
+unfolding someHolds samePair
+at-held h i l n =
+    any-true (heldCount h) _ i l (both (eq-eqb (heldPair h i .filling) (heldPair h i .filling) refl) (equal-self (heldPair h i .value) n))
+
+-- its filling exists
+pub held-fits : (S : Scheme) (h : Holding) → HoldingFits S h → (p : Pair) → someHolds h p ≡ true → p .filling < S .fillings
+held-fits S h H p e = let f = held-at h p e in subst (λ (q : Pair). q .filling < S .fillings) (f .2) (H .values .filling (f .0) (f .1))
+
+-- the rows that are wanted are those that have one of the pairs
+pub wanted-some : (S : Scheme) (D : Database) (h : Holding) (r : ℕ) →
+    wanted S D h r ≡ any (heldCount h) (λ i. has D (S .filling (heldPair h i .filling) .column) (heldPair h i .value) r)
+unfolding pairsWant
+wanted-some S D h r = go (h .values)
+  where
+    go : (os : List Owned) → pairsWant S D os r ≡ any (length os) (λ i. has D (S .filling (ownedAt os i .pair .filling) .column) (ownedAt os i .pair .value) r)
+    go [] = sym (any-start _)
+    go (o ∷ os) =
+        ap (λ (b : Bool). has D (S .filling (o .pair .filling) .column) (o .pair .value) r || b) (go os) ∙
+        sym (any-front (length os) (λ i. has D (S .filling (ownedAt (o ∷ os) i .pair .filling) .column) (ownedAt (o ∷ os) i .pair .value) r))

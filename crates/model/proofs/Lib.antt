@@ -1,6 +1,6 @@
 -- CellLaws, DatabaseLaws, ProbeLaws: the tests say what they are named for. Closed, RoundsLaws, Loads: rounds reach the smallest row set.
 -- ReachLaws, EvenRounds, EvenLaws, EvenRefers: even designs. KnotOrder, KnotLaws: the smallest knot. Exact: the probe. Marks, HoldingLaws, RunLaws, Fresh, DeskAlone, Demand3: runs. QueryLaws, ListLaws, TotalLaws, Referring, Demand2, CountedRows: queries. Examples: the worked
--- cases. TurnedLaws, Opens, OpenerLaws, OpenerDesks: the value that would open a query.
+-- cases. TurnedLaws, Opens, OpenerLaws, OpenerDesks: the value that would open a query. ReasonLaws, SentenceLaws, ReasonCases: the reason for a row, its words, and what it answers and writes.
 pub mod CellLaws
 pub mod DatabaseLaws
 pub mod ProbeLaws
@@ -30,4 +30,7 @@ pub mod TurnedLaws
 pub mod Opens
 pub mod OpenerLaws
 pub mod OpenerDesks
+pub mod ReasonLaws
+pub mod SentenceLaws
+pub mod ReasonCases
 pub mod Examples

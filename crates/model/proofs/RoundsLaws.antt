@@ -293,16 +293,16 @@ module _ (S : Scheme) (D : Database) (old seed : RowSet) where
 
     -- ---- the load
 
-    below : (s : ℕ) → level (load S D old seed) s < suc (suc (D .size))
+    pub load-bound : (s : ℕ) → level (load S D old seed) s < suc (suc (D .size))
     unfolding load at-round Quiet
-    below s = let b = inv (D .size) .bound s in let q : level (load S D old seed) s ≡ suc (suc (D .size)) → ⊥ = ended s in omega arith
+    load-bound s = let b = inv (D .size) .bound s in let q : level (load S D old seed) s ≡ suc (suc (D .size)) → ⊥ = ended s in omega arith
 
     -- the levels of a load are distances
     pub load-distances : Distances S D old seed (load S D old seed)
     unfolding load
     load-distances =
         let i = inv (D .size) in
-        record { olds = i .olds; is-old = i .is-old; seeds = i .seeds; is-seed = i .is-seed; link = i .link; closed = λ s r p. i .closed s r p (below s) }
+        record { olds = i .olds; is-old = i .is-old; seeds = i .seeds; is-seed = i .is-seed; link = i .link; closed = λ s r p. i .closed s r p (load-bound s) }
 
     -- the rows that a load reaches have all that they demand
     pub load-closed : Closed S D (reached (load S D old seed))
@@ -361,7 +361,7 @@ module _ (S : Scheme) (D : Database) (old seed : RowSet) where
         row r h = D .finite r (load-closed .rows r (level-reached _ r h))
 
         low : R ≤ D .size
-        low = ⊎-elim (λ z. omega arith) (λ h. let f = some (R - 1) (omega arith) in omega (arith, below (f .0), f .1)) (eq-zero-or-pos R)
+        low = ⊎-elim (λ z. omega arith) (λ h. let f = some (R - 1) (omega arith) in omega (arith, load-bound (f .0), f .1)) (eq-zero-or-pos R)
 
         full : (n : ℕ) → n < R → p n ≡ true
         full n h = let f = some n h in any-true (D .size) (at n) (f .0) (row (f .0) (omega (arith, f .1))) (eq-eqb _ _ (f .1))

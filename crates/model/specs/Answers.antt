@@ -16,11 +16,13 @@ use Rattle.model.specs.Even.{unevenFrom, lowestUneven}
 use Rattle.model.specs.Knot.{isUnevenScheme, knotOf}
 use Rattle.model.specs.Holding.{desks, holds, hasRoom, withoutPair, heldIn}
 use Rattle.model.specs.Opener.{isOpen, lowestFilling, lowestNumber, lowestIssue}
-use Rattle.model.specs.Runs.{Question, probe, evenness, smallestKnot, opener, Output, asLists, asTotal, Operation, refer, drop, ask, query, name, taken, pairFor, outputFits, withinLimit, marked, Cache, referLevels, reloadLevels}
+use Rattle.model.specs.Sentence.{reasonText}
+use Rattle.model.specs.Runs.{Question, probe, evenness, smallestKnot, opener, reason, Output, asLists, asTotal, Operation, refer, drop, ask, query, name, taken, pairFor, outputFits, withinLimit, marked, Cache, referLevels, reloadLevels}
 use Rattle.model.specs.Query.{Query, wordsOf, fullLists, fullTotal}
 
 -- `loaded` rows rounds, `held`, `no candidate`, `dropped` rows, `ground` g rows, `sent`, `answer` lists, `refused` number; `even`, `uneven` i j (02, Req 01);
--- `total` n (02, Req 03); `knot` constraints (02, Req 11); `desk` d (02, Req 07); `open`, filling number issue, `none` (02, Req 09)
+-- `total` n (02, Req 03); `knot` constraints (02, Req 11); `desk` d (02, Req 07); `open`, filling number issue, `none` (02, Req 09); `absent`, and a reason in
+-- words, which answers the length of the text (02, Req 08)
 pub data Answer : Type 0 where
   loaded : ℕ → ℕ → Answer
   held noCandidate : Answer
@@ -37,6 +39,8 @@ pub data Answer : Type 0 where
   opened : Answer
   openedBy : ℕ → ℕ → ℕ → Answer
   noOpener : Answer
+  absent : Answer
+  explained : ℕ → Answer
 
 -- an answer as the report shows it: its word, by number, and the numbers behind it. Whatever depends on what an answer is goes through this
 pub record Shown : Type 0 where
@@ -48,6 +52,9 @@ listsWord = 6
 
 abbrev pub refusedWord : ℕ
 refusedWord = 7
+
+abbrev pub explainedWord : ℕ
+explainedWord = 17
 
 unfoldable pub shown : Answer → Shown
 shown (loaded rows rounds) = record { word = 0; numbers = rows ∷ rounds ∷ [] }
@@ -66,13 +73,18 @@ shown (named d) = record { word = 12; numbers = d ∷ [] }
 shown opened = record { word = 13; numbers = [] }
 shown (openedBy f n i) = record { word = 14; numbers = f ∷ n ∷ i ∷ [] }
 shown noOpener = record { word = 15; numbers = [] }
+shown absent = record { word = 16; numbers = [] }
+shown (explained n) = record { word = explainedWord; numbers = n ∷ [] }
 
--- the answer has lists; the answer is a refusal
+-- the answer has lists; it is a refusal; it has a text
 unfoldable pub hasLists : Answer → Bool
 hasLists a = eqb (shown a .word) listsWord
 
 unfoldable pub isRefusal : Answer → Bool
 isRefusal a = eqb (shown a .word) refusedWord
+
+unfoldable pub hasText : Answer → Bool
+hasText a = eqb (shown a .word) explainedWord
 
 -- the refusal where its cause applies, else what comes after it in the order of causes
 abbrev pub unless : Bool → ℕ → Answer → Answer
@@ -107,6 +119,16 @@ openerAnswer S D c k v =
     let n = lowestNumber S D k v c f in
     orAnswer (isOpen S D k v c) opened (orAnswer (ltb f (S .fillings)) (openedBy f n (lowestIssue S D k v c f n)) noOpener)
 
+-- "A row that isn't cached prints absent and writes no text. It refuses a row number that names nothing with 5, and a sentence longer than the lent text
+-- with 11"
+unfoldable pub reasonAnswer : Scheme → Database → Cache → ℕ → ℕ → Answer
+reasonAnswer S D c r room =
+    let n = length (reasonText S D (c .held) r) in
+    unless (not (D .live r)) 5
+    (orAnswer (not (marked (c .marks) r)) absent
+    (unless (ltb room n) 11
+    (explained n)))
+
 -- what a question answers
 unfoldable pub questionAnswer : Scheme → Database → Cache → Question → Answer
 questionAnswer S D c (probe k v) =
@@ -116,6 +138,19 @@ questionAnswer S D c (probe k v) =
 questionAnswer S D c evenness = evenAnswer S
 questionAnswer S D c smallestKnot = knotAnswer S
 questionAnswer S D c (opener k v) = unless (not (isColumn S k)) 5 (unless (numberless v) 9 (openerAnswer S D c k v))
+questionAnswer S D c (reason r room) = reasonAnswer S D c r room
+
+-- the text that is written with an answer: t with a reason, and none with any other
+unfoldable pub textWith : Answer → List ℕ → List ℕ
+textWith a t = cond (hasText a) t []
+
+-- the text that a question writes
+unfoldable pub questionText : Scheme → Database → Cache → Question → List ℕ
+questionText S D c (probe k v) = []
+questionText S D c evenness = []
+questionText S D c smallestKnot = []
+questionText S D c (opener k v) = []
+questionText S D c (reason r room) = textWith (reasonAnswer S D c r room) (reasonText S D (c .held) r)
 
 -- ---- queries
 
@@ -179,3 +214,11 @@ written S D c (drop p) = []
 written S D c (ask q) = []
 written S D c (query q out) = queryWords S D c q out
 written S D c (name d) = []
+
+-- the text that an operation writes
+unfoldable pub textOf : Scheme → Database → Cache → Operation → List ℕ
+textOf S D c (refer p) = []
+textOf S D c (drop p) = []
+textOf S D c (ask q) = questionText S D c q
+textOf S D c (query q out) = []
+textOf S D c (name d) = []

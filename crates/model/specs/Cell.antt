@@ -1,10 +1,11 @@
 -- A cell's value (01, "Tables, links and held values"; 02, Req 06: "A cell becomes a number u32 and an issue u8"). Everything else asks whether a cell is
--- blank or has no number, whether two are equal, whether one fits, and what one adds to a total; candidates go by the number (`Scheme.antt`), and a catalog
--- orders values by number and issue. Assumes nothing.
+-- blank or has no number, whether two are equal, which is the lower, whether one fits, and what one adds to a total; candidates go by the number
+-- (`Scheme.antt`), a sentence shows number and issue (`Sentence.antt`), and a catalog orders values by both. Assumes nothing.
 use Prim.Native.Nat.{ℕ, _<_, _^_}
 use mathlib.Core.Path.{_≡_}
 use mathlib.Core.Bool.{Bool, not, _&&_}
-use lib.Dec.{eqb}
+use lib.Dec.{eqb, ltb}
+use Rattle.finite.specs.Finite.{lowerThen}
 
 pub record Cell : Type 0 where
   pub number : ℕ
@@ -42,3 +43,7 @@ numberless a = eqb (a .number) 0
 -- "a blank equals nothing, not even another blank"; "two cells are equal only if both are"
 unfoldable pub equal : Cell → Cell → Bool
 equal a b = not (isBlank a) && (eqb (a .number) (b .number) && eqb (a .issue) (b .issue))
+
+-- the lower of two values: by number, then by issue (02, Req 08: "the lowest filling, value and issue")
+unfoldable pub lowerCell : Cell → Cell → Bool
+lowerCell a b = lowerThen (a .number) (b .number) (ltb (a .issue) (b .issue))

@@ -5,9 +5,10 @@ use Prim.Native.Nat.{ℕ}
 use mathlib.Core.Bool.{Bool, false, cond, _&&_, _||_}
 use mathlib.Core.List.{List, [], _∷_, _++_}
 use lib.Dec.{eqb, ltb}
-use lib.ListN.{length}
+use lib.ListN.{length, getD}
+use Rattle.finite.specs.Finite.{any}
 use Rattle.finite.specs.Sameness.{listed, remove}
-use Rattle.model.specs.Cell.{Cell, equal}
+use Rattle.model.specs.Cell.{Cell, numbered, equal}
 use Rattle.model.specs.Scheme.{Column, sameColumn, Scheme}
 use Rattle.model.specs.Database.{Database, has}
 use Rattle.model.specs.Cache.{RowSet, Held}
@@ -62,6 +63,21 @@ ownOf d h = ownAmong d (h .values)
 -- a pair of the named desk
 abbrev pub mine : Holding → Pair → Owned
 mine h p = record { desk = h .desk; pair = p }
+
+-- what is read past the end
+abbrev pub noOwned : Owned
+noOwned = record { desk = 0; pair = record { filling = 0; value = numbered 0 } }
+
+-- the pairs of all desks one by one: how many, and each
+abbrev pub heldCount : Holding → ℕ
+heldCount h = length (h .values)
+
+abbrev pub heldPair : Holding → ℕ → Pair
+heldPair h i = getD (h .values) i noOwned .pair
+
+-- some desk holds the pair
+unfoldable pub someHolds : Holding → Pair → Bool
+someHolds h p = any (heldCount h) (λ i. samePair (heldPair h i) p)
 
 -- "whether a pair is listed, and whether there is room for it (fewer than 16), goes by the pairs of the desk then named"
 abbrev pub holds : Holding → Pair → Bool

@@ -12,6 +12,8 @@ pub mod Query
 pub mod Runs
 pub mod Opener
 pub mod Turned
+pub mod Reason
+pub mod Sentence
 pub mod Answers
 pub mod Desks
 pub mod Demand

@@ -24,6 +24,8 @@ pub data Question : Type 0 where
   smallestKnot : Question
   -- the value whose reference would give the probe a ground (02, Req 09)
   opener : Column → Cell → Question
+  -- why a row is cached: its number, and how many bytes of text are lent (02, Req 08)
+  reason : ℕ → ℕ → Question
 
 -- what a query is asked for: its lists, with how many answer words are lent, or the total of a position's column (02, Req 03)
 pub data Output : Type 0 where
