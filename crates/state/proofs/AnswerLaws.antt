@@ -91,6 +91,8 @@ few-numbers (A.Named d) = omega arith
 few-numbers A.Open = omega arith
 few-numbers (A.OpenedBy f n i) = omega arith
 few-numbers A.NoOpener = omega arith
+few-numbers A.Absent = omega arith
+few-numbers (A.Explained n) = omega arith
 
 pub shows-few : (s : Shown) (a : Answer) → s ≡ shownOf (Model.shown (answerOf a)) → s .count ≤ 16
 shows-few s a h = omega (arith, few-numbers a, ap (λ (x : Shown). x .count) h)

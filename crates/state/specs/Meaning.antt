@@ -175,6 +175,8 @@ answerOf (A.Named d) = Answers.named d
 answerOf A.Open = Answers.opened
 answerOf (A.OpenedBy f n i) = Answers.openedBy f n i
 answerOf A.NoOpener = Answers.noOpener
+answerOf A.Absent = Answers.absent
+answerOf (A.Explained n) = Answers.explained n
 
 -- an array of sixteen numbers, 0 behind the last
 abbrev pub sixteen : List ℕ → List ℕ

@@ -35,6 +35,10 @@ pub enum Answer {
     // the filling, the number and the issue whose reference would give a ground
     OpenedBy(u8, u32, u8),
     NoOpener,
+    // a row that isn't cached
+    Absent,
+    // the length of the text that says why a row is cached
+    Explained(usize),
 }
 
 // An answer as the report shows it: its word, by number, how many numbers stand behind it, and these, 0 behind the last.
@@ -123,6 +127,8 @@ pub fn show(answer: Answer) -> Shown
         Answer::Open => words(13, 0, 0, 0),
         Answer::OpenedBy(f, n, i) => words_three(14, 3, f as u64, n as u64, i as u64),
         Answer::NoOpener => words(15, 0, 0, 0),
+        Answer::Absent => words(16, 0, 0, 0),
+        Answer::Explained(n) => words(17, 1, n as u64, 0),
     }
 }
 

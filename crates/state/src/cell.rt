@@ -1,9 +1,9 @@
 // A value, as a cell has it: a number and an issue. The only ways to read one: a cell of a lent row, whether it is blank or has no number, whether
-// two are equal, and what it adds to a total. Constant time.
+// two are equal, which is the lower, and what it adds to a total. Constant time.
 ghost use Prim.Native.Nat.{_≤_, _<_};
 ghost use mathlib.Core.Path.{_≡_};
 ghost use lib.ListN.{length};
-ghost use Rattle.model.specs.Cell.{amount, equal, isBlank, numberless};
+ghost use Rattle.model.specs.Cell.{amount, equal, isBlank, lowerCell, numberless};
 ghost use Rattle.state.specs.Cells.{cellsIn};
 ghost use Rattle.state.specs.Meaning.{cellAt, cellOf};
 
@@ -51,6 +51,16 @@ pub fn same_cell(a: Cell, b: Cell) -> bool
         return false;
     }
     a.issue == b.issue
+}
+
+// Whether a is the lower: by number, then by issue.
+pub fn lower_cell(a: Cell, b: Cell) -> bool
+    ensures { λ r. ⌜ r ≡ lowerCell (cellOf a) (cellOf b) ⌝ }
+{
+    if a.number != b.number {
+        return a.number < b.number;
+    }
+    a.issue < b.issue
 }
 
 // What the cell adds to a total: its number alone.

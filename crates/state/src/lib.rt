@@ -22,6 +22,7 @@ pub use cell::amount_of;
 pub use cell::cell_at;
 pub use cell::is_blank;
 pub use cell::is_numberless;
+pub use cell::lower_cell;
 pub use cell::same_cell;
 pub use copying::copy_bytes;
 pub use design::Column;

@@ -127,6 +127,18 @@ enum-told-6 c = search needs
 words-requires-14 : tie.Need-words-requires-14
 words-requires-14 c κs = search needs
 
+enum-told-7 : tie.Need-enum-told-7
+enum-told-7 c = search needs
+
+words-requires-15 : tie.Need-words-requires-15
+words-requires-15 c κs = search needs
+
+enum-known-answer-11 : tie.Need-enum-known-answer-11
+enum-known-answer-11 c = search needs
+
+words-requires-16 : tie.Need-words-requires-16
+words-requires-16 c κs = search needs
+
 returns : tie.Need-returns
 unfolding shown tab
 returns c = shows-case (c .words .ensures) (c .before .before .answer .given .1) refl
@@ -191,6 +203,14 @@ returns-16 : tie.Need-returns-16
 unfolding shown tab
 returns-16 c = shows-case (c .words14 .ensures) (c .before .enum-told6 .given .1) refl
 
+returns-17 : tie.Need-returns-17
+unfolding shown tab
+returns-17 c = shows-case (c .words15 .ensures) (c .before .enum-told7 .given .1) refl
+
+returns-18 : tie.Need-returns-18
+unfolding shown tab
+returns-18 c = shows-case (c .words16 .ensures) (c .before .before .answer11 .given .1) refl
+
 pub show-spec : {M : Type 1} → statement M
 show-spec =
     tie.close
@@ -235,6 +255,10 @@ show-spec =
     words-three-requires
     enum-told-6
     words-requires-14
+    enum-told-7
+    words-requires-15
+    enum-known-answer-11
+    words-requires-16
     returns
     returns-2
     returns-3
@@ -250,4 +274,6 @@ show-spec =
     returns-13
     returns-14
     returns-15
-    returns-16)
+    returns-16
+    returns-17
+    returns-18)
