@@ -9,7 +9,7 @@ use lib.ListN.{length, getD, drop}
 use Rattle.finite.specs.Finite.{all, count, tab}
 use Rattle.finite.proofs.Bools.{clash}
 use Rattle.finite.proofs.Search.{all-same}
-use Rattle.finite.proofs.Counting.{count-le, count-same}
+use Rattle.finite.proofs.Counting.{count-same}
 use Rattle.finite.proofs.Tables.{tab-same}
 use Rattle.model.specs.Answers as Answers
 use Rattle.model.specs.Cache.{RowSet, Inside}
@@ -51,11 +51,6 @@ count-rest (suc n) p q h = go (p n) (q n) (h n) (count-rest n p q h)
 pub within-count : {S : Scheme} {D : Database} {seed X : RowSet} {n : ℕ} → n ≡ count 512 X → Covers S D seed X → Within S D seed n
 within-count {X} e c = record { set = X; covers = c; few = omega arith }
 
--- all row numbers are 512
-pub within-all : (S : Scheme) (D : Database) (seed : RowSet) → Within S D seed 512
-within-all S D seed =
-    record { set = λ _. true; covers = record { closed = λ s r x y. refl; seeds = λ r e. refl }; few = count-le 512 (λ _. true) }
-
 module _ (d : Design) (cells : Cells) (tables : List ℕ) where
   -- ---- a load of one value more
 
@@ -92,11 +87,11 @@ module _ (d : Design) (cells : Cells) (tables : List ℕ) where
   module _ (h : Held) (K : List ℕ) (rows : ℕ) (u : Reaches K (reloadLevels (schemeOf d) (rowsOf d cells tables) (holdingOf h)) rows) where
     pub held-same : (r : ℕ) → r < 512 → reached K r ≡ reached (heldLevels d cells tables h) r
     unfolding heldLevels
-    held-same = u .same
+    held-same r l = ap (λ (J : List ℕ). reached J r) (u .levels)
 
     pub agree-is : (m : List ℕ) → all 512 (λ r. eqb (getD m r 0) (cond (reached K r) 1 0)) ≡ lawfulMarks d cells tables h m
     unfolding lawfulMarks
-    agree-is m = all-same 512 _ _ (λ r l. ap (λ (b : Bool). eqb (getD m r 0) (cond b 1 0)) (u .same r l))
+    agree-is m = all-same 512 _ _ (λ r l. ap (λ (J : List ℕ). eqb (getD m r 0) (cond (reached J r) 1 0)) (u .levels))
 
     module _ (m : List ℕ) (cached : ℕ) (e : cached ≡ count 512 (marked m)) (c : Covers (schemeOf d) (rowsOf d cells tables) (wanted (schemeOf d)
         (rowsOf d cells tables) (holdingOf h)) (marked m)) where

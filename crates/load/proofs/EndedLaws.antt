@@ -2,16 +2,17 @@
 -- no later round reaches another row. And what the rounds' end says of a whole load. Assumes nothing.
 use Prim.Native.Nat.{ℕ, zero, suc, _+_, _-_, _≤_, _<_}
 use native.Mathlib.Decide.{decLt}
+use native.Mathlib.Nat.{eq-zero-or-pos}
 use native.Mathlib.Omega.{arith}
 use mathlib.Core.Path.{_≡_, refl, sym, ap, subst, _∙_}
-use mathlib.Core.Logic.{inl, inr, ⊎-elim}
+use mathlib.Core.Logic.{_⊎_, inl, inr, ⊎-elim}
 use mathlib.Core.Bool.{Bool, true, false, cond, _&&_, and-eq-true-iff}
 use mathlib.Core.List.{List}
 use borrow.Author.Tests.{lt-ltb, le-ltb, eqb-true}
 use lib.Dec.{eqb, ltb}
 use lib.ListN.{length}
+use lib.Seq.{ext-getD}
 use Rattle.finite.specs.Finite.{count}
-use Rattle.finite.proofs.Bools.{dec, bool-ext}
 use Rattle.finite.proofs.Search.{any-found}
 use Rattle.finite.proofs.Counting.{count-le, count-more, count-same}
 use Rattle.finite.proofs.Tables.{tab-at, tab-past}
@@ -19,7 +20,7 @@ use Rattle.model.specs.Scheme.{Scheme}
 use Rattle.model.specs.Database.{Database}
 use Rattle.model.specs.Cache.{RowSet, Inside}
 use Rattle.model.specs.Rounds.{level, orElse, start, demands, reachedFrom, next, levels, reached, load, addedRows, laterRounds}
-use Rattle.model.proofs.RoundsLaws.{reached-level, level-reached, levels-length}
+use Rattle.model.proofs.RoundsLaws.{reached-level, level-reached, zero-unreached, levels-length}
 use Rattle.state.specs.Cells.{Cells}
 use Rattle.state.specs.Meaning.{databaseOf}
 use Rattle.load.specs.Queue.{added}
@@ -31,12 +32,6 @@ use Rattle.load.proofs.StartLaws.{load-is}
 -- ---- a round
 
 module _ (S : Scheme) (D : Database) (n : ℕ) (L : List ℕ) where
-  -- what is reached stays so
-  next-rises : (r : ℕ) → r < D .size → reached L r ≡ true → reached (next S D n L) r ≡ true
-  next-rises r l t =
-      let h = reached-level L r t in
-      level-reached (next S D n L) r (omega (arith, h, next-at S D n L r l ∙ orElse-kept (level L r) _ h))
-
   -- a row set that has what its rows demand keeps the rows that the round adds
   next-inside : (X : RowSet) → ((s r : ℕ) → X s ≡ true → demands S D s r ≡ true → X r ≡ true) → Inside (reached L) X → Inside (reached (next S D n L)) X
   unfolding reachedFrom
@@ -74,12 +69,14 @@ module _ (S : Scheme) (D : Database) (n : ℕ) (L : List ℕ) where
 -- ---- rounds
 
 module _ (S : Scheme) (D : Database) (L : List ℕ) where
-  levels-rise : (n k r : ℕ) → r < D .size → reached (levels S D L n) r ≡ true → reached (levels S D L (n + k)) r ≡ true
+  -- a row keeps its level
+  levels-kept : (n k r : ℕ) → r < D .size → 0 < level (levels S D L n) r → level (levels S D L (n + k)) r ≡ level (levels S D L n) r
   unfolding levels
-  levels-rise n zero r l t = let a : n + 0 ≡ n = omega arith in rw a t
-  levels-rise n (suc k) r l t =
+  levels-kept n zero r l p = let a : n + 0 ≡ n = omega arith in rw a refl
+  levels-kept n (suc k) r l p =
       let a : n + suc k ≡ suc (n + k) = omega arith in
-      rw a (next-rises S D (n + k) (levels S D L (n + k)) r l (levels-rise n k r l t))
+      let ih = levels-kept n k r l p in
+      rw a (next-at S D (n + k) (levels S D L (n + k)) r l ∙ orElse-kept (level (levels S D L (n + k)) r) _ (omega arith) ∙ ih)
 
   levels-fresh : ((r : ℕ) → level L r ≡ 1 → ⊥) → (n r : ℕ) → level (levels S D L n) r ≡ 1 → ⊥
   unfolding levels
@@ -92,19 +89,21 @@ module _ (S : Scheme) (D : Database) (L : List ℕ) where
     levels-inside zero = i
     levels-inside (suc n) = next-inside S D n (levels S D L n) X closed (levels-inside n)
 
-    -- as many rows are reached as X has: the later rounds reach no other
-    pub reached-enough : (n m : ℕ) → n ≤ m → count (D .size) X ≤ count (D .size) (reached (levels S D L n)) → (r : ℕ) → r < D .size →
-        reached (levels S D L n) r ≡ reached (levels S D L m) r
-    reached-enough n m o h r l = bool-ext _ _ there back
+    -- as many rows are reached as X has: the later rounds reach no other, so that all levels stay
+    levels-enough : (n m : ℕ) → n ≤ m → count (D .size) X ≤ count (D .size) (reached (levels S D L n)) → (r : ℕ) → r < D .size →
+        level (levels S D L n) r ≡ level (levels S D L m) r
+    levels-enough n m o h r l =
+        ⊎-elim (λ z. z ∙ sym (unreached z (eq-zero-or-pos (level (levels S D L m) r)))) (λ p. sym (kept p)) (eq-zero-or-pos (level (levels S D L n) r))
       where
-        there : reached (levels S D L n) r ≡ true → reached (levels S D L m) r ≡ true
-        there t = let a : n + (m - n) ≡ m = omega arith in subst (λ (k : ℕ). reached (levels S D L k) r ≡ true) a (levels-rise n (m - n) r l t)
+        kept : 0 < level (levels S D L n) r → level (levels S D L m) r ≡ level (levels S D L n) r
+        kept p = let a : n + (m - n) ≡ m = omega arith in subst (λ (k : ℕ). level (levels S D L k) r ≡ level (levels S D L n) r) a (levels-kept n (m - n) r l p)
 
         missing : reached (levels S D L m) r ≡ true → reached (levels S D L n) r ≡ false → ⊥
         missing t f = omega (arith, h, count-more (D .size) (reached (levels S D L n)) X (levels-inside n) r l f (levels-inside m r t))
 
-        back : reached (levels S D L m) r ≡ true → reached (levels S D L n) r ≡ true
-        back t = ⊎-elim (λ w. w) (λ f. absurd (missing t f)) (dec (reached (levels S D L n) r))
+        unreached : level (levels S D L n) r ≡ 0 → (level (levels S D L m) r ≡ 0) ⊎ (0 < level (levels S D L m) r) → level (levels S D L m) r ≡ 0
+        unreached z (inl y) = y
+        unreached z (inr p) = absurd (missing (level-reached (levels S D L m) r p) (zero-unreached (levels S D L n) r z))
 
 -- ---- how a loop over the rounds ends
 
@@ -165,6 +164,11 @@ pub load-covered : (S : Scheme) (D : Database) (seed X : RowSet) → Covers S D 
 unfolding load
 load-covered S D seed X c = levels-inside S D (start D (λ _. false) seed) X (c .closed) (start-inside D seed X (c .seeds)) (D .size)
 
+-- all row numbers are 512
+pub within-all : (S : Scheme) (D : Database) (seed : RowSet) → Within S D seed 512
+within-all S D seed =
+    record { set = λ _. true; covers = record { closed = λ s r x y. refl; seeds = λ r e. refl }; few = count-le 512 (λ _. true) }
+
 module _ (S : Scheme) (number : ℕ) (cells : Cells) (tables : List ℕ) (L M : List ℕ) (rows rounds : ℕ) where
   abbrev D : Database
   D = databaseOf number cells tables
@@ -177,7 +181,7 @@ module _ (S : Scheme) (number : ℕ) (cells : Cells) (tables : List ℕ) (L M : 
       ⊎-elim (λ w. (w .levels ∙ ap (λ (K : List ℕ). levels S D K 512) e ∙ load-is S number cells tables old seed, u .size, w .counted))
       (λ w. absurd (omega (arith, w .reached, count-le 512 (added M)))) (u .end)
 
-  -- a load from nothing inside a row set that has no more than `most` rows: the rows that a whole load reaches are reached
+  -- a load from nothing inside a row set that has no more than `most` rows: the levels are those of a whole load
   module _ (seed : RowSet) (most : ℕ) (e : L ≡ start D (λ _. false) seed) (x : Within S D seed most) where
     after : (n : ℕ) → M ≡ levels S D L n → M ≡ levels S D (start D (λ _. false) seed) n
     after n f = f ∙ ap (λ (K : List ℕ). levels S D K n) e
@@ -185,15 +189,19 @@ module _ (S : Scheme) (number : ℕ) (cells : Cells) (tables : List ℕ) (L M : 
     fresh : (n : ℕ) → M ≡ levels S D L n → (r : ℕ) → added M r ≡ reached M r
     fresh n f = fresh-added M (λ i w. levels-fresh S D _ (start-fresh D seed) n i (sym (ap (λ (K : List ℕ). level K i) (after n f)) ∙ w))
 
+    long : (n : ℕ) → M ≡ levels S D L n → length M ≡ 512
+    unfolding databaseOf
+    long n f = ap length (after n f) ∙ levels-length S D (λ _. false) seed n
+
     reaches : (n : ℕ) → M ≡ levels S D L n → rows ≡ count 512 (added M) →
-        ((r : ℕ) → r < 512 → reached (levels S D (start D (λ _. false) seed) n) r ≡ reached (levels S D (start D (λ _. false) seed) 512) r) →
+        ((r : ℕ) → r < 512 → level (levels S D (start D (λ _. false) seed) n) r ≡ level (levels S D (start D (λ _. false) seed) 512) r) →
         Reaches M (load S D (λ _. false) seed) rows
     unfolding databaseOf
     reaches n f s h =
         record {
-          long = ap length (after n f) ∙ levels-length S D (λ _. false) seed n;
-          same = λ r l. ap (λ (K : List ℕ). reached K r) (after n f) ∙ h r l ∙
-              ap (λ (K : List ℕ). reached K r) (load-is S number cells tables (λ _. false) seed);
+          long = long n f;
+          levels = ext-getD 0 M (levels S D (start D (λ _. false) seed) 512) (long n f ∙ sym (levels-length S D (λ _. false) seed 512))
+              (λ r l. ap (λ (K : List ℕ). level K r) (after n f) ∙ h r (omega (arith, long n f))) ∙ load-is S number cells tables (λ _. false) seed;
           size = s ∙ count-same 512 _ _ (λ r l. fresh n f r);
         }
 
@@ -207,4 +215,4 @@ module _ (S : Scheme) (number : ℕ) (cells : Cells) (tables : List ℕ) (L M : 
             let c : count 512 (x .set) ≤ count 512 (reached (levels S D (start D (λ _. false) seed) rounds)) =
             subst (λ (K : List ℕ). count 512 (x .set) ≤ count 512 (reached K)) (after rounds (w .levels)) (omega (arith, x .few, w .reached)) in
             reaches rounds (w .levels) (u .size)
-            (reached-enough S D _ (x .set) (x .covers .closed) (start-inside D seed (x .set) (x .covers .seeds)) rounds 512 (w .early) c)
+            (levels-enough S D _ (x .set) (x .covers .closed) (start-inside D seed (x .set) (x .covers .seeds)) rounds 512 (w .early) c)

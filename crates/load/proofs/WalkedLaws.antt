@@ -35,12 +35,15 @@ grown-reached n P L q end L′ q′ end′ o g s l t =
 
 -- ---- none has been walked
 
-pub walked-none : (D : Database) (L : List ℕ) → Walked D (replicate 4096 false) L
-walked-none D L = record { levels = λ r p l t s m h. clash t (off (8 * r + p) (decLt (8 * r + p) 4096)) }
+pub unwalked : (i : ℕ) → getD (replicate 4096 false) i false ≡ false
+unwalked i = go (decLt i 4096)
   where
-    off : (i : ℕ) → Dec (i < 4096) → getD (replicate 4096 false) i false ≡ false
-    off i (yes b) = getD-replicate 4096 i false false b
-    off i (no b) = List·getD-eq-default (replicate 4096 false) false {n = i} (omega (arith, length-replicate {A = Bool} 4096 false))
+    go : Dec (i < 4096) → getD (replicate 4096 false) i false ≡ false
+    go (yes b) = getD-replicate 4096 i false false b
+    go (no b) = List·getD-eq-default (replicate 4096 false) false {n = i} (omega (arith, length-replicate {A = Bool} 4096 false))
+
+pub walked-none : (D : Database) (L : List ℕ) → Walked D (replicate 4096 false) L
+walked-none D L = record { levels = λ r p l t s m h. clash t (unwalked (8 * r + p)) }
 
 -- ---- a walk along place p from r
 

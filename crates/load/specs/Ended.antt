@@ -1,6 +1,6 @@
 -- How the later rounds of a load end: with the first that adds nothing, or as soon as a given number of rows has been added. And when that number of
 -- rows is enough. Assumes nothing.
-use Prim.Native.Nat.{ℕ, _≤_, _<_}
+use Prim.Native.Nat.{ℕ, _≤_}
 use mathlib.Core.Path.{_≡_}
 use mathlib.Core.Bool.{true}
 use mathlib.Core.List.{List}
@@ -40,8 +40,8 @@ pub record Within (S : Scheme) (D : Database) (seed : RowSet) (most : ℕ) : Typ
   pub covers : Covers S D seed set
   pub few : count 512 set ≤ most
 
--- the levels M have the rows that the levels K have, and these are so many
+-- M are the levels K, and so many rows have one
 pub record Reaches (M K : List ℕ) (rows : ℕ) : Type 0 where
   pub long : length M ≡ 512
-  pub same : (r : ℕ) → r < 512 → reached M r ≡ reached K r
+  pub levels : M ≡ K
   pub size : rows ≡ count 512 (reached M)

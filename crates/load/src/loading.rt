@@ -78,7 +78,7 @@ pub fn load_value(
     )
 }
 
-// Which rows a load of all held values from nothing reaches: they get levels, and no others do; how many they are. It stops once `most` rows are reached,
+// The levels of a load of all held values from nothing; how many rows have one. It stops once `most` rows are reached,
 // if no more can be. For each held value a search of the directory and the walk of its rows, then a step for each row that is reached and each constraint.
 pub fn load_held(
     d: Design,

@@ -11,7 +11,8 @@ use Rattle.lawful.proofs.HeldLaws.{held-count, held-filling}
 use Rattle.lawful.proofs.RowsLaws.{lawful-stand, stand-table}
 use Rattle.lawful.proofs.SoundState.{held-unlawful}
 use Rattle.cache.proofs.DistinctLaws.{distinct-is}
-use Rattle.cache.proofs.LoadLaws.{agree-is, within-all}
+use Rattle.load.proofs.EndedLaws.{within-all}
+use Rattle.cache.proofs.LoadLaws.{agree-is}
 use Rattle.cache.proofs.tests.is_lawful_catalog.Statement.{statement}
 use Rattle.cache.proofs.tests.is_lawful_catalog.Tie as tie
 
