@@ -1,0 +1,41 @@
+-- What the search for a row's chain asks of the levels, and the chain's links in words, apart from what the chain ends with. Assumes nothing.
+use Prim.Native.Nat.{ℕ, zero, suc, _≤_, _<_}
+use mathlib.Core.Path.{_≡_}
+use mathlib.Core.Bool.{true, _&&_}
+use mathlib.Core.List.{List, [], _++_}
+use lib.Dec.{eqb}
+use lib.ListN.{length}
+use Rattle.finite.specs.Finite.{any, firstFrom}
+use Rattle.model.specs.Cell.{Cell}
+use Rattle.model.specs.Scheme.{Column, Constraint, Scheme}
+use Rattle.model.specs.Database.{Database, has}
+use Rattle.model.specs.Rounds.{leads, level}
+use Rattle.model.specs.Reason.{isLink, lastConstraint, lastRow}
+use Rattle.model.specs.Sentence.{linkText}
+
+-- levels of a load from nothing: a row of a later level is demanded of one of the level before, and no row demands one of a level that is more than one
+-- later
+pub record Graded (S : Scheme) (D : Database) (L : List ℕ) : Type 0 where
+  pub long : length L ≡ 512
+  pub rows : (r : ℕ) → 0 < level L r → D .live r ≡ true
+  pub link : (r n : ℕ) → level L r ≡ suc (suc (suc n)) → any (S .constraints) (λ i. any (D .size) (isLink S D L n r i)) ≡ true
+  pub near : (s r i : ℕ) → i < S .constraints → leads D (S .constraint i) s r ≡ true → 0 < level L s → level L r ≤ suc (level L s)
+
+-- the lowest row of level l that has the value v in column k; 512 if there is none
+unfoldable pub rowOfLevel : Database → List ℕ → ℕ → Column → Cell → ℕ
+rowOfLevel D L l k v = firstFrom 512 (λ t. eqb (level L t) l && has D k v t) 0
+
+-- the lowest row of level l of which constraint j demands row r; 512 if there is none
+unfoldable pub sourceRow : Database → List ℕ → ℕ → Constraint → ℕ → ℕ
+sourceRow D L l j r = firstFrom 512 (λ t. eqb (level L t) l && leads D j t r) 0
+
+module _ (S : Scheme) (D : Database) (L : List ℕ) where
+  -- the row with something held with which the chain of row r, n constraints away from it, ends
+  unfoldable pub rootBy : ℕ → ℕ → ℕ
+  rootBy zero r = r
+  rootBy (suc n) r = rootBy n (lastRow S D L n r)
+
+  -- the chain's links in words
+  unfoldable pub linksText : ℕ → ℕ → List ℕ
+  linksText zero r = []
+  linksText (suc n) r = linkText (lastConstraint S D L n r) (lastRow S D L n r) ++ linksText n (lastRow S D L n r)

@@ -1,0 +1,223 @@
+// The sentence of a row, link by link back to a held value, and the answer.
+ghost use mathlib.Core.Bool.{true};
+ghost use mathlib.Core.Path.{_≡_};
+ghost use Prim.Native.Nat.{ℕ, _+_, _*_, _≤_, _<_};
+ghost use lib.ListN.{length};
+ghost use lib.Seq.{sets};
+ghost use Rattle.finite.specs.Writing.{Wrote};
+ghost use Rattle.model.specs.Answers.{questionText};
+ghost use Rattle.model.specs.Rounds.{level};
+ghost use Rattle.model.specs.Runs as Runs;
+ghost use Rattle.model.specs.Runs.{cachedFor};
+ghost use Rattle.model.specs.Sentence.{reasonText};
+ghost use Rattle.state.specs.Cells.{cellsIn};
+ghost use Rattle.state.specs.Design.{Backed, InRange};
+ghost use Rattle.state.specs.Held.{heldAt};
+ghost use Rattle.state.specs.Lent.{answerAt, lent, sound};
+ghost use Rattle.state.specs.Meaning.{answerOf, cacheOf, databaseOf, holdingOf, schemeOf};
+ghost use Rattle.catalog.specs.Catalog.{Catalogued, Directory, nexts};
+ghost use Rattle.reason.specs.Links.{Graded, linksText, rootBy};
+ghost use Rattle.reason.specs.Walked.{Passed};
+use crate::linking::last_link;
+use crate::lowest::lowest_held;
+use crate::wording::put_held;
+use crate::wording::put_link;
+use load::load_held;
+use state::Answer;
+use state::Design;
+use state::Held;
+use state::is_live;
+use text::put_bytes;
+use text::put_spaced;
+
+// The row that the links lead back to, and where the text ends.
+struct Traced {
+    row: usize,
+    at: usize,
+}
+
+// Writes the links of row r, which is n constraints away from what is held, the last one first. Document 01 has this by recursion: the distance falls. A
+// search of the directory for each link and constraint, and at the most one walk of each value of a source column, whatever the number of links.
+fn put_links(
+    d: Design,
+    cells: &[u32],
+    issues: &[u8],
+    tables: &[u8],
+    next: &[u16; 4096],
+    keys: &[u64; 4096],
+    heads: &[u16; 4096],
+    starts: &[u16; 65],
+    levels: &[u16; 512],
+    walked: &mut [bool; 4096],
+    r: usize,
+    n: u16,
+    out: &mut [u8],
+    at: usize,
+) -> Traced
+    requires { ⌜ (r < 512) × (n < 512) × InRange d × Backed (cellsIn (now cells) (now issues)) (now tables)
+        × (at + 30 * n + 47 ≤ length (now out)) ⌝ }
+    requires { ⌜ (now next ≡ nexts (databaseOf (d .rows) (cellsIn (now cells) (now issues)) (now tables)))
+        × Directory (databaseOf (d .rows) (cellsIn (now cells) (now issues)) (now tables)) (now keys) (now heads) (now starts) ⌝ }
+    requires { ⌜ Graded (schemeOf d) (databaseOf (d .rows) (cellsIn (now cells) (now issues)) (now tables)) (now levels)
+        × (level (now levels) r ≡ n + 2)
+        × Passed (databaseOf (d .rows) (cellsIn (now cells) (now issues)) (now tables)) (now levels) (n + 2) (now walked) ⌝ }
+    ensures { λ t. ⌜ (t .row ≡ rootBy (schemeOf d) (databaseOf (d .rows) (cellsIn (now (cells .entry)) (now (issues .entry))) (now (tables .entry)))
+        (now (levels .entry)) n r)
+        × (t .at ≤ at + 30 * n)
+        × Wrote (now (out .entry)) (now (out .exit)) at (t .at) (linksText (schemeOf d) (databaseOf (d .rows) (cellsIn (now (cells .entry))
+        (now (issues .entry))) (now (tables .entry))) (now (levels .entry)) n r) ⌝ }
+{
+    if n == 0 {
+        return Traced { row: r, at };
+    }
+    let k = last_link(
+        d,
+        cells,
+        issues,
+        tables,
+        next,
+        keys,
+        heads,
+        starts,
+        levels,
+        walked,
+        r,
+        n - 1,
+    );
+    let z = put_link(out, at, k.constraint, k.row);
+    put_links(
+        d,
+        cells,
+        issues,
+        tables,
+        next,
+        keys,
+        heads,
+        starts,
+        levels,
+        walked,
+        k.row,
+        n - 1,
+        out,
+        z,
+    )
+}
+
+// Writes the reason for row r, which is cached; how long it is. One reload, the search of the links, and one look at each held value.
+fn put_reason(
+    d: Design,
+    cells: &[u32],
+    issues: &[u8],
+    tables: &[u8],
+    next: &[u16; 4096],
+    first: &[u16; 8192],
+    keys: &[u64; 4096],
+    heads: &[u16; 4096],
+    starts: &[u16; 65],
+    held: Held,
+    r: usize,
+    out: &mut [u8],
+) -> usize
+    requires { ⌜ (r < 512) × InRange d × Backed (cellsIn (now cells) (now issues)) (now tables) × (held .count ≤ 64)
+        × ((i : ℕ) → heldAt held i .pair .filling < 8) × (length (now out) ≡ 16384) ⌝ }
+    requires { ⌜ Catalogued d (cellsIn (now cells) (now issues)) (now tables) (now next) (now first) (now keys) (now heads) (now starts)
+        × (cachedFor (schemeOf d) (databaseOf (d .rows) (cellsIn (now cells) (now issues)) (now tables)) (holdingOf held) r ≡ true) ⌝ }
+    ensures { λ z. ⌜ (z ≤ 16384)
+        × Wrote (now (out .entry)) (now (out .exit)) 0 z (reasonText (schemeOf d) (databaseOf (d .rows) (cellsIn (now (cells .entry))
+        (now (issues .entry))) (now (tables .entry))) (holdingOf held) r) ⌝ }
+{
+    let mut levels = [0u16; 512];
+    load_held(
+        d,
+        cells,
+        issues,
+        tables,
+        next,
+        first,
+        keys,
+        heads,
+        starts,
+        held,
+        Design::ROWS,
+        &mut levels,
+    );
+    let z = put_bytes(out, 0, b"row", 3);
+    let y = put_spaced(out, z, r as u64);
+    let mut walked = [false; 4096];
+    let n = levels[r] - 2;
+    let t = put_links(
+        d,
+        cells,
+        issues,
+        tables,
+        next,
+        keys,
+        heads,
+        starts,
+        &levels,
+        &mut walked,
+        r,
+        n,
+        out,
+        y,
+    );
+    let v = lowest_held(d, cells, issues, tables, held, t.row);
+    put_held(out, t.at, v)
+}
+
+// Why row number `row` is cached, in words: the lent text is written from its first byte on, if it is long enough for the whole sentence. The sentence is
+// composed in memory of its own, so that cause 11 leaves the text as it was. Constant time for a number that names nothing and for a row that isn't
+// cached; else one reload, a search of the directory for each link and constraint, and two steps for each byte of the sentence.
+pub fn reason_lawful(
+    design: Design,
+    cells: &[u32],
+    issues: &[u8],
+    tables: &[u8],
+    next: &[u16; 4096],
+    first: &[u16; 8192],
+    keys: &[u64; 4096],
+    heads: &[u16; 4096],
+    starts: &[u16; 65],
+    marks: &[u8],
+    held: Held,
+    row: u16,
+    text: &mut [u8],
+) -> Answer
+    requires { ⌜ (sound (lent design (cellsIn (now cells) (now issues)) (now tables) (now marks) held) ≡ true)
+        × Catalogued design (cellsIn (now cells) (now issues)) (now tables) (now next) (now first) (now keys) (now heads) (now starts) ⌝ }
+    ensures { λ a. ⌜ (answerOf a ≡ answerAt (lent design (cellsIn (now (cells .entry)) (now (issues .entry))) (now (tables .entry)) (now (marks .entry)) held)
+        (Runs.ask (Runs.reason row (length (now (text .entry))))))
+        × (now (text .exit) ≡ sets (now (text .entry)) 0 (questionText (schemeOf design) (databaseOf (design .rows) (cellsIn (now (cells .entry))
+        (now (issues .entry))) (now (tables .entry))) (cacheOf held (now (marks .entry))) (Runs.reason row (length (now (text .entry)))))) ⌝ }
+{
+    let r = row as usize;
+    if Design::ROWS <= r {
+        return Answer::Refused(5);
+    }
+    if !is_live(design.rows, r) {
+        return Answer::Refused(5);
+    }
+    if marks[r] != 1 {
+        return Answer::Absent;
+    }
+    let mut out = [0u8; 16384];
+    let n = put_reason(
+        design,
+        cells,
+        issues,
+        tables,
+        next,
+        first,
+        keys,
+        heads,
+        starts,
+        held,
+        r,
+        &mut out,
+    );
+    if text.len() < n {
+        return Answer::Refused(11);
+    }
+    put_bytes(text, 0, &out, n);
+    Answer::Explained(n)
+}

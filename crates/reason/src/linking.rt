@@ -1,0 +1,173 @@
+// The last link of a row's chain: the lowest constraint that demands the row of a row one nearer to what is held, and the lowest such row.
+ghost use mathlib.Core.Bool.{true};
+ghost use mathlib.Core.Path.{_≡_};
+ghost use Prim.Native.Nat.{_+_, _<_};
+ghost use Rattle.finite.specs.Finite.{firstFrom};
+ghost use Rattle.model.specs.Database.{has};
+ghost use Rattle.model.specs.Rounds.{level};
+ghost use Rattle.model.specs.Reason.{lastConstraint, lastRow};
+ghost use Rattle.state.specs.Cells.{cellsIn};
+ghost use Rattle.state.specs.Design.{Backed, InRange};
+ghost use Rattle.state.specs.Meaning.{cellOf, columnOf, constraintOf, databaseOf, schemeOf};
+ghost use Rattle.catalog.specs.Catalog.{Directory, nexts};
+ghost use Rattle.reason.specs.Links.{Graded, rowOfLevel, sourceRow};
+ghost use Rattle.reason.specs.Walked.{Near, Passed, Searched};
+use catalog::find;
+use state::Cell;
+use state::Column;
+use state::Constraint;
+use state::Design;
+use state::cell_at;
+
+// A constraint's number, and the row that it demands another of.
+pub(crate) struct Link {
+    pub constraint: usize,
+    pub row: usize,
+}
+
+// The first row of this level among those that have the value v in column k, the first of which is `from`; 512 if there is none. One step for each of
+// them, up to the one that is found. Neither the rows nor v are read: they say what the links are.
+fn row_of_level(
+    rows: usize,
+    cells: &[u32],
+    issues: &[u8],
+    tables: &[u8],
+    next: &[u16; 4096],
+    levels: &[u16; 512],
+    k: Column,
+    v: Cell,
+    from: usize,
+    l: u16,
+) -> usize
+    requires { ⌜ (k .place < 8) × (now next ≡ nexts (databaseOf rows (cellsIn (now cells) (now issues)) (now tables)))
+        × (from ≡ firstFrom 512 (has (databaseOf rows (cellsIn (now cells) (now issues)) (now tables)) (columnOf k) (cellOf v)) 0) ⌝ }
+    ensures { λ s. ⌜ s ≡ rowOfLevel (databaseOf rows (cellsIn (now (cells .entry)) (now (issues .entry))) (now (tables .entry))) (now (levels .entry)) l
+        (columnOf k) (cellOf v) ⌝ }
+{
+    let mut s = from;
+    while s < Design::ROWS {
+        if levels[s] == l {
+            return s;
+        }
+        s = next[Design::COLUMNS * s + k.place as usize] as usize;
+    }
+    Design::ROWS
+}
+
+// The lowest row of level l of which constraint j demands row r; 512 if there is none. A search of the directory and, for a value that has not been walked, the
+// walk of the rows that have it in the source column.
+fn source_row(
+    rows: usize,
+    cells: &[u32],
+    issues: &[u8],
+    tables: &[u8],
+    next: &[u16; 4096],
+    keys: &[u64; 4096],
+    heads: &[u16; 4096],
+    starts: &[u16; 65],
+    levels: &[u16; 512],
+    walked: &mut [bool; 4096],
+    j: Constraint,
+    r: usize,
+    l: u16,
+) -> usize
+    requires { ⌜ (r < 512) × (0 < l) × Backed (cellsIn (now cells) (now issues)) (now tables)
+        × (j .source .table < 8) × (j .source .place < 8) × (j .target .place < 8) ⌝ }
+    requires { ⌜ (now next ≡ nexts (databaseOf rows (cellsIn (now cells) (now issues)) (now tables)))
+        × Directory (databaseOf rows (cellsIn (now cells) (now issues)) (now tables)) (now keys) (now heads) (now starts) ⌝ }
+    requires { ⌜ (databaseOf rows (cellsIn (now cells) (now issues)) (now tables) .live r ≡ true)
+        × Near (databaseOf rows (cellsIn (now cells) (now issues)) (now tables)) (now levels) l (constraintOf j) r
+        × Passed (databaseOf rows (cellsIn (now cells) (now issues)) (now tables)) (now levels) (l + 1) (now walked) ⌝ }
+    ensures { λ s. ⌜ (s ≡ sourceRow (databaseOf rows (cellsIn (now (cells .entry)) (now (issues .entry))) (now (tables .entry))) (now (levels .entry)) l
+        (constraintOf j) r)
+        × Searched (databaseOf rows (cellsIn (now (cells .entry)) (now (issues .entry))) (now (tables .entry))) (now (levels .entry)) l
+        (now (walked .exit)) s ⌝ }
+{
+    let target = j.target;
+    if tables[r] != target.table {
+        return Design::ROWS;
+    }
+    let v = cell_at(cells, issues, r, target.place as usize);
+    let source = j.source;
+    let from = find(keys, heads, starts, source, v);
+    if Design::ROWS <= from {
+        return Design::ROWS;
+    }
+    let at = Design::COLUMNS * from + source.place as usize;
+    if walked[at] {
+        return Design::ROWS;
+    }
+    walked[at] = true;
+    row_of_level(
+        rows,
+        cells,
+        issues,
+        tables,
+        next,
+        levels,
+        source,
+        v,
+        from,
+        l,
+    )
+}
+
+// The last link of the chain of row r, which is n + 1 constraints away from what is held. For each constraint, up to the one that is found, a search of the
+// directory; and the walk of each value that has not been walked.
+pub(crate) fn last_link(
+    d: Design,
+    cells: &[u32],
+    issues: &[u8],
+    tables: &[u8],
+    next: &[u16; 4096],
+    keys: &[u64; 4096],
+    heads: &[u16; 4096],
+    starts: &[u16; 65],
+    levels: &[u16; 512],
+    walked: &mut [bool; 4096],
+    r: usize,
+    n: u16,
+) -> Link
+    requires { ⌜ (r < 512) × (n < 512) × InRange d × Backed (cellsIn (now cells) (now issues)) (now tables) ⌝ }
+    requires { ⌜ (now next ≡ nexts (databaseOf (d .rows) (cellsIn (now cells) (now issues)) (now tables)))
+        × Directory (databaseOf (d .rows) (cellsIn (now cells) (now issues)) (now tables)) (now keys) (now heads) (now starts) ⌝ }
+    requires { ⌜ Graded (schemeOf d) (databaseOf (d .rows) (cellsIn (now cells) (now issues)) (now tables)) (now levels)
+        × (level (now levels) r ≡ n + 3)
+        × Passed (databaseOf (d .rows) (cellsIn (now cells) (now issues)) (now tables)) (now levels) (n + 3) (now walked) ⌝ }
+    ensures { λ k. ⌜ (k .constraint ≡ lastConstraint (schemeOf d) (databaseOf (d .rows) (cellsIn (now (cells .entry)) (now (issues .entry)))
+        (now (tables .entry))) (now (levels .entry)) n r)
+        × (k .row ≡ lastRow (schemeOf d) (databaseOf (d .rows) (cellsIn (now (cells .entry)) (now (issues .entry))) (now (tables .entry)))
+        (now (levels .entry)) n r)
+        × Passed (databaseOf (d .rows) (cellsIn (now (cells .entry)) (now (issues .entry))) (now (tables .entry))) (now (levels .entry)) (n + 2)
+        (now (walked .exit)) ⌝ }
+{
+    let constraint = d.constraint;
+    for i in 0..d.constraints {
+        let j = constraint[i];
+        let s = source_row(
+            d.rows,
+            cells,
+            issues,
+            tables,
+            next,
+            keys,
+            heads,
+            starts,
+            levels,
+            walked,
+            j,
+            r,
+            n + 2,
+        );
+        if s < Design::ROWS {
+            return Link {
+                constraint: i,
+                row: s,
+            };
+        }
+    }
+    Link {
+        constraint: Design::CONSTRAINTS,
+        row: Design::ROWS,
+    }
+}
