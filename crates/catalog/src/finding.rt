@@ -13,7 +13,7 @@ use state::Cell;
 use state::Column;
 use state::Design;
 
-// The key of a value, which no other value has. Here alone values are ordered: by number, then issue. Constant time.
+// The key of a value, which no other value has: keys are ordered as values are, by number, then issue. Constant time.
 pub(crate) fn key_of(v: Cell) -> u64
     ensures { λ x. ⌜ (x ≡ keyOf (cellOf v)) × (v .issue < 256) ⌝ }
 {
