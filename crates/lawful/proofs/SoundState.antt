@@ -11,7 +11,7 @@ use lib.Seq.{getD-take, length-take-le}
 use Rattle.finite.proofs.Bools.{both, and-left, and-right, cond-true, cond-false}
 use Rattle.finite.proofs.Search.{all-at, all-true}
 use Rattle.finite.proofs.Tables.{tab-at, tab-of}
-use Rattle.model.specs.Answers.{Answer, refused, unless, answer, written}
+use Rattle.model.specs.Answers.{Answer, refused, unless, answer, written, textOf}
 use Rattle.model.specs.Runs.{Operation, marks, Cache, cacheAfter}
 use Rattle.model.proofs.Marks.{length-marks}
 use Rattle.model.proofs.HoldingLaws.{HoldingFits, values-few, step-fit}
@@ -22,7 +22,7 @@ use Rattle.state.specs.declared.design.Design.{Design}
 use Rattle.state.specs.declared.held.Held.{Held}
 use Rattle.state.specs.Meaning.{schemeOf, databaseOf, holdingOf, heldOf, cacheOf}
 use Rattle.state.specs.Lawful.{lawfulDesign, lawfulRows, lawfulHeld, lawfulMarks}
-use Rattle.state.specs.Lent.{State, lent, scheme, database, cache, longEnough, lawful, sound, causeAt, guarded, stateAfter, answerAt, heldAfterAt, marksAfterAt, wordsAt}
+use Rattle.state.specs.Lent.{State, lent, scheme, database, cache, longEnough, lawful, sound, causeAt, guarded, stateAfter, answerAt, heldAfterAt, marksAfterAt, wordsAt, textAt}
 use Rattle.lawful.proofs.HeldLaws.{held-back, holding-fits, holding-back, fit-held}
 
 -- ---- the parts
@@ -165,6 +165,10 @@ module _ (s : State) (e : sound s ≡ true) (o : Operation) where
   unfolding wordsAt
   words-at = cond-true (sound s) _ _ e
 
+  pub text-at : textAt s o ≡ textOf (scheme s) (database s) (cache s) o
+  unfolding textAt
+  text-at = cond-true (sound s) _ _ e
+
 -- ---- causes 7 and 12
 
 -- the cause, by the two tests
@@ -211,3 +215,7 @@ module _ (s : State) (n : (causeAt s ≡ 0 → ⊥)) where
   pub cause-words : (o : Operation) → wordsAt s o ≡ []
   unfolding wordsAt
   cause-words o = cond-false (sound s) _ _ cause-unsound
+
+  pub cause-text : (o : Operation) → textAt s o ≡ []
+  unfolding textAt
+  cause-text o = cond-false (sound s) _ _ cause-unsound

@@ -9,7 +9,7 @@ use lib.ListN.{length, getD, take}
 use lib.Seq.{sets, getD-take}
 use Rattle.finite.specs.Writing.{Wrote}
 use Rattle.finite.proofs.Bools.{and-left}
-use Rattle.model.specs.Answers.{Answer, refused, absent, explained, answer, questionText}
+use Rattle.model.specs.Answers.{Answer, refused, absent, explained, answer, textOf}
 use Rattle.model.specs.Rounds.{reached}
 use Rattle.model.specs.Runs.{Question, ask, reason, cachedFor, marked, reloadLevels}
 use Rattle.model.specs.Sentence.{reasonText}
@@ -19,19 +19,19 @@ use Rattle.model.proofs.ReasonLaws.{reload-levels}
 use Rattle.model.proofs.RoundsLaws.{reached-level}
 use Rattle.state.specs.Cells.{Cells}
 use Rattle.state.specs.Meaning.{databaseOf, holdingOf}
-use Rattle.state.specs.Lent.{State, scheme, database, cache, sound, answerAt}
-use Rattle.lawful.proofs.SoundState.{answer-at, sound-fresh}
+use Rattle.state.specs.Lent.{State, scheme, database, cache, sound, answerAt, textAt}
+use Rattle.lawful.proofs.SoundState.{answer-at, text-at, sound-fresh}
 use Rattle.reason.proofs.WordingLaws.{written-take}
 
 -- what the code promises: the answer, and the text, w before and w′ after
 abbrev Replied : State → Question → List ℕ → Answer → List ℕ → Type 0
-Replied s q w a w′ = (a ≡ answerAt s (ask q)) × (w′ ≡ sets w 0 (questionText (scheme s) (database s) (cache s) q))
+Replied s q w a w′ = (a ≡ answerAt s (ask q)) × (w′ ≡ sets w 0 (textAt s (ask q)))
 
 replied : (s : State) → sound s ≡ true → (q : Question) (w : List ℕ) (a : Answer) (t w′ : List ℕ) → Replies (scheme s) (database s) (cache s) q a t → w′ ≡ sets w 0 t →
     Replied s q w a w′
-unfolding answer
+unfolding answer textOf
 replied s e q w a t w′ h f =
-    (sym (h .answer) ∙ sym (answer-at s e (ask q)), f ∙ ap (sets w 0) (sym (h .text)))
+    (sym (h .answer) ∙ sym (answer-at s e (ask q)), f ∙ ap (sets w 0) (sym (text-at s e (ask q) ∙ h .text)))
 
 -- a number past the rows names nothing
 past-dead : (rows : ℕ) (cells : Cells) (tables : List ℕ) (r : ℕ) → 512 ≤ r → databaseOf rows cells tables .live r ≡ false

@@ -5,7 +5,6 @@ ghost use Prim.Native.Nat.{ℕ, _+_, _*_, _≤_, _<_};
 ghost use lib.ListN.{length};
 ghost use lib.Seq.{sets};
 ghost use Rattle.finite.specs.Writing.{Wrote};
-ghost use Rattle.model.specs.Answers.{questionText};
 ghost use Rattle.model.specs.Rounds.{level};
 ghost use Rattle.model.specs.Runs as Runs;
 ghost use Rattle.model.specs.Runs.{cachedFor};
@@ -13,8 +12,8 @@ ghost use Rattle.model.specs.Sentence.{reasonText};
 ghost use Rattle.state.specs.Cells.{cellsIn};
 ghost use Rattle.state.specs.Design.{Backed, InRange};
 ghost use Rattle.state.specs.Held.{heldAt};
-ghost use Rattle.state.specs.Lent.{answerAt, lent, sound};
-ghost use Rattle.state.specs.Meaning.{answerOf, cacheOf, databaseOf, holdingOf, schemeOf};
+ghost use Rattle.state.specs.Lent.{answerAt, lent, sound, textAt};
+ghost use Rattle.state.specs.Meaning.{answerOf, databaseOf, holdingOf, schemeOf};
 ghost use Rattle.catalog.specs.Catalog.{Catalogued, Directory, nexts};
 ghost use Rattle.reason.specs.Links.{Graded, linksText, rootBy};
 ghost use Rattle.reason.specs.Walked.{Passed};
@@ -37,7 +36,8 @@ struct Traced {
 }
 
 // Writes the links of row r, which is n constraints away from what is held, the last one first. Document 01 has this by recursion: the distance falls. A
-// search of the directory for each link and constraint, and at the most one walk of each value of a source column, whatever the number of links.
+// search of the directory for each link and constraint. `walked` comes back from each call and goes into the next, so that no value of a source column is
+// walked twice: whatever the number of links, all walks together pass each of the 4,096 cells at the most once, as those of a reload do.
 fn put_links(
     d: Design,
     cells: &[u32],
@@ -167,7 +167,8 @@ fn put_reason(
 
 // Why row number `row` is cached, in words: the lent text is written from its first byte on, if it is long enough for the whole sentence. The sentence is
 // composed in memory of its own, so that cause 11 leaves the text as it was. Constant time for a number that names nothing and for a row that isn't
-// cached; else one reload, a search of the directory for each link and constraint, and two steps for each byte of the sentence.
+// cached; else no more than a reload and the chain's own links: one reload, walks that pass each cell at the most once, a search of the directory for each
+// link and constraint, one look at each held value, and two steps for each byte of the sentence.
 pub fn reason_lawful(
     design: Design,
     cells: &[u32],
@@ -187,8 +188,8 @@ pub fn reason_lawful(
         × Catalogued design (cellsIn (now cells) (now issues)) (now tables) (now next) (now first) (now keys) (now heads) (now starts) ⌝ }
     ensures { λ a. ⌜ (answerOf a ≡ answerAt (lent design (cellsIn (now (cells .entry)) (now (issues .entry))) (now (tables .entry)) (now (marks .entry)) held)
         (Runs.ask (Runs.reason row (length (now (text .entry))))))
-        × (now (text .exit) ≡ sets (now (text .entry)) 0 (questionText (schemeOf design) (databaseOf (design .rows) (cellsIn (now (cells .entry))
-        (now (issues .entry))) (now (tables .entry))) (cacheOf held (now (marks .entry))) (Runs.reason row (length (now (text .entry)))))) ⌝ }
+        × (now (text .exit) ≡ sets (now (text .entry)) 0 (textAt (lent design (cellsIn (now (cells .entry)) (now (issues .entry))) (now (tables .entry))
+        (now (marks .entry)) held) (Runs.ask (Runs.reason row (length (now (text .entry))))))) ⌝ }
 {
     let r = row as usize;
     if Design::ROWS <= r {

@@ -10,7 +10,7 @@ use lib.Seq.{sets}
 use Rattle.model.specs.Scheme.{Scheme}
 use Rattle.model.specs.Database.{Database}
 use Rattle.model.specs.Runs.{Operation, Cache, cacheAfter}
-use Rattle.model.specs.Answers.{Answer, unless, answer, written}
+use Rattle.model.specs.Answers.{Answer, unless, answer, written, textOf}
 use Rattle.state.specs.declared.design.Design.{Design}
 use Rattle.state.specs.declared.held.Held.{Held}
 use Rattle.state.specs.Cells.{Cells}
@@ -83,6 +83,10 @@ stateAfter s o = lent (s .design) (s .cells) (s .tables) (marksAfterAt s o) (hel
 unfoldable pub wordsAt : State → Operation → List ℕ
 wordsAt s o = cond (sound s) (written (scheme s) (database s) (cache s) o) []
 
+-- the text that it writes, from the first byte on
+unfoldable pub textAt : State → Operation → List ℕ
+textAt s o = cond (sound s) (textOf (scheme s) (database s) (cache s) o) []
+
 -- ---- what the code promises of an operation
 
 -- the operation on the state s answers a and leaves the state s′
@@ -91,6 +95,12 @@ pub record Answered (s : State) (o : Operation) (a : Answer) (s′ : State) : Ty
   pub state : s′ ≡ stateAfter s o
 
 -- and, of the answer words w that it is lent, w′: those that it writes from the first on, and all others as they were
-pub record Performed (s : State) (w : List ℕ) (o : Operation) (a : Answer) (s′ : State) (w′ : List ℕ) : Type 0 where
+pub record Worded (s : State) (w : List ℕ) (o : Operation) (a : Answer) (s′ : State) (w′ : List ℕ) : Type 0 where
   pub answered : Answered s o a s′
   pub words : w′ ≡ sets w 0 (wordsAt s o)
+
+-- and, of the text t that it is lent, t′: the bytes that it writes from the first on, and all others as they were
+pub record Performed (s : State) (w t : List ℕ) (o : Operation) (a : Answer) (s′ : State) (w′ t′ : List ℕ) : Type 0 where
+  pub answered : Answered s o a s′
+  pub words : w′ ≡ sets w 0 (wordsAt s o)
+  pub text : t′ ≡ sets t 0 (textAt s o)

@@ -125,7 +125,7 @@ heldOf h =
 abbrev pub cacheOf : Held → List ℕ → Cache
 cacheOf h marks = record { held = holdingOf h; marks = take 512 marks }
 
--- ---- operations, with `room` answer words lent
+-- ---- operations, with `room` answer words and `bytes` bytes of text lent
 
 abbrev pub joinOf : Join → Model-query.Join
 joinOf j = record { position = j .position; constraint = j .constraint }
@@ -139,16 +139,17 @@ queryOf q =
       pairs = joinOf (q .first) ∷ joinOf (q .second) ∷ joinOf (q .third) ∷ joinOf (q .fourth) ∷ [];
     }
 
-abbrev pub operationOf : Operation → ℕ → Runs.Operation
-operationOf (O.Refer v) room = Runs.refer (pairOf v)
-operationOf (O.Drop v) room = Runs.drop (pairOf v)
-operationOf (O.Probe k v) room = Runs.ask (Runs.probe (columnOf k) (cellOf v))
-operationOf (O.Query q) room = Runs.query (queryOf q) (Runs.asLists room)
-operationOf O.Evenness room = Runs.ask Runs.evenness
-operationOf O.SmallestKnot room = Runs.ask Runs.smallestKnot
-operationOf (O.Total t) room = Runs.query (queryOf (t .query)) (Runs.asTotal (t .position) (t .column))
-operationOf (O.Name d) room = Runs.name d
-operationOf (O.Opener k v) room = Runs.ask (Runs.opener (columnOf k) (cellOf v))
+abbrev pub operationOf : Operation → ℕ → ℕ → Runs.Operation
+operationOf (O.Refer v) room bytes = Runs.refer (pairOf v)
+operationOf (O.Drop v) room bytes = Runs.drop (pairOf v)
+operationOf (O.Probe k v) room bytes = Runs.ask (Runs.probe (columnOf k) (cellOf v))
+operationOf (O.Query q) room bytes = Runs.query (queryOf q) (Runs.asLists room)
+operationOf O.Evenness room bytes = Runs.ask Runs.evenness
+operationOf O.SmallestKnot room bytes = Runs.ask Runs.smallestKnot
+operationOf (O.Total t) room bytes = Runs.query (queryOf (t .query)) (Runs.asTotal (t .position) (t .column))
+operationOf (O.Name d) room bytes = Runs.name d
+operationOf (O.Opener k v) room bytes = Runs.ask (Runs.opener (columnOf k) (cellOf v))
+operationOf (O.Reason r) room bytes = Runs.ask (Runs.reason r bytes)
 
 -- ---- sets of constraints
 

@@ -41,4 +41,6 @@ pub enum Operation {
     Name(u8),
     // the value whose reference would give the probe a ground
     Opener(Column, Cell),
+    // why a row is cached
+    Reason(u16),
 }
