@@ -1,6 +1,5 @@
--- From what the functions of the operations give to what any operation gives: those that ask change nothing, and REFER, DROP and the naming of a desk write
--- no words. (QUERY:
--- QueryCases.) Assumes nothing.
+-- From what the functions of the operations give to what any operation gives: those that ask change nothing, REFER, DROP and the naming of a desk write
+-- no words, and a reason alone writes text. (QUERY: QueryCases.) Assumes nothing.
 use Prim.Native.Nat.{ℕ, _+_}
 use mathlib.Core.Path.{_≡_, refl, sym, ap, _∙_}
 use mathlib.Core.Bool.{true}
@@ -8,31 +7,41 @@ use mathlib.Core.List.{List, []}
 use lib.ListN.{length}
 use lib.Seq.{sets}
 use Rattle.model.specs.Holding.{Pair}
-use Rattle.model.specs.Runs.{Question, evenness, smallestKnot, Operation, refer, drop, ask, name, cacheAfter}
-use Rattle.model.specs.Answers.{Answer, refused, evenAnswer, knotAnswer, questionAnswer, answer, written}
+use Rattle.model.specs.Query.{Query}
+use Rattle.model.specs.Runs.{Question, evenness, smallestKnot, Output, Operation, refer, drop, ask, query, name, cacheAfter}
+use Rattle.model.specs.Answers.{Answer, refused, evenAnswer, knotAnswer, questionAnswer, questionText, answer, written, textOf}
 use Rattle.state.specs.declared.operation.Operation as State-operation
 use Rattle.state.specs.Meaning.{operationOf}
-use Rattle.state.specs.Lent.{State, cache, scheme, database, sound, causeAt, answerAt, wordsAt, Answered, Performed}
-use Rattle.lawful.proofs.SoundState.{after, answer-at, unchanged, words-at, cause-answer, cause-state, cause-words}
+use Rattle.state.specs.Lent.{State, cache, scheme, database, sound, causeAt, answerAt, wordsAt, textAt, Answered, Worded, Performed}
+use Rattle.lawful.proofs.SoundState.{after, answer-at, unchanged, words-at, text-at, cause-answer, cause-state, cause-words, cause-text}
 
 -- ---- a state known sound
 
-module _ (s : State) (e : sound s ≡ true) (w : List ℕ) where
+-- an operation that writes no text, of the text t
+textless : (s : State) → sound s ≡ true → (t : List ℕ) (o : Operation) → textOf (scheme s) (database s) (cache s) o ≡ [] → t ≡ sets t 0 (textAt s o)
+textless s e t o h = sym (ap (sets t 0) (text-at s e o ∙ h))
+
+module _ (s : State) (e : sound s ≡ true) (w t : List ℕ) where
   -- an operation that writes no words
   wordless : (o : Operation) → written (scheme s) (database s) (cache s) o ≡ [] → w ≡ sets w 0 (wordsAt s o)
   wordless o h = sym (ap (sets w 0) (words-at s e o ∙ h))
 
-  pub refer-performs : (p : Pair) (a : Answer) (s′ : State) → Answered s (refer p) a s′ → Performed s w (refer p) a s′ w
-  unfolding written
-  refer-performs p a s′ h = record { answered = h; words = wordless (refer p) refl }
+  pub refer-performs : (p : Pair) (a : Answer) (s′ : State) → Answered s (refer p) a s′ → Performed s w t (refer p) a s′ w t
+  unfolding written textOf
+  refer-performs p a s′ h = record { answered = h; words = wordless (refer p) refl; text = textless s e t (refer p) refl }
 
-  pub drop-performs : (p : Pair) (a : Answer) (s′ : State) → Answered s (drop p) a s′ → Performed s w (drop p) a s′ w
-  unfolding written
-  drop-performs p a s′ h = record { answered = h; words = wordless (drop p) refl }
+  pub drop-performs : (p : Pair) (a : Answer) (s′ : State) → Answered s (drop p) a s′ → Performed s w t (drop p) a s′ w t
+  unfolding written textOf
+  drop-performs p a s′ h = record { answered = h; words = wordless (drop p) refl; text = textless s e t (drop p) refl }
 
-  pub name-performs : (d : ℕ) (a : Answer) (s′ : State) → Answered s (name d) a s′ → Performed s w (name d) a s′ w
-  unfolding written
-  name-performs d a s′ h = record { answered = h; words = wordless (name d) refl }
+  pub name-performs : (d : ℕ) (a : Answer) (s′ : State) → Answered s (name d) a s′ → Performed s w t (name d) a s′ w t
+  unfolding written textOf
+  name-performs d a s′ h = record { answered = h; words = wordless (name d) refl; text = textless s e t (name d) refl }
+
+  pub query-performs : (q : Query) (out : Output) (a : Answer) (s′ : State) (w′ : List ℕ) → Worded s w (query q out) a s′ w′ →
+      Performed s w t (query q out) a s′ w′ t
+  unfolding textOf
+  query-performs q out a s′ w′ h = record { answered = h .answered; words = h .words; text = textless s e t (query q out) refl }
 
   -- a record of held values has 64 places, as its type says
   module _ (places : length (s .held .values) ≡ 64) where
@@ -40,9 +49,15 @@ module _ (s : State) (e : sound s ≡ true) (w : List ℕ) where
     asked : (o : Operation) → after s o ≡ cache s → (a : Answer) → a ≡ answerAt s o → Answered s o a s
     asked o k a h = record { answer = h; state = sym (unchanged s e o places k) }
 
-    pub ask-performs : (q : Question) (a : Answer) → a ≡ answerAt s (ask q) → Performed s w (ask q) a s w
+    -- a question, once its answer is given and its text written
+    pub ask-writes : (q : Question) (a : Answer) (t′ : List ℕ) → (a ≡ answerAt s (ask q)) × (t′ ≡ sets t 0 (textAt s (ask q))) → Performed s w t (ask q) a s w t′
     unfolding cacheAfter written
-    ask-performs q a h = record { answered = asked (ask q) refl a h; words = wordless (ask q) refl }
+    ask-writes q a t′ h = record { answered = asked (ask q) refl a (h .0); words = wordless (ask q) refl; text = h .1 }
+
+    -- a question that writes none
+    pub ask-performs : (q : Question) → questionText (scheme s) (database s) (cache s) q ≡ [] → (a : Answer) → a ≡ answerAt s (ask q) → Performed s w t (ask q) a s w t
+    unfolding textOf
+    ask-performs q n a h = ask-writes q a t (h, textless s e t (ask q) n)
 
 -- whether a design is even depends on the design alone
 pub even-answers : (s : State) → sound s ≡ true → (a : Answer) → a ≡ evenAnswer (scheme s) → a ≡ answerAt s (ask evenness)
@@ -57,18 +72,19 @@ knot-answers s e a h = h ∙ sym (answer-at s e (ask smallestKnot))
 -- ---- whatever is lent
 
 -- cause 7 or 12, and everything as it was
-pub refused-performs : (s : State) (w : List ℕ) (o : Operation) (c : ℕ) → c ≡ causeAt s → (c ≡ 0 → ⊥) → Performed s w o (refused c) s w
+pub refused-performs : (s : State) (w t : List ℕ) (o : Operation) (c : ℕ) → c ≡ causeAt s → (c ≡ 0 → ⊥) → Performed s w t o (refused c) s w t
 unfolding answerAt
-refused-performs s w o c e n =
+refused-performs s w t o c e n =
     record {
       answered = record { answer = ap refused e ∙ cause-answer s m _; state = sym (cause-state s m o) };
       words = sym (ap (sets w 0) (cause-words s m o));
+      text = sym (ap (sets t 0) (cause-text s m o));
     }
   where
     m : causeAt s ≡ 0 → ⊥
     m z = n (e ∙ z)
 
 -- the operation that a command names
-pub in-case : (s : State) (w : List ℕ) (room : ℕ) (c d : State-operation.Operation) (a : Answer) (s′ : State) (w′ : List ℕ) → c ≡ d →
-    Performed s w (operationOf d room) a s′ w′ → Performed s w (operationOf c room) a s′ w′
-in-case s w room c d a s′ w′ e h = rw e h
+pub in-case : (s : State) (w t : List ℕ) (room bytes : ℕ) (c d : State-operation.Operation) (a : Answer) (s′ : State) (w′ t′ : List ℕ) → c ≡ d →
+    Performed s w t (operationOf d room bytes) a s′ w′ t′ → Performed s w t (operationOf c room bytes) a s′ w′ t′
+in-case s w t room bytes c d a s′ w′ t′ e h = rw e h

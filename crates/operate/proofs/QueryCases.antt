@@ -19,7 +19,7 @@ use Rattle.model.specs.Answers.{Answer, refused, sent, unless, queryGround, isA
 use Rattle.model.proofs.Referring.{refused-keeps, ground-keeps, untaken-keeps, refers-pair}
 use Rattle.state.specs.declared.held.Held.{Held}
 use Rattle.state.specs.Meaning.{heldOf}
-use Rattle.state.specs.Lent.{State, lent, scheme, database, cache, sound, answerAt, wordsAt, Performed}
+use Rattle.state.specs.Lent.{State, lent, scheme, database, cache, sound, answerAt, wordsAt, Worded}
 use Rattle.lawful.proofs.SoundState.{after, answer-at, held-after, marks-after, words-at, unchanged}
 use Rattle.query.specs.Lists.{listedAnswer}
 use Rattle.operate.specs.Queries.{drawn, Drawn}
@@ -68,12 +68,12 @@ module _ (s : State) (e : sound s ≡ true) (places : length (s .held .values) �
     worded = k ∙ ap (λ (x : Answer). sets w 0 (writtenWith x listWords)) h ∙ ap (sets w 0) (sym (words-at s e op))
 
     -- where the cache stays as it was
-    stays : cacheAfter (scheme s) (database s) (cache s) op ≡ cache s → Performed s w op a s w′
+    stays : cacheAfter (scheme s) (database s) (cache s) op ≡ cache s → Worded s w op a s w′
     stays c = record { answered = record { answer = answered; state = sym (unchanged s e op places c) }; words = worded }
 
     -- where it becomes another one
     moves : (c : Cache) → cacheAfter (scheme s) (database s) (cache s) op ≡ c → (m : List ℕ) (g : Held) → g ≡ heldOf (c .held) →
-        m ≡ c .marks ++ past 512 (s .marks) → Performed s w op a (lent (s .design) (s .cells) (s .tables) m g) w′
+        m ≡ c .marks ++ past 512 (s .marks) → Worded s w op a (lent (s .design) (s .cells) (s .tables) m g) w′
     moves c k g₁ g₂ p r =
         record {
           answered = record {
@@ -88,19 +88,19 @@ module _ (s : State) (e : sound s ≡ true) (places : length (s .held .values) �
 
   -- an answer that changes and writes nothing
   silent : (a : Answer) → answers a → cacheAfter (scheme s) (database s) (cache s) op ≡ cache s → ((ws : List ℕ) → writtenWith a ws ≡ []) →
-      Performed s w op a s w
+      Worded s w op a s w
   silent a h c n = stays a h w (ap (sets w 0) (sym (n listWords))) c
 
   -- ---- cause 5
 
-  pub query-misfit : outputFits (scheme s) q out ≡ false → Performed s w op (refused 5) s w
+  pub query-misfit : outputFits (scheme s) q out ≡ false → Worded s w op (refused 5) s w
   unfolding queryAnswer answerable writtenWith hasLists shown
   query-misfit f = silent (refused 5) (rw f) (refused-keeps (scheme s) (database s) (cache s) q out (rw f)) (λ ws. refl)
 
   module _ (f : outputFits (scheme s) q out ≡ true) where
     -- ---- cause 9
 
-    pub query-numberless : numberless (q .value) ≡ true → Performed s w op (refused 9) s w
+    pub query-numberless : numberless (q .value) ≡ true → Worded s w op (refused 9) s w
     unfolding queryAnswer answerable writtenWith hasLists shown
     query-numberless b = silent (refused 9) (rw (f, b)) (refused-keeps (scheme s) (database s) (cache s) q out (rw (f, b))) (λ ws. refl)
 
@@ -122,7 +122,7 @@ module _ (s : State) (e : sound s ≡ true) (places : length (s .held .values) �
 
       -- ---- a ground
 
-      pub query-ground : (G ≡ 0 → ⊥) → (w′ : List ℕ) (a : Answer) → Drawn (database s) (fullLists (scheme s) (database s) q) out w w′ a → Performed s w op a s w′
+      pub query-ground : (G ≡ 0 → ⊥) → (w′ : List ℕ) (a : Answer) → Drawn (database s) (fullLists (scheme s) (database s) q) out w w′ a → Worded s w op a s w′
       unfolding isAnswered
       query-ground g w′ a l =
           stays a (drawn-answer (ap (λ (x : Bool). not x || T) (ne-eqb G 0 g)) a (l .answer)) w′
@@ -132,7 +132,7 @@ module _ (s : State) (e : sound s ≡ true) (places : length (s .held .values) �
       module _ (g : G ≡ 0) where
         -- ---- none, and the pair is not taken
 
-        pub query-sent : T ≡ false → Performed s w op sent s w
+        pub query-sent : T ≡ false → Worded s w op sent s w
         unfolding queryAnswer isAnswered writtenWith hasLists shown
         query-sent t = silent sent (rw (f, b, eq-eqb G 0 g, t)) (untaken-keeps (scheme s) (database s) (cache s) q out t) (λ ws. refl)
 
@@ -144,7 +144,7 @@ module _ (s : State) (e : sound s ≡ true) (places : length (s .held .values) �
           yes-answered = rw (eq-eqb G 0 g, t)
 
           -- with 11 or 13 everything stays
-          pub query-past-limit : isRefusal a ≡ true → Performed s w op a s w′
+          pub query-past-limit : isRefusal a ≡ true → Worded s w op a s w′
           unfolding answerable
           query-past-limit r =
               let k : withinLimit (scheme s) (database s) q out ≡ false = not-true _ (sym (within a (l .answer)) ∙ r) in
@@ -154,7 +154,7 @@ module _ (s : State) (e : sound s ≡ true) (places : length (s .held .values) �
           pub query-referred : isRefusal a ≡ false → (m : List ℕ) (h : Held) →
               h ≡ heldOf (referred (scheme s) (database s) (cache s) (pairFor (scheme s) q) .held) →
               m ≡ referred (scheme s) (database s) (cache s) (pairFor (scheme s) q) .marks ++ past 512 (s .marks) →
-              Performed s w op a (lent (s .design) (s .cells) (s .tables) m h) w′
+              Worded s w op a (lent (s .design) (s .cells) (s .tables) m h) w′
           unfolding answerable
           query-referred r m h p k =
               let n : withinLimit (scheme s) (database s) q out ≡ true = not-false _ (sym (within a (l .answer)) ∙ r) in

@@ -13,7 +13,7 @@ use Rattle.model.proofs.Referring.{filling-few}
 use Rattle.model.proofs.Demand2.{fits-operands}
 use Rattle.state.specs.declared.operation.Query.{Query}
 use Rattle.state.specs.Meaning.{cellOf, columnOf, holdingOf, queryOf, schemeOf}
-use Rattle.state.specs.Lent.{State, scheme, database, cache, sound, Performed}
+use Rattle.state.specs.Lent.{State, scheme, database, cache, sound, Worded}
 use Rattle.lawful.proofs.RowsLaws.{Stored}
 use Rattle.lawful.proofs.Asked.{sound-fillings}
 use Rattle.query.proofs.MarkedRows.{markedLists}
@@ -33,7 +33,7 @@ module _ (s : State) (e : sound s ≡ true) (w : List ℕ) (q : Query) (out : Ou
   is-ground = found ∙ ground-of s q
 
   pub step-drawn : length (s .held .values) ≡ 64 → Stored (s .cells) → (g ≡ 0 → ⊥) → (w′ : List ℕ) (a : Answer) →
-      Drawn (database s) (markedLists (s .design) (s .cells) (s .tables) (s .marks) q) out w w′ a → Performed s w (query (queryOf q) out) a s w′
+      Drawn (database s) (markedLists (s .design) (s .cells) (s .tables) (s .marks) q) out w w′ a → Worded s w (query (queryOf q) out) a s w′
   step-drawn places u n w′ a l =
       query-ground s e places w (queryOf q) out fit full (λ z. n (is-ground ∙ z)) w′ a (sound-lists s e q (fits-operands (scheme s) (queryOf q) out fit) u (λ z. n (is-ground ∙ z)) out w w′ a l)
 
@@ -45,7 +45,7 @@ module _ (s : State) (e : sound s ≡ true) (w : List ℕ) (q : Query) (out : Ou
     is-pair : pair ≡ pairFor (scheme s) (queryOf q)
     is-pair = ap (λ (n : ℕ). record { filling = n; value = cellOf (q .value) }) filling
 
-    pub step-sent : length (s .held .values) ≡ 64 → taken (scheme s) (holdingOf (s .held)) pair ≡ false → Performed s w (query (queryOf q) out) sent s w
+    pub step-sent : length (s .held .values) ≡ 64 → taken (scheme s) (holdingOf (s .held)) pair ≡ false → Worded s w (query (queryOf q) out) sent s w
     step-sent places t =
         query-sent s e places w (queryOf q) out fit full (sym is-ground ∙ z) (ap (taken (scheme s) (holdingOf (s .held))) (sym is-pair) ∙ t)
 

@@ -15,7 +15,7 @@ use Rattle.state.specs.declared.held.HeldValue.{HeldValue}
 use Rattle.state.specs.declared.held.Held.{Held}
 use Rattle.state.specs.declared.operation.Query.{Query}
 use Rattle.state.specs.Meaning.{databaseOf, pairOf, queryOf}
-use Rattle.state.specs.Lent.{State, lent, scheme, database, cache, sound, Answered, Performed}
+use Rattle.state.specs.Lent.{State, lent, scheme, database, cache, sound, Answered, Worded}
 use Rattle.lawful.proofs.RowsLaws.{Stored}
 use Rattle.query.proofs.MarkedRows.{markedLists}
 use Rattle.operate.specs.Queries.{Drawn, Referring}
@@ -58,11 +58,11 @@ module _ (s : State) (e : sound s ≡ true) (x c : List ℕ) (none : x ≡ []) (
           lists
 
       -- a record of held values has 64 places, as its type says
-      pub left-alone : length (s .held .values) ≡ 64 → isRefusal a ≡ true → Performed s w (query (queryOf q) out) a s w′
+      pub left-alone : length (s .held .values) ≡ 64 → isRefusal a ≡ true → Worded s w (query (queryOf q) out) a s w′
       left-alone places f = query-past-limit s e places w (queryOf q) out (r .fit) (r .full) (r .groundless) takes w′ a all-lists f
 
       pub taken-over : length (s .held .values) ≡ 64 → isRefusal a ≡ false → (n : List ℕ) → n ≡ m ++ past 512 (s .marks) →
-          Performed s w (query (queryOf q) out) a (lent (s .design) (s .cells) (s .tables) n h) w′
+          Worded s w (query (queryOf q) out) a (lent (s .design) (s .cells) (s .tables) n h) w′
       taken-over places f n k =
           query-referred s e places w (queryOf q) out (r .fit) (r .full) (r .groundless) takes w′ a all-lists f n h
           (copy-held s e pair takes b m h on-copy) (k ∙ ap (λ (x : List ℕ). x ++ past 512 (s .marks)) marks-are)

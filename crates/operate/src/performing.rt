@@ -17,6 +17,7 @@ use cache::refer_lawful;
 use even::evenness;
 use even::smallest_knot;
 use opener::opener_lawful;
+use reason::reason_lawful;
 use state::Answer;
 use state::Design;
 use state::Held;
@@ -26,7 +27,8 @@ use state::Operation;
 // stands in them. REFER costs one load, DROP one reload, PROBE a look for the value for each constraint that ends at the column, QUERY the probe of
 // its first position, a load if that has no ground and its value is taken, the counting of its lists and the writing of their words, and a total the same
 // with two sums by weights in place of the lists. Naming a desk costs a copy of the held values. The value that would open a query costs its probe and,
-// without a ground, a search of the directory for each constraint and row, one load, and a pass over the rows for each filling.
+// without a ground, a search of the directory for each constraint and row, one load, and a pass over the rows for each filling; a reason a reload and its
+// own links.
 pub fn perform_lawful(
     op: Operation,
     design: Design,
@@ -41,6 +43,7 @@ pub fn perform_lawful(
     marks: &mut [u8],
     held: Held,
     words: &mut [u32],
+    text: &mut [u8],
     weights: &mut [u64; 2560],
     sums: &mut [u64; 2560],
     froms: &mut [u16; 2560],
@@ -49,8 +52,9 @@ pub fn perform_lawful(
     requires { ⌜ (sound (lent design (cellsIn (now cells) (now issues)) (now tables) (now marks) held) ≡ true)
         × Catalogued design (cellsIn (now cells) (now issues)) (now tables) (now next) (now first) (now keys) (now heads) (now starts) ⌝ }
     ensures { λ o. ⌜ Performed (lent design (cellsIn (now (cells .entry)) (now (issues .entry))) (now (tables .entry)) (now (marks .entry)) held) (now (words .entry))
-        (operationOf op (length (now (words .entry))))
-        (answerOf (o .answer)) (lent design (cellsIn (now (cells .entry)) (now (issues .entry))) (now (tables .entry)) (now (marks .exit)) (o .held)) (now (words .exit)) ⌝ }
+        (now (text .entry)) (operationOf op (length (now (words .entry))) (length (now (text .entry))))
+        (answerOf (o .answer)) (lent design (cellsIn (now (cells .entry)) (now (issues .entry))) (now (tables .entry)) (now (marks .exit)) (o .held)) (now (words .exit))
+        (now (text .exit)) ⌝ }
 {
     match op {
         Operation::Refer(v) => refer_lawful(
@@ -168,6 +172,24 @@ pub fn perform_lawful(
             );
             Outcome { held, answer }
         }
+        Operation::Reason(row) => {
+            let answer = reason_lawful(
+                design,
+                cells,
+                issues,
+                tables,
+                next,
+                first,
+                keys,
+                heads,
+                starts,
+                marks,
+                held,
+                row,
+                text,
+            );
+            Outcome { held, answer }
+        }
     }
 }
 
@@ -182,10 +204,12 @@ pub fn perform(
     marks: &mut [u8],
     held: Held,
     words: &mut [u32],
+    text: &mut [u8],
 ) -> Outcome
     ensures { λ o. ⌜ Performed (lent design (cellsIn (now (cells .entry)) (now (issues .entry))) (now (tables .entry)) (now (marks .entry)) held) (now (words .entry))
-        (operationOf op (length (now (words .entry))))
-        (answerOf (o .answer)) (lent design (cellsIn (now (cells .entry)) (now (issues .entry))) (now (tables .entry)) (now (marks .exit)) (o .held)) (now (words .exit)) ⌝ }
+        (now (text .entry)) (operationOf op (length (now (words .entry))) (length (now (text .entry))))
+        (answerOf (o .answer)) (lent design (cellsIn (now (cells .entry)) (now (issues .entry))) (now (tables .entry)) (now (marks .exit)) (o .held)) (now (words .exit))
+        (now (text .exit)) ⌝ }
 {
     let mut next = [512u16; 4096];
     let mut first = [512u16; 8192];
@@ -227,6 +251,7 @@ pub fn perform(
         marks,
         held,
         words,
+        text,
         &mut weights,
         &mut sums,
         &mut froms,

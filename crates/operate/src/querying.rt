@@ -6,7 +6,7 @@ ghost use lib.ListN.{length};
 ghost use Rattle.model.specs.Runs as Runs;
 ghost use Rattle.state.specs.Cells.{cellsIn};
 ghost use Rattle.state.specs.Meaning.{answerOf, queryOf};
-ghost use Rattle.state.specs.Lent.{lent, sound, Performed};
+ghost use Rattle.state.specs.Lent.{lent, sound, Worded};
 ghost use Rattle.catalog.specs.Catalog.{Catalogued};
 ghost use Rattle.operate.specs.Queries.{outputOf, Referring};
 use crate::output::Output;
@@ -52,7 +52,7 @@ fn refer_and_draw(
     requires { ⌜ (sound (lent design (cellsIn (now cells) (now issues)) (now tables) (now marks) held) ≡ true)
         × Catalogued design (cellsIn (now cells) (now issues)) (now tables) (now next) (now first) (now keys) (now heads) (now starts) ⌝ }
     requires { ⌜ Referring (lent design (cellsIn (now cells) (now issues)) (now tables) (now marks) held) q (outputOf output (length (now words))) v ⌝ }
-    ensures { λ o. ⌜ Performed (lent design (cellsIn (now (cells .entry)) (now (issues .entry))) (now (tables .entry)) (now (marks .entry)) held) (now (words .entry))
+    ensures { λ o. ⌜ Worded (lent design (cellsIn (now (cells .entry)) (now (issues .entry))) (now (tables .entry)) (now (marks .entry)) held) (now (words .entry))
         (Runs.query (queryOf q) (outputOf output (length (now (words .entry))))) (answerOf (o .answer))
         (lent design (cellsIn (now (cells .entry)) (now (issues .entry))) (now (tables .entry)) (now (marks .exit)) (o .held)) (now (words .exit)) ⌝ }
 {
@@ -127,7 +127,7 @@ pub(crate) fn query_lawful(
 ) -> Outcome
     requires { ⌜ (sound (lent design (cellsIn (now cells) (now issues)) (now tables) (now marks) held) ≡ true)
         × Catalogued design (cellsIn (now cells) (now issues)) (now tables) (now next) (now first) (now keys) (now heads) (now starts) ⌝ }
-    ensures { λ o. ⌜ Performed (lent design (cellsIn (now (cells .entry)) (now (issues .entry))) (now (tables .entry)) (now (marks .entry)) held) (now (words .entry))
+    ensures { λ o. ⌜ Worded (lent design (cellsIn (now (cells .entry)) (now (issues .entry))) (now (tables .entry)) (now (marks .entry)) held) (now (words .entry))
         (Runs.query (queryOf q) (outputOf output (length (now (words .entry))))) (answerOf (o .answer))
         (lent design (cellsIn (now (cells .entry)) (now (issues .entry))) (now (tables .entry)) (now (marks .exit)) (o .held)) (now (words .exit)) ⌝ }
 {

@@ -13,13 +13,12 @@ same-length : tie.Need-same-length
 same-length c = search needs
 
 returns : tie.Need-returns
-returns c = refused-performs _ _ _ _ (c .before .cause .ensures .0) (c .if1 .taken)
+returns c = refused-performs _ _ _ _ _ (c .before .cause .ensures .0) (c .if1 .taken)
 
 perform-lawful-requires : tie.Need-perform-lawful-requires
 perform-lawful-requires c κs =
-    let k = c .before .before .before .before .before .before .before .before .before .before .before in
-    let z = k .if1 .left in
-    let e = k .before .cause .ensures in
+    let z = c .before .before .before .before .before .before .before .before .before .before .before .before .if1 .left in
+    let e = c .before .before .before .before .before .before .before .before .before .before .before .before .before .cause .ensures in
     (cause-none _ (sym (e .0) ∙ z), e .1 z)
 
 same-length-2 : tie.Need-same-length-2
@@ -28,8 +27,11 @@ same-length-2 c = search needs
 same-length-3 : tie.Need-same-length-3
 same-length-3 c = search needs
 
+same-length-4 : tie.Need-same-length-4
+same-length-4 c = search needs
+
 returns-2 : tie.Need-returns-2
 returns-2 c = search needs
 
 pub perform-spec : {M : Type 1} → statement M
-perform-spec = tie.close (tie.spec cause-requires same-length returns perform-lawful-requires same-length-2 same-length-3 returns-2)
+perform-spec = tie.close (tie.spec cause-requires same-length returns perform-lawful-requires same-length-2 same-length-3 same-length-4 returns-2)

@@ -1,8 +1,10 @@
 -- `operate::performing::perform_lawful` meets its contract: what the operation's own function gives. Assumes nothing.
+use mathlib.Core.Path.{refl}
 use borrow.Author.Needs.{needs}
+use Rattle.model.specs.Answers.{questionText}
 use Rattle.state.proofs.Arrays.{sized, held-sized}
 use Rattle.lawful.proofs.Asked.{sound-range}
-use Rattle.operate.proofs.Performed.{refer-performs, drop-performs, name-performs, ask-performs, even-answers, knot-answers, in-case}
+use Rattle.operate.proofs.Performed.{refer-performs, drop-performs, name-performs, query-performs, ask-performs, ask-writes, even-answers, knot-answers, in-case}
 use Rattle.operate.proofs.performing.perform_lawful.Statement.{statement}
 use Rattle.operate.proofs.performing.perform_lawful.Tie as tie
 
@@ -35,7 +37,7 @@ enum-told c = search needs
 
 evenness-requires : tie.Need-evenness-requires
 evenness-requires c κs =
-    let b = c .before .before .before .before .before .before .before in sound-range _ (b .pre .0) (sized (b .args .design) _ (b .good .1 .0))
+    let b = c .before .before .before .before .before .before .before .before in sound-range _ (b .pre .0) (sized (b .args .design) _ (b .good .1 .0))
 
 enum-known-op-5 : tie.Need-enum-known-op-5
 enum-known-op-5 c = search needs
@@ -48,7 +50,7 @@ enum-told-2 c = search needs
 
 smallest-knot-requires : tie.Need-smallest-knot-requires
 smallest-knot-requires c κs =
-    let b = c .before .before .before .before .before .before .before in sound-range _ (b .pre .0) (sized (b .args .design) _ (b .good .1 .0))
+    let b = c .before .before .before .before .before .before .before .before in sound-range _ (b .pre .0) (sized (b .args .design) _ (b .good .1 .0))
 
 enum-known-op-6 : tie.Need-enum-known-op-6
 enum-known-op-6 c = search needs
@@ -62,25 +64,36 @@ enum-known-op-7 c = search needs
 opener-lawful-requires : tie.Need-opener-lawful-requires
 opener-lawful-requires c κs = search needs
 
+enum-known-op-8 : tie.Need-enum-known-op-8
+enum-known-op-8 c = search needs
+
+reason-lawful-requires : tie.Need-reason-lawful-requires
+reason-lawful-requires c κs = search needs
+
 same-length : tie.Need-same-length
 same-length c = search needs
 
 returns : tie.Need-returns
-returns c = in-case _ _ _ _ _ _ _ _ (c .before .before .before .before .before .op .given .1) (refer-performs _ (c .before .before .before .before .before .before .before .before .before .before .before .before .pre .0) _ _ _ _ (c .before .before .refer-lawful .ensures))
+returns c =
+    let b = c .before .before .before .before .before .before .before .before .before .before .before .before .before in
+    in-case _ _ _ _ _ _ _ _ _ _ _ (c .before .before .before .before .before .op .given .1) (refer-performs _ (b .pre .0) _ _ _ _ _ (c .before .before .refer-lawful .ensures))
 
 same-length-2 : tie.Need-same-length-2
 same-length-2 c = search needs
 
 returns-2 : tie.Need-returns-2
-returns-2 c = in-case _ _ _ _ _ _ _ _ (c .before .before .before .before .before .op2 .given .1) (drop-performs _ (c .before .before .before .before .before .before .before .before .before .before .before .before .pre .0) _ _ _ _ (c .before .before .drop-lawful .ensures))
+returns-2 c =
+    let b = c .before .before .before .before .before .before .before .before .before .before .before .before .before in
+    in-case _ _ _ _ _ _ _ _ _ _ _ (c .before .before .before .before .before .op2 .given .1) (drop-performs _ (b .pre .0) _ _ _ _ _ (c .before .before .drop-lawful .ensures))
 
 same-length-3 : tie.Need-same-length-3
 same-length-3 c = search needs
 
 returns-3 : tie.Need-returns-3
+unfolding questionText
 returns-3 c =
-    let b = c .before .before .before .before .before .before .before .before .before .before in
-    in-case _ _ _ _ _ _ _ _ (c .before .before .before .op3 .given .1) (ask-performs _ (b .pre .0) _ (held-sized (b .args .held) _ (b .good .1 .1 .1 .1 .1 .1 .1 .1 .1 .1 .1 .0)) _ _ (c .probe-lawful .ensures))
+    let b = c .before .before .before .before .before .before .before .before .before .before .before in
+    in-case _ _ _ _ _ _ _ _ _ _ _ (c .before .before .before .op3 .given .1) (ask-performs _ (b .pre .0) _ _ (held-sized (b .args .held) _ (b .good .1 .1 .1 .1 .1 .1 .1 .1 .1 .1 .1 .0)) _ refl _ (c .probe-lawful .ensures))
 
 same-length-4 : tie.Need-same-length-4
 same-length-4 c = search needs
@@ -89,13 +102,16 @@ same-length-5 : tie.Need-same-length-5
 same-length-5 c = search needs
 
 returns-4 : tie.Need-returns-4
-returns-4 c = in-case _ _ _ _ _ _ _ _ (c .before .before .before .before .before .before .before .before .before .before .before .before .op4 .given .1) (c .before .before .before .before .query-lawful .ensures)
+returns-4 c =
+    let b = c .before .before .before .before .before .before .before .before .before .before .before .before .before .before .before .before .before .before .before .before in
+    in-case _ _ _ _ _ _ _ _ _ _ _ (c .before .before .before .before .before .before .before .before .before .before .before .before .op4 .given .1) (query-performs _ (b .pre .0) _ _ _ _ _ _ _ (c .before .before .before .before .query-lawful .ensures))
 
 returns-5 : tie.Need-returns-5
+unfolding questionText
 returns-5 c =
-    let b = c .before .before .before .before .before .before .before .before in
-    in-case _ _ _ _ _ _ _ _ (c .before .enum-told .given .1)
-    (ask-performs _ (b .pre .0) _ (held-sized (b .args .held) _ (b .good .1 .1 .1 .1 .1 .1 .1 .1 .1 .1 .1 .0)) _ _ (even-answers _ (b .pre .0) _ (c .evenness .ensures)))
+    let b = c .before .before .before .before .before .before .before .before .before in
+    in-case _ _ _ _ _ _ _ _ _ _ _ (c .before .enum-told .given .1)
+    (ask-performs _ (b .pre .0) _ _ (held-sized (b .args .held) _ (b .good .1 .1 .1 .1 .1 .1 .1 .1 .1 .1 .1 .0)) _ refl _ (even-answers _ (b .pre .0) _ (c .evenness .ensures)))
 
 same-length-6 : tie.Need-same-length-6
 same-length-6 c = search needs
@@ -104,27 +120,43 @@ same-length-7 : tie.Need-same-length-7
 same-length-7 c = search needs
 
 returns-6 : tie.Need-returns-6
-returns-6 c = in-case _ _ _ _ _ _ _ _ (c .before .before .before .before .before .before .before .before .before .before .before .before .before .op5 .given .1) (c .before .before .before .before .query-lawful2 .ensures)
+returns-6 c =
+    let b = c .before .before .before .before .before .before .before .before .before .before .before .before .before .before .before .before .before .before .before .before .before in
+    in-case _ _ _ _ _ _ _ _ _ _ _ (c .before .before .before .before .before .before .before .before .before .before .before .before .before .op5 .given .1) (query-performs _ (b .pre .0) _ _ _ _ _ _ _ (c .before .before .before .before .query-lawful2 .ensures))
 
 returns-7 : tie.Need-returns-7
+unfolding questionText
 returns-7 c =
-    let b = c .before .before .before .before .before .before .before .before in
-    in-case _ _ _ _ _ _ _ _ (c .before .enum-told2 .given .1)
-    (ask-performs _ (b .pre .0) _ (held-sized (b .args .held) _ (b .good .1 .1 .1 .1 .1 .1 .1 .1 .1 .1 .1 .0)) _ _ (knot-answers _ (b .pre .0) _ (c .smallest-knot .ensures)))
+    let b = c .before .before .before .before .before .before .before .before .before in
+    in-case _ _ _ _ _ _ _ _ _ _ _ (c .before .enum-told2 .given .1)
+    (ask-performs _ (b .pre .0) _ _ (held-sized (b .args .held) _ (b .good .1 .1 .1 .1 .1 .1 .1 .1 .1 .1 .1 .0)) _ refl _ (knot-answers _ (b .pre .0) _ (c .smallest-knot .ensures)))
 
 returns-8 : tie.Need-returns-8
 returns-8 c =
-    let b = c .before .before .before .before .before .before .before .before .before in
-    in-case _ _ _ _ _ _ _ _ (c .before .before .op6 .given .1) (name-performs _ (b .pre .0) _ _ _ _ (c .name-lawful .ensures _ _ _ _ (b .pre .0)))
+    let b = c .before .before .before .before .before .before .before .before .before .before in
+    in-case _ _ _ _ _ _ _ _ _ _ _ (c .before .before .op6 .given .1) (name-performs _ (b .pre .0) _ _ _ _ _ (c .name-lawful .ensures _ _ _ _ (b .pre .0)))
 
 same-length-8 : tie.Need-same-length-8
 same-length-8 c = search needs
 
 returns-9 : tie.Need-returns-9
+unfolding questionText
 returns-9 c =
-    let b = c .before .before .before .before .before .before .before .before .before .before in
-    in-case _ _ _ _ _ _ _ _ (c .before .before .before .op7 .given .1)
-    (ask-performs _ (b .pre .0) _ (held-sized (b .args .held) _ (b .good .1 .1 .1 .1 .1 .1 .1 .1 .1 .1 .1 .0)) _ _ (c .opener-lawful .ensures))
+    let b = c .before .before .before .before .before .before .before .before .before .before .before in
+    in-case _ _ _ _ _ _ _ _ _ _ _ (c .before .before .before .op7 .given .1)
+    (ask-performs _ (b .pre .0) _ _ (held-sized (b .args .held) _ (b .good .1 .1 .1 .1 .1 .1 .1 .1 .1 .1 .1 .0)) _ refl _ (c .opener-lawful .ensures))
+
+same-length-9 : tie.Need-same-length-9
+same-length-9 c = search needs
+
+same-length-10 : tie.Need-same-length-10
+same-length-10 c = search needs
+
+returns-10 : tie.Need-returns-10
+returns-10 c =
+    let b = c .before .before .before .before .before .before .before .before .before .before .before .before .before .before in
+    in-case _ _ _ _ _ _ _ _ _ _ _ (c .before .before .before .before .before .before .op8 .given .1)
+    (ask-writes _ (b .pre .0) _ _ (held-sized (b .args .held) _ (b .good .1 .1 .1 .1 .1 .1 .1 .1 .1 .1 .1 .0)) _ _ _ (c .before .before .reason-lawful .ensures))
 
 pub perform-lawful-spec : {M : Type 1} → statement M
 perform-lawful-spec =
@@ -148,6 +180,8 @@ perform-lawful-spec =
     name-lawful-requires
     enum-known-op-7
     opener-lawful-requires
+    enum-known-op-8
+    reason-lawful-requires
     same-length
     returns
     same-length-2
@@ -164,4 +198,7 @@ perform-lawful-spec =
     returns-7
     returns-8
     same-length-8
-    returns-9)
+    returns-9
+    same-length-9
+    same-length-10
+    returns-10)
