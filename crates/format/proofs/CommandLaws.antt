@@ -19,7 +19,7 @@ use Rattle.state.specs.declared.operation.Query.{Query}
 use Rattle.state.specs.declared.operation.Total.{Total}
 use Rattle.state.specs.declared.operation.Operation.the-variants as O
 use Rattle.format.specs.declared.command.Command.the-variants.{Table, Constraint, Filling, Row, End, Operate, Unknown, Short}
-use Rattle.format.specs.Bytes.{byteAt, u32At}
+use Rattle.format.specs.Bytes.{byteAt, u16At, u32At}
 use Rattle.format.specs.Commands.{designWidth, operationWidth, widthOf, columnAt, valueAt, heldValueAt, queryAt, totalAt, designCommandAt, issuedAt, operationAt, operandsAt, commandAt}
 
 -- ---- widths
@@ -54,10 +54,10 @@ module _ (b : ℕ) where
   unfolding designWidth
   design-width-none h₁ h₂ h₃ h₄ h₅ h₇ = rw (ne-eqb b 1 h₁, ne-eqb b 2 h₂, ne-eqb b 3 h₃, ne-eqb b 4 h₄, ne-eqb b 5 h₅, ne-eqb b 7 h₇)
 
-  pub operation-width-none : (b ≡ 16 → ⊥) → (b ≡ 17 → ⊥) → (b ≡ 18 → ⊥) → (b ≡ 19 → ⊥) → (b ≡ 20 → ⊥) → (b ≡ 21 → ⊥) → (b ≡ 23 → ⊥) → (b ≡ 25 → ⊥) → (b ≡ 28 → ⊥)
+  pub operation-width-none : (b ≡ 16 → ⊥) → (b ≡ 17 → ⊥) → (b ≡ 18 → ⊥) → (b ≡ 19 → ⊥) → (b ≡ 20 → ⊥) → (b ≡ 21 → ⊥) → (b ≡ 23 → ⊥) → (b ≡ 24 → ⊥) → (b ≡ 25 → ⊥) → (b ≡ 28 → ⊥)
       → (b ≡ 32 → ⊥) → (b ≡ 33 → ⊥) → (b ≡ 34 → ⊥) → (b ≡ 35 → ⊥) → (b ≡ 37 → ⊥) → operationWidth b ≡ 0
   unfolding operationWidth
-  operation-width-none h₁ h₂ h₃ h₄ h₅ h₆ h₈ h₉ h₇ k₁ k₂ k₃ k₄ k₆ =
+  operation-width-none h₁ h₂ h₃ h₄ h₅ h₆ h₈ h₁₀ h₉ h₇ k₁ k₂ k₃ k₄ k₆ =
       rw (
         ne-eqb b 16 h₁,
         ne-eqb b 17 h₂,
@@ -66,6 +66,7 @@ module _ (b : ℕ) where
         ne-eqb b 20 h₅,
         ne-eqb b 21 h₆,
         ne-eqb b 23 h₈,
+        ne-eqb b 24 h₁₀,
         ne-eqb b 25 h₉,
         ne-eqb b 28 h₇,
         ne-eqb b 32 k₁,
@@ -83,10 +84,10 @@ module _ (b : ℕ) where
       (λ (n : b ≡ 4 → ⊥). ⊎-elim (λ (e : b ≡ 7). issued e (ap designWidth e)) (λ (m : b ≡ 7 → ⊥). absurd (w (design-width-none h₁ h₂ h₃ n h₅ m))) (same-number b 7))
       (same-number b 4)
 
-  pub is-query : (operationWidth b ≡ 0 → ⊥) → b < 32 → (b ≡ 16 → ⊥) → (b ≡ 17 → ⊥) → (b ≡ 18 → ⊥) → (b ≡ 20 → ⊥) → (b ≡ 21 → ⊥) → (b ≡ 23 → ⊥) → (b ≡ 25 → ⊥) → (b ≡ 28 → ⊥) → b ≡ 19
-  is-query w l h₁ h₂ h₃ h₅ h₆ h₈ h₉ h₇ =
+  pub is-query : (operationWidth b ≡ 0 → ⊥) → b < 32 → (b ≡ 16 → ⊥) → (b ≡ 17 → ⊥) → (b ≡ 18 → ⊥) → (b ≡ 20 → ⊥) → (b ≡ 21 → ⊥) → (b ≡ 23 → ⊥) → (b ≡ 24 → ⊥) → (b ≡ 25 → ⊥) → (b ≡ 28 → ⊥) → b ≡ 19
+  is-query w l h₁ h₂ h₃ h₅ h₆ h₈ h₁₀ h₉ h₇ =
       ⊎-elim (λ (e : b ≡ 19). e)
-      (λ (n : b ≡ 19 → ⊥). absurd (w (operation-width-none h₁ h₂ h₃ n h₅ h₆ h₈ h₉ h₇ (λ e. omega arith) (λ e. omega arith) (λ e. omega arith) (λ e. omega arith) (λ e. omega arith))))
+      (λ (n : b ≡ 19 → ⊥). absurd (w (operation-width-none h₁ h₂ h₃ n h₅ h₆ h₈ h₁₀ h₉ h₇ (λ e. omega arith) (λ e. omega arith) (λ e. omega arith) (λ e. omega arith) (λ e. omega arith))))
       (same-number b 19)
 
   -- an operation with an issue is one byte wider than the same without it
@@ -98,7 +99,7 @@ module _ (b : ℕ) where
       (λ (k₂ : b ≡ 33 → ⊥). ⊎-elim (λ (e : b ≡ 34). wider 34 e (omega arith, omega arith, refl))
       (λ (k₃ : b ≡ 34 → ⊥). ⊎-elim (λ (e : b ≡ 35). wider 35 e (omega arith, omega arith, refl))
       (λ (k₄ : b ≡ 35 → ⊥). ⊎-elim (λ (e : b ≡ 37). wider 37 e (omega arith, omega arith, refl))
-      (λ (k₆ : b ≡ 37 → ⊥). absurd (w (operation-width-none (λ e. omega arith) (λ e. omega arith) (λ e. omega arith) (λ e. omega arith) (λ e. omega arith) (λ e. omega arith) (λ e. omega arith) (λ e. omega arith) (λ e. omega arith) k₁ k₂ k₃ k₄ k₆)))
+      (λ (k₆ : b ≡ 37 → ⊥). absurd (w (operation-width-none (λ e. omega arith) (λ e. omega arith) (λ e. omega arith) (λ e. omega arith) (λ e. omega arith) (λ e. omega arith) (λ e. omega arith) (λ e. omega arith) (λ e. omega arith) (λ e. omega arith) k₁ k₂ k₃ k₄ k₆)))
       (same-number b 37)) (same-number b 35)) (same-number b 34)) (same-number b 33)) (same-number b 32)
     where
       wider : (n : ℕ) → b ≡ n → (n - 16 < 32) × (0 < operationWidth (n - 16)) × (operationWidth (n - 16) + 1 ≡ operationWidth n)
@@ -120,9 +121,9 @@ operation-most : (b : ℕ) → operationWidth b ≤ 42
 unfolding operationWidth
 operation-most b =
     pick (eqb b 16) 6 _ (omega arith) (pick (eqb b 17) 6 _ (omega arith) (pick (eqb b 18) 7 _ (omega arith)
-    (pick (eqb b 19) 16 _ (omega arith) (pick (eqb b 20) 1 _ (omega arith) (pick (eqb b 21) 18 _ (omega arith) (pick (eqb b 23) 2 _ (omega arith) (pick (eqb b 25) 8 _ (omega arith) (pick (eqb b 28) 1 _ (omega arith)
+    (pick (eqb b 19) 16 _ (omega arith) (pick (eqb b 20) 1 _ (omega arith) (pick (eqb b 21) 18 _ (omega arith) (pick (eqb b 23) 2 _ (omega arith) (pick (eqb b 24) 3 _ (omega arith) (pick (eqb b 25) 8 _ (omega arith) (pick (eqb b 28) 1 _ (omega arith)
     (pick (eqb b 32) 7 _ (omega arith) (pick (eqb b 33) 7 _ (omega arith) (pick (eqb b 34) 8 _ (omega arith)
-    (pick (eqb b 35) 17 _ (omega arith) (pick (eqb b 37) 19 0 (omega arith) (omega arith))))))))))))))
+    (pick (eqb b 35) 17 _ (omega arith) (pick (eqb b 37) 19 0 (omega arith) (omega arith)))))))))))))))
 
 pub width-most : (b : ℕ) → widthOf b ≤ 42
 unfolding widthOf
@@ -203,6 +204,10 @@ module _ (b : ℕ) (s : List ℕ) (i : ℕ) where
     pub operation-name : (d : ℕ) → d ≡ byteAt s (i + 1) → b ≡ 23 → O.Name d ≡ issuedAt b s w i
     unfolding issuedAt
     operation-name d p e = ap O.Name p ∙ at 23 e
+
+    pub operation-reason : (r : ℕ) → r ≡ u16At s (i + 1) → b ≡ 24 → O.Reason r ≡ issuedAt b s w i
+    unfolding issuedAt
+    operation-reason r p e = ap O.Reason p ∙ at 24 e
 
     pub operation-opener : (k : Column) (v : Cell) → k ≡ columnAt s (i + 1) → v ≡ valueAt s (byteAt s (i + 7)) (i + 3) → b ≡ 25 → O.Opener k v ≡ issuedAt b s w i
     unfolding issuedAt

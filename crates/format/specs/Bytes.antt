@@ -6,6 +6,9 @@ use lib.ListN.{getD}
 abbrev pub byteAt : List ℕ → ℕ → ℕ
 byteAt s i = getD s i 0
 
+unfoldable pub u16At : List ℕ → ℕ → ℕ
+u16At s i = byteAt s i + 256 * byteAt s (i + 1)
+
 unfoldable pub u32At : List ℕ → ℕ → ℕ
 u32At s i = byteAt s i + 256 * byteAt s (i + 1) + 65536 * byteAt s (i + 2) + 16777216 * byteAt s (i + 3)
 

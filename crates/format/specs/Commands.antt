@@ -15,7 +15,7 @@ use Rattle.state.specs.declared.operation.Operation.{Operation}
 use Rattle.state.specs.declared.operation.Operation.the-variants as O
 use Rattle.format.specs.declared.command.Command.{Command}
 use Rattle.format.specs.declared.command.Command.the-variants.{Table, Constraint, Filling, Row, End, Operate, Unknown, Short}
-use Rattle.format.specs.Bytes.{byteAt, u32At}
+use Rattle.format.specs.Bytes.{byteAt, u16At, u32At}
 
 -- ---- widths: how many bytes the command with this byte takes, 0 if there is none
 
@@ -37,13 +37,14 @@ operationWidth b =
     (cond (eqb b 0x14) 1
     (cond (eqb b 0x15) 18
     (cond (eqb b 0x17) 2
+    (cond (eqb b 0x18) 3
     (cond (eqb b 0x19) 8
     (cond (eqb b 0x1C) 1
     (cond (eqb b 0x20) 7
     (cond (eqb b 0x21) 7
     (cond (eqb b 0x22) 8
     (cond (eqb b 0x23) 17
-    (cond (eqb b 0x25) 19 0)))))))))))))
+    (cond (eqb b 0x25) 19 0))))))))))))))
 
 unfoldable pub widthOf : ℕ → ℕ
 widthOf b = cond (ltb b 0x10) (designWidth b) (operationWidth b)
@@ -107,9 +108,10 @@ issuedAt b s v i =
     (cond (eqb b 0x14) O.Evenness
     (cond (eqb b 0x15) (O.Total (totalAt s v i))
     (cond (eqb b 0x17) (O.Name (byteAt s (i + 1)))
+    (cond (eqb b 0x18) (O.Reason (u16At s (i + 1)))
     (cond (eqb b 0x19) (O.Opener (columnAt s (i + 1)) (valueAt s (byteAt s (i + 7)) (i + 3)))
     (cond (eqb b 0x1C) O.SmallestKnot
-    (O.Query (queryAt s v i)))))))))
+    (O.Query (queryAt s v i))))))))))
 
 -- "Operations 0x20 to 0x23 are REFER, DROP, PROBE and QUERY with an issue byte at the end, 0x25 likewise for totals; the old bytes mean issue 0" (02, Req 06)
 unfoldable pub operationAt : ℕ → List ℕ → ℕ → Operation

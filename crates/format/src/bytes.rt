@@ -1,9 +1,9 @@
-// Numbers in a script: bytes, and u32 numbers of four bytes, the lowest first.
+// Numbers in a script: bytes, u16 numbers of two and u32 numbers of four bytes, the lowest first.
 ghost use mathlib.Core.Path.{_≡_};
 ghost use Prim.Native.Nat.{_+_, _≤_, _<_};
 ghost use lib.ListN.{length};
 ghost use lib.Seq.{sets};
-ghost use Rattle.format.specs.Bytes.{u32At, u32Bytes};
+ghost use Rattle.format.specs.Bytes.{u16At, u32At, u32Bytes};
 
 // A byte as a u32.
 fn wide(b: u8) -> u32
@@ -12,7 +12,17 @@ fn wide(b: u8) -> u32
     b as u32
 }
 
-// The u32 whose bytes begin at place i. Constant time.
+// The u16 whose bytes begin at place i. Constant time, as is the next.
+pub(crate) fn u16_at(script: &[u8], i: usize) -> u16
+    requires { ⌜ i + 2 ≤ length (now script) ⌝ }
+    ensures { λ r. ⌜ r ≡ u16At (now (script .entry)) i ⌝ }
+{
+    let a = wide(script[i]);
+    let b = wide(script[i + 1]);
+    (a + 256 * b) as u16
+}
+
+// The u32 whose bytes begin at place i.
 pub(crate) fn u32_at(script: &[u8], i: usize) -> u32
     requires { ⌜ i + 4 ≤ length (now script) ⌝ }
     ensures { λ r. ⌜ r ≡ u32At (now (script .entry)) i ⌝ }

@@ -3,8 +3,9 @@
 ghost use mathlib.Core.Path.{_≡_};
 ghost use Prim.Native.Nat.{_+_, _≤_, _<_};
 ghost use lib.ListN.{length};
-ghost use Rattle.format.specs.Bytes.{byteAt, u32At};
+ghost use Rattle.format.specs.Bytes.{byteAt, u16At, u32At};
 ghost use Rattle.format.specs.Commands.{designWidth, operationWidth, widthOf, columnAt, valueAt, joinAt, heldValueAt, queryAt, totalAt, designCommandAt, issuedAt, operationAt, commandAt, rowCellAt, rowIssueAt};
+use crate::bytes::u16_at;
 use crate::bytes::u32_at;
 use state::Cell;
 use state::Column;
@@ -59,6 +60,7 @@ fn operation_width(b: u8) -> usize
         0x14 => 1,
         0x15 => 18,
         0x17 => 2,
+        0x18 => 3,
         0x19 => 8,
         0x1C => 1,
         0x20 => 7,
@@ -236,6 +238,7 @@ fn issued_at(b: u8, script: &[u8], issue: u8, i: usize) -> Operation
             let desk = script[i + 1];
             Operation::Name(desk)
         }
+        0x18 => Operation::Reason(u16_at(script, i + 1)),
         0x19 => {
             let own = script[i + 7];
             Operation::Opener(column_at(script, i + 1), value_at(script, own, i + 3))

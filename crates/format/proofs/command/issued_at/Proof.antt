@@ -3,7 +3,7 @@ use native.Mathlib.Omega.{arith}
 use mathlib.Core.Path.{ap, refl}
 use borrow.Author.Needs.{needs}
 use Rattle.format.specs.Commands.{operationWidth}
-use Rattle.format.proofs.CommandLaws.{operation-refer, operation-drop, operation-probe, operation-evenness, operation-total, operation-name, operation-opener, operation-smallest-knot, operation-query, is-query}
+use Rattle.format.proofs.CommandLaws.{operation-refer, operation-drop, operation-probe, operation-evenness, operation-total, operation-name, operation-reason, operation-opener, operation-smallest-knot, operation-query, is-query}
 use Rattle.format.proofs.command.issued_at.Statement.{statement}
 use Rattle.format.proofs.command.issued_at.Tie as tie
 
@@ -41,33 +41,40 @@ shared-slice-read-desk : tie.Need-shared-slice-read-desk
 unfolding operationWidth
 shared-slice-read-desk c = omega (arith, ap operationWidth (c .before .match .keys6))
 
+add-u16-at : tie.Need-add-u16-at
+add-u16-at c = search needs
+
+u16-at-requires : tie.Need-u16-at-requires
+unfolding operationWidth
+u16-at-requires c κs = omega (arith, ap operationWidth (c .match .keys7))
+
 add-own : tie.Need-add-own
 unfolding operationWidth
-add-own c = omega (arith, ap operationWidth (c .match .keys7))
+add-own c = omega (arith, ap operationWidth (c .match .keys8))
 
 shared-slice-read-own : tie.Need-shared-slice-read-own
 unfolding operationWidth
-shared-slice-read-own c = omega (arith, ap operationWidth (c .before .match .keys7))
+shared-slice-read-own c = omega (arith, ap operationWidth (c .before .match .keys8))
 
 add-column-at-2 : tie.Need-add-column-at-2
 add-column-at-2 c = search needs
 
 column-at-requires-2 : tie.Need-column-at-requires-2
 unfolding operationWidth
-column-at-requires-2 c κs = omega (arith, ap operationWidth (c .before .match .keys7))
+column-at-requires-2 c κs = omega (arith, ap operationWidth (c .before .match .keys8))
 
 add-value-at-2 : tie.Need-add-value-at-2
 add-value-at-2 c = search needs
 
 value-at-requires-2 : tie.Need-value-at-requires-2
 unfolding operationWidth
-value-at-requires-2 c κs = omega (arith, ap operationWidth (c .before .before .match .keys7))
+value-at-requires-2 c κs = omega (arith, ap operationWidth (c .before .before .match .keys8))
 
 query-at-requires : tie.Need-query-at-requires
 unfolding operationWidth
 query-at-requires c κs =
     let r = c .match .rest in
-    omega (arith, ap operationWidth (is-query _ (c .before .before .pre .0) (c .before .before .pre .1) (r .0 .0 .0 .0 .0 .0 .0 .1) (r .0 .0 .0 .0 .0 .0 .1) (r .0 .0 .0 .0 .0 .1) (r .0 .0 .0 .0 .1) (r .0 .0 .0 .1) (r .0 .0 .1) (r .0 .1) (r .1)))
+    omega (arith, ap operationWidth (is-query _ (c .before .before .pre .0) (c .before .before .pre .1) (r .0 .0 .0 .0 .0 .0 .0 .0 .1) (r .0 .0 .0 .0 .0 .0 .0 .1) (r .0 .0 .0 .0 .0 .0 .1) (r .0 .0 .0 .0 .0 .1) (r .0 .0 .0 .0 .1) (r .0 .0 .0 .1) (r .0 .0 .1) (r .0 .1) (r .1)))
 
 returns : tie.Need-returns
 returns c = operation-refer _ _ _ _ _ (c .held-value-at .ensures) (c .before .match .keys1)
@@ -88,15 +95,18 @@ returns-6 : tie.Need-returns-6
 returns-6 c = operation-name _ _ _ _ _ refl (c .before .match .keys6)
 
 returns-7 : tie.Need-returns-7
-returns-7 c = operation-opener _ _ _ _ _ _ (c .before .column-at2 .ensures) (c .value-at2 .ensures) (c .before .before .before .match .keys7)
+returns-7 c = operation-reason _ _ _ _ _ (c .u16-at .ensures) (c .before .match .keys7)
 
 returns-8 : tie.Need-returns-8
-returns-8 c = operation-smallest-knot _ _ _ _ (c .match .keys8)
+returns-8 c = operation-opener _ _ _ _ _ _ (c .before .column-at2 .ensures) (c .value-at2 .ensures) (c .before .before .before .match .keys8)
 
 returns-9 : tie.Need-returns-9
-returns-9 c =
+returns-9 c = operation-smallest-knot _ _ _ _ (c .match .keys9)
+
+returns-10 : tie.Need-returns-10
+returns-10 c =
     let r = c .before .match .rest in
-    operation-query _ _ _ _ _ (c .query-at .ensures) (is-query _ (c .before .before .before .pre .0) (c .before .before .before .pre .1) (r .0 .0 .0 .0 .0 .0 .0 .1) (r .0 .0 .0 .0 .0 .0 .1) (r .0 .0 .0 .0 .0 .1) (r .0 .0 .0 .0 .1) (r .0 .0 .0 .1) (r .0 .0 .1) (r .0 .1) (r .1))
+    operation-query _ _ _ _ _ (c .query-at .ensures) (is-query _ (c .before .before .before .pre .0) (c .before .before .before .pre .1) (r .0 .0 .0 .0 .0 .0 .0 .0 .1) (r .0 .0 .0 .0 .0 .0 .0 .1) (r .0 .0 .0 .0 .0 .0 .1) (r .0 .0 .0 .0 .0 .1) (r .0 .0 .0 .0 .1) (r .0 .0 .0 .1) (r .0 .0 .1) (r .0 .1) (r .1))
 
 pub issued-at-spec : {M : Type 1} → statement M
 issued-at-spec =
@@ -111,6 +121,8 @@ issued-at-spec =
     total-at-requires
     add-desk
     shared-slice-read-desk
+    add-u16-at
+    u16-at-requires
     add-own
     shared-slice-read-own
     add-column-at-2
@@ -126,4 +138,5 @@ issued-at-spec =
     returns-6
     returns-7
     returns-8
-    returns-9)
+    returns-9
+    returns-10)
