@@ -3,7 +3,7 @@
 -- does to the cache, and a step case by case. RunLaws: what the steps of a whole script leave, and any list of calls. ExactProbes: a probe of what calls
 -- leave. WholeRun: demand 3 of any list of calls, of each probe among them, and of a whole run. StepCode, RunCode, RanLaws, WritingCases: from what the
 -- parts of the code give to what a step, the loop over a script, a run and writing give. ProbedLaws: a probe behind a run. Refusals: a refused operation
--- leaves the state as it was and writes no words. Theorems: what holds of every step and of every run. Refused, Rewriting, Demand2: of the entry points,
+-- leaves the state as it was and writes neither words nor text. Theorems: what holds of every step and of every run. Refused, Rewriting, Demand2: of the entry points,
 -- that a refused call leaves everything as it was, that writing and reading undo each other, and demand 2.
 pub mod SameRows
 pub mod JustRead

@@ -8,7 +8,6 @@ use mathlib.Core.List.{List}
 use denote.Laws.{Is}
 use denote.Struct.Declared.{row}
 use mir.Val.{Val}
-use lib.ListN.{length}
 use Rattle.finite.proofs.Bools.{clash}
 use Rattle.model.specs.Cell.{Cell, Fits, numberless}
 use Rattle.model.specs.Scheme.{Column}
@@ -25,7 +24,7 @@ use Rattle.format.specs.Reading.{Draft, DesignRead, verdictOf, designOf, cellsA
 use Rattle.format.specs.Reading.DesignRead.{accepted, refusedAt}
 use Rattle.format.proofs.Small.{Small}
 use Rattle.script.specs.declared.outcome.Run.{Run}
-use Rattle.script.specs.Runs.{operationsAt, Buffers, readingOf, Called, Operated, Ran, ProbedAfter}
+use Rattle.script.specs.Runs.{operationsAt, Buffers, roomsIn, readingOf, Called, Operated, Ran, ProbedAfter}
 use Rattle.script.proofs.JustRead.{begun}
 use Rattle.script.proofs.ExactProbes.{answer-exact}
 
@@ -42,7 +41,7 @@ leftBehind p a r = lent (p .design) (a .cells) (a .tables) (a .marks) (r .held)
 -- it is what the calls that stand in the script leave
 left-called : (script : List ℕ) (b a : Buffers) (r : Run) (p : Draft) (i : ℕ) → Operated script p i b a (r .held) →
     a .cells ≡ cellsAfter (accepted p i) (b .cells) → a .tables ≡ tablesAfter (accepted p i) (b .tables) →
-    Called p b (operationsAt script (length (b .words)) i) (leftBehind p a r)
+    Called p b (operationsAt script (roomsIn b) i) (leftBehind p a r)
 left-called script b a r p i o cells tables =
     record { held = o .held; marks = o .marks; demand3 = o .demand3; design = refl; cells = cells; tables = tables; sound = o .sound }
 
@@ -79,7 +78,7 @@ module _ (script : List ℕ) (b a : Buffers) (r : Run) (ran : Ran script b a r) 
           refused = λ n i e. absurd (let z : _≡_ {A = ℕ} 0 1 = cc (ran .verdict ∙ ap verdictOf e) in omega arith);
           answer = answered;
           exact = λ p i e c full.
-              answer-exact b p i (begun script small b p i e (subst Stored (cells p i e) stored)) (operationsAt script (length (b .words)) i) (leftBehind p a r)
+              answer-exact b p i (begun script small b p i e (subst Stored (cells p i e) stored)) (operationsAt script (roomsIn b) i) (leftBehind p a r)
               (left-called script b a r p i (ran .accepted p i e) (cells p i e) (ran .tables ∙ ap (λ (R : DesignRead). tablesAfter R (b .tables)) e))
               k v c (f full) full x (answered p i e);
         }

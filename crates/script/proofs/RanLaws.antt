@@ -20,6 +20,7 @@ use Rattle.format.specs.declared.verdict.Verdict.the-variants.{Accepted, Refuse
 use Rattle.format.specs.Reading.{Draft, DesignRead, readDesign, verdictOf, designOf, cellsAfter, marksAfter, mostBytes, Leaves}
 use Rattle.format.specs.Reading.DesignRead.{accepted, refusedAt}
 use Rattle.format.proofs.Small.{Small}
+use Rattle.script.specs.Step.{Outputs}
 use Rattle.script.specs.Runs.{leaving, leftFrom, Buffers, buffers, readingOf, justRead, Ran}
 use Rattle.script.proofs.JustRead.{into-parts, Begun, begun}
 use Rattle.script.proofs.WholeRun.{operated}
@@ -37,14 +38,14 @@ module _ (script : List ℕ) (b : Buffers) (r : DesignReading) (cs : Cells) (ts 
     (read : Leaves (readingOf script b) r (b .cells) cs (b .tables) ts (b .marks) ms) (none : Held) (empty : none ≡ noneHeld) where
   -- the design is refused
   pub refused-ran : (n place : ℕ) → r .verdict ≡ Refused n place →
-      Ran script b (buffers cs ts ms (b .words)) (record { verdict = r .verdict; design = r .design; held = none })
+      Ran script b (buffers cs ts ms (b .outputs)) (record { verdict = r .verdict; design = r .design; held = none })
   refused-ran n place v =
       record {
         verdict = read .verdict;
         design = read .design;
         cells = read .cells;
         tables = read .tables;
-        refused = λ m i e. record { held = empty; marks = read .marks ∙ ap (λ (R : DesignRead). marksAfter R (b .marks)) e; words = refl };
+        refused = λ m i e. record { held = empty; marks = read .marks ∙ ap (λ (R : DesignRead). marksAfter R (b .marks)) e; outputs = refl };
         accepted = λ p i e. absurd (let z : _≡_ {A = ℕ} 0 1 = cc (read .verdict ∙ ap verdictOf e) in omega arith);
       }
 
@@ -68,14 +69,14 @@ module _ (script : List ℕ) (b : Buffers) (r : DesignReading) (cs : Cells) (ts 
         go (refusedAt n i) e = absurd (let z : _≡_ {A = ℕ} 0 1 = cc (read .verdict ∙ ap verdictOf e) in omega arith)
 
     -- the steps leave h, m and w
-    module _ (h : Held) (m w : List ℕ)
-        (left : leaving (lent (r .design) cs ts m h) w ≡ leftFrom (length script) script (lent (r .design) cs ts ms none) (b .words) j) where
+    module _ (h : Held) (m : List ℕ) (w : Outputs)
+        (left : leaving (lent (r .design) cs ts m h) w ≡ leftFrom (length script) script (lent (r .design) cs ts ms none) (b .outputs) j) where
       left-is : (p : Draft) (i : ℕ) → readingOf script b ≡ accepted p i →
-          leaving (lent (p .design) cs ts m h) w ≡ leftFrom (length script) script (justRead (accepted p i) b) (b .words) i
+          leaving (lent (p .design) cs ts m h) w ≡ leftFrom (length script) script (justRead (accepted p i) b) (b .outputs) i
       left-is p i e =
           let q : j ≡ i = cc (read .verdict ∙ ap verdictOf e) in
           ap (λ (d : Design). leaving (lent d cs ts m h) w) (sym (read .design ∙ ap designOf e)) ∙ left ∙
-          ap₂ (λ (s : State) (k : ℕ). leftFrom (length script) script s (b .words) k) (start-is p i e) q
+          ap₂ (λ (s : State) (k : ℕ). leftFrom (length script) script s (b .outputs) k) (start-is p i e) q
 
       pub accepted-ran : Ran script b (buffers cs ts m w) (record { verdict = Accepted j; design = r .design; held = h })
       accepted-ran =

@@ -1,9 +1,9 @@
--- A refused operation leaves the cache as it was and writes no words. Assumes nothing.
+-- A refused operation leaves the cache as it was and writes neither words nor text. Assumes nothing.
 use Prim.Native.Nat.{ℕ}
 use native.Mathlib.Omega.{arith}
 use mathlib.Core.Path.{_≡_, refl, sym, ap, _∙_}
 use mathlib.Core.Bool.{Bool, true, false, not, cond, and-eq-true-iff}
-use mathlib.Core.List.{List, []}
+use mathlib.Core.List.{[]}
 use mathlib.Core.Logic.{⊎-elim}
 use borrow.Author.Tests.{ltb-true, lt-ltb, not-true}
 use lib.Dec.{ltb}
@@ -13,16 +13,18 @@ use Rattle.finite.proofs.Bools.{dec, cond-false}
 use Rattle.model.specs.Scheme.{candidate}
 use Rattle.model.specs.Holding.{Pair, Holding, desks, holds, hasRoom}
 use Rattle.model.specs.Query.{wordsOf, fullLists}
-use Rattle.model.specs.Runs.{Operation, refer, drop, ask, query, name, taken, atDesk, cacheAfter}
-use Rattle.model.specs.Answers.{Answer, refused, named, unless, shown, hasLists, answer, writtenWith, queryWords, written}
+use Rattle.model.specs.Runs.{Question, probe, evenness, smallestKnot, opener, reason, Operation, refer, drop, ask, query, name, taken, atDesk, cacheAfter}
+use Rattle.model.specs.Answers.{Answer, refused, named, unless, shown, hasLists, hasText, questionAnswer, questionText, textWith, textOf, answer, writtenWith, queryWords, written}
+use Rattle.model.specs.Sentence.{reasonText}
 use Rattle.model.proofs.HoldingLaws.{listed-fits, listed-candidate}
 use Rattle.model.proofs.Referring.{query-refused-keeps}
 use Rattle.state.specs.Meaning.{schemeOf, holdingOf}
-use Rattle.state.specs.Lent.{State, scheme, database, cache, sound, answerAt, stateAfter, wordsAt}
+use Rattle.state.specs.Lent.{State, scheme, database, cache, sound, answerAt, stateAfter}
 use Rattle.lawful.proofs.DesignLaws.{low-full}
 use Rattle.lawful.proofs.HeldLaws.{holding-fits}
-use Rattle.lawful.proofs.SoundState.{parts, unchanged, answer-at, words-at}
+use Rattle.lawful.proofs.SoundState.{parts, unchanged, answer-at, words-at, text-at}
 use Rattle.cache.proofs.Answering.{refer-loads, drop-drops}
+use Rattle.script.specs.Step.{Outputs, outputs, outputsAfter}
 
 module _ (s : State) (e : sound s ≡ true) (n : ℕ) where
   -- a REFER that is taken loads, and is not refused: a candidate is not blank
@@ -80,10 +82,29 @@ module _ (s : State) (e : sound s ≡ true) (n : ℕ) where
   refused-wordless (name d) h = refl
   refused-wordless (query q out) h = ap (λ (a : Answer). writtenWith a (wordsOf (fullLists (scheme s) (database s) q))) h
 
+  -- neither does text: a question for a reason alone writes any
+  question-textless : (q : Question) → questionAnswer (scheme s) (database s) (cache s) q ≡ refused n → questionText (scheme s) (database s) (cache s) q ≡ []
+  unfolding questionAnswer questionText textWith hasText shown
+  question-textless (probe k v) h = refl
+  question-textless evenness h = refl
+  question-textless smallestKnot h = refl
+  question-textless (opener k v) h = refl
+  question-textless (reason r room) h = ap (λ (a : Answer). textWith a (reasonText (scheme s) (database s) (cache s .held) r)) h
+
+  refused-textless : (o : Operation) → answer (scheme s) (database s) (cache s) o ≡ refused n → textOf (scheme s) (database s) (cache s) o ≡ []
+  unfolding answer textOf
+  refused-textless (refer p) h = refl
+  refused-textless (drop p) h = refl
+  refused-textless (ask q) h = question-textless q h
+  refused-textless (name d) h = refl
+  refused-textless (query q out) h = refl
+
   -- a record of held values has 64 places, as its type says
   module _ (places : length (s .held .values) ≡ 64) (o : Operation) (h : answerAt s o ≡ refused n) where
     pub refused-state : stateAfter s o ≡ s
     refused-state = unchanged s e o places (refused-keeps o (sym (answer-at s e o) ∙ h))
 
-    pub refused-words : (w : List ℕ) → sets w 0 (wordsAt s o) ≡ w
-    refused-words w = ap (sets w 0) (words-at s e o ∙ refused-wordless o (sym (answer-at s e o) ∙ h))
+    pub refused-outputs : (out : Outputs) → outputsAfter s o out ≡ out
+    refused-outputs out =
+        let r = sym (answer-at s e o) ∙ h in
+        λ x. outputs (sets (out .words) 0 ((words-at s e o ∙ refused-wordless o r) x)) (sets (out .text) 0 ((text-at s e o ∙ refused-textless o r) x))

@@ -10,21 +10,22 @@ use Rattle.finite.proofs.Bools.{same-number}
 use Rattle.model.specs.Runs.{Operation}
 use Rattle.model.specs.Answers.{refused}
 use Rattle.state.specs.Cells.{Cells}
-use Rattle.state.specs.Lent.{State, causeAt, answerAt, stateAfter, wordsAt}
-use Rattle.lawful.proofs.SoundState.{cause-none, cause-state, cause-words}
+use Rattle.state.specs.Lent.{State, causeAt, answerAt, stateAfter}
+use Rattle.lawful.proofs.SoundState.{cause-none, cause-state, cause-words, cause-text}
 use Rattle.format.specs.Reading.{DesignRead, readInto, cellsAfter, tablesAfter, marksAfter}
 use Rattle.format.specs.Reading.DesignRead.{refusedAt}
 use Rattle.script.specs.declared.outcome.Written.{Written}
 use Rattle.script.specs.declared.outcome.Written.the-variants.{Refused}
+use Rattle.script.specs.Step.{Outputs, outputs, outputsAfter}
 use Rattle.script.specs.Writing.{bytesOf, writtenAt, storedWith}
-use Rattle.script.proofs.Refusals.{refused-state, refused-words}
+use Rattle.script.proofs.Refusals.{refused-state, refused-outputs}
 
--- THEOREM: `operate::perform`, whichever the operation is, with w as its answer words. A record of held values has 64 places, as its type says.
-pub operation-refused : (s : State) → length (s .held .values) ≡ 64 → (n : ℕ) (o : Operation) → answerAt s o ≡ refused n → (w : List ℕ) →
-    (stateAfter s o ≡ s) × (sets w 0 (wordsAt s o) ≡ w)
-operation-refused s places n o h w =
-    ⊎-elim (λ (z : causeAt s ≡ 0). let e = cause-none s z in (refused-state s e n places o h, refused-words s e n places o h w))
-    (λ (m : causeAt s ≡ 0 → ⊥). (cause-state s m o, ap (sets w 0) (cause-words s m o)))
+-- THEOREM: `operate::perform`, whichever the operation is, with `out` lent for its answers. A record of held values has 64 places, as its type says.
+pub operation-refused : (s : State) → length (s .held .values) ≡ 64 → (n : ℕ) (o : Operation) → answerAt s o ≡ refused n → (out : Outputs) →
+    (stateAfter s o ≡ s) × (outputsAfter s o out ≡ out)
+operation-refused s places n o h out =
+    ⊎-elim (λ (z : causeAt s ≡ 0). let e = cause-none s z in (refused-state s e n places o h, refused-outputs s e n places o h out))
+    (λ (m : causeAt s ≡ 0 → ⊥). (cause-state s m o, λ x. outputs (sets (out .words) 0 (cause-words s m o x)) (sets (out .text) 0 (cause-text s m o x))))
     (same-number (causeAt s) 0)
 
 -- THEOREM: `script::write`, with o as its buffer

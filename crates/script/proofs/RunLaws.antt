@@ -12,15 +12,14 @@ use lib.ListN.{length, drop as past}
 use lib.Seq.{length-sets}
 use Rattle.finite.proofs.Bools.{dec, cond-true, cond-false}
 use Rattle.model.specs.Runs.{Operation, Cache, cacheFrom}
-use Rattle.state.specs.Meaning.{operationOf}
-use Rattle.state.specs.Lent.{State, scheme, database, cache, sound, stateAfter, wordsAt}
+use Rattle.state.specs.Lent.{State, scheme, database, cache, sound, stateAfter, wordsAt, textAt}
 use Rattle.format.specs.declared.command.Command.{Command}
 use Rattle.format.specs.declared.command.Command.the-variants.{Table, Constraint, Filling, Row, End, Operate, Unknown, Short}
 use Rattle.format.specs.Bytes.{byteAt}
 use Rattle.format.specs.Commands.{commandAt, widthOf}
 use Rattle.format.specs.Reading.{mostBytes}
 use Rattle.format.proofs.CommandLaws.{at-end}
-use Rattle.script.specs.Step.{Stepped, operated, carried, stepAt}
+use Rattle.script.specs.Step.{Outputs, Rooms, roomsOf, operationIn, outputsAfter, Stepped, operated, carried, stepAt}
 use Rattle.script.specs.Runs.{operationThen, operationsFrom, Left, leaving, leftFrom, stateAfterAll}
 use Rattle.script.proofs.StepLaws.{Settled, after-cache, after-past, after-settled, step-carried, step-sound, step-on}
 
@@ -28,15 +27,15 @@ use Rattle.script.proofs.StepLaws.{Settled, after-cache, after-past, af
 
 -- what follows a step, with n more commands at the most
 abbrev pub leftThen : ℕ → List ℕ → Stepped → Left
-leftThen n script r = cond (r .more) (leftFrom n script (r .state) (r .words) (r .next)) (leaving (r .state) (r .words))
+leftThen n script r = cond (r .more) (leftFrom n script (r .state) (r .outputs) (r .next)) (leaving (r .state) (r .outputs))
 
-module _ (script : List ℕ) (s : State) (words : List ℕ) (i : ℕ) where
-  pub left-past : (n : ℕ) → length script ≤ i → leftFrom n script s words i ≡ leaving s words
+module _ (script : List ℕ) (s : State) (out : Outputs) (i : ℕ) where
+  pub left-past : (n : ℕ) → length script ≤ i → leftFrom n script s out i ≡ leaving s out
   unfolding leftFrom
   left-past zero l = refl
   left-past (suc n) l = cond-true (leb (length script) i) _ _ (le-leb _ _ l)
 
-  pub left-step : (n : ℕ) → i < length script → leftFrom (suc n) script s words i ≡ leftThen n script (stepAt s words script i)
+  pub left-step : (n : ℕ) → i < length script → leftFrom (suc n) script s out i ≡ leftThen n script (stepAt s out script i)
   unfolding leftFrom
   left-step n l = cond-false (leb (length script) i) _ _ (lt-leb _ _ l)
 
@@ -44,7 +43,7 @@ module _ (script : List ℕ) (s : State) (words : List ℕ) (i : ℕ) where
 
 module _ (script : List ℕ) where
   then-same : (n m : ℕ) (r : Stepped) →
-      (r .more ≡ true → leftFrom n script (r .state) (r .words) (r .next) ≡ leftFrom m script (r .state) (r .words) (r .next)) →
+      (r .more ≡ true → leftFrom n script (r .state) (r .outputs) (r .next) ≡ leftFrom m script (r .state) (r .outputs) (r .next)) →
       leftThen n script r ≡ leftThen m script r
   then-same n m r f =
       ⊎-elim (λ (q : r .more ≡ true). cond-true (r .more) _ _ q ∙ f q ∙ sym (cond-true (r .more) _ _ q))
@@ -52,30 +51,30 @@ module _ (script : List ℕ) where
       (dec (r .more))
 
   -- any two numbers of turns that are enough lead to the same
-  pub left-fuel : (n m : ℕ) (s : State) (words : List ℕ) (i : ℕ) → length script ≤ n + i → length script ≤ m + i →
-      leftFrom n script s words i ≡ leftFrom m script s words i
-  left-fuel zero m s words i h k = left-past script s words i 0 (omega arith) ∙ sym (left-past script s words i m (omega arith))
-  left-fuel (suc n) zero s words i h k = left-past script s words i (suc n) (omega arith) ∙ sym (left-past script s words i 0 (omega arith))
-  left-fuel (suc n) (suc m) s words i h k =
+  pub left-fuel : (n m : ℕ) (s : State) (out : Outputs) (i : ℕ) → length script ≤ n + i → length script ≤ m + i →
+      leftFrom n script s out i ≡ leftFrom m script s out i
+  left-fuel zero m s out i h k = left-past script s out i 0 (omega arith) ∙ sym (left-past script s out i m (omega arith))
+  left-fuel (suc n) zero s out i h k = left-past script s out i (suc n) (omega arith) ∙ sym (left-past script s out i 0 (omega arith))
+  left-fuel (suc n) (suc m) s out i h k =
       ⊎-elim (λ (q : leb (length script) i ≡ true). let l = leb-true (length script) i q in
-      left-past script s words i (suc n) l ∙ sym (left-past script s words i (suc m) l))
-      (λ (q : leb (length script) i ≡ false). let l = leb-false (length script) i q in let r = stepAt s words script i in
-      left-step script s words i n l ∙
-      then-same n m r (λ e. let g = step-on s words script i e .0 in
-      left-fuel n m (r .state) (r .words) (r .next) (omega arith) (omega arith)) ∙
-      sym (left-step script s words i m l))
+      left-past script s out i (suc n) l ∙ sym (left-past script s out i (suc m) l))
+      (λ (q : leb (length script) i ≡ false). let l = leb-false (length script) i q in let r = stepAt s out script i in
+      left-step script s out i n l ∙
+      then-same n m r (λ e. let g = step-on s out script i e .0 in
+      left-fuel n m (r .state) (r .outputs) (r .next) (omega arith) (omega arith)) ∙
+      sym (left-step script s out i m l))
       (dec (leb (length script) i))
 
 -- ---- what a run leaves of the state
 
 -- THEOREM: the steps leave a sound state sound
-pub left-sound : (script : List ℕ) (n : ℕ) (s : State) → sound s ≡ true → (words : List ℕ) (i : ℕ) → sound (leftFrom n script s words i .state) ≡ true
+pub left-sound : (script : List ℕ) (n : ℕ) (s : State) → sound s ≡ true → (out : Outputs) (i : ℕ) → sound (leftFrom n script s out i .state) ≡ true
 unfolding leftFrom
-left-sound script zero s e words i = e
-left-sound script (suc n) s e words i =
-    let r = stepAt s words script i in
-    let t = step-sound s words script i e in
-    either (leb (length script) i) _ _ e (either (r .more) _ _ (left-sound script n (r .state) t (r .words) (r .next)) t)
+left-sound script zero s e out i = e
+left-sound script (suc n) s e out i =
+    let r = stepAt s out script i in
+    let t = step-sound s out script i e in
+    either (leb (length script) i) _ _ e (either (r .more) _ _ (left-sound script n (r .state) t (r .outputs) (r .next)) t)
   where
     either : (b : Bool) (x y : Left) → sound (x .state) ≡ true → sound (y .state) ≡ true → sound (cond b x y .state) ≡ true
     either true x y h k = h
@@ -109,42 +108,46 @@ first s t o os l f =
 moved : (s : State) {os qs : List Operation} {l m : State} → os ≡ qs → l ≡ m → Follows s qs m → Follows s os l
 moved s p q f = rw (p, q) f
 
-operations-past : (script : List ℕ) (room i n : ℕ) → length script ≤ i → operationsFrom n script room i ≡ []
+operations-past : (script : List ℕ) (rooms : Rooms) (i n : ℕ) → length script ≤ i → operationsFrom n script rooms i ≡ []
 unfolding operationsFrom
-operations-past script room i zero l = refl
-operations-past script room i (suc n) l =
-    ap (λ (c : Command). operationThen c room (operationsFrom n script room (i + widthOf (byteAt script i)))) (sym (at-end script i l))
+operations-past script rooms i zero l = refl
+operations-past script rooms i (suc n) l =
+    ap (λ (c : Command). operationThen c rooms (operationsFrom n script rooms (i + widthOf (byteAt script i)))) (sym (at-end script i l))
+
+-- as many words and bytes of text as were lent
+rooms-after : (s : State) (o : Operation) (out : Outputs) → roomsOf (outputsAfter s o out) ≡ roomsOf out
+rooms-after s o out = λ x. record { words = length-sets (out .words) 0 (wordsAt s o) x; bytes = length-sets (out .text) 0 (textAt s o) x }
 
 module _ (script : List ℕ) (short : length script ≤ mostBytes) where
   -- a command and those behind it
-  then-follows : (n : ℕ) (s : State) (t : Settled s) (words : List ℕ) (i j : ℕ) (os : List Operation) →
-      ((l : State) → Settled l → (w : List ℕ) → length w ≡ length words → Follows l os (leftFrom n script l w j .state)) →
-      (c : Command) → Follows s (operationThen c (length words) os) (leftThen n script (carried s words script i j c) .state)
+  then-follows : (n : ℕ) (s : State) (t : Settled s) (out : Outputs) (i j : ℕ) (os : List Operation) →
+      ((l : State) → Settled l → (w : Outputs) → roomsOf w ≡ roomsOf out → Follows l os (leftFrom n script l w j .state)) →
+      (c : Command) → Follows s (operationThen c (roomsOf out) os) (leftThen n script (carried s out script i j c) .state)
   unfolding carried operated
-  then-follows n s t words i j os h (Operate op) =
-      let o = operationOf op (length words) in
-      first s t o os _ (h _ (after-settled s (t .sound) o) _ (length-sets words 0 (wordsAt s o)))
-  then-follows n s t words i j os h (Table x) = h s t words refl
-  then-follows n s t words i j os h (Constraint x) = h s t words refl
-  then-follows n s t words i j os h (Filling x) = h s t words refl
-  then-follows n s t words i j os h (Row x) = h s t words refl
-  then-follows n s t words i j os h End = h s t words refl
-  then-follows n s t words i j os h Unknown = stays s t
-  then-follows n s t words i j os h Short = stays s t
+  then-follows n s t out i j os h (Operate op) =
+      let o = operationIn op (roomsOf out) in
+      first s t o os _ (h _ (after-settled s (t .sound) o) _ (rooms-after s o out))
+  then-follows n s t out i j os h (Table x) = h s t out refl
+  then-follows n s t out i j os h (Constraint x) = h s t out refl
+  then-follows n s t out i j os h (Filling x) = h s t out refl
+  then-follows n s t out i j os h (Row x) = h s t out refl
+  then-follows n s t out i j os h End = h s t out refl
+  then-follows n s t out i j os h Unknown = stays s t
+  then-follows n s t out i j os h Short = stays s t
 
   -- the whole script from place i on: refused operations too
-  pub left-follows : (n : ℕ) (s : State) → Settled s → (words : List ℕ) (i : ℕ) →
-      Follows s (operationsFrom n script (length words) i) (leftFrom n script s words i .state)
+  pub left-follows : (n : ℕ) (s : State) → Settled s → (out : Outputs) (i : ℕ) →
+      Follows s (operationsFrom n script (roomsOf out) i) (leftFrom n script s out i .state)
   unfolding operationsFrom leftFrom
-  left-follows zero s t words i = stays s t
-  left-follows (suc n) s t words i =
+  left-follows zero s t out i = stays s t
+  left-follows (suc n) s t out i =
       ⊎-elim (λ (q : leb (length script) i ≡ true). let l = leb-true (length script) i q in
-      moved s (operations-past script (length words) i (suc n) l) (ap (λ (x : Left). x .state) (left-past script s words i (suc n) l)) (stays s t))
+      moved s (operations-past script (roomsOf out) i (suc n) l) (ap (λ (x : Left). x .state) (left-past script s out i (suc n) l)) (stays s t))
       (λ (q : leb (length script) i ≡ false). let j = i + widthOf (byteAt script i) in
-      moved s refl (ap (λ (x : Left). x .state) (left-step script s words i n (leb-false _ _ q) ∙
-      ap (leftThen n script) (step-carried s words script i (t .sound) short)))
-      (then-follows n s t words i j (operationsFrom n script (length words) j)
-      (λ l u w e. subst (λ (room : ℕ). Follows l (operationsFrom n script room j) (leftFrom n script l w j .state)) e (left-follows n l u w j))
+      moved s refl (ap (λ (x : Left). x .state) (left-step script s out i n (leb-false _ _ q) ∙
+      ap (leftThen n script) (step-carried s out script i (t .sound) short)))
+      (then-follows n s t out i j (operationsFrom n script (roomsOf out) j)
+      (λ l u w e. subst (λ (rooms : Rooms). Follows l (operationsFrom n script rooms j) (leftFrom n script l w j .state)) e (left-follows n l u w j))
       (commandAt script i)))
       (dec (leb (length script) i))
 

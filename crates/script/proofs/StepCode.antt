@@ -9,14 +9,14 @@ use Rattle.state.specs.declared.answer.Answer.the-variants.{Refused}
 use Rattle.state.specs.declared.design.Design.{Design}
 use Rattle.state.specs.declared.held.Held.{Held}
 use Rattle.state.specs.declared.operation.Operation.{Operation}
-use Rattle.state.specs.Meaning.{answerOf, operationOf}
+use Rattle.state.specs.Meaning.{answerOf}
 use Rattle.state.specs.Lent.{State, lent, sound, causeAt, Performed}
 use Rattle.format.specs.declared.command.Command.{Command}
 use Rattle.format.specs.Bytes.{byteAt}
 use Rattle.format.specs.Commands.{widthOf, commandAt}
 use Rattle.format.specs.Reading.{mostBytes}
 use Rattle.script.specs.declared.outcome.Step.{Step}
-use Rattle.script.specs.Step.{Stepped, placeOf, refusing, operated, carried, stepAt, Does}
+use Rattle.script.specs.Step.{Outputs, outputs, roomsOf, operationIn, Stepped, placeOf, refusing, operated, carried, stepAt, Does}
 use Rattle.script.proofs.StepLaws.{step-caused, step-carried}
 
 -- the state that the code has after a step: the one that it was lent, with the marks m and the held values that the step gives
@@ -28,18 +28,18 @@ stateWith s m t = lent (s .design) (s .cells) (s .tables) m (t .held)
 abbrev pub answered : Answer → ℕ → ℕ → Held → Step
 answered a i j h = record { answer = a; place = placeOf (answerOf a) i; next = j; more = true; held = h }
 
-pub operated-does : (s : State) (words : List ℕ) (op : Operation) (i j : ℕ) (a : Answer) (m : List ℕ) (h : Held) (w : List ℕ) →
-    Performed s words (operationOf op (length words)) (answerOf a) (lent (s .design) (s .cells) (s .tables) m h) w →
-    (t : Step) → t ≡ answered a i j h → Does (operated s words op i j) t (stateWith s m t) w
+pub operated-does : (s : State) (out : Outputs) (op : Operation) (i j : ℕ) (a : Answer) (m : List ℕ) (h : Held) (w : Outputs) →
+    Performed s (out .words) (out .text) (operationIn op (roomsOf out)) (answerOf a) (lent (s .design) (s .cells) (s .tables) m h) (w .words) (w .text) →
+    (t : Step) → t ≡ answered a i j h → Does (operated s out op i j) t (stateWith s m t) w
 unfolding operated
-operated-does s words op i j a m h w p t e =
+operated-does s out op i j a m h w p t e =
     record {
       answer = ap (λ (x : Step). answerOf (x .answer)) e ∙ p .answered .answer;
       place = ap (λ (x : Step). x .place) e ∙ ap (λ b. placeOf b i) (p .answered .answer);
       next = ap (λ (x : Step). x .next) e;
       more = ap (λ (x : Step). x .more) e;
       state = ap (stateWith s m) e ∙ p .answered .state;
-      words = p .words;
+      outputs = λ x. outputs (p .words x) (p .text x);
     }
 
 -- ---- refusals
@@ -48,16 +48,16 @@ abbrev pub refusal : ℕ → ℕ → ℕ → Bool → Held → Step
 refusal n place next more h = record { answer = Refused n; place = place; next = next; more = more; held = h }
 
 -- a refusal that changes nothing
-pub refusing-does : (s : State) (words : List ℕ) (n place next : ℕ) (more : Bool) (t : Step) →
-    t ≡ refusal n place next more (s .held) → Does (refusing s words n place next more) t (stateWith s (s .marks) t) words
-refusing-does s words n place next more t e =
+pub refusing-does : (s : State) (out : Outputs) (n place next : ℕ) (more : Bool) (t : Step) →
+    t ≡ refusal n place next more (s .held) → Does (refusing s out n place next more) t (stateWith s (s .marks) t) out
+refusing-does s out n place next more t e =
     record {
       answer = ap (λ (z : Step). answerOf (z .answer)) e;
       place = ap (λ (z : Step). z .place) e;
       next = ap (λ (z : Step). z .next) e;
       more = ap (λ (z : Step). z .more) e;
       state = ap (stateWith s (s .marks)) e;
-      words = refl;
+      outputs = refl;
     }
 
 -- its place, found by a call
@@ -67,22 +67,22 @@ placed n p q next more h t e x = e ∙ ap (λ (z : ℕ). refusal n z next more h
 -- ---- the command at a place
 
 -- what is done is what the command's case says
-pub in-case : (s : State) (words script : List ℕ) (i j : ℕ) (c d : Command) (t : Step) (s′ : State) (w : List ℕ) → c ≡ d →
-    Does (carried s words script i j d) t s′ w → Does (carried s words script i j c) t s′ w
-in-case s words script i j c d t s′ w e h = rw e h
+pub in-case : (s : State) (out : Outputs) (script : List ℕ) (i j : ℕ) (c d : Command) (t : Step) (s′ : State) (w : Outputs) → c ≡ d →
+    Does (carried s out script i j d) t s′ w → Does (carried s out script i j c) t s′ w
+in-case s out script i j c d t s′ w e h = rw e h
 
 -- the step on a sound state is the command's
-pub step-is : (s : State) → sound s ≡ true → (words script : List ℕ) (i : ℕ) → length script ≤ mostBytes →
+pub step-is : (s : State) → sound s ≡ true → (out : Outputs) (script : List ℕ) (i : ℕ) → length script ≤ mostBytes →
     (j : ℕ) → j ≡ i + widthOf (byteAt script i) → (c : Command) → c ≡ commandAt script i →
-    (t : Step) (s′ : State) (w : List ℕ) → Does (carried s words script i j c) t s′ w → Does (stepAt s words script i) t s′ w
-step-is s e words script i l j p c q t s′ w h = rw (step-carried s words script i e l, ← p, ← q) h
+    (t : Step) (s′ : State) (w : Outputs) → Does (carried s out script i j c) t s′ w → Does (stepAt s out script i) t s′ w
+step-is s e out script i l j p c q t s′ w h = rw (step-carried s out script i e l, ← p, ← q) h
 
-pub step-case : (R Q : Stepped) (t : Step) (s′ : State) (w : List ℕ) → R ≡ Q → Does Q t s′ w → Does R t s′ w
+pub step-case : (R Q : Stepped) (t : Step) (s′ : State) (w : Outputs) → R ≡ Q → Does Q t s′ w → Does R t s′ w
 step-case R Q t s′ w e h = rw e h
 
 -- causes 7 and 12
-pub caused-does : (s : State) (words script : List ℕ) (i c : ℕ) → c ≡ causeAt s → (c ≡ 0 → ⊥) → (t : Step) → t ≡ refusal c 0 i false (s .held) →
-    Does (stepAt s words script i) t (stateWith s (s .marks) t) words
-caused-does s words script i c p n t e =
-    step-case _ _ _ _ _ (step-caused s words script i (λ z. n (p ∙ z)) ∙ ap (λ (m : ℕ). refusing s words m 0 i false) (sym p))
-    (refusing-does s words c 0 i false t e)
+pub caused-does : (s : State) (out : Outputs) (script : List ℕ) (i c : ℕ) → c ≡ causeAt s → (c ≡ 0 → ⊥) → (t : Step) → t ≡ refusal c 0 i false (s .held) →
+    Does (stepAt s out script i) t (stateWith s (s .marks) t) out
+caused-does s out script i c p n t e =
+    step-case _ _ _ _ _ (step-caused s out script i (λ z. n (p ∙ z)) ∙ ap (λ (m : ℕ). refusing s out m 0 i false) (sym p))
+    (refusing-does s out c 0 i false t e)

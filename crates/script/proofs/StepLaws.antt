@@ -15,7 +15,7 @@ use Rattle.model.specs.Runs as Runs
 use Rattle.model.proofs.HoldingLaws.{values-few}
 use Rattle.model.proofs.Fresh.{step-fresh}
 use Rattle.state.specs.declared.operation.Operation.{Operation}
-use Rattle.state.specs.Meaning.{holdingOf, heldOf, operationOf}
+use Rattle.state.specs.Meaning.{holdingOf, heldOf}
 use Rattle.state.specs.Lent.{State, scheme, database, cache, longEnough, lawful, sound, causeAt, stateAfter}
 use Rattle.lawful.proofs.HeldLaws.{holding-back}
 use Rattle.lawful.proofs.SoundState.{sound-fresh, fresh-long, after, after-fit, held-after, marks-after, sound-after}
@@ -25,7 +25,7 @@ use Rattle.format.specs.Bytes.{byteAt}
 use Rattle.format.specs.Commands.{commandAt, widthOf}
 use Rattle.format.specs.Reading.{mostBytes}
 use Rattle.format.proofs.ReadingLaws.{Whole}
-use Rattle.script.specs.Step.{Stepped, refusing, operated, carried, stepAt}
+use Rattle.script.specs.Step.{Outputs, roomsOf, operationIn, Stepped, refusing, operated, carried, stepAt}
 use Rattle.script.proofs.Causes.{caused, uncaused}
 use Rattle.script.proofs.Places.{command-kinds}
 
@@ -60,19 +60,19 @@ module _ (s : State) (e : sound s ≡ true) (o : Runs.Operation) where
 
 -- ---- a step
 
-module _ (s : State) (words script : List ℕ) (i : ℕ) where
+module _ (s : State) (out : Outputs) (script : List ℕ) (i : ℕ) where
   -- the command at the place, carried out
   abbrev pub commanded : Stepped
-  commanded = carried s words script i (i + widthOf (byteAt script i)) (commandAt script i)
+  commanded = carried s out script i (i + widthOf (byteAt script i)) (commandAt script i)
 
   -- what holds of every refusal that stops the reading, and of the command carried out on a sound state, holds of the step
-  pub step-by : (P : Stepped → Type 0) → ((n : ℕ) → P (refusing s words n 0 i false)) → (sound s ≡ true → P commanded) → P (stepAt s words script i)
+  pub step-by : (P : Stepped → Type 0) → ((n : ℕ) → P (refusing s out n 0 i false)) → (sound s ≡ true → P commanded) → P (stepAt s out script i)
   unfolding stepAt
   step-by P r c = go (longEnough s) (lawful s) (ltb mostBytes (length script)) (λ a b. c (both a b))
     where
       step : (a b c : Bool) → Stepped
       step a b c =
-          cond (not a) (refusing s words 7 0 i false) (cond (not b) (refusing s words 12 0 i false) (cond c (refusing s words 4 0 i false) commanded))
+          cond (not a) (refusing s out 7 0 i false) (cond (not b) (refusing s out 12 0 i false) (cond c (refusing s out 4 0 i false) commanded))
 
       go : (a b c : Bool) → (a ≡ true → b ≡ true → P commanded) → P (step a b c)
       go false b c h = r 7
@@ -81,25 +81,25 @@ module _ (s : State) (words script : List ℕ) (i : ℕ) where
       go true true false h = h refl refl
 
   -- causes 7 and 12
-  pub step-caused : (causeAt s ≡ 0 → ⊥) → stepAt s words script i ≡ refusing s words (causeAt s) 0 i false
+  pub step-caused : (causeAt s ≡ 0 → ⊥) → stepAt s out script i ≡ refusing s out (causeAt s) 0 i false
   unfolding stepAt
-  step-caused = caused s (λ n. refusing s words n 0 i false) _
+  step-caused = caused s (λ n. refusing s out n 0 i false) _
 
-  pub step-overlong : sound s ≡ true → mostBytes < length script → stepAt s words script i ≡ refusing s words 4 0 i false
+  pub step-overlong : sound s ≡ true → mostBytes < length script → stepAt s out script i ≡ refusing s out 4 0 i false
   unfolding stepAt
   step-overlong e l =
-      uncaused s (λ n. refusing s words n 0 i false) _ e ∙ cond-true (ltb mostBytes (length script)) _ _ (lt-ltb mostBytes (length script) l)
+      uncaused s (λ n. refusing s out n 0 i false) _ e ∙ cond-true (ltb mostBytes (length script)) _ _ (lt-ltb mostBytes (length script) l)
 
   -- on a sound state, in a script that is not over-long, the command is carried out
-  pub step-carried : sound s ≡ true → length script ≤ mostBytes → stepAt s words script i ≡ commanded
+  pub step-carried : sound s ≡ true → length script ≤ mostBytes → stepAt s out script i ≡ commanded
   unfolding stepAt
   step-carried e l =
-      uncaused s (λ n. refusing s words n 0 i false) _ e ∙ cond-false (ltb mostBytes (length script)) _ _ (le-ltb mostBytes (length script) l)
+      uncaused s (λ n. refusing s out n 0 i false) _ e ∙ cond-false (ltb mostBytes (length script)) _ _ (le-ltb mostBytes (length script) l)
 
   -- what holds of every operation, of the refusals behind which reading goes on and of those that stop it, holds of every command
-  pub carried-by : (j : ℕ) (P : Stepped → Type 0) → ((op : Operation) → P (operated s words op i j)) →
-      ((n : ℕ) → P (refusing s words n i j true)) → ((n place : ℕ) → P (refusing s words n place i false)) →
-      (c : Command) → P (carried s words script i j c)
+  pub carried-by : (j : ℕ) (P : Stepped → Type 0) → ((op : Operation) → P (operated s out op i j)) →
+      ((n : ℕ) → P (refusing s out n i j true)) → ((n place : ℕ) → P (refusing s out n place i false)) →
+      (c : Command) → P (carried s out script i j c)
   unfolding carried
   carried-by j P o r e (Operate op) = o op
   carried-by j P o r e (Table t) = r 3
@@ -113,16 +113,16 @@ module _ (s : State) (words script : List ℕ) (i : ℕ) where
   -- ---- what a step leaves
 
   -- THEOREM: a step on a sound state leaves a sound one
-  pub step-sound : sound s ≡ true → sound (stepAt s words script i .state) ≡ true
+  pub step-sound : sound s ≡ true → sound (stepAt s out script i .state) ≡ true
   unfolding operated
   step-sound e =
       step-by (λ (r : Stepped). sound (r .state) ≡ true) (λ n. e)
-      (λ _. carried-by _ (λ (r : Stepped). sound (r .state) ≡ true) (λ op. sound-after s e (operationOf op (length words))) (λ n. e) (λ n place. e) (commandAt script i))
+      (λ _. carried-by _ (λ (r : Stepped). sound (r .state) ≡ true) (λ op. sound-after s e (operationIn op (roomsOf out))) (λ n. e) (λ n place. e) (commandAt script i))
 
   -- ---- where it goes on
 
   -- reading goes on only behind the command
-  carried-next : (j : ℕ) (c : Command) → carried s words script i j c .more ≡ true → carried s words script i j c .next ≡ j
+  carried-next : (j : ℕ) (c : Command) → carried s out script i j c .more ≡ true → carried s out script i j c .next ≡ j
   unfolding operated
   carried-next j c =
       carried-by j (λ (r : Stepped). r .more ≡ true → r .next ≡ j) (λ op h. refl) (λ n h. refl) (λ n place h. clash h refl) c
@@ -135,10 +135,10 @@ module _ (s : State) (words script : List ℕ) (i : ℕ) where
   unfolding carried
   carried-on h =
       let j = i + widthOf (byteAt script i) in
-      ⊎-elim (λ (x : commandAt script i ≡ Short). clash h (ap (λ (d : Command). carried s words script i j d .more) x))
-      (⊎-elim (λ (x : commandAt script i ≡ Unknown). clash h (ap (λ (d : Command). carried s words script i j d .more) x))
+      ⊎-elim (λ (x : commandAt script i ≡ Short). clash h (ap (λ (d : Command). carried s out script i j d .more) x))
+      (⊎-elim (λ (x : commandAt script i ≡ Unknown). clash h (ap (λ (d : Command). carried s out script i j d .more) x))
       (λ (w : Whole script i). let n = carried-next j (commandAt script i) h in (omega (arith, w .some, n), omega (arith, w .fits, n))))
       (command-kinds script i)
 
-  pub step-on : stepAt s words script i .more ≡ true → Moves (stepAt s words script i)
+  pub step-on : stepAt s out script i .more ≡ true → Moves (stepAt s out script i)
   step-on = step-by (λ (r : Stepped). r .more ≡ true → Moves r) (λ n h. clash h refl) (λ _. carried-on)

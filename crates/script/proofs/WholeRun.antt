@@ -34,8 +34,8 @@ use Rattle.format.specs.Reading.{Draft, cellsAfter, mostBytes}
 use Rattle.format.specs.Reading.DesignRead.{accepted}
 use Rattle.format.proofs.Small.{Small}
 use Rattle.script.specs.Step as Steps
-use Rattle.script.specs.Step.{Stepped, carried, stepAt}
-use Rattle.script.specs.Runs.{operationsFrom, operationsAt, Left, leaving, leftFrom, Buffers, readingOf, justRead, rowsOf, heldWith, heldBy, stateAfterAll, Called, ProbesExact, StepsExact, Operated}
+use Rattle.script.specs.Step.{Outputs, Stepped, carried, stepAt}
+use Rattle.script.specs.Runs.{operationsFrom, operationsAt, Left, leaving, leftFrom, Buffers, roomsIn, readingOf, justRead, rowsOf, heldWith, heldBy, stateAfterAll, Called, ProbesExact, StepsExact, Operated}
 use Rattle.script.proofs.SameRows.{smallest-same, held-same}
 use Rattle.script.proofs.JustRead.{Begun, begun, none-held, none-holding}
 use Rattle.script.proofs.StepLaws.{Settled, step-carried}
@@ -122,45 +122,45 @@ module _ (script : List ℕ) (small : Small script) (b : Buffers) (p : Draft) (i
 -- ---- a whole script
 
 -- the step at a place where a PROBE stands answers what the probe does
-probe-step : (e : State) (words script : List ℕ) (j : ℕ) (k : Column) (v : Cell) → sound e ≡ true → length script ≤ mostBytes →
-    commandAt script j ≡ Operate (Probe k v) → stepAt e words script j .answer ≡ answerAt e (ask (probe (columnOf k) (cellOf v)))
+probe-step : (e : State) (out : Outputs) (script : List ℕ) (j : ℕ) (k : Column) (v : Cell) → sound e ≡ true → length script ≤ mostBytes →
+    commandAt script j ≡ Operate (Probe k v) → stepAt e out script j .answer ≡ answerAt e (ask (probe (columnOf k) (cellOf v)))
 unfolding carried Steps.operated
-probe-step e words script j k v s l c =
-    ap (λ (r : Stepped). r .answer) (step-carried e words script j s l) ∙
-    ap (λ (d : Command). carried e words script j (j + widthOf (byteAt script j)) d .answer) c
+probe-step e out script j k v s l c =
+    ap (λ (r : Stepped). r .answer) (step-carried e out script j s l) ∙
+    ap (λ (d : Command). carried e out script j (j + widthOf (byteAt script j)) d .answer) c
 
 module _ (script : List ℕ) (short : length script ≤ mostBytes) (b : Buffers) (p : Draft) (i : ℕ) (w : Begun b p i) where
   abbrev all : Left
-  all = leftFrom (length script) script (start b p i w) (b .words) i
+  all = leftFrom (length script) script (start b p i w) (b .outputs) i
 
   -- what the first n commands leave
-  part : (n : ℕ) → Called p b (operationsFrom n script (length (b .words)) i) (leftFrom n script (start b p i w) (b .words) i .state)
-  part n = called b p i w (operationsFrom n script (length (b .words)) i) _ (left-follows script short n (start b p i w) (start-settled b p i w) (b .words) i)
+  part : (n : ℕ) → Called p b (operationsFrom n script (roomsIn b) i) (leftFrom n script (start b p i w) (b .outputs) i .state)
+  part n = called b p i w (operationsFrom n script (roomsIn b) i) _ (left-follows script short n (start b p i w) (start-settled b p i w) (b .outputs) i)
 
   -- THEOREM: demand 3 of each probe that a script's steps make
   pub steps-exact : StepsExact script p i b
   steps-exact =
       record {
-        exact = λ n j words k v c f e at x h on.
-            let os = operationsFrom n script (length (b .words)) i in
+        exact = λ n j out k v c f e at x h on.
+            let os = operationsFrom n script (roomsIn b) i in
             let d = subst (Called p b os) (sym at) (part n) in
-            unrefused-exact b p i w os e d (columnOf k) (cellOf v) x (h ∙ probe-step e words script j k v (d .sound) short c) on f;
+            unrefused-exact b p i w os e d (columnOf k) (cellOf v) x (h ∙ probe-step e out script j k v (d .sound) short c) on f;
       }
 
   -- whatever the code leaves, if it is what the steps leave, it is what `Operated` says
-  pub operated : (a : Buffers) (h : Held) → leaving (lent (p .design) (a .cells) (a .tables) (a .marks) h) (a .words) ≡ all → Operated script p i b a h
+  pub operated : (a : Buffers) (h : Held) → leaving (lent (p .design) (a .cells) (a .tables) (a .marks) h) (a .outputs) ≡ all → Operated script p i b a h
   operated a h e =
       record {
         held = ap (λ (l : Left). l .state .held) e ∙ end .held;
         marks = same ∙ end .marks ∙ ap (λ (m : List ℕ). marks (rowsOf p) (marked (take 512 m)) ++ past 512 (b .marks)) (sym same);
         demand3 =
-            subst (λ (m : List ℕ). Demand3 (schemeOf (p .design)) (rowsOf p) (heldBy script p (length (b .words)) i) (marked (take 512 m))) (sym same)
+            subst (λ (m : List ℕ). Demand3 (schemeOf (p .design)) (rowsOf p) (heldBy script p (roomsIn b) i) (marked (take 512 m))) (sym same)
             (end .demand3);
-        words = ap (λ (l : Left). l .words) e;
+        outputs = ap (λ (l : Left). l .outputs) e;
         sound = ap (λ (l : Left). sound (l .state)) e ∙ end .sound;
       }
     where
-      end : Called p b (operationsAt script (length (b .words)) i) (all .state)
+      end : Called p b (operationsAt script (roomsIn b) i) (all .state)
       end = part (length script)
 
       same : a .marks ≡ all .state .marks

@@ -21,7 +21,7 @@ use Rattle.state.specs.declared.design.Column as State-column
 use Rattle.state.specs.declared.held.Held.{Held}
 use Rattle.state.specs.declared.operation.Operation.the-variants.{Probe}
 use Rattle.state.specs.Held.{noneHeld}
-use Rattle.state.specs.Meaning.{cellOf, columnOf, schemeOf, databaseOf, heldOf, operationOf}
+use Rattle.state.specs.Meaning.{cellOf, columnOf, schemeOf, databaseOf, heldOf}
 use Rattle.state.specs.Lent.{State, lent, sound, answerAt, stateAfter}
 use Rattle.format.specs.declared.command.Command.{Command}
 use Rattle.format.specs.declared.command.Command.the-variants.{Table, Constraint, Filling, Row, End, Operate, Unknown, Short}
@@ -30,45 +30,45 @@ use Rattle.format.specs.Commands.{commandAt, widthOf}
 use Rattle.format.specs.Reading.{Draft, DesignRead, readInto, verdictOf, designOf, cellsAfter, tablesAfter, marksAfter}
 use Rattle.format.specs.Reading.DesignRead.{accepted, refusedAt}
 use Rattle.script.specs.declared.outcome.Run.{Run}
-use Rattle.script.specs.Step.{stepAt}
+use Rattle.script.specs.Step.{Outputs, Rooms, roomsOf, operationIn, stepAt}
 
--- the operations of a run that stand in a script from a command on, where `room` answer words are lent: c is that command, and `rest` are those behind
--- it. Commands that are no operation change nothing; behind 1 or 2 there is no command
-abbrev pub operationThen : Command → ℕ → List Operation → List Operation
-operationThen (Operate op) room rest = operationOf op room ∷ rest
-operationThen (Table t) room rest = rest
-operationThen (Constraint c) room rest = rest
-operationThen (Filling f) room rest = rest
-operationThen (Row t) room rest = rest
-operationThen End room rest = rest
-operationThen Unknown room rest = []
-operationThen Short room rest = []
+-- the operations of a run that stand in a script from a command on, where so many answer words and bytes of text are lent: c is that command, and
+-- `rest` are those behind it. Commands that are no operation change nothing; behind 1 or 2 there is no command
+abbrev pub operationThen : Command → Rooms → List Operation → List Operation
+operationThen (Operate op) rooms rest = operationIn op rooms ∷ rest
+operationThen (Table t) rooms rest = rest
+operationThen (Constraint c) rooms rest = rest
+operationThen (Filling f) rooms rest = rest
+operationThen (Row t) rooms rest = rest
+operationThen End rooms rest = rest
+operationThen Unknown rooms rest = []
+operationThen Short rooms rest = []
 
 -- ... from place i on, with n more commands at the most
-unfoldable pub operationsFrom : ℕ → List ℕ → ℕ → ℕ → List Operation
-operationsFrom zero script room i = []
-operationsFrom (suc n) script room i =
-    operationThen (commandAt script i) room (operationsFrom n script room (i + widthOf (byteAt script i)))
+unfoldable pub operationsFrom : ℕ → List ℕ → Rooms → ℕ → List Operation
+operationsFrom zero script rooms i = []
+operationsFrom (suc n) script rooms i =
+    operationThen (commandAt script i) rooms (operationsFrom n script rooms (i + widthOf (byteAt script i)))
 
 -- a command takes at least one byte
-abbrev pub operationsAt : List ℕ → ℕ → ℕ → List Operation
-operationsAt script room i = operationsFrom (length script) script room i
+abbrev pub operationsAt : List ℕ → Rooms → ℕ → List Operation
+operationsAt script rooms i = operationsFrom (length script) script rooms i
 
--- what a run leaves: the state and the answer words
+-- what a run leaves: the state, and what is lent for answers
 pub record Left : Type 0 where
   pub state : State
-  pub words : List ℕ
+  pub outputs : Outputs
 
-abbrev pub leaving : State → List ℕ → Left
-leaving s words = record { state = s; words = words }
+abbrev pub leaving : State → Outputs → Left
+leaving s out = record { state = s; outputs = out }
 
 -- the steps from place i on, with n more commands at the most
-unfoldable pub leftFrom : ℕ → List ℕ → State → List ℕ → ℕ → Left
-leftFrom zero script s words i = leaving s words
-leftFrom (suc n) script s words i =
-    cond (leb (length script) i) (leaving s words)
-    (let r = stepAt s words script i in
-    cond (r .more) (leftFrom n script (r .state) (r .words) (r .next)) (leaving (r .state) (r .words)))
+unfoldable pub leftFrom : ℕ → List ℕ → State → Outputs → ℕ → Left
+leftFrom zero script s out i = leaving s out
+leftFrom (suc n) script s out i =
+    cond (leb (length script) i) (leaving s out)
+    (let r = stepAt s out script i in
+    cond (r .more) (leftFrom n script (r .state) (r .outputs) (r .next)) (leaving (r .state) (r .outputs)))
 
 -- ---- what a run gives and leaves
 
@@ -77,10 +77,14 @@ pub record Buffers : Type 0 where
   pub cells : Cells
   pub tables : List ℕ
   pub marks : List ℕ
-  pub words : List ℕ
+  pub outputs : Outputs
 
-abbrev pub buffers : Cells → List ℕ → List ℕ → List ℕ → Buffers
-buffers cells tables marks words = record { cells = cells; tables = tables; marks = marks; words = words }
+abbrev pub buffers : Cells → List ℕ → List ℕ → Outputs → Buffers
+buffers cells tables marks out = record { cells = cells; tables = tables; marks = marks; outputs = out }
+
+-- how many answer words and bytes of text are among them
+abbrev pub roomsIn : Buffers → Rooms
+roomsIn b = roomsOf (b .outputs)
 
 -- what the script reads as
 abbrev pub readingOf : List ℕ → Buffers → DesignRead
@@ -98,9 +102,9 @@ rowsOf p = databaseOf (p .design .rows) (p .cells) (p .tables)
 abbrev pub heldWith : Draft → List Operation → Holding
 heldWith p os = heldFrom (schemeOf (p .design)) (rowsOf p) nothingHeld os
 
--- ... and of a script whose design p has its END before place i, with `room` answer words lent
-abbrev pub heldBy : List ℕ → Draft → ℕ → ℕ → Holding
-heldBy script p room i = heldWith p (operationsAt script room i)
+-- ... and of a script whose design p has its END before place i, with so many answer words and bytes of text lent
+abbrev pub heldBy : List ℕ → Draft → Rooms → ℕ → Holding
+heldBy script p rooms i = heldWith p (operationsAt script rooms i)
 
 -- "its cached rows those with mark 1"
 abbrev pub cachedBy : Buffers → RowSet
@@ -110,13 +114,13 @@ cachedBy b = marked (take 512 (b .marks))
 -- a after it, and h is the record of held values after it.
 pub record Operated (script : List ℕ) (p : Draft) (i : ℕ) (b a : Buffers) (h : Held) : Type 0 where
   -- the held values are the run's, in order
-  pub held : h ≡ heldOf (heldBy script p (length (b .words)) i)
+  pub held : h ≡ heldOf (heldBy script p (roomsIn b) i)
   -- the first 512 marks are 1 on the cached rows and 0 on all other numbers; what lies past them is untouched
   pub marks : a .marks ≡ marks (rowsOf p) (cachedBy a) ++ past 512 (b .marks)
   -- the cached rows are the smallest row set for what is held, and every probe says yes exactly when the value is complete in all databases alike
-  pub demand3 : Demand3 (schemeOf (p .design)) (rowsOf p) (heldBy script p (length (b .words)) i) (cachedBy a)
-  -- the answer words are those that the steps leave
-  pub words : a .words ≡ leftFrom (length script) script (justRead (accepted p i) b) (b .words) i .words
+  pub demand3 : Demand3 (schemeOf (p .design)) (rowsOf p) (heldBy script p (roomsIn b) i) (cachedBy a)
+  -- the answer words and the text are those that the steps leave
+  pub outputs : a .outputs ≡ leftFrom (length script) script (justRead (accepted p i) b) (b .outputs) i .outputs
   -- what is left can be worked on: neither cause 7 nor 12 applies
   pub sound : sound (lent (p .design) (a .cells) (a .tables) (a .marks) h) ≡ true
 
@@ -168,11 +172,11 @@ pub record ProbesExact (p : Draft) (i : ℕ) (b : Buffers) (os : List Operation)
 -- The same for the steps of a script: e is the state behind the first n commands that stand behind the END of the design p, at place i, and the next
 -- step is asked for any place j where a PROBE stands.
 pub record StepsExact (script : List ℕ) (p : Draft) (i : ℕ) (b : Buffers) : Type 0 where
-  pub exact : (n j : ℕ) (words : List ℕ) (k : State-column.Column) (v : State-cell.Cell) → commandAt script j ≡ Operate (Probe k v) → Fits (cellOf v) →
-      (e : State) → e ≡ leftFrom n script (justRead (accepted p i) b) (b .words) i .state → (x : Answer) → x ≡ stepAt e words script j .answer →
+  pub exact : (n j : ℕ) (out : Outputs) (k : State-column.Column) (v : State-cell.Cell) → commandAt script j ≡ Operate (Probe k v) → Fits (cellOf v) →
+      (e : State) → e ≡ leftFrom n script (justRead (accepted p i) b) (b .outputs) i .state → (x : Answer) → x ≡ stepAt e out script j .answer →
       ((m : ℕ) → x ≢ refused m) →
       Yes x ↔
-      CompleteInAll p (heldWith p (operationsFrom n script (length (b .words)) i)) (marked (take 512 (e .marks))) (columnOf k) (cellOf v)
+      CompleteInAll p (heldWith p (operationsFrom n script (roomsIn b) i)) (marked (take 512 (e .marks))) (columnOf k) (cellOf v)
 
 -- ---- what a whole run gives
 
@@ -180,7 +184,7 @@ pub record StepsExact (script : List ℕ) (p : Draft) (i : ℕ) (b : Buffers) : 
 pub record Untouched (b a : Buffers) (h : Held) : Type 0 where
   pub held : h ≡ noneHeld
   pub marks : a .marks ≡ b .marks
-  pub words : a .words ≡ b .words
+  pub outputs : a .outputs ≡ b .outputs
 
 pub record Ran (script : List ℕ) (b a : Buffers) (r : Run) : Type 0 where
   pub verdict : r .verdict ≡ verdictOf (readingOf script b)
@@ -203,4 +207,4 @@ pub record ProbedAfter (script : List ℕ) (b a : Buffers) (r : Run) (k : Column
   -- DEMAND 3, of the answer itself: a yes exactly when the value is complete in every lawful database from which the same rows would have been cached
   pub exact : (p : Draft) (i : ℕ) → readingOf script b ≡ accepted p i → ColumnOf (schemeOf (p .design)) k → numberless v ≡ false →
       Yes x ↔
-      CompleteInAll p (heldBy script p (length (b .words)) i) (cachedBy a) k v
+      CompleteInAll p (heldBy script p (roomsIn b) i) (cachedBy a) k v

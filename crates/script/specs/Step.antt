@@ -7,10 +7,11 @@ use mathlib.Core.List.{List}
 use lib.Dec.{ltb}
 use lib.ListN.{length}
 use lib.Seq.{sets}
+use Rattle.model.specs.Runs as Runs
 use Rattle.model.specs.Answers.{Answer, refused, isRefusal}
 use Rattle.state.specs.declared.operation.Operation.{Operation}
 use Rattle.state.specs.Meaning.{answerOf, operationOf}
-use Rattle.state.specs.Lent.{State, longEnough, lawful, answerAt, stateAfter, wordsAt}
+use Rattle.state.specs.Lent.{State, longEnough, lawful, answerAt, stateAfter, wordsAt, textAt}
 use Rattle.format.specs.declared.command.Command.{Command}
 use Rattle.format.specs.declared.command.Command.the-variants.{Table, Constraint, Filling, Row, End, Operate, Unknown, Short}
 use Rattle.format.specs.Bytes.{byteAt}
@@ -18,36 +19,60 @@ use Rattle.format.specs.Commands.{commandAt, widthOf}
 use Rattle.format.specs.Reading.{mostBytes}
 use Rattle.script.specs.declared.outcome.Step.{Step}
 
+-- what is lent for answers to be written into: the answer words, and the bytes of text (02, Req 08)
+pub record Outputs : Type 0 where
+  pub words : List ℕ
+  pub text : List ℕ
+
+abbrev pub outputs : List ℕ → List ℕ → Outputs
+outputs words text = record { words = words; text = text }
+
+-- how many words and how many bytes of text are lent
+pub record Rooms : Type 0 where
+  pub words : ℕ
+  pub bytes : ℕ
+
+abbrev pub roomsOf : Outputs → Rooms
+roomsOf out = record { words = length (out .words); bytes = length (out .text) }
+
+-- the operation, where so much is lent
+abbrev pub operationIn : Operation → Rooms → Runs.Operation
+operationIn op rooms = operationOf op (rooms .words) (rooms .bytes)
+
+-- what is lent, behind an operation: the words and the text that it writes, each from the first on, and all others as they were
+abbrev pub outputsAfter : State → Runs.Operation → Outputs → Outputs
+outputsAfter s o out = outputs (sets (out .words) 0 (wordsAt s o)) (sets (out .text) 0 (textAt s o))
+
 -- What a step gives: the answer, the place of a refusal (0 with any other answer), the place after the command, whether reading goes on, and the
--- state and the answer words that are lent, as they are afterwards.
+-- state and what is lent for answers, as they are afterwards.
 pub record Stepped : Type 0 where
   pub answer : Answer
   pub place : ℕ
   pub next : ℕ
   pub more : Bool
   pub state : State
-  pub words : List ℕ
+  pub outputs : Outputs
 
 -- "Place is the byte at which the faulty command begins"
 abbrev pub placeOf : Answer → ℕ → ℕ
 placeOf a i = cond (isRefusal a) i 0
 
-module _ (s : State) (words : List ℕ) where
+module _ (s : State) (out : Outputs) where
   -- a refusal that changes nothing
   abbrev pub refusing : ℕ → ℕ → ℕ → Bool → Stepped
-  refusing n place next more = record { answer = refused n; place = place; next = next; more = more; state = s; words = words }
+  refusing n place next more = record { answer = refused n; place = place; next = next; more = more; state = s; outputs = out }
 
   -- an operation, at place i and followed by place j
   unfoldable pub operated : Operation → ℕ → ℕ → Stepped
   operated op i j =
-      let o = operationOf op (length words) in
+      let o = operationIn op (roomsOf out) in
       record {
         answer = answerAt s o;
         place = placeOf (answerAt s o) i;
         next = j;
         more = true;
         state = stateAfter s o;
-        words = sets words 0 (wordsAt s o);
+        outputs = outputsAfter s o out;
       }
 
   -- the command c at place i of the script, followed by place j
@@ -71,11 +96,11 @@ module _ (s : State) (words : List ℕ) where
       (cond (ltb mostBytes (length script)) (refusing 4 0 i false)
       (carried script i (i + widthOf (byteAt script i)) (commandAt script i))))
 
--- what the code gives for a step, t, and the state s′ and the words w that it leaves are those of R
-pub record Does (R : Stepped) (t : Step) (s′ : State) (w : List ℕ) : Type 0 where
+-- what the code gives for a step, t, and the state s′, the words and the text that it leaves are those of R
+pub record Does (R : Stepped) (t : Step) (s′ : State) (out : Outputs) : Type 0 where
   pub answer : answerOf (t .answer) ≡ R .answer
   pub place : t .place ≡ R .place
   pub next : t .next ≡ R .next
   pub more : t .more ≡ R .more
   pub state : s′ ≡ R .state
-  pub words : w ≡ R .words
+  pub outputs : out ≡ R .outputs

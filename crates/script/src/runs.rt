@@ -8,6 +8,7 @@ ghost use Rattle.state.specs.Meaning.{answerOf, cellOf, columnOf};
 ghost use Rattle.state.specs.Lent.{lent, sound};
 ghost use Rattle.catalog.specs.Catalog.{Catalogued};
 ghost use Rattle.format.specs.declared.verdict.Verdict.the-variants as Verdicts;
+ghost use Rattle.script.specs.Step.{outputs};
 ghost use Rattle.script.specs.Runs.{leaving, leftFrom, buffers, Ran, ProbedAfter};
 use crate::outcome::ProbedRun;
 use crate::outcome::Run;
@@ -39,6 +40,7 @@ pub fn run_lawful(
     marks: &mut [u8],
     held: Held,
     words: &mut [u32],
+    text: &mut [u8],
     weights: &mut [u64; 2560],
     sums: &mut [u64; 2560],
     froms: &mut [u16; 2560],
@@ -46,9 +48,11 @@ pub fn run_lawful(
 ) -> Held
     requires { ⌜ (sound (lent design (cellsIn (now cells) (now issues)) (now tables) (now marks) held) ≡ true)
         × Catalogued design (cellsIn (now cells) (now issues)) (now tables) (now next) (now first) (now keys) (now heads) (now starts) ⌝ }
-    ensures { λ h. ⌜ leaving (lent design (cellsIn (now (cells .entry)) (now (issues .entry))) (now (tables .entry)) (now (marks .exit)) h) (now (words .exit))
+    ensures { λ h. ⌜ leaving (lent design (cellsIn (now (cells .entry)) (now (issues .entry))) (now (tables .entry)) (now (marks .exit)) h)
+        (outputs (now (words .exit)) (now (text .exit)))
         ≡ leftFrom (length (now (script .entry))) (now (script .entry))
-        (lent design (cellsIn (now (cells .entry)) (now (issues .entry))) (now (tables .entry)) (now (marks .entry)) held) (now (words .entry)) at ⌝ }
+        (lent design (cellsIn (now (cells .entry)) (now (issues .entry))) (now (tables .entry)) (now (marks .entry)) held)
+        (outputs (now (words .entry)) (now (text .entry))) at ⌝ }
 {
     let mut i = at;
     let mut h = held;
@@ -68,6 +72,7 @@ pub fn run_lawful(
             marks,
             h,
             words,
+            text,
             weights,
             sums,
             froms,
@@ -96,10 +101,11 @@ fn run_catalogued(
     starts: &mut [u16; 65],
     marks: &mut [u8],
     words: &mut [u32],
+    text: &mut [u8],
 ) -> Run
     ensures { λ r. ⌜ Ran (now (script .entry))
-        (buffers (cellsIn (now (cells .entry)) (now (issues .entry))) (now (tables .entry)) (now (marks .entry)) (now (words .entry)))
-        (buffers (cellsIn (now (cells .exit)) (now (issues .exit))) (now (tables .exit)) (now (marks .exit)) (now (words .exit))) r ⌝ }
+        (buffers (cellsIn (now (cells .entry)) (now (issues .entry))) (now (tables .entry)) (now (marks .entry)) (outputs (now (words .entry)) (now (text .entry))))
+        (buffers (cellsIn (now (cells .exit)) (now (issues .exit))) (now (tables .exit)) (now (marks .exit)) (outputs (now (words .exit)) (now (text .exit)))) r ⌝ }
     ensures { λ r. ⌜ ((i : ℕ) → r .verdict ≡ Verdicts.Accepted i → Catalogued (r .design) (cellsIn (now (cells .exit)) (now (issues .exit))) (now (tables .exit))
         (now (next .exit)) (now (first .exit)) (now (keys .exit)) (now (heads .exit)) (now (starts .exit))) ⌝ }
 {
@@ -144,6 +150,7 @@ fn run_catalogued(
         marks,
         none,
         words,
+        text,
         &mut weights,
         &mut sums,
         &mut froms,
@@ -164,10 +171,11 @@ pub fn run(
     tables: &mut [u8],
     marks: &mut [u8],
     words: &mut [u32],
+    text: &mut [u8],
 ) -> Run
     ensures { λ r. ⌜ Ran (now (script .entry))
-        (buffers (cellsIn (now (cells .entry)) (now (issues .entry))) (now (tables .entry)) (now (marks .entry)) (now (words .entry)))
-        (buffers (cellsIn (now (cells .exit)) (now (issues .exit))) (now (tables .exit)) (now (marks .exit)) (now (words .exit))) r ⌝ }
+        (buffers (cellsIn (now (cells .entry)) (now (issues .entry))) (now (tables .entry)) (now (marks .entry)) (outputs (now (words .entry)) (now (text .entry))))
+        (buffers (cellsIn (now (cells .exit)) (now (issues .exit))) (now (tables .exit)) (now (marks .exit)) (outputs (now (words .exit)) (now (text .exit)))) r ⌝ }
 {
     let mut next = [512u16; 4096];
     let mut first = [512u16; 8192];
@@ -186,6 +194,7 @@ pub fn run(
         &mut starts,
         marks,
         words,
+        text,
     )
 }
 
@@ -198,12 +207,13 @@ pub fn probe_after(
     tables: &mut [u8],
     marks: &mut [u8],
     words: &mut [u32],
+    text: &mut [u8],
     k: Column,
     v: Cell,
 ) -> ProbedRun
     ensures { λ x. ⌜ ProbedAfter (now (script .entry))
-        (buffers (cellsIn (now (cells .entry)) (now (issues .entry))) (now (tables .entry)) (now (marks .entry)) (now (words .entry)))
-        (buffers (cellsIn (now (cells .exit)) (now (issues .exit))) (now (tables .exit)) (now (marks .exit)) (now (words .exit)))
+        (buffers (cellsIn (now (cells .entry)) (now (issues .entry))) (now (tables .entry)) (now (marks .entry)) (outputs (now (words .entry)) (now (text .entry))))
+        (buffers (cellsIn (now (cells .exit)) (now (issues .exit))) (now (tables .exit)) (now (marks .exit)) (outputs (now (words .exit)) (now (text .exit))))
         (x .run) (columnOf k) (cellOf v) (answerOf (x .answer)) ⌝ }
 {
     let mut next = [512u16; 4096];
@@ -223,6 +233,7 @@ pub fn probe_after(
         &mut starts,
         marks,
         words,
+        text,
     );
     let verdict = left.verdict;
     let design = left.design;

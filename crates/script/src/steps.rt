@@ -9,7 +9,7 @@ ghost use Rattle.state.specs.Lent.{lent, sound};
 ghost use Rattle.catalog.specs.Catalog.{Catalogued};
 ghost use Rattle.format.specs.Bytes.{byteAt};
 ghost use Rattle.format.specs.Commands.{widthOf};
-ghost use Rattle.script.specs.Step.{placeOf, operated, carried, stepAt, Does};
+ghost use Rattle.script.specs.Step.{placeOf, outputs, operated, carried, stepAt, Does};
 use crate::outcome::Step;
 use cache::cause;
 use format::Command;
@@ -94,6 +94,7 @@ fn operate_at(
     marks: &mut [u8],
     held: Held,
     words: &mut [u32],
+    text: &mut [u8],
     weights: &mut [u64; 2560],
     sums: &mut [u64; 2560],
     froms: &mut [u16; 2560],
@@ -102,8 +103,10 @@ fn operate_at(
     requires { ⌜ (sound (lent design (cellsIn (now cells) (now issues)) (now tables) (now marks) held) ≡ true)
         × Catalogued design (cellsIn (now cells) (now issues)) (now tables) (now next) (now first) (now keys) (now heads) (now starts) ⌝ }
     ensures { λ t. ⌜ Does
-        (operated (lent design (cellsIn (now (cells .entry)) (now (issues .entry))) (now (tables .entry)) (now (marks .entry)) held) (now (words .entry)) op at after)
-        t (lent design (cellsIn (now (cells .entry)) (now (issues .entry))) (now (tables .entry)) (now (marks .exit)) (t .held)) (now (words .exit)) ⌝ }
+        (operated (lent design (cellsIn (now (cells .entry)) (now (issues .entry))) (now (tables .entry)) (now (marks .entry)) held)
+        (outputs (now (words .entry)) (now (text .entry))) op at after)
+        t (lent design (cellsIn (now (cells .entry)) (now (issues .entry))) (now (tables .entry)) (now (marks .exit)) (t .held))
+        (outputs (now (words .exit)) (now (text .exit))) ⌝ }
 {
     let o = perform_lawful(
         op,
@@ -119,6 +122,7 @@ fn operate_at(
         marks,
         held,
         words,
+        text,
         weights,
         sums,
         froms,
@@ -147,6 +151,7 @@ fn carry_out(
     marks: &mut [u8],
     held: Held,
     words: &mut [u32],
+    text: &mut [u8],
     weights: &mut [u64; 2560],
     sums: &mut [u64; 2560],
     froms: &mut [u16; 2560],
@@ -155,9 +160,11 @@ fn carry_out(
     requires { ⌜ (sound (lent design (cellsIn (now cells) (now issues)) (now tables) (now marks) held) ≡ true)
         × Catalogued design (cellsIn (now cells) (now issues)) (now tables) (now next) (now first) (now keys) (now heads) (now starts) ⌝ }
     ensures { λ t. ⌜ Does
-        (carried (lent design (cellsIn (now (cells .entry)) (now (issues .entry))) (now (tables .entry)) (now (marks .entry)) held) (now (words .entry))
+        (carried (lent design (cellsIn (now (cells .entry)) (now (issues .entry))) (now (tables .entry)) (now (marks .entry)) held)
+        (outputs (now (words .entry)) (now (text .entry)))
         (now (script .entry)) at after command)
-        t (lent design (cellsIn (now (cells .entry)) (now (issues .entry))) (now (tables .entry)) (now (marks .exit)) (t .held)) (now (words .exit)) ⌝ }
+        t (lent design (cellsIn (now (cells .entry)) (now (issues .entry))) (now (tables .entry)) (now (marks .exit)) (t .held))
+        (outputs (now (words .exit)) (now (text .exit))) ⌝ }
 {
     match command {
         Command::Operate(op) => operate_at(
@@ -176,6 +183,7 @@ fn carry_out(
             marks,
             held,
             words,
+            text,
             weights,
             sums,
             froms,
@@ -208,6 +216,7 @@ pub fn step_lawful(
     marks: &mut [u8],
     held: Held,
     words: &mut [u32],
+    text: &mut [u8],
     weights: &mut [u64; 2560],
     sums: &mut [u64; 2560],
     froms: &mut [u16; 2560],
@@ -216,8 +225,10 @@ pub fn step_lawful(
     requires { ⌜ (sound (lent design (cellsIn (now cells) (now issues)) (now tables) (now marks) held) ≡ true)
         × Catalogued design (cellsIn (now cells) (now issues)) (now tables) (now next) (now first) (now keys) (now heads) (now starts) ⌝ }
     ensures { λ t. ⌜ Does
-        (stepAt (lent design (cellsIn (now (cells .entry)) (now (issues .entry))) (now (tables .entry)) (now (marks .entry)) held) (now (words .entry)) (now (script .entry)) at)
-        t (lent design (cellsIn (now (cells .entry)) (now (issues .entry))) (now (tables .entry)) (now (marks .exit)) (t .held)) (now (words .exit)) ⌝ }
+        (stepAt (lent design (cellsIn (now (cells .entry)) (now (issues .entry))) (now (tables .entry)) (now (marks .entry)) held)
+        (outputs (now (words .entry)) (now (text .entry))) (now (script .entry)) at)
+        t (lent design (cellsIn (now (cells .entry)) (now (issues .entry))) (now (tables .entry)) (now (marks .exit)) (t .held))
+        (outputs (now (words .exit)) (now (text .exit))) ⌝ }
 {
     if MOST_BYTES < script.len() {
         return refusing(4, 0, at, false, held);
@@ -241,6 +252,7 @@ pub fn step_lawful(
         marks,
         held,
         words,
+        text,
         weights,
         sums,
         froms,
@@ -260,10 +272,13 @@ pub fn step(
     marks: &mut [u8],
     held: Held,
     words: &mut [u32],
+    text: &mut [u8],
 ) -> Step
     ensures { λ t. ⌜ Does
-        (stepAt (lent design (cellsIn (now (cells .entry)) (now (issues .entry))) (now (tables .entry)) (now (marks .entry)) held) (now (words .entry)) (now (script .entry)) at)
-        t (lent design (cellsIn (now (cells .entry)) (now (issues .entry))) (now (tables .entry)) (now (marks .exit)) (t .held)) (now (words .exit)) ⌝ }
+        (stepAt (lent design (cellsIn (now (cells .entry)) (now (issues .entry))) (now (tables .entry)) (now (marks .entry)) held)
+        (outputs (now (words .entry)) (now (text .entry))) (now (script .entry)) at)
+        t (lent design (cellsIn (now (cells .entry)) (now (issues .entry))) (now (tables .entry)) (now (marks .exit)) (t .held))
+        (outputs (now (words .exit)) (now (text .exit))) ⌝ }
 {
     let mut next = [512u16; 4096];
     let mut first = [512u16; 8192];
@@ -305,6 +320,7 @@ pub fn step(
         marks,
         held,
         words,
+        text,
         &mut weights,
         &mut sums,
         &mut froms,

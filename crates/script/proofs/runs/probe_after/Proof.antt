@@ -26,19 +26,19 @@ same-length-4 c = search needs
 same-length-5 : tie.Need-same-length-5
 same-length-5 c = search needs
 
+same-length-6 : tie.Need-same-length-6
+same-length-6 c = search needs
+
 returns : tie.Need-returns
-returns c = refused-probed _ _ _ _ (c .before .before .before .before .before .before .before .before .before .before .before .before .before .before .before .run-catalogued .ensures .0) _ _ (c .before .verdict .given .1) _ _
+returns c = refused-probed _ _ _ _ (c .before .before .before .before .before .before .before .before .before .before .before .before .before .before .before .before .before .run-catalogued .ensures .0) _ _ (c .before .verdict .given .1) _ _
 
 enum-told : tie.Need-enum-told
 enum-told c = search needs
 
 probe-lawful-requires : tie.Need-probe-lawful-requires
 probe-lawful-requires c κs =
-    let k = c .before .before .before .before .before .before .before .before .before .before .before .before .before .before .before .before .before .before .before .before .before .before .run-catalogued .ensures .1 _ (c .before .before .before .before .before .before .before .before .enum-told .given .1) in
-    (behind-sound _ _ _ _ (c .before .before .before .before .before .before .before .before .before .before .before .before .before .before .before .before .before .before .before .before .before .before .run-catalogued .ensures .0) _ (c .before .before .before .before .before .before .before .before .enum-told .given .1), (k .next-is, k .directory))
-
-same-length-6 : tie.Need-same-length-6
-same-length-6 c = search needs
+    let k = c .before .before .before .before .before .before .before .before .before .before .before .before .before .before .before .before .before .before .before .before .before .before .before .before .run-catalogued .ensures .1 _ (c .before .before .before .before .before .before .before .before .enum-told .given .1) in
+    (behind-sound _ _ _ _ (c .before .before .before .before .before .before .before .before .before .before .before .before .before .before .before .before .before .before .before .before .before .before .before .before .run-catalogued .ensures .0) _ (c .before .before .before .before .before .before .before .before .enum-told .given .1), (k .next-is, k .directory))
 
 same-length-7 : tie.Need-same-length-7
 same-length-7 c = search needs
@@ -52,12 +52,17 @@ same-length-9 c = search needs
 same-length-10 : tie.Need-same-length-10
 same-length-10 c = search needs
 
+same-length-11 : tie.Need-same-length-11
+same-length-11 c = search needs
+
+same-length-12 : tie.Need-same-length-12
+same-length-12 c = search needs
+
 returns-2 : tie.Need-returns-2
 returns-2 c =
-    let s = c .before .before .before .before .before .before .before .before .before .before .before .before .before .before .before .before .before .before .before .before .before .before .before .before .before .before .before .before .before .before .before .before .before .before .before .before .before .before .before .before in
-    accepted-probed _ _ _ _ (c .before .before .before .before .before .before .before .before .before .before .before .before .before .before .before .before .before .before .before .before .before .before .before .run-catalogued .ensures .0) _ (c .before .before .before .before .before .before .before .before .before .enum-told .given .1) (record { at = λ j. omega (arith, c .before .before .before .before .before .before .before .before .before .before .before .before .before .before .before .before .before .before .before .before .before .before .before .before .before .before .before .before .before .before .before .before .before .before .before .before .before .before .before .shared-slice-known .given j) })
-    (record { number = λ j. omega (arith, c .before .before .before .before .before .before .before .before .before .before .before .before .before .before .before .before .before .before .before .before .before .slice-known6 .given j); issue = λ j. omega (arith, c .before .before .before .before .before .before .before .before .before .before .before .before .before .before .before .before .before .before .before .slice-known7 .given j) }) _ _
-    (cell-fits (s .args .v) _ (s .good .1 .1 .1 .1 .1 .1 .1 .0)) _ (c .probe-lawful .ensures)
+    accepted-probed _ _ _ _ (c .before .before .before .before .before .before .before .before .before .before .before .before .before .before .before .before .before .before .before .before .before .before .before .before .before .run-catalogued .ensures .0) _ (c .before .before .before .before .before .before .before .before .before .enum-told .given .1) (record { at = λ j. omega (arith, c .before .before .before .before .before .before .before .before .before .before .before .before .before .before .before .before .before .before .before .before .before .before .before .before .before .before .before .before .before .before .before .before .before .before .before .before .before .before .before .before .before .before .before .shared-slice-known .given j) })
+    (record { number = λ j. omega (arith, c .before .before .before .before .before .before .before .before .before .before .before .before .before .before .before .before .before .before .before .before .before .before .before .slice-known7 .given j); issue = λ j. omega (arith, c .before .before .before .before .before .before .before .before .before .before .before .before .before .before .before .before .before .before .before .before .before .slice-known8 .given j) }) _ _
+    (cell-fits (c .before .before .before .before .before .before .before .before .before .before .before .before .before .before .before .before .before .before .before .before .before .before .before .before .before .before .before .before .before .before .before .before .before .before .before .before .before .before .before .before .before .before .before .before .args .v) _ (c .before .before .before .before .before .before .before .before .before .before .before .before .before .before .before .before .before .before .before .before .before .before .before .before .before .before .before .before .before .before .before .before .before .before .before .before .before .before .before .before .before .before .before .before .good .1 .1 .1 .1 .1 .1 .1 .1 .0)) _ (c .probe-lawful .ensures)
 
 pub probe-after-spec : {M : Type 1} → statement M
 probe-after-spec =
@@ -70,12 +75,14 @@ probe-after-spec =
     same-length-3
     same-length-4
     same-length-5
+    same-length-6
     returns
     enum-told
     probe-lawful-requires
-    same-length-6
     same-length-7
     same-length-8
     same-length-9
     same-length-10
+    same-length-11
+    same-length-12
     returns-2)

@@ -21,8 +21,11 @@ same-length-4 c = search needs
 same-length-5 : tie.Need-same-length-5
 same-length-5 c = search needs
 
+same-length-6 : tie.Need-same-length-6
+same-length-6 c = search needs
+
 returns : tie.Need-returns
-returns c = c .before .before .before .before .before .before .before .before .before .before .run-catalogued .ensures .0
+returns c = c .before .before .before .before .before .before .before .before .before .before .before .before .run-catalogued .ensures .0
 
 pub run-spec : {M : Type 1} → statement M
-run-spec = tie.close (tie.spec run-catalogued-requires same-length same-length-2 same-length-3 same-length-4 same-length-5 returns)
+run-spec = tie.close (tie.spec run-catalogued-requires same-length same-length-2 same-length-3 same-length-4 same-length-5 same-length-6 returns)

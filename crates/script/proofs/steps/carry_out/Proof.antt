@@ -62,9 +62,12 @@ same-length c = search needs
 same-length-2 : tie.Need-same-length-2
 same-length-2 c = search needs
 
+same-length-3 : tie.Need-same-length-3
+same-length-3 c = search needs
+
 returns : tie.Need-returns
 unfolding carried
-returns c = in-case _ _ _ _ _ _ _ _ _ _ (c .before .before .before .before .before .before .before .before .before .before .before .before .command .given .1) (c .before .before .before .before .operate-at .ensures)
+returns c = in-case _ _ _ _ _ _ _ _ _ _ (c .before .before .before .before .before .before .before .before .before .before .before .before .before .before .before .command .given .1) (c .before .before .before .before .before .before .operate-at .ensures)
 
 returns-2 : tie.Need-returns-2
 unfolding carried
@@ -119,6 +122,7 @@ carry-out-spec =
     refusing-requires-7
     same-length
     same-length-2
+    same-length-3
     returns
     returns-2
     returns-3

@@ -16,8 +16,11 @@ same-length c = search needs
 same-length-2 : tie.Need-same-length-2
 same-length-2 c = search needs
 
+same-length-3 : tie.Need-same-length-3
+same-length-3 c = search needs
+
 returns : tie.Need-returns
-returns c = operated-does _ _ _ _ _ _ _ _ _ (c .before .before .before .before .before .before .perform-lawful .ensures) _ (c .answering .ensures)
+returns c = operated-does _ _ _ _ _ _ _ _ _ (c .before .before .before .before .before .before .before .before .perform-lawful .ensures) _ (c .answering .ensures)
 
 pub operate-at-spec : {M : Type 1} → statement M
-operate-at-spec = tie.close (tie.spec perform-lawful-requires answering-requires same-length same-length-2 returns)
+operate-at-spec = tie.close (tie.spec perform-lawful-requires answering-requires same-length same-length-2 same-length-3 returns)

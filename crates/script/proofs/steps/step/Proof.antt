@@ -20,9 +20,8 @@ returns c = caused-does _ _ _ _ _ (c .before .before .cause .ensures .0) (c .bef
 
 step-lawful-requires : tie.Need-step-lawful-requires
 step-lawful-requires c κs =
-    let k = c .before .before .before .before .before .before .before .before .before .before .before in
-    let z = k .if1 .left in
-    let e = k .before .cause .ensures in
+    let z = c .before .before .before .before .before .before .before .before .before .before .before .before .if1 .left in
+    let e = c .before .before .before .before .before .before .before .before .before .before .before .before .before .cause .ensures in
     (cause-none _ (sym (e .0) ∙ z), e .1 z)
 
 same-length-2 : tie.Need-same-length-2
@@ -31,8 +30,11 @@ same-length-2 c = search needs
 same-length-3 : tie.Need-same-length-3
 same-length-3 c = search needs
 
+same-length-4 : tie.Need-same-length-4
+same-length-4 c = search needs
+
 returns-2 : tie.Need-returns-2
 returns-2 c = search needs
 
 pub step-spec : {M : Type 1} → statement M
-step-spec = tie.close (tie.spec cause-requires refusing-requires same-length returns step-lawful-requires same-length-2 same-length-3 returns-2)
+step-spec = tie.close (tie.spec cause-requires refusing-requires same-length returns step-lawful-requires same-length-2 same-length-3 same-length-4 returns-2)

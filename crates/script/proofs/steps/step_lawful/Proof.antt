@@ -10,8 +10,7 @@ refusing-requires c κs = search needs
 
 returns : tie.Need-returns
 returns c =
-    let s = c .before .before .before .before .before .before .before .before in
-    step-case _ _ _ _ _ (step-overlong _ _ _ _ (s .pre .0) (c .before .if1 .taken)) (refusing-does _ _ _ _ _ _ _ (c .refusing .ensures))
+    step-case _ _ _ _ _ (step-overlong _ _ _ _ (c .before .before .before .before .before .before .before .before .before .pre .0) (c .before .if1 .taken)) (refusing-does _ _ _ _ _ _ _ (c .refusing .ensures))
 
 place-after-requires : tie.Need-place-after-requires
 place-after-requires c κs = search needs
@@ -28,13 +27,13 @@ same-length c = search needs
 same-length-2 : tie.Need-same-length-2
 same-length-2 c = search needs
 
+same-length-3 : tie.Need-same-length-3
+same-length-3 c = search needs
+
 returns-2 : tie.Need-returns-2
 returns-2 c =
-    let d = c .before .before .before .before in
-    let p = d .before .before .before .before .before .before .before .before in
-    let s = p .before .before .before .before .before .before .before .before in
-    step-is _ (s .pre .0) _ _ _ (p .before .if1 .left) _ (p .place-after .ensures) _ (d .before .before .before .before .before .before .before .command-at .ensures) _ _ _
-    (d .carry-out .ensures)
+    step-is _ (c .before .before .before .before .before .before .before .before .before .before .before .before .before .before .before .before .before .before .before .before .before .before .before .before .pre .0) _ _ _ (c .before .before .before .before .before .before .before .before .before .before .before .before .before .before .before .before .if1 .left) _ (c .before .before .before .before .before .before .before .before .before .before .before .before .before .before .before .place-after .ensures) _ (c .before .before .before .before .before .before .before .before .before .before .before .before .before .before .command-at .ensures) _ _ _
+    (c .before .before .before .before .before .before .carry-out .ensures)
 
 pub step-lawful-spec : {M : Type 1} → statement M
 step-lawful-spec =
@@ -47,4 +46,5 @@ step-lawful-spec =
     carry-out-requires
     same-length
     same-length-2
+    same-length-3
     returns-2)
