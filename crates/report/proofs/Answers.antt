@@ -1,10 +1,14 @@
--- An answer's text: its word, its numbers, and the place of a refusal. Assumes nothing.
+-- An answer's text: its word, its numbers, and the place of a refusal; or what was written with it. Assumes nothing.
 use Prim.Native.Nat.{ℕ, _+_, _≤_}
 use native.Mathlib.Omega.{arith}
 use mathlib.Core.Path.{_≡_, refl, sym, ap, subst, _∙_}
 use mathlib.Core.Bool.{Bool, true, false, cond}
-use mathlib.Core.List.{List, [], _++_, append-assoc, append-nil}
-use lib.ListN.{length, getD, List·getD-eq-default}
+use mathlib.Core.List.{List, [], _∷_, _++_, append-assoc, append-nil}
+use borrow.Author.Tests.{eq-eqb, ne-eqb}
+use lib.Dec.{eqb}
+use lib.ListN.{length, getD, take, List·getD-eq-default}
+use lib.Seq.{take-all, take-length}
+use Rattle.finite.proofs.Bools.{cond-true, cond-false}
 use Rattle.finite.specs.Finite.{collect}
 use Rattle.finite.specs.Writing.{Wrote}
 use Rattle.finite.proofs.Collecting.{collect-same}
@@ -14,9 +18,9 @@ use Rattle.state.specs.declared.answer.Answer.{Answer}
 use Rattle.state.specs.declared.answer.Shown.{Shown}
 use Rattle.state.specs.Meaning.{answerOf, sixteen, shownOf}
 use Rattle.state.proofs.AnswerLaws.{few-numbers}
-use Rattle.model.specs.Answers.{shown, isRefusal}
-use Rattle.finite.specs.Decimal.{spaced}
-use Rattle.report.specs.Report.{answer-words, spacedWord, wordText, numbersText, answerText}
+use Rattle.model.specs.Answers.{shown, isRefusal, hasText, explainedWord}
+use Rattle.finite.specs.Decimal.{space, spaced}
+use Rattle.report.specs.Report.{answer-words, spacedWord, wordText, numbersText, plainText, bytesIn, answerText}
 
 -- the word with number w, which is k
 pub in-word : {o o′ : List ℕ} {n z : ℕ} {w k : ℕ} → w ≡ k → Wrote o o′ n z (wordText k) → Wrote o o′ n z (wordText w)
@@ -30,12 +34,12 @@ next : (w n : ℕ) → (w ≡ n → ⊥) → n ≤ w → n + 1 ≤ w
 next w n m l = omega arith
 
 pub past-words : (w : ℕ) → (w ≡ 0 → ⊥) → (w ≡ 1 → ⊥) → (w ≡ 2 → ⊥) → (w ≡ 3 → ⊥) → (w ≡ 4 → ⊥) → (w ≡ 5 → ⊥) → (w ≡ 6 → ⊥) → (w ≡ 7 → ⊥) →
-    (w ≡ 8 → ⊥) → (w ≡ 9 → ⊥) → (w ≡ 10 → ⊥) → (w ≡ 11 → ⊥) → (w ≡ 12 → ⊥) → (w ≡ 13 → ⊥) → (w ≡ 14 → ⊥) → (w ≡ 15 → ⊥) → 16 ≤ w
-past-words w a b c d e f g h i j k l m n o p =
-    next w 15 p (next w 14 o (next w 13 n (next w 12 m (next w 11 l (next w 10 k (next w 9 j (next w 8 i (next w 7 h (next w 6 g (next w 5 f (next w 4 e
-    (next w 3 d (next w 2 c (next w 1 b (next w 0 a (least w))))))))))))))))
+    (w ≡ 8 → ⊥) → (w ≡ 9 → ⊥) → (w ≡ 10 → ⊥) → (w ≡ 11 → ⊥) → (w ≡ 12 → ⊥) → (w ≡ 13 → ⊥) → (w ≡ 14 → ⊥) → (w ≡ 15 → ⊥) → (w ≡ 16 → ⊥) → 17 ≤ w
+past-words w a b c d e f g h i j k l m n o p q =
+    next w 16 q (next w 15 p (next w 14 o (next w 13 n (next w 12 m (next w 11 l (next w 10 k (next w 9 j (next w 8 i (next w 7 h (next w 6 g (next w 5 f (next w 4 e
+    (next w 3 d (next w 2 c (next w 1 b (next w 0 a (least w)))))))))))))))))
 
-pub no-word : (o : List ℕ) (n w : ℕ) → 16 ≤ w → Wrote o o n n (wordText w)
+pub no-word : (o : List ℕ) (n w : ℕ) → 17 ≤ w → Wrote o o n n (wordText w)
 unfolding wordText
 no-word o n w l = wrote-as o o n n n [] (wordText w) refl (ap spacedWord (sym (List·getD-eq-default answer-words [] l))) (wrote-none o n)
 
@@ -65,14 +69,39 @@ module _ (s : Shown) (a : Answer) (place : ℕ) (e : s ≡ shownOf (shown (answe
   abbrev text : Bool → List ℕ
   text b = wordText (shown (answerOf a) .word) ++ (numbersText (shown (answerOf a) .numbers) ++ cond b (spaced place) [])
 
-  pub plain-text : isRefusal (answerOf a) ≡ false → word ++ numbers ≡ answerText (answerOf a) place
-  unfolding answerText
+  pub plain-text : isRefusal (answerOf a) ≡ false → word ++ numbers ≡ plainText (answerOf a) place
+  unfolding plainText
   plain-text t =
       ap (λ (x : Shown). wordText (x .word) ++ numbers) e ∙ ap (λ (xs : List ℕ). wordText (shown (answerOf a) .word) ++ xs) (numbers-are ∙ sym (append-nil _)) ∙
       ap text (sym t)
 
-  pub refusal-text : isRefusal (answerOf a) ≡ true → (word ++ numbers) ++ spaced place ≡ answerText (answerOf a) place
-  unfolding answerText
+  pub refusal-text : isRefusal (answerOf a) ≡ true → (word ++ numbers) ++ spaced place ≡ plainText (answerOf a) place
+  unfolding plainText
   refusal-text t =
       append-assoc word numbers (spaced place) ∙ ap (λ (x : Shown). wordText (x .word) ++ (numbers ++ spaced place)) e ∙
       ap (λ (xs : List ℕ). wordText (shown (answerOf a) .word) ++ (xs ++ spaced place)) numbers-are ∙ ap text (sym t)
+
+-- ---- what was written with an answer
+
+-- what is shown of the answer a is s; the writer stands at z
+module _ (s : Shown) (a : Answer) (place : ℕ) (text : List ℕ) (e : s ≡ shownOf (shown (answerOf a))) (o o′ : List ℕ) (n z : ℕ) where
+  has-text : hasText (answerOf a) ≡ eqb (s .word) explainedWord
+  unfolding hasText
+  has-text = ap (λ (x : Shown). eqb (x .word) explainedWord) (sym e)
+
+  pub without-text : (s .word ≡ explainedWord → ⊥) → Wrote o o′ n z (plainText (answerOf a) place) → Wrote o o′ n z (answerText (answerOf a) place text)
+  unfolding answerText
+  without-text m = wrote-as o o′ n z z _ _ refl (sym (cond-false (hasText (answerOf a)) _ _ (has-text ∙ ne-eqb (s .word) explainedWord m)))
+
+  bytes-are : getD (s .numbers) 0 0 ≡ bytesIn (answerOf a)
+  bytes-are = ap (λ (x : Shown). getD (x .numbers) 0 0) e ∙ tab-at 0 16 (λ j. getD (shown (answerOf a) .numbers) j 0) 0 (omega arith)
+
+  pub with-text : s .word ≡ explainedWord → Wrote o o′ n z (space ∷ take (getD (s .numbers) 0 0) text) → Wrote o o′ n z (answerText (answerOf a) place text)
+  unfolding answerText
+  with-text m =
+      wrote-as o o′ n z z _ _ refl
+      (ap (λ (k : ℕ). space ∷ take k text) bytes-are ∙ sym (cond-true (hasText (answerOf a)) _ _ (has-text ∙ eq-eqb (s .word) explainedWord m)))
+
+-- a text of n bytes at the most, which is all of it
+pub whole-text : {o o′ : List ℕ} {k z : ℕ} (n : ℕ) (text : List ℕ) → length text ≤ n → Wrote o o′ k z (take (length text) text) → Wrote o o′ k z (take n text)
+whole-text {o} {o′} {k} {z} n text l = wrote-as o o′ k z z _ _ refl (take-length text ∙ sym (take-all n text l))

@@ -4,8 +4,8 @@ use native.Mathlib.Nat.{suc-mul, mul-add, mul-comm, mul-one, mul-le-mul-left}
 use native.Mathlib.Omega.{arith}
 use mathlib.Core.Path.{_≡_, ap, _∙_}
 use mathlib.Core.Bool.{Bool, true, false, cond}
-use mathlib.Core.List.{List, []}
-use lib.ListN.{length, length-append, getD}
+use mathlib.Core.List.{List, [], _∷_}
+use lib.ListN.{length, length-append, length-take, getD, take}
 use Rattle.finite.specs.Finite.{collect}
 use Rattle.finite.specs.Writing.{Wrote}
 use Rattle.finite.proofs.Collecting.{collect-most}
@@ -15,9 +15,9 @@ use Rattle.state.specs.declared.design.Design.{Design}
 use Rattle.state.specs.declared.answer.Answer.{Answer}
 use Rattle.state.specs.Meaning.{answerOf}
 use Rattle.state.proofs.AnswerLaws.{few-numbers}
-use Rattle.model.specs.Answers.{shown, isRefusal}
-use Rattle.finite.specs.Decimal.{spaced}
-use Rattle.report.specs.Report.{wordText, numbersText, answerText, commandLine, designLine, refusalLine, listLine, listLines}
+use Rattle.model.specs.Answers.{shown, isRefusal, hasText}
+use Rattle.finite.specs.Decimal.{space, spaced}
+use Rattle.report.specs.Report.{wordText, numbersText, plainText, bytesIn, answerText, commandLine, designLine, refusalLine, listLine, listLines}
 use Rattle.finite.proofs.Decimals.{decimal-short, decimal-short-32}
 
 -- ---- how long
@@ -40,7 +40,8 @@ word-short (suc (suc (suc (suc (suc (suc (suc (suc (suc (suc (suc (suc zero)))))
 word-short (suc (suc (suc (suc (suc (suc (suc (suc (suc (suc (suc (suc (suc zero))))))))))))) = omega arith
 word-short (suc (suc (suc (suc (suc (suc (suc (suc (suc (suc (suc (suc (suc (suc zero)))))))))))))) = omega arith
 word-short (suc (suc (suc (suc (suc (suc (suc (suc (suc (suc (suc (suc (suc (suc (suc zero))))))))))))))) = omega arith
-word-short (suc (suc (suc (suc (suc (suc (suc (suc (suc (suc (suc (suc (suc (suc (suc (suc w)))))))))))))))) = omega arith
+word-short (suc (suc (suc (suc (suc (suc (suc (suc (suc (suc (suc (suc (suc (suc (suc (suc zero)))))))))))))))) = omega arith
+word-short (suc (suc (suc (suc (suc (suc (suc (suc (suc (suc (suc (suc (suc (suc (suc (suc (suc w))))))))))))))))) = omega arith
 
 -- numbers, each behind a space
 spaced-short : (k : ℕ) (f : ℕ → ℕ) → length (collect k (λ _. true) (λ i. spaced (f i))) ≤ 21 * k
@@ -50,9 +51,9 @@ numbers-short : (ns : List ℕ) → length (numbersText ns) ≤ 21 * length ns
 unfolding numbersText
 numbers-short ns = spaced-short (length ns) (λ i. getD ns i 0)
 
-answer-short : (a : Answer) (place : ℕ) → length (answerText (answerOf a) place) ≤ 370
-unfolding answerText
-answer-short a place =
+plain-short : (a : Answer) (place : ℕ) → length (plainText (answerOf a) place) ≤ 370
+unfolding plainText
+plain-short a place =
     let s = shown (answerOf a) in
     simp length-append (omega (arith, word-short (s .word), numbers-short (s .numbers), few-numbers a, place-short (isRefusal (answerOf a))))
   where
@@ -60,9 +61,18 @@ answer-short a place =
     place-short true = omega (arith, decimal-short place)
     place-short false = omega arith
 
-pub command-line-short : (number : ℕ) (a : Answer) (place : ℕ) → length (commandLine number (answerOf a) place) ≤ 391
+-- a text may stand in place of the words
+answer-short : (a : Answer) (place : ℕ) (text : List ℕ) → length (answerText (answerOf a) place text) ≤ 370 + length text
+unfolding answerText
+answer-short a place text = go (hasText (answerOf a))
+  where
+    go : (b : Bool) → length (cond b (space ∷ take (bytesIn (answerOf a)) text) (plainText (answerOf a) place)) ≤ 370 + length text
+    go true = omega (arith, length-take (bytesIn (answerOf a)) text)
+    go false = omega (arith, plain-short a place)
+
+pub command-line-short : (number : ℕ) (a : Answer) (place : ℕ) (text : List ℕ) → length (commandLine number (answerOf a) place text) ≤ 391 + length text
 unfolding commandLine
-command-line-short number a place = simp length-append (omega (arith, decimal-short number, answer-short a place))
+command-line-short number a place text = simp length-append (omega (arith, decimal-short number, answer-short a place text))
 
 pub design-line-short : (d : Design) → length (designLine d) ≤ 91
 unfolding designLine
@@ -103,11 +113,13 @@ module _ (o o′ : List ℕ) (n z : ℕ) where
   pub numbers-reach : (k : ℕ) (ns : List ℕ) → Wrote o o′ n z (collect k (λ _. true) (λ i. spaced (getD ns i 0))) → z ≤ n + 21 * k
   numbers-reach k ns = reach o o′ n z _ (21 * k) (spaced-short k (λ i. getD ns i 0))
 
-  pub answer-reach : (a : Answer) (place : ℕ) → Wrote o o′ n z (answerText (answerOf a) place) → z ≤ n + 370
-  answer-reach a place = reach o o′ n z (answerText (answerOf a) place) 370 (answer-short a place)
+  pub answer-reach : (a : Answer) (place : ℕ) (text : List ℕ) → Wrote o o′ n z (answerText (answerOf a) place text) → z ≤ n + (370 + length text)
+  answer-reach a place text = reach o o′ n z (answerText (answerOf a) place text) (370 + length text) (answer-short a place text)
 
-  pub command-line-reach : (number : ℕ) (a : Answer) (place : ℕ) → Wrote o o′ n z (commandLine number (answerOf a) place) → z ≤ n + 391
-  command-line-reach number a place = reach o o′ n z (commandLine number (answerOf a) place) 391 (command-line-short number a place)
+  pub command-line-reach : (number : ℕ) (a : Answer) (place : ℕ) (text : List ℕ) → Wrote o o′ n z (commandLine number (answerOf a) place text) →
+      z ≤ n + (391 + length text)
+  command-line-reach number a place text =
+      reach o o′ n z (commandLine number (answerOf a) place text) (391 + length text) (command-line-short number a place text)
 
   pub design-line-reach : (d : Design) → Wrote o o′ n z (designLine d) → z ≤ n + 91
   design-line-reach d = reach o o′ n z (designLine d) 91 (design-line-short d)

@@ -2,16 +2,16 @@
 use Prim.Native.Nat.{ℕ, _+_, _-_, _*_}
 use mathlib.Core.Bool.{true, cond}
 use mathlib.Core.List.{List, [], _∷_, _++_}
-use lib.ListN.{length, getD}
+use lib.ListN.{length, getD, take}
 use Rattle.finite.specs.Finite.{collect}
 use Rattle.finite.specs.Decimal.{space, decimal, spaced}
 use Rattle.state.specs.declared.design.Design.{Design}
-use Rattle.model.specs.Answers.{Answer, shown, isRefusal}
+use Rattle.model.specs.Answers.{Answer, shown, isRefusal, hasText}
 
 abbrev pub newline : ℕ
 newline = 10
 
--- "loaded", "held", "no candidate", "dropped", "ground", "sent", "answer", "refused", "even", "uneven", "total", "knot", "desk", "open", "none", "design"
+-- "loaded", "held", "no candidate", "dropped", "ground", "sent", "answer", "refused", "even", "uneven", "total", "knot", "desk", "open", "none", "absent", "design"
 abbrev pub loaded-word : List ℕ
 loaded-word = 108 ∷ 111 ∷ 97 ∷ 100 ∷ 101 ∷ 100 ∷ []
 
@@ -57,12 +57,15 @@ open-word = 111 ∷ 112 ∷ 101 ∷ 110 ∷ []
 abbrev pub none-word : List ℕ
 none-word = 110 ∷ 111 ∷ 110 ∷ 101 ∷ []
 
+abbrev pub absent-word : List ℕ
+absent-word = 97 ∷ 98 ∷ 115 ∷ 101 ∷ 110 ∷ 116 ∷ []
+
 abbrev pub design-word : List ℕ
 design-word = 100 ∷ 101 ∷ 115 ∷ 105 ∷ 103 ∷ 110 ∷ []
 
 -- the words of the answers, in the order of their numbers (`shown`). One has none: "printed as these three numbers" (02, Req 09)
 abbrev pub answer-words : List (List ℕ)
-answer-words = loaded-word ∷ held-word ∷ no-candidate-words ∷ dropped-word ∷ ground-word ∷ sent-word ∷ answer-word ∷ refused-word ∷ even-word ∷ uneven-word ∷ total-word ∷ knot-word ∷ desk-word ∷ open-word ∷ [] ∷ none-word ∷ []
+answer-words = loaded-word ∷ held-word ∷ no-candidate-words ∷ dropped-word ∷ ground-word ∷ sent-word ∷ answer-word ∷ refused-word ∷ even-word ∷ uneven-word ∷ total-word ∷ knot-word ∷ desk-word ∷ open-word ∷ [] ∷ none-word ∷ absent-word ∷ []
 
 -- a space, then the word, if there is one
 abbrev pub spacedWord : List ℕ → List ℕ
@@ -76,13 +79,22 @@ wordText w = spacedWord (getD answer-words w [])
 unfoldable pub numbersText : List ℕ → List ℕ
 numbersText ns = collect (length ns) (λ _. true) (λ i. spaced (getD ns i 0))
 
--- an answer: its word and its numbers, each behind a space; the place goes with a refusal
-unfoldable pub answerText : Answer → ℕ → List ℕ
-answerText a place = wordText (shown a .word) ++ (numbersText (shown a .numbers) ++ cond (isRefusal a) (spaced place) [])
+-- an answer's word and its numbers, each behind a space; the place goes with a refusal
+unfoldable pub plainText : Answer → ℕ → List ℕ
+plainText a place = wordText (shown a .word) ++ (numbersText (shown a .numbers) ++ cond (isRefusal a) (spaced place) [])
+
+-- how many bytes of text go with an answer: the first number behind its word
+abbrev pub bytesIn : Answer → ℕ
+bytesIn a = getD (shown a .numbers) 0 0
+
+-- an answer, where `text` is lent: word and numbers; or, behind a space, the text that was written with it, "as .. `row 5 by constraint 1 from row 3 ..`"
+-- (02, Req 08)
+unfoldable pub answerText : Answer → ℕ → List ℕ → List ℕ
+answerText a place text = cond (hasText a) (space ∷ take (bytesIn a) text) (plainText a place)
 
 -- "for each command after END .. its number from 0 and" its answer
-unfoldable pub commandLine : ℕ → Answer → ℕ → List ℕ
-commandLine number a place = decimal number ++ (answerText a place ++ (newline ∷ []))
+unfoldable pub commandLine : ℕ → Answer → ℕ → List ℕ → List ℕ
+commandLine number a place text = decimal number ++ (answerText a place text ++ (newline ∷ []))
 
 -- "design with tables, constraints, fillings and rows"
 unfoldable pub designLine : Design → List ℕ

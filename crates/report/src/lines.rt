@@ -1,12 +1,13 @@
 // The report's lines. A number has at most 20 digits, a word of a list at most 10; each stands behind a space or begins a line.
 ghost use Prim.Native.Nat.{_+_, _*_, _≤_};
 ghost use mathlib.Core.Bool.{true};
-ghost use lib.ListN.{length, getD};
+ghost use mathlib.Core.List.{_∷_};
+ghost use lib.ListN.{length, getD, take};
 ghost use Rattle.finite.specs.Finite.{collect};
 ghost use Rattle.finite.specs.Writing.{Wrote};
-ghost use Rattle.finite.specs.Decimal.{spaced};
+ghost use Rattle.finite.specs.Decimal.{space, spaced};
 ghost use Rattle.state.specs.Meaning.{answerOf};
-ghost use Rattle.report.specs.Report.{wordText, answerText, commandLine, designLine, refusalLine, listLine, listLines};
+ghost use Rattle.report.specs.Report.{wordText, plainText, answerText, commandLine, designLine, refusalLine, listLine, listLines};
 use state::Answer;
 use state::Design;
 use state::Shown;
@@ -40,6 +41,7 @@ fn put_word(out: &mut [u8], at: usize, word: u8) -> usize
         // three numbers alone
         14 => at,
         15 => put_bytes(out, at, b" none", 5),
+        16 => put_bytes(out, at, b" absent", 7),
         _ => at,
     }
 }
@@ -59,10 +61,10 @@ fn put_numbers(out: &mut [u8], at: usize, shown: Shown) -> usize
     z
 }
 
-// Writes an answer, behind a space; the place goes with a refusal. At most 370 bytes.
-fn put_answer(out: &mut [u8], at: usize, answer: Answer, place: usize) -> usize
+// Writes an answer's word and numbers; the place goes with a refusal. At most 370 bytes.
+fn put_plain(out: &mut [u8], at: usize, answer: Answer, place: usize) -> usize
     requires { ⌜ at + 370 ≤ length (now out) ⌝ }
-    ensures { λ z. ⌜ Wrote (now (out .entry)) (now (out .exit)) at z (answerText (answerOf answer) place) ⌝ }
+    ensures { λ z. ⌜ Wrote (now (out .entry)) (now (out .exit)) at z (plainText (answerOf answer) place) ⌝ }
 {
     let s = show(answer);
     let z = put_word(out, at, s.word);
@@ -73,19 +75,44 @@ fn put_answer(out: &mut [u8], at: usize, answer: Answer, place: usize) -> usize
     put_spaced(out, y, place as u64)
 }
 
-// Writes a command's line: its number, and its answer. At most 391 bytes.
+// Writes the first n bytes of a text, or all of them where it has fewer, behind a space.
+fn put_text(out: &mut [u8], at: usize, text: &[u8], n: u64) -> usize
+    requires { ⌜ at + 1 + length (now text) ≤ length (now out) ⌝ }
+    ensures { λ z. ⌜ Wrote (now (out .entry)) (now (out .exit)) at z (space ∷ take n (now (text .entry))) ⌝ }
+{
+    let z = put_byte(out, at, 32);
+    if text.len() as u64 <= n {
+        return put_bytes(out, z, text, text.len());
+    }
+    put_bytes(out, z, text, n as usize)
+}
+
+// Writes an answer, with the text that was written with it where it has one. At most 370 bytes, and those of the text.
+fn put_answer(out: &mut [u8], at: usize, answer: Answer, place: usize, text: &[u8]) -> usize
+    requires { ⌜ at + 370 + length (now text) ≤ length (now out) ⌝ }
+    ensures { λ z. ⌜ Wrote (now (out .entry)) (now (out .exit)) at z (answerText (answerOf answer) place (now (text .entry))) ⌝ }
+{
+    let s = show(answer);
+    if s.word != 17 {
+        return put_plain(out, at, answer, place);
+    }
+    put_text(out, at, text, s.numbers[0])
+}
+
+// Writes a command's line: its number, and its answer, where `text` is lent. At most 391 bytes, and those of the text.
 pub fn put_command_line(
     out: &mut [u8],
     at: usize,
     number: usize,
     answer: Answer,
     place: usize,
+    text: &[u8],
 ) -> usize
-    requires { ⌜ at + 391 ≤ length (now out) ⌝ }
-    ensures { λ z. ⌜ Wrote (now (out .entry)) (now (out .exit)) at z (commandLine number (answerOf answer) place) ⌝ }
+    requires { ⌜ at + 391 + length (now text) ≤ length (now out) ⌝ }
+    ensures { λ z. ⌜ Wrote (now (out .entry)) (now (out .exit)) at z (commandLine number (answerOf answer) place (now (text .entry))) ⌝ }
 {
     let z = put_decimal(out, at, number as u64);
-    let y = put_answer(out, z, answer, place);
+    let y = put_answer(out, z, answer, place, text);
     put_byte(out, y, 10)
 }
 

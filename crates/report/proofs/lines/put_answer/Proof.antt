@@ -1,72 +1,42 @@
--- `report::lines::put_answer` meets its contract: the word, the numbers, and the place of a refusal. Assumes nothing.
-use native.Mathlib.Omega.{arith}
-use mathlib.Core.Path.{refl, sym, _∙_}
-use borrow.Author.Tests.{not-true, not-false}
-use Rattle.finite.proofs.Writing.{behind, wrote-as}
-use Rattle.state.proofs.AnswerLaws.{shows-few}
-use Rattle.report.proofs.Answers.{plain-text, refusal-text}
-use Rattle.report.proofs.Lengths.{word-reach, numbers-reach}
+-- `report::lines::put_answer` meets its contract: word and numbers, or the text. Assumes nothing.
 use borrow.Author.Needs.{needs}
+use Rattle.report.proofs.Answers.{without-text, with-text}
 use Rattle.report.proofs.lines.put_answer.Statement.{statement}
 use Rattle.report.proofs.lines.put_answer.Tie as tie
 
 show-requires : tie.Need-show-requires
 show-requires c κs = search needs
 
-put-word-requires : tie.Need-put-word-requires
-put-word-requires c κs = search needs
-
-put-numbers-requires : tie.Need-put-numbers-requires
-put-numbers-requires c κs =
-    let start = c .before .before .before .before .before .before .before in
-    let s = c .before .before .before .before .before .show in
-    let few = shows-few (s .result) (start .args .answer) (s .ensures) in
-    (few, omega (arith, few, word-reach _ _ _ _ (s .result .word) (c .before .before .before .put-word .ensures)))
-
-is-refusal-requires : tie.Need-is-refusal-requires
-is-refusal-requires c κs = search needs
+put-plain-requires : tie.Need-put-plain-requires
+put-plain-requires c κs = search needs
 
 same-length : tie.Need-same-length
 same-length c = search needs
 
 returns : tie.Need-returns
-returns c =
-    let start = c .before .before .before .before .before .before .before .before .before .before .before .before in
-    let s = c .before .before .before .before .before .before .before .before .before .before .show in
-    wrote-as _ _ _ _ _ _ _ refl (plain-text (s .result) (start .args .answer) (start .args .place) (s .ensures) (sym (c .before .is-refusal .ensures) ∙ not-true _ (c .if1 .taken)))
-    (behind (c .before .before .before .before .before .before .before .before .put-word .ensures) (c .before .before .before .before .put-numbers .ensures))
+returns c = let s = c .before .before .before .before .before .show in without-text (s .result) (c .before .before .before .before .before .before .before .before .args .answer) _ _ (s .ensures) _ _ _ _ (c .before .before .before .before .if1 .taken) (c .before .before .put-plain .ensures)
 
-put-spaced-requires : tie.Need-put-spaced-requires
-put-spaced-requires c κs =
-    let start = c .before .before .before .before .before .before .before .before .before .before .before .before .before in
-    let s = c .before .before .before .before .before .before .before .before .before .before .before .show in
-    omega (
-      arith,
-      shows-few (s .result) (start .args .answer) (s .ensures),
-      word-reach _ _ _ _ (s .result .word) (c .before .before .before .before .before .before .before .before .before .put-word .ensures),
-      numbers-reach _ _ _ _ (s .result .count) (s .result .numbers) (c .before .before .before .before .before .put-numbers .ensures),
-    )
+element-copy-out-put-text : tie.Need-element-copy-out-put-text
+element-copy-out-put-text c = search needs
+
+put-text-requires : tie.Need-put-text-requires
+put-text-requires c κs = search needs
 
 same-length-2 : tie.Need-same-length-2
 same-length-2 c = search needs
 
 returns-2 : tie.Need-returns-2
-returns-2 c =
-    let start = c .before .before .before .before .before .before .before .before .before .before .before .before .before .before .before .before in
-    let s = c .before .before .before .before .before .before .before .before .before .before .before .before .before .before .show in
-    wrote-as _ _ _ _ _ _ _ refl (refusal-text (s .result) (start .args .answer) (start .args .place) (s .ensures) (sym (c .before .before .before .before .before .is-refusal .ensures) ∙ not-false _ (c .before .before .before .before .if1 .left)))
-    (behind (behind (c .before .before .before .before .before .before .before .before .before .before .before .before .put-word .ensures) (c .before .before .before .before .before .before .before .before .put-numbers .ensures)) (c .before .before .put-spaced .ensures))
+returns-2 c = let s = c .before .before .before .before .before .before .show in with-text (s .result) (c .before .before .before .before .before .before .before .before .before .args .answer) _ _ (s .ensures) _ _ _ _ (c .before .before .before .before .before .if1 .left) (c .before .before .put-text .ensures)
 
 pub put-answer-spec : {M : Type 1} → statement M
 put-answer-spec =
     tie.close
     (tie.spec
     show-requires
-    put-word-requires
-    put-numbers-requires
-    is-refusal-requires
+    put-plain-requires
     same-length
     returns
-    put-spaced-requires
+    element-copy-out-put-text
+    put-text-requires
     same-length-2
     returns-2)

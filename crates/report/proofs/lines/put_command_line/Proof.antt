@@ -1,6 +1,7 @@
 -- `report::lines::put_command_line` meets its contract: the parts one behind the other. Assumes nothing.
 use native.Mathlib.Omega.{arith}
 use borrow.Author.Needs.{needs}
+use denote.Ref.{now}
 use Rattle.finite.proofs.Writing.{behind}
 use Rattle.report.specs.Report.{commandLine}
 use Rattle.report.proofs.Lengths.{decimal-reach, answer-reach}
@@ -15,21 +16,15 @@ put-answer-requires c κs = omega (arith, decimal-reach _ _ _ _ _ (c .before .be
 
 put-byte-requires : tie.Need-put-byte-requires
 put-byte-requires c κs =
-    let a = c .before .before .before in
-    let n = a .before .before .before .before in
-    let start = n .before .before .before in
-    omega (arith, decimal-reach _ _ _ _ _ (n .put-decimal .ensures), answer-reach _ _ _ _ (start .args .answer) (start .args .place) (a .put-answer .ensures))
+    let a = c .before .before .before .before .before .before .before .before .before .before .before .args in
+    omega (arith, decimal-reach _ _ _ _ _ (c .before .before .before .before .before .before .before .put-decimal .ensures), answer-reach _ _ _ _ (a .answer) (a .place) (now (a .text)) (c .before .before .before .put-answer .ensures))
 
 same-length : tie.Need-same-length
 same-length c = search needs
 
 returns : tie.Need-returns
 unfolding commandLine
-returns c =
-    let l = c .before .before in
-    let a = l .before .before .before .before in
-    let n = a .before .before .before .before in
-    behind (n .put-decimal .ensures) (behind (a .put-answer .ensures) (l .put-byte .ensures))
+returns c = behind (c .before .before .before .before .before .before .before .before .before .before .put-decimal .ensures) (behind (c .before .before .before .before .before .before .put-answer .ensures) (c .before .before .put-byte .ensures))
 
 pub put-command-line-spec : {M : Type 1} → statement M
 put-command-line-spec = tie.close (tie.spec put-decimal-requires put-answer-requires put-byte-requires same-length returns)

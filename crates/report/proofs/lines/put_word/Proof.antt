@@ -95,6 +95,12 @@ slice-aggregate-put-bytes-15 c = search needs
 put-bytes-requires-15 : tie.Need-put-bytes-requires-15
 put-bytes-requires-15 c κs = search needs
 
+slice-aggregate-put-bytes-16 : tie.Need-slice-aggregate-put-bytes-16
+slice-aggregate-put-bytes-16 c = search needs
+
+put-bytes-requires-16 : tie.Need-put-bytes-requires-16
+put-bytes-requires-16 c κs = search needs
+
 same-length : tie.Need-same-length
 same-length c = search needs
 
@@ -203,12 +209,19 @@ returns-16 : tie.Need-returns-16
 unfolding wordText
 returns-16 c = in-word (c .before .before .before .before .before .match .keys16) (c .before .before .put-bytes15 .ensures)
 
+same-length-16 : tie.Need-same-length-16
+same-length-16 c = search needs
+
 returns-17 : tie.Need-returns-17
-returns-17 c =
+unfolding wordText
+returns-17 c = in-word (c .before .before .before .before .before .match .keys17) (c .before .before .put-bytes16 .ensures)
+
+returns-18 : tie.Need-returns-18
+returns-18 c =
     let r = c .match .rest in
-    let q = r .0 .0 .0 .0 .0 .0 .0 .0 in
+    let q = r .0 .0 .0 .0 .0 .0 .0 .0 .0 in
     no-word _ _ _ (past-words _ (q .0 .0 .0 .0 .0 .0 .0 .1) (q .0 .0 .0 .0 .0 .0 .1) (q .0 .0 .0 .0 .0 .1) (q .0 .0 .0 .0 .1) (q .0 .0 .0 .1) (q .0 .0 .1) (q .0 .1) (q .1)
-    (r .0 .0 .0 .0 .0 .0 .0 .1) (r .0 .0 .0 .0 .0 .0 .1) (r .0 .0 .0 .0 .0 .1) (r .0 .0 .0 .0 .1) (r .0 .0 .0 .1) (r .0 .0 .1) (r .0 .1) (r .1))
+    (r .0 .0 .0 .0 .0 .0 .0 .0 .1) (r .0 .0 .0 .0 .0 .0 .0 .1) (r .0 .0 .0 .0 .0 .0 .1) (r .0 .0 .0 .0 .0 .1) (r .0 .0 .0 .0 .1) (r .0 .0 .0 .1) (r .0 .0 .1) (r .0 .1) (r .1))
 
 pub put-word-spec : {M : Type 1} → statement M
 put-word-spec =
@@ -244,6 +257,8 @@ put-word-spec =
     put-bytes-requires-14
     slice-aggregate-put-bytes-15
     put-bytes-requires-15
+    slice-aggregate-put-bytes-16
+    put-bytes-requires-16
     same-length
     returns
     same-length-2
@@ -275,4 +290,6 @@ put-word-spec =
     returns-15
     same-length-15
     returns-16
-    returns-17)
+    same-length-16
+    returns-17
+    returns-18)
