@@ -16,23 +16,23 @@ use Rattle.model.specs.Holding.{desks, Pair, holds, hasRoom, heldIn}
 use Rattle.model.specs.Even.{lowestUneven}
 use Rattle.model.specs.Knot.{isUnevenScheme}
 use Rattle.model.specs.Opener.{isOpen, lowestFilling}
-use Rattle.model.specs.Runs.{Question, probe, evenness, smallestKnot, opener, asLists, asTotal, refer, drop, name, outputFits, withinLimit, marked, Cache}
+use Rattle.model.specs.Sentence.{reasonText}
+use Rattle.model.specs.Runs.{Question, probe, evenness, smallestKnot, opener, reason, asLists, asTotal, refer, drop, name, outputFits, withinLimit, marked, Cache}
 use Rattle.model.specs.Query as Q
 use Rattle.model.specs.Query.{joinsOf, operandsFit, wordsOf, fullLists, fullTotal, mostJoins}
-use Rattle.model.specs.Answers.{Answer, held, noCandidate, ground, sent, lists, even, uneven, knot, named, opened, openedBy, noOpener, evenAnswer, knotAnswer, openerAnswer, shown, hasLists, unless, orAnswer, questionAnswer, isAnswered, fullAnswer, queryAnswer, answer}
+use Rattle.model.specs.Answers.{Answer, held, noCandidate, ground, sent, lists, even, uneven, knot, named, opened, openedBy, noOpener, absent, evenAnswer, knotAnswer, openerAnswer, reasonAnswer, shown, hasLists, unless, orAnswer, questionAnswer, isAnswered, fullAnswer, queryAnswer, answer}
 use Rattle.model.proofs.ListLaws.{fitting-words}
 use Rattle.state.specs.declared.design.Table as State-table
 use Rattle.state.specs.declared.design.Constraint as State-constraint
 use Rattle.state.specs.declared.design.Filling as State-filling
 use Rattle.state.specs.declared.operation.Operation.{Operation}
 use Rattle.state.specs.declared.operation.Operation.the-variants as O
-use Rattle.state.specs.Meaning.{operationOf}
 use Rattle.state.specs.Lent.{State, scheme, database, cache, longEnough, lawful, guarded, answerAt}
 use Rattle.format.specs.declared.command.Command.{Command}
 use Rattle.format.specs.declared.command.Command.the-variants.{Table, Constraint, Filling, Row, End, Operate, Unknown, Short}
-use Rattle.format.specs.Bytes.{byteAt}
+use Rattle.format.specs.Bytes.{byteAt, u16At}
 use Rattle.format.specs.Commands.{columnAt, valueAt, heldValueAt, queryAt, totalAt, operationWidth, issuedAt, operationAt, designCommandAt, operandsAt, commandAt, widthOf}
-use Rattle.script.specs.Step.{Stepped, operated, carried, stepAt}
+use Rattle.script.specs.Step.{Outputs, roomsOf, operationIn, Stepped, operated, carried, stepAt}
 use Rattle.script.proofs.StepLaws.{step-by}
 use Rattle.desk.specs.Printed.{listsIn, positionsAt}
 
@@ -75,12 +75,15 @@ module _ (p room : ℕ) where
         unless-within (not (holds (c .held) x)) 10 _ (λ _ h. clash h refl)))
 
     question-within : (q : Question) → Within (questionAnswer S D c q)
-    unfolding questionAnswer evenAnswer knotAnswer openerAnswer hasLists shown
+    unfolding questionAnswer evenAnswer knotAnswer openerAnswer reasonAnswer hasLists shown
     question-within (probe k v) =
         let g = Probe.probe S D (heldIn S (c .held)) (marked (c .marks)) k v in
         unless-within (not (isColumn S k)) 5 _ (λ _. unless-within (numberless v) 9 _ (λ _. or-within (ltb 0 g) (ground g (Probe.cachedRows D (marked (c .marks)) k v)) sent (λ h. clash h refl) (λ h. clash h refl)))
     question-within evenness = or-within (ltb (lowestUneven S) (S .constraints)) (uneven _ _) even (λ h. clash h refl) (λ h. clash h refl)
     question-within smallestKnot = or-within (isUnevenScheme S) (knot _) even (λ h. clash h refl) (λ h. clash h refl)
+    question-within (reason r bytes) =
+        unless-within (not (D .live r)) 5 _ (λ _. or-within (not (marked (c .marks) r)) absent _ (λ h. clash h refl)
+        (unless-within (ltb bytes (length (reasonText S D (c .held) r))) 11 _ (λ _ h. clash h refl)))
     question-within (opener k v) =
         unless-within (not (isColumn S k)) 5 _ (λ _. unless-within (numberless v) 9 _ (λ _.
         or-within (isOpen S D k v c) opened _ (λ h. clash h refl)
@@ -127,52 +130,54 @@ module _ (p room : ℕ) where
 
 -- ---- a step
 
-module _ (s : State) (words script : List ℕ) (i : ℕ) where
+module _ (s : State) (out : Outputs) (script : List ℕ) (i : ℕ) where
   abbrev Here : Answer → Type 0
-  Here a = Within (positionsAt script i) (length words) a
+  Here a = Within (positionsAt script i) (length (out .words)) a
 
   guarded-within : (a : Answer) → Here a → Here (guarded s a)
   guarded-within a f = unless-within _ _ (not (longEnough s)) 7 _ (λ _. unless-within _ _ (not (lawful s)) 12 _ (λ _. f))
 
   -- the operation at place i of the byte b, whose value has the issue w
-  issued-within : (b w : ℕ) → Here (answerAt s (operationOf (issuedAt b script w i) (length words)))
+  issued-within : (b w : ℕ) → Here (answerAt s (operationIn (issuedAt b script w i) (roomsOf out)))
   unfolding answerAt answer issuedAt
-  issued-within b w = go (eqb b 0x10) (eqb b 0x11) (eqb b 0x12) (eqb b 0x14) (eqb b 0x15) (eqb b 0x17) (eqb b 0x19) (eqb b 0x1C)
+  issued-within b w = go (eqb b 0x10) (eqb b 0x11) (eqb b 0x12) (eqb b 0x14) (eqb b 0x15) (eqb b 0x17) (eqb b 0x18) (eqb b 0x19) (eqb b 0x1C)
     where
-      op : Bool → Bool → Bool → Bool → Bool → Bool → Bool → Bool → Operation
-      op x y z v t d o k =
+      op : Bool → Bool → Bool → Bool → Bool → Bool → Bool → Bool → Bool → Operation
+      op x y z v t d r o k =
           cond x (O.Refer (heldValueAt script w i))
           (cond y (O.Drop (heldValueAt script w i))
           (cond z (O.Probe (columnAt script (i + 1)) (valueAt script w (i + 3)))
           (cond v O.Evenness
           (cond t (O.Total (totalAt script w i))
           (cond d (O.Name (byteAt script (i + 1)))
+          (cond r (O.Reason (u16At script (i + 1)))
           (cond o (O.Opener (columnAt script (i + 1)) (valueAt script (byteAt script (i + 7)) (i + 3)))
           (cond k O.SmallestKnot
-          (O.Query (queryAt script w i)))))))))
+          (O.Query (queryAt script w i))))))))))
 
-      go : (x y z v t d o k : Bool) → Here (answerAt s (operationOf (op x y z v t d o k) (length words)))
-      go true y z v t d o k = guarded-within _ (refer-within _ _ (scheme s) (database s) (cache s) _)
-      go false true z v t d o k = guarded-within _ (drop-within _ _ (scheme s) (database s) (cache s) _)
-      go false false true v t d o k = guarded-within _ (question-within _ _ (scheme s) (database s) (cache s) _)
-      go false false false true t d o k = guarded-within _ (question-within _ _ (scheme s) (database s) (cache s) _)
-      go false false false false true d o k = guarded-within _ (total-within _ _ (scheme s) (database s) (cache s) _ _ _)
-      go false false false false false true o k = guarded-within _ (name-within _ _ (scheme s) (database s) (cache s) (byteAt script (i + 1)))
-      go false false false false false false true k = guarded-within _ (question-within _ _ (scheme s) (database s) (cache s) _)
-      go false false false false false false false true = guarded-within _ (question-within _ _ (scheme s) (database s) (cache s) _)
-      go false false false false false false false false = guarded-within _ (query-within _ _ (scheme s) (database s) (cache s) _ refl refl)
+      go : (x y z v t d r o k : Bool) → Here (answerAt s (operationIn (op x y z v t d r o k) (roomsOf out)))
+      go true y z v t d r o k = guarded-within _ (refer-within _ _ (scheme s) (database s) (cache s) _)
+      go false true z v t d r o k = guarded-within _ (drop-within _ _ (scheme s) (database s) (cache s) _)
+      go false false true v t d r o k = guarded-within _ (question-within _ _ (scheme s) (database s) (cache s) _)
+      go false false false true t d r o k = guarded-within _ (question-within _ _ (scheme s) (database s) (cache s) _)
+      go false false false false true d r o k = guarded-within _ (total-within _ _ (scheme s) (database s) (cache s) _ _ _)
+      go false false false false false true r o k = guarded-within _ (name-within _ _ (scheme s) (database s) (cache s) (byteAt script (i + 1)))
+      go false false false false false false true o k = guarded-within _ (question-within _ _ (scheme s) (database s) (cache s) _)
+      go false false false false false false false true k = guarded-within _ (question-within _ _ (scheme s) (database s) (cache s) _)
+      go false false false false false false false false true = guarded-within _ (question-within _ _ (scheme s) (database s) (cache s) _)
+      go false false false false false false false false false = guarded-within _ (query-within _ _ (scheme s) (database s) (cache s) _ refl refl)
 
   -- the operation at place i, whose byte is b
-  operation-within : (b : ℕ) → Here (answerAt s (operationOf (operationAt b script i) (length words)))
+  operation-within : (b : ℕ) → Here (answerAt s (operationIn (operationAt b script i) (roomsOf out)))
   unfolding operationAt
   operation-within b = go (ltb b 0x20)
     where
-      go : (x : Bool) → Here (answerAt s (operationOf (cond x (issuedAt b script 0 i) (issuedAt (b - 0x10) script (byteAt script (i + operationWidth b - 1)) i)) (length words)))
+      go : (x : Bool) → Here (answerAt s (operationIn (cond x (issuedAt b script 0 i) (issuedAt (b - 0x10) script (byteAt script (i + operationWidth b - 1)) i)) (roomsOf out)))
       go true = issued-within b 0
       go false = issued-within (b - 0x10) (byteAt script (i + operationWidth b - 1))
 
   -- the command at place i
-  command-within : (j : ℕ) → Here (carried s words script i j (commandAt script i) .answer)
+  command-within : (j : ℕ) → Here (carried s out script i j (commandAt script i) .answer)
   unfolding commandAt operandsAt designCommandAt carried operated hasLists shown
   command-within j =
       let b = byteAt script i in
@@ -180,8 +185,8 @@ module _ (s : State) (words script : List ℕ) (i : ℕ) where
       (eqb b 0x01) (eqb b 0x02) (eqb b 0x03) (eqb b 0x05) _ _ _ _ _ (operation-within b)
     where
       go : (x y z k p q r t : Bool) (a : State-table.Table) (c : State-constraint.Constraint) (f : State-filling.Filling) (m : ℕ) (op : Operation) →
-          Here (answerAt s (operationOf op (length words))) →
-          Here (carried s words script i j (cond x Short (cond y Unknown (cond z Short
+          Here (answerAt s (operationIn op (roomsOf out))) →
+          Here (carried s out script i j (cond x Short (cond y Unknown (cond z Short
           (cond k (cond p (Table a) (cond q (Constraint c) (cond r (Filling f) (cond t End (Row m))))) (Operate op))))) .answer)
       go true y z k p q r t a c f m op h = λ e. clash e refl
       go false true z k p q r t a c f m op h = λ e. clash e refl
@@ -193,6 +198,6 @@ module _ (s : State) (words script : List ℕ) (i : ℕ) where
       go false false false true false false false false a c f m op h = λ e. clash e refl
       go false false false false p q r t a c f m op h = h
 
-  pub step-within : Within (positionsAt script i) (length words) (stepAt s words script i .answer)
+  pub step-within : Within (positionsAt script i) (length (out .words)) (stepAt s out script i .answer)
   unfolding hasLists shown
-  step-within = step-by s words script i (λ (r : Stepped). Here (r .answer)) (λ n h. clash h refl) (λ _. command-within (i + widthOf (byteAt script i)))
+  step-within = step-by s out script i (λ (r : Stepped). Here (r .answer)) (λ n h. clash h refl) (λ _. command-within (i + widthOf (byteAt script i)))

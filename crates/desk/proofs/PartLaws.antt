@@ -6,7 +6,7 @@ use mathlib.Core.Bool.{true, false, cond}
 use mathlib.Core.List.{List, [], _++_, append-nil}
 use borrow.Author.Tests.{ltb-true}
 use lib.Dec.{ltb}
-use lib.ListN.{length, take, drop, replicate, length-append, length-drop}
+use lib.ListN.{length, take, drop, length-append, length-drop}
 use lib.Seq.{sets-eq, take-at, drop-at, take-append-seam, drop-drop, length-take-le}
 use Rattle.finite.specs.Writing.{Wrote}
 use Rattle.finite.proofs.Bools.{clash, cond-true, cond-false}
@@ -25,6 +25,7 @@ use Rattle.format.specs.Reading.DesignRead.{accepted, refusedAt}
 use Rattle.format.proofs.Small.{Small}
 use Rattle.report.specs.Report.{designLine, refusalLine}
 use Rattle.report.proofs.Lengths.{design-line-reach, refusal-line-reach}
+use Rattle.script.specs.Step.{Outputs}
 use Rattle.script.specs.Runs.{Buffers, buffers, justRead}
 use Rattle.desk.specs.declared.reporting.Progress.{Progress}
 use Rattle.desk.specs.declared.parts.Beginning.{Beginning}
@@ -69,11 +70,11 @@ unfolding firstText
 first-reach o o′ z d (Accepted i) w = omega (arith, design-line-reach o o′ 0 z d w)
 first-reach o o′ z d (Refused n i) w = omega (arith, refusal-line-reach o o′ 0 z n i w)
 
-module _ (script : List ℕ) (cs₀ : Cells) (ts₀ ms₀ words : List ℕ) (r : DesignReading) (cs : Cells) (ts ms : List ℕ)
+module _ (script : List ℕ) (cs₀ : Cells) (ts₀ ms₀ : List ℕ) (outs : Outputs) (r : DesignReading) (cs : Cells) (ts ms : List ℕ)
     (read : Leaves (readInto script cs₀ ts₀ ms₀) r cs₀ cs ts₀ ts ms₀ ms) (p : Progress) (o o′ : List ℕ)
     (first : First script (r .design) (r .verdict) o o′ p) where
   abbrev b : Buffers
-  b = buffers cs₀ ts₀ ms₀ words
+  b = buffers cs₀ ts₀ ms₀ outs
 
   -- the state is that of the design just read
   start-is : (R : DesignRead) → readInto script cs₀ ts₀ ms₀ ≡ R → lent (r .design) cs ts ms (p .held) ≡ justRead R b
@@ -82,17 +83,17 @@ module _ (script : List ℕ) (cs₀ : Cells) (ts₀ ms₀ words : List ℕ) (r :
 
   -- the report is the first text, and what is then still to be printed
   begins-whole : (R : DesignRead) → readInto script cs₀ ts₀ ms₀ ≡ R →
-      reportOf script b R ≡ firstText (r .design) (r .verdict) ++ restOf script (lent (r .design) cs ts ms (p .held)) words p
+      reportOf script b R ≡ firstText (r .design) (r .verdict) ++ restOf script (lent (r .design) cs ts ms (p .held)) outs p
   unfolding firstText anyCommand
   begins-whole (accepted q i) e =
       let v : r .verdict ≡ Accepted i = read .verdict ∙ ap verdictOf e in
       let d : r .design ≡ q .design = read .design ∙ ap designOf e in
       report-begins script b q i p (first .at ∙ ap firstPlace v) (first .number) (first .more ∙ ap (anyCommand script) v) ∙
-      sym (λ x. firstText (d x) (v x) ++ restOf script (start-is (accepted q i) e x) words p)
+      sym (λ x. firstText (d x) (v x) ++ restOf script (start-is (accepted q i) e x) outs p)
   begins-whole (refusedAt n i) e =
       let v : r .verdict ≡ Refused n i = read .verdict ∙ ap verdictOf e in
       sym
-      (ap₂ (λ (a c : List ℕ). a ++ c) (ap (firstText (r .design)) v) (report-ends script _ words p (first .more ∙ ap (anyCommand script) v)) ∙
+      (ap₂ (λ (a c : List ℕ). a ++ c) (ap (firstText (r .design)) v) (report-ends script _ outs p (first .more ∙ ap (anyCommand script) v)) ∙
       append-nil (refusalLine n i))
 
   begins-ready : Small script → Stored cs → p .more ≡ true → (v : Verdict) → r .verdict ≡ v → NextReady script (lent (r .design) cs ts ms (p .held)) p
@@ -113,7 +114,7 @@ module _ (script : List ℕ) (cs₀ : Cells) (ts₀ ms₀ words : List ℕ) (r :
         part = record {
           fits = omega (arith, wrote-long o o′ 0 (p .end) _ (first .wrote));
           whole = begins-whole (readInto script cs₀ ts₀ ms₀) refl ∙
-              ap (λ (t : List ℕ). t ++ restOf script (lent (r .design) cs ts ms (p .held)) words p)
+              ap (λ (t : List ℕ). t ++ restOf script (lent (r .design) cs ts ms (p .held)) outs p)
               (sym (front o o′ (p .end) _ (first .wrote) (omega arith)));
         };
         ready = λ m. begins-ready small stored m (r .verdict) refl;
@@ -121,16 +122,16 @@ module _ (script : List ℕ) (cs₀ : Cells) (ts₀ ms₀ words : List ℕ) (r :
 
 -- ---- the next part
 
-pub continues : (script : List ℕ) (s : State) (words : List ℕ) (from p : Progress) (o o′ m w : List ℕ) (q : Progress) →
-    p .at ≡ from .at → p .number ≡ from .number → p .more ≡ from .more → p .end ≡ 0 → Printed script s words p o o′ m w q → q .end ≤ length o →
-    (q .more ≡ true → (p .at < q .at) × (q .at < length script) × (q .number ≤ q .at)) → Continues script s words from o′ m w q
+pub continues : (script : List ℕ) (s : State) (outs : Outputs) (from p : Progress) (o o′ m : List ℕ) (w : Outputs) (q : Progress) →
+    p .at ≡ from .at → p .number ≡ from .number → p .more ≡ from .more → p .end ≡ 0 → Printed script s outs p o o′ m w q → q .end ≤ length o →
+    (q .more ≡ true → (p .at < q .at) × (q .at < length script) × (q .number ≤ q .at)) → Continues script s outs from o′ m w q
 unfolding restOf
-continues script s words from p o o′ m w q a n e z r l f =
+continues script s outs from p o o′ m w q a n e z r l f =
     let wrote = subst (λ (k : ℕ). Wrote o o′ k (q .end) (r .part)) z (r .wrote) in
     record {
       part = record {
         fits = omega (arith, wrote-long o o′ 0 (q .end) _ wrote);
-        whole = (λ x. cond (sym e x) (textAt script s words (sym n x) (sym a x)) []) ∙ r .whole ∙
+        whole = (λ x. cond (sym e x) (textAt script s outs (sym n x) (sym a x)) []) ∙ r .whole ∙
             ap (λ (t : List ℕ). t ++ restOf script (stateWith s m (q .held)) w q) (sym (front o o′ (q .end) (r .part) wrote l));
       };
       ready = λ h. record { sound = r .sound; at = f h .1; number = f h .2 };
@@ -140,14 +141,14 @@ continues script s words from p o o′ m w q a n e z r l f =
 -- ---- handing over
 
 -- where the part that the buffer has stands in the report: behind the `done` bytes that were handed over. The last field bounds their number.
-pub record Standing (script : List ℕ) (s : State) (words : List ℕ) (p : Progress) (out : List ℕ) (done : ℕ) : Type 0 where
+pub record Standing (script : List ℕ) (s : State) (outs : Outputs) (p : Progress) (out : List ℕ) (done : ℕ) : Type 0 where
   pub within : done ≤ length (deskReport script)
-  pub part : Part (drop done (deskReport script)) out (p .end) (restOf script s words p)
+  pub part : Part (drop done (deskReport script)) out (p .end) (restOf script s outs p)
   pub ready : p .more ≡ true → NextReady script s p
-  pub small : done + p .end + 65536 * turns script p ≤ 65536 * 65540
+  pub small : done + p .end + 81920 * turns script p ≤ 81920 * 65540
 
-pub standing-first : (script : List ℕ) (cs : Cells) (ts ms o : List ℕ) (r : Beginning) → Begins script lentBuffers cs ts ms o r → length o ≡ 65536 → length script ≤ 65537 →
-    Standing script (lent (r .design) cs ts ms (r .progress .held)) (replicate 4096 0) (r .progress) o 0
+pub standing-first : (script : List ℕ) (cs : Cells) (ts ms o : List ℕ) (r : Beginning) → Begins script lentBuffers cs ts ms o r → length o ≡ 81920 → length script ≤ 65537 →
+    Standing script (lent (r .design) cs ts ms (r .progress .held)) (lentBuffers .outputs) (r .progress) o 0
 unfolding deskReport
 standing-first script cs ts ms o r f l k =
     record {
@@ -157,26 +158,26 @@ standing-first script cs ts ms o r f l k =
       small = omega (arith, f .part .fits, turns-few script (r .progress));
     }
 
-module _ (script : List ℕ) (s : State) (words : List ℕ) (p : Progress) (out : List ℕ) (done : ℕ) (h : Standing script s words p out done) where
+module _ (script : List ℕ) (s : State) (outs : Outputs) (p : Progress) (out : List ℕ) (done : ℕ) (h : Standing script s outs p out done) where
   pub stands : Stands (deskReport script) done (take (p .end) out)
   stands = record { here = sym (ap (take (length (take (p .end) out))) (h .part .whole) ∙ take-append-seam (take (p .end) out) _) }
 
   long : length (take (p .end) out) ≡ p .end
   long = length-take-le (p .end) out (h .part .fits)
 
-  behind : drop (done + p .end) (deskReport script) ≡ restOf script s words p
+  behind : drop (done + p .end) (deskReport script) ≡ restOf script s outs p
   behind = sym (drop-drop (p .end) done (deskReport script)) ∙ ap (drop (p .end)) (h .part .whole) ∙ drop-at (take (p .end) out) _ (p .end) long
 
   reached : done + p .end ≤ length (deskReport script)
   reached =
-      omega (arith, h .within, long, length-drop done (deskReport script), ap length (h .part .whole), length-append (take (p .end) out) (restOf script s words p))
+      omega (arith, h .within, long, length-drop done (deskReport script), ap length (h .part .whole), length-append (take (p .end) out) (restOf script s outs p))
 
   -- h′ is what handing the part over gave
   module _ (h′ : Handed) (sum : h′ .bytes ≡ cond (h′ .well) (done + length (take (p .end) out)) done) where
     counted : h′ .well ≡ true → h′ .bytes ≡ done + p .end
     counted e = omega (arith, long, sum ∙ cond-true (h′ .well) _ _ e)
 
-    pub standing-next : h′ .well ≡ true → p .more ≡ true → (o m w : List ℕ) (q : Progress) → Continues script s words p o m w q → length o ≡ 65536 →
+    pub standing-next : h′ .well ≡ true → p .more ≡ true → (o m : List ℕ) (w : Outputs) (q : Progress) → Continues script s outs p o m w q → length o ≡ 81920 →
         Standing script (stateWith s m (q .held)) w q o (h′ .bytes)
     standing-next t e o m w q f l =
         record {
@@ -191,7 +192,7 @@ module _ (script : List ℕ) (s : State) (words : List ℕ) (p : Progress) (out 
     handed-all t e =
         record {
           within = omega (arith, counted t, reached);
-          whole = λ k. omega (arith, counted t, reached, length-drop (done + p .end) (deskReport script), ap length (behind ∙ report-ends script s words p e));
+          whole = λ k. omega (arith, counted t, reached, length-drop (done + p .end) (deskReport script), ap length (behind ∙ report-ends script s outs p e));
         }
 
     pub handed-some : h′ .well ≡ false → HandedOver (deskReport script) h′

@@ -11,9 +11,10 @@ use Rattle.format.specs.declared.verdict.Verdict.the-variants.{Accepted}
 use Rattle.format.specs.declared.verdict.DesignReading.{DesignReading}
 use Rattle.format.specs.Reading.{readInto, Leaves}
 use Rattle.format.proofs.Small.{Small}
+use Rattle.script.specs.Step.{outputs}
 use Rattle.script.specs.Runs.{buffers}
 use Rattle.script.proofs.RanLaws.{start-sound}
 
 pub started : (script : List ℕ) (cs₀ : Cells) (ts₀ ms₀ : List ℕ) (r : DesignReading) (cs : Cells) (ts ms : List ℕ) → Leaves (readInto script cs₀ ts₀ ms₀) r cs₀ cs ts₀ ts ms₀ ms →
     Small script → Stored cs → (j : ℕ) → r .verdict ≡ Accepted j → sound (lent (r .design) cs ts ms noneHeld) ≡ true
-started script cs₀ ts₀ ms₀ r cs ts ms read small stored j v = start-sound script (buffers cs₀ ts₀ ms₀ []) r cs ts ms read noneHeld refl small stored j v
+started script cs₀ ts₀ ms₀ r cs ts ms read small stored j v = start-sound script (buffers cs₀ ts₀ ms₀ (outputs [] [])) r cs ts ms read noneHeld refl small stored j v

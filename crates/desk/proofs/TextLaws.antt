@@ -19,7 +19,7 @@ use Rattle.state.specs.Lent.{State, lent, sound}
 use Rattle.report.specs.Report.{commandLine, listLines}
 use Rattle.report.proofs.Lengths.{list-lines-reach}
 use Rattle.script.specs.declared.outcome.Step.{Step}
-use Rattle.script.specs.Step.{Stepped, stepAt, Does}
+use Rattle.script.specs.Step.{Outputs, Stepped, stepAt, Does}
 use Rattle.script.proofs.StepLaws.{step-on, step-sound}
 use Rattle.desk.specs.declared.reporting.Progress.{Progress}
 use Rattle.desk.specs.Printed.{listsIn, listsText, positionsAt, stepText, textFrom, textAt, restOf, stateWith, Printed}
@@ -62,23 +62,23 @@ lists-at {o} {o′} {k} {z} a words p p′ e w = subst (λ (n : ℕ). Wrote o o�
 
 -- what follows a step, with n more commands at the most
 abbrev textThen : ℕ → List ℕ → ℕ → Stepped → List ℕ
-textThen n script number r = cond (r .more) (textFrom n script (r .state) (r .words) (number + 1) (r .next)) []
+textThen n script number r = cond (r .more) (textFrom n script (r .state) (r .outputs) (number + 1) (r .next)) []
 
-module _ (script : List ℕ) (s : State) (words : List ℕ) (number i : ℕ) where
+module _ (script : List ℕ) (s : State) (outs : Outputs) (number i : ℕ) where
   -- no lines stand past the script's end
-  pub text-past : (n : ℕ) → length script ≤ i → textFrom n script s words number i ≡ []
+  pub text-past : (n : ℕ) → length script ≤ i → textFrom n script s outs number i ≡ []
   unfolding textFrom
   text-past zero l = refl
   text-past (suc n) l = cond-true (leb (length script) i) _ _ (le-leb _ _ l)
 
   text-step : (n : ℕ) → i < length script →
-      textFrom (suc n) script s words number i ≡ stepText script i number (stepAt s words script i) ++ textThen n script number (stepAt s words script i)
+      textFrom (suc n) script s outs number i ≡ stepText script i number (stepAt s outs script i) ++ textThen n script number (stepAt s outs script i)
   unfolding textFrom
   text-step n l = cond-false (leb (length script) i) _ _ (lt-leb _ _ l)
 
 module _ (script : List ℕ) where
   then-same : (n m number : ℕ) (r : Stepped) →
-      (r .more ≡ true → textFrom n script (r .state) (r .words) (number + 1) (r .next) ≡ textFrom m script (r .state) (r .words) (number + 1) (r .next)) →
+      (r .more ≡ true → textFrom n script (r .state) (r .outputs) (number + 1) (r .next) ≡ textFrom m script (r .state) (r .outputs) (number + 1) (r .next)) →
       textThen n script number r ≡ textThen m script number r
   then-same n m number r f =
       ⊎-elim (λ (q : r .more ≡ true). cond-true (r .more) _ _ q ∙ f q ∙ sym (cond-true (r .more) _ _ q))
@@ -86,41 +86,41 @@ module _ (script : List ℕ) where
       (dec (r .more))
 
   -- any two numbers of turns that are enough give the same lines
-  text-fuel : (n m : ℕ) (s : State) (words : List ℕ) (number i : ℕ) → length script ≤ n + i → length script ≤ m + i →
-      textFrom n script s words number i ≡ textFrom m script s words number i
-  text-fuel zero m s words number i h k = text-past script s words number i 0 (omega arith) ∙ sym (text-past script s words number i m (omega arith))
-  text-fuel (suc n) zero s words number i h k = text-past script s words number i (suc n) (omega arith) ∙ sym (text-past script s words number i 0 (omega arith))
-  text-fuel (suc n) (suc m) s words number i h k =
+  text-fuel : (n m : ℕ) (s : State) (outs : Outputs) (number i : ℕ) → length script ≤ n + i → length script ≤ m + i →
+      textFrom n script s outs number i ≡ textFrom m script s outs number i
+  text-fuel zero m s outs number i h k = text-past script s outs number i 0 (omega arith) ∙ sym (text-past script s outs number i m (omega arith))
+  text-fuel (suc n) zero s outs number i h k = text-past script s outs number i (suc n) (omega arith) ∙ sym (text-past script s outs number i 0 (omega arith))
+  text-fuel (suc n) (suc m) s outs number i h k =
       ⊎-elim (λ (q : leb (length script) i ≡ true). let l = leb-true (length script) i q in
-      text-past script s words number i (suc n) l ∙ sym (text-past script s words number i (suc m) l))
-      (λ (q : leb (length script) i ≡ false). let l = leb-false (length script) i q in let r = stepAt s words script i in
-      text-step script s words number i n l ∙
+      text-past script s outs number i (suc n) l ∙ sym (text-past script s outs number i (suc m) l))
+      (λ (q : leb (length script) i ≡ false). let l = leb-false (length script) i q in let r = stepAt s outs script i in
+      text-step script s outs number i n l ∙
       ap (λ (t : List ℕ). stepText script i number r ++ t)
-      (then-same n m number r (λ e. let g = step-on s words script i e in text-fuel n m (r .state) (r .words) (number + 1) (r .next) (omega arith) (omega arith))) ∙
-      sym (text-step script s words number i m l))
+      (then-same n m number r (λ e. let g = step-on s outs script i e in text-fuel n m (r .state) (r .outputs) (number + 1) (r .next) (omega arith) (omega arith))) ∙
+      sym (text-step script s outs number i m l))
       (dec (leb (length script) i))
 
 -- ---- one step
 
 -- what is to be printed behind a step: nothing where reading stops or the script ends
-module _ (script : List ℕ) (s : State) (words : List ℕ) (p : Progress) (more : p .more ≡ true) (below : p .at < length script) where
+module _ (script : List ℕ) (s : State) (outs : Outputs) (p : Progress) (more : p .more ≡ true) (below : p .at < length script) where
   abbrev r : Stepped
-  r = stepAt s words script (p .at)
+  r = stepAt s outs script (p .at)
 
-  turn : restOf script s words p ≡ stepText script (p .at) (p .number) r ++ textThen (length script) script (p .number) r
+  turn : restOf script s outs p ≡ stepText script (p .at) (p .number) r ++ textThen (length script) script (p .number) r
   unfolding restOf
   turn =
-      cond-true (p .more) _ _ more ∙ text-fuel script (length script) (suc (length script)) s words (p .number) (p .at) (omega arith) (omega arith) ∙
-      text-step script s words (p .number) (p .at) (length script) below
+      cond-true (p .more) _ _ more ∙ text-fuel script (length script) (suc (length script)) s outs (p .number) (p .at) (omega arith) (omega arith) ∙
+      text-step script s outs (p .number) (p .at) (length script) below
 
-  module _ (t : Step) (m w : List ℕ) (d : Does r t (stateWith s m (t .held)) w) (q : Progress) (at : q .at ≡ t .next) (number : q .number ≡ p .number + 1)
+  module _ (t : Step) (m : List ℕ) (w : Outputs) (d : Does r t (stateWith s m (t .held)) w) (q : Progress) (at : q .at ≡ t .next) (number : q .number ≡ p .number + 1)
       (on : q .more ≡ (t .more && ltb (t .next) (length script))) (held : q .held ≡ t .held) where
-    -- the code's state and words are the step's
+    -- the code's state and outs are the step's
     state-code : stateWith s m (q .held) ≡ r .state
     state-code = ap (stateWith s m) held ∙ d .state
 
     then-code : textThen (length script) script (p .number) r ≡ cond (t .more) (textAt script (stateWith s m (q .held)) w (q .number) (q .at)) []
-    then-code = sym (λ x. cond (d .more x) (textAt script (state-code x) (d .words x) (number x) ((at ∙ d .next) x)) [])
+    then-code = sym (λ x. cond (d .more x) (textAt script (state-code x) (d .outputs x) (number x) ((at ∙ d .next) x)) [])
 
     rest-code : (a b : Bool) → t .more ≡ a → ltb (t .next) (length script) ≡ b →
         cond (t .more) (textAt script (stateWith s m (q .held)) w (q .number) (q .at)) [] ≡ restOf script (stateWith s m (q .held)) w q
@@ -135,55 +135,56 @@ module _ (script : List ℕ) (s : State) (words : List ℕ) (p : Progress) (more
 
     -- the step's lines
     abbrev lines : List ℕ
-    lines = commandLine (p .number) (answerOf (t .answer)) (t .place) ++ listsText (answerOf (t .answer)) w (positionsAt script (p .at))
+    lines = commandLine (p .number) (answerOf (t .answer)) (t .place) (w .text) ++ listsText (answerOf (t .answer)) (w .words) (positionsAt script (p .at))
 
     line-code : stepText script (p .at) (p .number) r ≡ lines
     unfolding stepText
     line-code =
-        sym (λ x. commandLine (p .number) (d .answer x) (d .place x) ++ listsText (d .answer x) (d .words x) (positionsAt script (p .at)))
+        sym (λ x. commandLine (p .number) (d .answer x) (d .place x) (d .outputs x .text) ++
+        listsText (d .answer x) (d .outputs x .words) (positionsAt script (p .at)))
 
     -- and the rest
-    pub step-printed : (o o′ o″ : List ℕ) (z : ℕ) → Wrote o o′ (p .end) z (commandLine (p .number) (answerOf (t .answer)) (t .place)) →
-        Wrote o′ o″ z (q .end) (listsText (answerOf (t .answer)) w (positionsAt script (p .at))) → sound s ≡ true → Printed script s words p o o″ m w q
+    pub step-printed : (o o′ o″ : List ℕ) (z : ℕ) → Wrote o o′ (p .end) z (commandLine (p .number) (answerOf (t .answer)) (t .place) (w .text)) →
+        Wrote o′ o″ z (q .end) (listsText (answerOf (t .answer)) (w .words) (positionsAt script (p .at))) → sound s ≡ true → Printed script s outs p o o″ m w q
     step-printed o o′ o″ z a b e =
         record {
           part = lines;
           wrote = wrote-then o o′ o″ (p .end) z (q .end) _ _ a b;
           whole = turn ∙ (λ x. line-code x ++ (then-code ∙ rest-code (t .more) (ltb (t .next) (length script)) refl refl) x);
-          sound = ap sound state-code ∙ step-sound s words script (p .at) e;
+          sound = ap sound state-code ∙ step-sound s outs script (p .at) e;
         }
 
   -- where a command follows, it stands further on, and its number has grown by one
-  pub step-next : (t : Step) (s′ : State) (w : List ℕ) → Does r t s′ w → (on : Bool) → on ≡ (t .more && ltb (t .next) (length script)) → on ≡ true → p .number ≤ p .at →
+  pub step-next : (t : Step) (s′ : State) (w : Outputs) → Does r t s′ w → (on : Bool) → on ≡ (t .more && ltb (t .next) (length script)) → on ≡ true → p .number ≤ p .at →
       (p .at < t .next) × (t .next < length script) × (p .number + 1 ≤ t .next)
   step-next t s′ w d on e h l = go (t .more) (ltb (t .next) (length script)) refl refl
     where
       go : (a b : Bool) → t .more ≡ a → ltb (t .next) (length script) ≡ b → (p .at < t .next) × (t .next < length script) × (p .number + 1 ≤ t .next)
       go true true f g =
-          let n = step-on s words script (p .at) (sym (d .more) ∙ f) in
+          let n = step-on s outs script (p .at) (sym (d .more) ∙ f) in
           (omega (arith, d .next, n), ltb-true (t .next) (length script) g, omega (arith, d .next, n, l))
       go true false f g = clash h (e ∙ ap (λ (b : Bool). b && ltb (t .next) (length script)) f ∙ g)
       go false b f g = clash h (e ∙ ap (λ (b : Bool). b && ltb (t .next) (length script)) f)
 
   -- the lists of a step fit
-  pub step-fits : (t : Step) (s′ : State) (w : List ℕ) → Does r t s′ w → Within (positionsAt script (p .at)) (length words) (answerOf (t .answer))
-  step-fits t s′ w d = subst (Within (positionsAt script (p .at)) (length words)) (sym (d .answer)) (step-within s words script (p .at))
+  pub step-fits : (t : Step) (s′ : State) (w : Outputs) → Does r t s′ w → Within (positionsAt script (p .at)) (length (outs .words)) (answerOf (t .answer))
+  step-fits t s′ w d = subst (Within (positionsAt script (p .at)) (length (outs .words))) (sym (d .answer)) (step-within s outs script (p .at))
 
 -- ---- part behind part
 
-pub printed-none : (script : List ℕ) (s : State) (words : List ℕ) (p : Progress) (o : List ℕ) → sound (stateWith s (s .marks) (p .held)) ≡ true → s .held ≡ p .held →
-    Printed script s words p o o (s .marks) words p
-printed-none script s words p o e h =
+pub printed-none : (script : List ℕ) (s : State) (outs : Outputs) (p : Progress) (o : List ℕ) → sound (stateWith s (s .marks) (p .held)) ≡ true → s .held ≡ p .held →
+    Printed script s outs p o o (s .marks) outs p
+printed-none script s outs p o e h =
     record {
       part = [];
       wrote = wrote-none o (p .end);
-      whole = λ x. restOf script (lent (s .design) (s .cells) (s .tables) (s .marks) (h x)) words p;
+      whole = λ x. restOf script (lent (s .design) (s .cells) (s .tables) (s .marks) (h x)) outs p;
       sound = e;
     }
 
-pub printed-then : (script : List ℕ) (s : State) (words : List ℕ) (p : Progress) (o o′ m w : List ℕ) (q : Progress) (o″ m′ w′ : List ℕ) (z : Progress) →
-    Printed script s words p o o′ m w q → Printed script (stateWith s m (q .held)) w q o′ o″ m′ w′ z → Printed script s words p o o″ m′ w′ z
-printed-then script s words p o o′ m w q o″ m′ w′ z a b =
+pub printed-then : (script : List ℕ) (s : State) (outs : Outputs) (p : Progress) (o o′ m : List ℕ) (w : Outputs) (q : Progress) (o″ m′ : List ℕ) (w′ : Outputs) (z : Progress) →
+    Printed script s outs p o o′ m w q → Printed script (stateWith s m (q .held)) w q o′ o″ m′ w′ z → Printed script s outs p o o″ m′ w′ z
+printed-then script s outs p o o′ m w q o″ m′ w′ z a b =
     record {
       part = a .part ++ b .part;
       wrote = wrote-then o o′ o″ (p .end) (q .end) (z .end) (a .part) (b .part) (a .wrote) (b .wrote);
@@ -194,9 +195,10 @@ printed-then script s words p o o′ m w q o″ m′ w′ z a b =
 -- ---- room
 
 -- n lists of p words fit the words and the buffer
-pub room-for : (n p p′ words words′ end z room : ℕ) → p ≡ p′ → n * p′ ≤ words → words ≤ words′ → words ≤ 4096 → z ≤ end + 391 → end + 45456 ≤ room →
+pub room-for : (n p p′ words words′ end z text room : ℕ) → p ≡ p′ → n * p′ ≤ words → words ≤ words′ → words ≤ 4096 → z ≤ end + (391 + text) → text ≤ 16384 →
+    end + 61840 ≤ room →
     (n * p ≤ words′) × (z + 11 * (n * p) + 9 ≤ room)
-room-for n p p′ words words′ end z room e f l m a b =
+room-for n p p′ words words′ end z text room e f l m a k b =
     let g : n * p ≤ words = subst (λ (x : ℕ). n * x ≤ words) (sym e) f in
     (omega arith, omega arith)
 

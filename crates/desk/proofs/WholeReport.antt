@@ -13,6 +13,7 @@ use Rattle.state.specs.Lent.{State}
 use Rattle.format.specs.Reading.{Draft}
 use Rattle.format.specs.Reading.DesignRead.{accepted}
 use Rattle.report.specs.Report.{designLine}
+use Rattle.script.specs.Step.{Outputs}
 use Rattle.script.specs.Runs.{Buffers, justRead}
 use Rattle.desk.specs.declared.reporting.Progress.{Progress}
 use Rattle.desk.specs.Printed.{textAt, restOf, reportOf}
@@ -20,15 +21,15 @@ use Rattle.desk.proofs.TextLaws.{text-past}
 
 -- THEOREM: the report of an accepted design is its line, and what is still to be printed at the place after its END
 pub report-begins : (script : List ℕ) (b : Buffers) (p : Draft) (i : ℕ) (q : Progress) → q .at ≡ i → q .number ≡ 0 → q .more ≡ ltb i (length script) →
-    reportOf script b (accepted p i) ≡ designLine (p .design) ++ restOf script (justRead (accepted p i) b) (b .words) q
+    reportOf script b (accepted p i) ≡ designLine (p .design) ++ restOf script (justRead (accepted p i) b) (b .outputs) q
 unfolding restOf
 report-begins script b p i q a n m = ap (λ (t : List ℕ). designLine (p .design) ++ t) (sym (rest (q .more) (q .number) (q .at) a n m))
   where
     lines : List ℕ
-    lines = textAt script (justRead (accepted p i) b) (b .words) 0 i
+    lines = textAt script (justRead (accepted p i) b) (b .outputs) 0 i
 
     rest : (more : Bool) (number at : ℕ) → at ≡ i → number ≡ 0 → more ≡ ltb i (length script) →
-        cond more (textAt script (justRead (accepted p i) b) (b .words) number at) [] ≡ lines
+        cond more (textAt script (justRead (accepted p i) b) (b .outputs) number at) [] ≡ lines
     rest more number at a n m =
         ⊎-elim
         (λ (t : ltb i (length script) ≡ true). rw (m ∙ t, a, n))
@@ -36,6 +37,6 @@ report-begins script b p i q a n m = ap (λ (t : List ℕ). designLine (p .desig
         (dec (ltb i (length script)))
 
 -- THEOREM: where no command follows, nothing is left to be printed
-pub report-ends : (script : List ℕ) (s : State) (words : List ℕ) (q : Progress) → q .more ≡ false → restOf script s words q ≡ []
+pub report-ends : (script : List ℕ) (s : State) (outs : Outputs) (q : Progress) → q .more ≡ false → restOf script s outs q ≡ []
 unfolding restOf
-report-ends script s words q m = rw m
+report-ends script s outs q m = rw m

@@ -13,6 +13,7 @@ use Rattle.state.specs.Lent.{State, lent, sound}
 use Rattle.format.specs.declared.verdict.Verdict.{Verdict}
 use Rattle.format.specs.declared.verdict.Verdict.the-variants.{Accepted, Refused}
 use Rattle.report.specs.Report.{designLine, refusalLine}
+use Rattle.script.specs.Step.{Outputs, outputs}
 use Rattle.script.specs.Runs.{Buffers, buffers, readingOf}
 use Rattle.desk.specs.declared.reporting.Progress.{Progress}
 use Rattle.desk.specs.declared.parts.Beginning.{Beginning}
@@ -59,20 +60,22 @@ pub record NextReady (script : List ℕ) (s : State) (p : Progress) : Type 0 whe
 -- what `begin` gives, where b was lent and the rows, their tables and the marks are then cs, ts and ms: the buffer o has the first part of the report
 pub record Begins (script : List ℕ) (b : Buffers) (cs : Cells) (ts ms o : List ℕ) (r : Beginning) : Type 0 where
   pub part : Part (reportOf script b (readingOf script b)) o (r .progress .end)
-      (restOf script (lent (r .design) cs ts ms (r .progress .held)) (b .words) (r .progress))
+      (restOf script (lent (r .design) cs ts ms (r .progress .held)) (b .outputs) (r .progress))
   pub ready : r .progress .more ≡ true → NextReady script (lent (r .design) cs ts ms (r .progress .held)) (r .progress)
 
--- what `next_part` gives, from p to q: the buffer o has the next part. The marks m and the answer words w are those afterwards.
-pub record Continues (script : List ℕ) (s : State) (words : List ℕ) (p : Progress) (o m w : List ℕ) (q : Progress) : Type 0 where
-  pub part : Part (restOf script s words p) o (q .end) (restOf script (stateWith s m (q .held)) w q)
+-- what `next_part` gives, from p to q: the buffer o has the next part. The marks m, and w, which is lent for
+-- answers, are those afterwards.
+pub record Continues (script : List ℕ) (s : State) (outs : Outputs) (p : Progress) (o m : List ℕ) (w : Outputs) (q : Progress) : Type 0 where
+  pub part : Part (restOf script s outs p) o (q .end) (restOf script (stateWith s m (q .held)) w q)
   pub ready : q .more ≡ true → NextReady script (stateWith s m (q .held)) q
   pub on : q .more ≡ true → p .at < q .at
 
 -- ---- the whole report of a script
 
--- what the desk lends: cells, issues, row tables, marks and answer words, all 0
+-- what the desk lends: cells, issues, row tables, marks, answer words and text ("the program lends 16,384 bytes"), all 0
 abbrev pub lentBuffers : Buffers
-lentBuffers = buffers (cellsIn (replicate 4096 0) (replicate 4096 0)) (replicate 512 0) (replicate 512 0) (replicate 4096 0)
+lentBuffers = buffers (cellsIn (replicate 4096 0) (replicate 4096 0)) (replicate 512 0) (replicate 512 0)
+    (outputs (replicate 4096 0) (replicate 16384 0))
 
 unfoldable pub deskReport : List ℕ → List ℕ
 deskReport script = reportOf script lentBuffers (readingOf script lentBuffers)

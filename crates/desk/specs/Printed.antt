@@ -13,7 +13,7 @@ use Rattle.format.specs.Bytes.{byteAt}
 use Rattle.format.specs.Reading.{DesignRead}
 use Rattle.format.specs.Reading.DesignRead.{accepted, refusedAt}
 use Rattle.report.specs.Report.{commandLine, designLine, refusalLine, listLines}
-use Rattle.script.specs.Step.{Stepped, stepAt}
+use Rattle.script.specs.Step.{Outputs, Stepped, stepAt}
 use Rattle.script.specs.Runs.{Buffers, justRead}
 use Rattle.desk.specs.declared.reporting.Progress.{Progress}
 
@@ -32,39 +32,39 @@ positionsAt script i = byteAt script (i + 7) + 1
 -- the lines of the command at place i
 unfoldable pub stepText : List ℕ → ℕ → ℕ → Stepped → List ℕ
 stepText script i number r =
-    commandLine number (r .answer) (r .place) ++ listsText (r .answer) (r .words) (positionsAt script i)
+    commandLine number (r .answer) (r .place) (r .outputs .text) ++ listsText (r .answer) (r .outputs .words) (positionsAt script i)
 
 -- "for each command after END, a faulty one too": the lines from place i on, with n more commands at the most. "After 1 or 2 the program stops"
-unfoldable pub textFrom : ℕ → List ℕ → State → List ℕ → ℕ → ℕ → List ℕ
-textFrom zero script s words number i = []
-textFrom (suc n) script s words number i =
+unfoldable pub textFrom : ℕ → List ℕ → State → Outputs → ℕ → ℕ → List ℕ
+textFrom zero script s outs number i = []
+textFrom (suc n) script s outs number i =
     cond (leb (length script) i) []
-    (let r = stepAt s words script i in
-    stepText script i number r ++ cond (r .more) (textFrom n script (r .state) (r .words) (number + 1) (r .next)) [])
+    (let r = stepAt s outs script i in
+    stepText script i number r ++ cond (r .more) (textFrom n script (r .state) (r .outputs) (number + 1) (r .next)) [])
 
 -- a command takes at least one byte
-abbrev pub textAt : List ℕ → State → List ℕ → ℕ → ℕ → List ℕ
-textAt script s words number i = textFrom (length script) script s words number i
+abbrev pub textAt : List ℕ → State → Outputs → ℕ → ℕ → List ℕ
+textAt script s outs number i = textFrom (length script) script s outs number i
 
 -- the whole report, where the buffers b are lent
 abbrev pub reportOf : List ℕ → Buffers → DesignRead → List ℕ
-reportOf script b (accepted p i) = designLine (p .design) ++ textAt script (justRead (accepted p i) b) (b .words) 0 i
+reportOf script b (accepted p i) = designLine (p .design) ++ textAt script (justRead (accepted p i) b) (b .outputs) 0 i
 reportOf script b (refusedAt n i) = refusalLine n i
 
 -- ---- part by part
 
 -- what is still to be printed
-unfoldable pub restOf : List ℕ → State → List ℕ → Progress → List ℕ
-restOf script s words p = cond (p .more) (textAt script s words (p .number) (p .at)) []
+unfoldable pub restOf : List ℕ → State → Outputs → Progress → List ℕ
+restOf script s outs p = cond (p .more) (textAt script s outs (p .number) (p .at)) []
 
 -- the state with what an operation can change
 abbrev pub stateWith : State → List ℕ → Held → State
 stateWith s marks h = lent (s .design) (s .cells) (s .tables) marks h
 
 -- The part of the report that was written into the buffer, o before and o′ after, between p and q: with what is left it is what was left before.
--- The marks m and the answer words w are those afterwards.
-pub record Printed (script : List ℕ) (s : State) (words : List ℕ) (p : Progress) (o o′ m w : List ℕ) (q : Progress) : Type 0 where
+-- The marks m, and w, which is lent for answers, are those afterwards.
+pub record Printed (script : List ℕ) (s : State) (outs : Outputs) (p : Progress) (o o′ m : List ℕ) (w : Outputs) (q : Progress) : Type 0 where
   pub part : List ℕ
   pub wrote : Wrote o o′ (p .end) (q .end) part
-  pub whole : restOf script s words p ≡ part ++ restOf script (stateWith s m (q .held)) w q
+  pub whole : restOf script s outs p ≡ part ++ restOf script (stateWith s m (q .held)) w q
   pub sound : sound (stateWith s m (q .held)) ≡ true

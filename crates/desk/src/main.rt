@@ -27,7 +27,7 @@ pub struct Handed {
 // script is there for the contract alone, and so is the bound, of 65,540 full buffers: a sum below it fits.
 fn write_part(script: &[u8], done: usize, part: &[u8]) -> Handed
     requires { ⌜ Stands (deskReport (now script)) done (now part) ⌝ }
-    requires { ⌜ done ≤ 65536 * 65540 ⌝ }
+    requires { ⌜ done ≤ 81920 * 65540 ⌝ }
     ensures { λ h. ⌜ h .bytes ≡ cond (h .well) (done + length (now (part .entry))) done ⌝ }
 {
     if !io::write_all(1, part) {
@@ -53,7 +53,8 @@ fn write_report(script: &[u8]) -> Handed
     let mut tables = [0u8; 512];
     let mut marks = [0u8; 512];
     let mut words = [0u32; 4096];
-    let mut out = [0u8; 65536];
+    let mut text = [0u8; 16384];
+    let mut out = [0u8; 81920];
     let mut next = [512u16; 4096];
     let mut first = [512u16; 8192];
     let mut keys = [0u64; 4096];
@@ -103,6 +104,7 @@ fn write_report(script: &[u8]) -> Handed
             &starts,
             &mut marks,
             &mut words,
+            &mut text,
             &mut weights,
             &mut sums,
             &mut froms,

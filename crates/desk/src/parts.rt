@@ -1,13 +1,13 @@
 // The report part by part, both verdicts alike: `begin` puts the first text into a lent buffer, and `next_part` the part behind the one that the
 // buffer has. The parts, one behind the other, are the report (specs/Parts.antt).
-ghost use Prim.Native.Nat.{ℕ, _≤_};
+ghost use Prim.Native.Nat.{_≤_};
 ghost use mathlib.Core.Bool.{true};
-ghost use mathlib.Core.List.{List};
 ghost use mathlib.Core.Path.{_≡_};
 ghost use lib.ListN.{length};
 ghost use Rattle.state.specs.Cells.{cellsIn};
 ghost use Rattle.state.specs.Lent.{lent};
 ghost use Rattle.catalog.specs.Catalog.{Catalogued};
+ghost use Rattle.script.specs.Step.{Outputs, outputs};
 ghost use Rattle.script.specs.Runs.{buffers};
 ghost use Rattle.desk.specs.Parts.{First, NextReady, Begins, Continues};
 use crate::reporting::Progress;
@@ -72,7 +72,7 @@ pub(crate) fn begin(
     out: &mut [u8],
 ) -> Beginning
     requires { ⌜ 91 ≤ length (now out) ⌝ }
-    ensures { λ r. ⌜ ((w : List ℕ) → Begins (now (script .entry)) (buffers (cellsIn (now (cells .entry)) (now (issues .entry))) (now (tables .entry)) (now (marks .entry)) w)
+    ensures { λ r. ⌜ ((w : Outputs) → Begins (now (script .entry)) (buffers (cellsIn (now (cells .entry)) (now (issues .entry))) (now (tables .entry)) (now (marks .entry)) w)
         (cellsIn (now (cells .exit)) (now (issues .exit))) (now (tables .exit)) (now (marks .exit)) (now (out .exit)) r) ⌝ }
     ensures { λ r. ⌜ (r .progress .more ≡ true → Catalogued (r .design) (cellsIn (now (cells .exit)) (now (issues .exit))) (now (tables .exit))
         (now (next .exit)) (now (first .exit)) (now (keys .exit)) (now (heads .exit)) (now (starts .exit))) ⌝ }
@@ -110,6 +110,7 @@ pub(crate) fn next_part(
     starts: &[u16; 65],
     marks: &mut [u8],
     words: &mut [u32],
+    text: &mut [u8],
     weights: &mut [u64; 2560],
     sums: &mut [u64; 2560],
     froms: &mut [u16; 2560],
@@ -118,9 +119,9 @@ pub(crate) fn next_part(
 ) -> Progress
     requires { ⌜ NextReady (now script) (lent design (cellsIn (now cells) (now issues)) (now tables) (now marks) (from .held)) from
         × Catalogued design (cellsIn (now cells) (now issues)) (now tables) (now next) (now first) (now keys) (now heads) (now starts) ⌝ }
-    requires { ⌜ (length (now words) ≤ 4096) × (length (now out) ≡ 65536) ⌝ }
+    requires { ⌜ (length (now words) ≤ 4096) × (length (now text) ≤ 16384) × (length (now out) ≡ 81920) ⌝ }
     ensures { λ q. ⌜ Continues (now (script .entry)) (lent design (cellsIn (now (cells .entry)) (now (issues .entry))) (now (tables .entry)) (now (marks .entry)) (from .held))
-        (now (words .entry)) from (now (out .exit)) (now (marks .exit)) (now (words .exit)) q ⌝ }
+        (outputs (now (words .entry)) (now (text .entry))) from (now (out .exit)) (now (marks .exit)) (outputs (now (words .exit)) (now (text .exit))) q ⌝ }
 {
     let mut p = from;
     p.end = 0;
@@ -138,6 +139,7 @@ pub(crate) fn next_part(
         starts,
         marks,
         words,
+        text,
         weights,
         sums,
         froms,

@@ -11,6 +11,7 @@ ghost use Rattle.state.specs.Cells.{cellsIn};
 ghost use Rattle.state.specs.Meaning.{answerOf};
 ghost use Rattle.state.specs.Lent.{lent, sound};
 ghost use Rattle.catalog.specs.Catalog.{Catalogued};
+ghost use Rattle.script.specs.Step.{outputs};
 ghost use Rattle.desk.specs.Printed.{listsIn, listsText, positionsAt, Printed};
 use report::put_command_line;
 use report::put_list_lines;
@@ -72,7 +73,7 @@ fn goes_on(script: &[u8], more: bool, after: usize) -> bool
     after < script.len()
 }
 
-// One step, and its lines: at most 391 bytes, and 11 for each of 4,096 words; there must be 9 more. The cost of the operation, and of its lines.
+// One step, and its lines: at most 391 bytes, 16,384 of text, and 11 for each of 4,096 words; there must be 9 more. The cost of the operation, and of its lines.
 fn report_step(
     script: &[u8],
     from: Progress,
@@ -87,6 +88,7 @@ fn report_step(
     starts: &[u16; 65],
     marks: &mut [u8],
     words: &mut [u32],
+    text: &mut [u8],
     weights: &mut [u64; 2560],
     sums: &mut [u64; 2560],
     froms: &mut [u16; 2560],
@@ -96,10 +98,10 @@ fn report_step(
     requires { ⌜ (sound (lent design (cellsIn (now cells) (now issues)) (now tables) (now marks) (from .held)) ≡ true)
         × Catalogued design (cellsIn (now cells) (now issues)) (now tables) (now next) (now first) (now keys) (now heads) (now starts) ⌝ }
     requires { ⌜ (from .more ≡ true) × (from .at < length (now script)) × (from .number ≤ from .at) × (length (now words) ≤ 4096)
-        × (from .end + 45456 ≤ length (now out)) ⌝ }
+        × (length (now text) ≤ 16384) × (from .end + 61840 ≤ length (now out)) ⌝ }
     ensures { λ q. ⌜ Printed (now (script .entry)) (lent design (cellsIn (now (cells .entry)) (now (issues .entry))) (now (tables .entry)) (now (marks .entry)) (from .held))
-        (now (words .entry)) from (now (out .entry)) (now (out .exit)) (now (marks .exit)) (now (words .exit)) q ⌝ }
-    ensures { λ q. ⌜ (q .end ≤ from .end + 45447)
+        (outputs (now (words .entry)) (now (text .entry))) from (now (out .entry)) (now (out .exit)) (now (marks .exit)) (outputs (now (words .exit)) (now (text .exit))) q ⌝ }
+    ensures { λ q. ⌜ (q .end ≤ from .end + 61831)
         × (q .more ≡ true → (from .at < q .at) × (q .at < length (now (script .entry))) × (q .number ≤ q .at)) ⌝ }
 {
     let at = from.at;
@@ -119,13 +121,14 @@ fn report_step(
         marks,
         held,
         words,
+        text,
         weights,
         sums,
         froms,
         links,
     );
     let answer = step.answer;
-    let z = put_command_line(out, from.end, from.number, answer, step.place);
+    let z = put_command_line(out, from.end, from.number, answer, step.place, text);
     let p = positions_at(script, at);
     let end = put_lists(out, z, answer, words, p);
     let kept = step.held;
@@ -139,7 +142,7 @@ fn report_step(
     }
 }
 
-// A buffer of 65,536 bytes is full where its text has more than these: up to here a step's lines fit behind it.
+// A buffer of 81,920 bytes is full where its text has more than these: up to here a step's lines fit behind it.
 const FULL: usize = 16384;
 
 // Steps and their lines until there is no command left or the buffer is full. The cost of the operations, and of the text.
@@ -157,6 +160,7 @@ pub(crate) fn fill(
     starts: &[u16; 65],
     marks: &mut [u8],
     words: &mut [u32],
+    text: &mut [u8],
     weights: &mut [u64; 2560],
     sums: &mut [u64; 2560],
     froms: &mut [u16; 2560],
@@ -166,10 +170,10 @@ pub(crate) fn fill(
     requires { ⌜ (sound (lent design (cellsIn (now cells) (now issues)) (now tables) (now marks) (from .held)) ≡ true)
         × Catalogued design (cellsIn (now cells) (now issues)) (now tables) (now next) (now first) (now keys) (now heads) (now starts) ⌝ }
     requires { ⌜ (from .more ≡ true → (from .at < length (now script)) × (from .number ≤ from .at)) × (length (now words) ≤ 4096)
-        × (from .end ≤ 16384) × (length (now out) ≡ 65536) ⌝ }
+        × (length (now text) ≤ 16384) × (from .end ≤ 16384) × (length (now out) ≡ 81920) ⌝ }
     ensures { λ q. ⌜ Printed (now (script .entry)) (lent design (cellsIn (now (cells .entry)) (now (issues .entry))) (now (tables .entry)) (now (marks .entry)) (from .held))
-        (now (words .entry)) from (now (out .entry)) (now (out .exit)) (now (marks .exit)) (now (words .exit)) q ⌝ }
-    ensures { λ q. ⌜ (q .end ≤ 65536) × (q .more ≡ true → (from .at < q .at) × (q .at < length (now (script .entry))) × (q .number ≤ q .at)) ⌝ }
+        (outputs (now (words .entry)) (now (text .entry))) from (now (out .entry)) (now (out .exit)) (now (marks .exit)) (outputs (now (words .exit)) (now (text .exit))) q ⌝ }
+    ensures { λ q. ⌜ (q .end ≤ 81920) × (q .more ≡ true → (from .at < q .at) × (q .at < length (now (script .entry))) × (q .number ≤ q .at)) ⌝ }
 {
     let mut p = from;
     loop {
@@ -193,6 +197,7 @@ pub(crate) fn fill(
             starts,
             marks,
             words,
+            text,
             weights,
             sums,
             froms,

@@ -5,24 +5,26 @@ use mathlib.Core.Path.{_≡_, refl, sym}
 use mathlib.Core.Bool.{true}
 use borrow.Author.Needs.{needs}
 use borrow.Author.Tests.{not-true, not-false}
-use lib.ListN.{length, replicate, length-take}
+use lib.ListN.{length, length-take}
 use Rattle.state.specs.Cells.{cellsIn}
 use Rattle.state.specs.Lent.{lent}
 use Rattle.catalog.specs.Catalog.{Catalogued}
+use Rattle.script.specs.Step.{outputs}
+use Rattle.desk.specs.Parts.{lentBuffers}
 use Rattle.desk.proofs.TextLaws.{turns, turns-less}
 use Rattle.desk.proofs.PartLaws.{Standing, standing-first, stands, standing-next, handed-all, handed-some}
 use Rattle.desk.proofs.write_report.Statement.{statement}
 use Rattle.desk.proofs.write_report.Tie as tie
 
 abbrev Inv-loop : tie.InvT-loop
-Inv-loop script cells issues tables marks₀ words₀ out₀ next first keys heads starts weights₀ sums₀ froms₀ links₀ design p₀ done₀ marks words out weights sums froms links p
+Inv-loop script cells issues tables marks₀ words₀ text₀ out₀ next first keys heads starts weights₀ sums₀ froms₀ links₀ design p₀ done₀ marks words text out weights sums froms links p
     done =
-    Standing script (lent design (cellsIn cells issues) tables marks (p .held)) words p out done ×
+    Standing script (lent design (cellsIn cells issues) tables marks (p .held)) (outputs words text) p out done ×
     (p .more ≡ true → Catalogued design (cellsIn cells issues) tables next first keys heads starts) ×
-    (length cells ≡ 4096) × (length issues ≡ 4096) × (length tables ≡ 512) × (length marks ≡ 512) × (length words ≡ 4096) × (length out ≡ 65536)
+    (length cells ≡ 4096) × (length issues ≡ 4096) × (length tables ≡ 512) × (length marks ≡ 512) × (length words ≡ 4096) × (length text ≡ 16384) × (length out ≡ 81920)
 
 abbrev μ-loop : tie.MeasureT-loop
-μ-loop script cells issues tables marks₀ words₀ out₀ next first keys heads starts weights₀ sums₀ froms₀ links₀ design p₀ done₀ marks words out weights sums froms links p
+μ-loop script cells issues tables marks₀ words₀ text₀ out₀ next first keys heads starts weights₀ sums₀ froms₀ links₀ design p₀ done₀ marks words text out weights sums froms links p
     done = turns script p
 
 slice-aggregate-begin : tie.Need-slice-aggregate-begin Inv-loop μ-loop
@@ -45,18 +47,19 @@ begin-requires c κs = search needs
 
 loop-holds : tie.Need-loop-holds Inv-loop μ-loop
 loop-holds c = (
-  standing-first _ _ _ _ _ _ (c .before .before .before .before .before .before .before .begin .ensures .0 (replicate 4096 0)) (omega (arith, c .before .before .out2 .given)) (c .before .before .before .before .before .before .before .before .before .before .before .before .before .before .before .before .before .before .before .pre),
+  standing-first _ _ _ _ _ _ (c .before .before .before .before .before .before .before .begin .ensures .0 (lentBuffers .outputs)) (omega (arith, c .before .before .out2 .given)) (c .before .before .before .before .before .before .before .before .before .before .before .before .before .before .before .before .before .before .before .pre),
   c .before .before .before .before .before .before .before .begin .ensures .1,
   omega (arith, c .before .before .before .before .before .before .cells2 .given),
   omega (arith, c .before .before .before .before .before .issues2 .given),
   omega (arith, c .before .before .before .before .tables2 .given),
   omega (arith, c .before .before .before .marks2 .given),
   refl,
+  refl,
   omega (arith, c .before .before .out2 .given),
 )
 
 array-share-prefix-out : tie.Need-array-share-prefix-out Inv-loop μ-loop
-array-share-prefix-out c = omega (arith, c .loop .inv .0 .part .fits, c .loop .inv .7)
+array-share-prefix-out c = omega (arith, c .loop .inv .0 .part .fits, c .loop .inv .8)
 
 slice-aggregate-write-part : tie.Need-slice-aggregate-write-part Inv-loop μ-loop
 slice-aggregate-write-part c = let j = c .before .loop in omega (arith, length-take (j .p .end) (j .out), j .inv .0 .part .fits)
@@ -89,34 +92,38 @@ slice-aggregate-next-part-5 : tie.Need-slice-aggregate-next-part-5 Inv-loop μ-l
 slice-aggregate-next-part-5 c = sym (c .before .before .before .before .before .before .before .before .before .before .before .before .before .before .before .before .loop .inv .6)
 
 slice-aggregate-next-part-6 : tie.Need-slice-aggregate-next-part-6 Inv-loop μ-loop
-slice-aggregate-next-part-6 c = sym (c .before .before .before .before .before .before .before .before .before .before .before .before .before .before .before .before .before .before .before .before .before .loop .inv .7)
+slice-aggregate-next-part-6 c = sym (c .before .before .before .before .before .before .before .before .before .before .before .before .before .before .before .before .before .loop .inv .7)
+
+slice-aggregate-next-part-7 : tie.Need-slice-aggregate-next-part-7 Inv-loop μ-loop
+slice-aggregate-next-part-7 c = sym (c .before .before .before .before .before .before .before .before .before .before .before .before .before .before .before .before .before .before .before .before .before .before .loop .inv .8)
 
 next-part-requires : tie.Need-next-part-requires Inv-loop μ-loop
 next-part-requires c κs =
-    let j = c .before .before .before .before .before .before .before .before .before .before .before .before .before .before .before .before .before .before .before .before .before .loop in
-    let more = not-false (j .p .more) (c .before .before .before .before .before .before .before .before .before .before .before .before .before .before .before .if2 .left) in
-    ((j .inv .0 .ready more, j .inv .1 more), (omega (arith, j .inv .6), j .inv .7))
+    let j = c .before .before .before .before .before .before .before .before .before .before .before .before .before .before .before .before .before .before .before .before .before .before .loop in
+    let more = not-false (j .p .more) (c .before .before .before .before .before .before .before .before .before .before .before .before .before .before .before .before .if2 .left) in
+    ((j .inv .0 .ready more, j .inv .1 more), (omega (arith, j .inv .6), omega (arith, j .inv .7), j .inv .8))
 
 loop-less : tie.Need-loop-less Inv-loop μ-loop
 loop-less c =
-    let j = c .before .before .before .before .before .before .before .before .before .before .before .before .before .before .before .before .before .before .before .before .before .before .before .before .before .loop in
-    let f = c .before .before .before .next-part .ensures in
-    turns-less _ _ _ (not-false (j .p .more) (c .before .before .before .before .before .before .before .before .before .before .before .before .before .before .before .before .before .before .before .if2 .left)) (λ k. (f .on k, f .ready k .at))
+    let j = c .before .before .before .before .before .before .before .before .before .before .before .before .before .before .before .before .before .before .before .before .before .before .before .before .before .before .before .loop in
+    let f = c .before .before .before .before .next-part .ensures in
+    turns-less _ _ _ (not-false (j .p .more) (c .before .before .before .before .before .before .before .before .before .before .before .before .before .before .before .before .before .before .before .before .before .if2 .left)) (λ k. (f .on k, f .ready k .at))
 
 loop-again : tie.Need-loop-again Inv-loop μ-loop
 loop-again c =
-    let h = c .before .before .before .before .before .before .before .before .before .before .before .before .before .before .before .before .before .before .before .before .before .before .before .write-part in
-    let j = c .before .before .before .before .before .before .before .before .before .before .before .before .before .before .before .before .before .before .before .before .before .before .before .before .before .loop in
-    let more = not-false (j .p .more) (c .before .before .before .before .before .before .before .before .before .before .before .before .before .before .before .before .before .before .before .if2 .left) in (
-      standing-next _ _ _ _ _ _ (j .inv .0) _ (h .ensures) (not-false (h .result .well) (c .before .before .before .before .before .before .before .before .before .before .before .before .before .before .before .before .before .before .before .before .before .if1 .left)) more _ _ _ _ (c .before .before .before .next-part .ensures)
-          (omega (arith, j .inv .7, c .out5 .given)),
+    let h = c .before .before .before .before .before .before .before .before .before .before .before .before .before .before .before .before .before .before .before .before .before .before .before .before .before .write-part in
+    let j = c .before .before .before .before .before .before .before .before .before .before .before .before .before .before .before .before .before .before .before .before .before .before .before .before .before .before .before .loop in
+    let more = not-false (j .p .more) (c .before .before .before .before .before .before .before .before .before .before .before .before .before .before .before .before .before .before .before .before .before .if2 .left) in (
+      standing-next _ _ _ _ _ _ (j .inv .0) _ (h .ensures) (not-false (h .result .well) (c .before .before .before .before .before .before .before .before .before .before .before .before .before .before .before .before .before .before .before .before .before .before .before .if1 .left)) more _ _ _ _ (c .before .before .before .before .next-part .ensures)
+          (omega (arith, j .inv .8, c .out5 .given)),
       λ e. j .inv .1 more,
       j .inv .2,
       j .inv .3,
       j .inv .4,
-      omega (arith, j .inv .5, c .before .before .marks4 .given),
-      omega (arith, j .inv .6, c .before .words2 .given),
-      omega (arith, j .inv .7, c .out5 .given),
+      omega (arith, j .inv .5, c .before .before .before .marks4 .given),
+      omega (arith, j .inv .6, c .before .before .words2 .given),
+      omega (arith, j .inv .7, c .before .text2 .given),
+      omega (arith, j .inv .8, c .out5 .given),
     )
 
 pub write-report-spec : {M : Type 1} → statement M
@@ -143,6 +150,7 @@ write-report-spec =
     slice-aggregate-next-part-4
     slice-aggregate-next-part-5
     slice-aggregate-next-part-6
+    slice-aggregate-next-part-7
     next-part-requires
     loop-less
     loop-again)

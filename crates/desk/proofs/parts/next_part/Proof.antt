@@ -8,9 +8,9 @@ use Rattle.desk.proofs.parts.next_part.Tie as tie
 
 fill-requires : tie.Need-fill-requires
 fill-requires c κs =
-    let s = c .before .before .before .before .before .before .before .before .before .before .before .before .before .before in (
-      (s .pre .0 .0 .sound, s .pre .0 .1),
-      (λ e. (s .pre .0 .0 .at, s .pre .0 .0 .number), s .pre .1 .0, omega arith, s .pre .1 .1),
+    let pre = c .before .before .before .before .before .before .before .before .before .before .before .before .before .before .before .before .pre in (
+      (pre .0 .0 .sound, pre .0 .1),
+      (λ e. (pre .0 .0 .at, pre .0 .0 .number), pre .1 .0, pre .1 .1, omega arith, pre .1 .2),
     )
 
 same-length : tie.Need-same-length
@@ -22,11 +22,13 @@ same-length-2 c = search needs
 same-length-3 : tie.Need-same-length-3
 same-length-3 c = search needs
 
+same-length-4 : tie.Need-same-length-4
+same-length-4 c = search needs
+
 returns : tie.Need-returns
 returns c =
-    let b = c .before .before .before .before .before .before in
-    let f = b .fill .ensures in
-    continues _ _ _ _ _ _ _ _ _ _ refl refl refl refl (f .0) (omega (arith, f .1 .0, b .before .before .before .before .before .before .before .before .before .before .before .before .before .before .before .pre .1 .1)) (f .1 .1)
+    let f = c .before .before .before .before .before .before .before .before .fill .ensures in
+    continues _ _ _ _ _ _ _ _ _ _ refl refl refl refl (f .0) (omega (arith, f .1 .0, c .before .before .before .before .before .before .before .before .before .before .before .before .before .before .before .before .before .before .before .before .before .before .before .before .before .pre .1 .2)) (f .1 .1)
 
 pub next-part-spec : {M : Type 1} → statement M
-next-part-spec = tie.close (tie.spec fill-requires same-length same-length-2 same-length-3 returns)
+next-part-spec = tie.close (tie.spec fill-requires same-length same-length-2 same-length-3 same-length-4 returns)
