@@ -296,16 +296,16 @@ same-pair p q e =
     let v = equal-same (p .value) (q .value) (h .1) in
     λ i. record { filling = eqb-true (p .filling) (q .filling) (h .0) i; value = v i }
 
--- a pair that some desk holds stands somewhere
-pub held-at : (h : Holding) (p : Pair) → someHolds h p ≡ true → (i : ℕ) × (i < heldCount h) × (heldPair h i ≡ p)
-unfolding someHolds
-held-at h p e = let f = any-found (heldCount h) (λ i. samePair (heldPair h i) p) e in (f .0, f .1, same-pair (heldPair h (f .0)) p (f .2))
-
 -- a pair that stands somewhere is held by some desk, unless its value is blank
 pub at-held : (h : Holding) (i : ℕ) → i < heldCount h → isBlank (heldPair h i .value) ≡ false → someHolds h (heldPair h i) ≡ true
 unfolding someHolds samePair
 at-held h i l n =
     any-true (heldCount h) _ i l (both (eq-eqb (heldPair h i .filling) (heldPair h i .filling) refl) (equal-self (heldPair h i .value) n))
+
+-- a pair that some desk holds stands somewhere
+pub held-at : (h : Holding) (p : Pair) → someHolds h p ≡ true → (i : ℕ) × (i < heldCount h) × (heldPair h i ≡ p)
+unfolding someHolds
+held-at h p e = let f = any-found (heldCount h) (λ i. samePair (heldPair h i) p) e in (f .0, f .1, same-pair (heldPair h (f .0)) p (f .2))
 
 -- its filling exists
 pub held-fits : (S : Scheme) (h : Holding) → HoldingFits S h → (p : Pair) → someHolds h p ≡ true → p .filling < S .fillings
