@@ -127,6 +127,10 @@ pub enum Answer {
     Knot(Vec<usize>),
     /// The desk that is named from now on.
     Desk(usize),
+    /// Why a row is cached.
+    Reason(String),
+    /// The row isn't cached.
+    Absent,
     /// The probe has a ground already.
     Open,
     /// The filling, the number and the issue whose load would give it one.

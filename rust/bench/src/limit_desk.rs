@@ -40,6 +40,10 @@ impl OpenDesk for Desk {
             LimitAnswer::Even => Answer::Even,
             LimitAnswer::Uneven { i, j } => Answer::Uneven(usize::from(i), usize::from(j)),
             LimitAnswer::Total(total) => Answer::Total(total),
+            LimitAnswer::Reason(_) => {
+                Answer::Reason(String::from_utf8_lossy(self.text()).into_owned())
+            }
+            LimitAnswer::Absent => Answer::Absent,
             LimitAnswer::Open => Answer::Open,
             LimitAnswer::Opener { filling, value } => {
                 Answer::Opener(filling.into(), number(value), value as u8)

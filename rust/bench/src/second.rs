@@ -61,6 +61,8 @@ fn answered(answer: ReferenceAnswer) -> Answer {
         ReferenceAnswer::Even => Answer::Even,
         ReferenceAnswer::Uneven { i, j } => Answer::Uneven(i, j),
         ReferenceAnswer::Total(total) => Answer::Total(total),
+        ReferenceAnswer::Reason(sentence) => Answer::Reason(sentence),
+        ReferenceAnswer::Absent => Answer::Absent,
         ReferenceAnswer::Open => Answer::Open,
         ReferenceAnswer::Opener(Pair { filling, value }) => {
             Answer::Opener(filling, value.number, value.issue)

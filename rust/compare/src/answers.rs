@@ -67,6 +67,8 @@ impl Answer<'_> {
             ["refused", cause, _] => format!("refused {cause}"),
             ["ground", ground, ..] => format!("ground {ground}"),
             [filling, _, _] if number(filling).is_some() => "opener".into(),
+            ["row", _, "by", "value", ..] => "reason by a value".into(),
+            ["row", _, "by", "constraint", ..] => "reason by a constraint".into(),
             ["desk", _] => "desk named".into(),
             ["loaded", ..] => "loaded".into(),
             ["dropped", ..] => "dropped".into(),

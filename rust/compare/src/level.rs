@@ -59,6 +59,7 @@ fn request_of(piece: &Piece) -> u32 {
         Some(0x15) => 3,
         Some(0x07 | 0x20..=0x23 | 0x25) => 6,
         Some(0x17) => 7,
+        Some(0x18) => 8,
         Some(0x19) => 9,
         Some(0x1c) => 11,
         _ => 0,
@@ -169,12 +170,13 @@ mod tests {
 
     #[test]
     fn reports_are_taken_out_by_their_requests() {
-        let text = "end\neven\nopener 0.0 = 1\nknot\n";
+        let text = "end\neven\nreason 0\nopener 0.0 = 1\nknot\n";
         let script = assemble(&format!("{text}end\n")).expect("a right text");
         for (request, left) in [
             (12, text),
-            (11, "end\neven\nopener 0.0 = 1\n"),
-            (9, "end\neven\n"),
+            (11, "end\neven\nreason 0\nopener 0.0 = 1\n"),
+            (9, "end\neven\nreason 0\n"),
+            (8, "end\neven\n"),
             (1, "end\n"),
         ] {
             let script = Level::before(request).script(script.clone());

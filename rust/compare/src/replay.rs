@@ -39,6 +39,11 @@ impl Replay<'_> {
         self.desk.held()
     }
 
+    /// The desk, before the next command.
+    pub fn desk(&self) -> &Desk {
+        &self.desk
+    }
+
     /// The byte at which the next command begins.
     pub fn place(&self) -> usize {
         self.place

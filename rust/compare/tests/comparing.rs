@@ -44,7 +44,7 @@ fn a_right_desk_passes_and_everything_is_reached() {
 #[test]
 fn everything_of_a_level_is_reached_too() {
     let desk = altered(|report| report);
-    for request in [1, 2, 3, 4, 6, 7, 9, 11] {
+    for request in [1, 2, 3, 4, 6, 7, 8, 9, 11] {
         let level = Level::before(request);
         let scripts = Scripts { level, ..SCRIPTS };
         let outcome = compare(&sides(&desk), scripts).expect("no failure");
@@ -56,6 +56,7 @@ fn everything_of_a_level_is_reached_too() {
             ("refused 13", 3),
             ("issue loaded with rows", 6),
             ("refused 8", 7),
+            ("absent", 8),
             ("opener", 9),
             ("knot of 3 constraints", 11),
         ] {

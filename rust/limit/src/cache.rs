@@ -59,6 +59,12 @@ pub(crate) fn filling_of(key: u64) -> usize {
     (key >> 40) as usize & 0xff
 }
 
+/// The value of a key.
+#[inline(always)]
+pub(crate) fn value_of(key: u64) -> Value {
+    key & ((1 << 40) - 1)
+}
+
 impl Cache {
     /// Caches nothing from now on.
     pub(crate) fn empty(&mut self) {

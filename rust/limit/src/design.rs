@@ -133,7 +133,7 @@ pub fn column_at(bytes: &[u8]) -> Column {
 #[inline]
 pub fn width(command: u8) -> usize {
     match command {
-        0x01 => 3,
+        0x01 | 0x18 => 3,
         0x02 => 5,
         0x03 => 11,
         0x04 => ROW_WIDTH,

@@ -9,6 +9,7 @@ use crate::even::Evenness;
 use crate::knot::Knot;
 use crate::opener::Opening;
 use crate::query::Listing;
+use crate::reason::Reasons;
 
 /// What a command answers.
 #[derive(Clone, Copy, Debug, PartialEq, Eq)]
@@ -53,6 +54,10 @@ pub enum Answer {
     Knot(u16),
     /// The desk that is named from now on.
     Desk(u8),
+    /// The length of a sentence on a row.
+    Reason(usize),
+    /// The row isn't cached.
+    Absent,
     /// The probe has a ground already.
     Open,
     /// The load that would give it one.
@@ -77,6 +82,7 @@ pub struct Desk {
     evenness: Evenness,
     knot: Knot,
     opening: Opening,
+    reasons: Reasons,
 }
 
 impl Desk {
@@ -117,6 +123,11 @@ impl Desk {
         &self.listing.words[..]
     }
 
+    /// The text of the last reason.
+    pub fn text(&self) -> &[u8] {
+        self.reasons.text()
+    }
+
     /// Carries out the command that the bytes begin with, of which there is at
     /// least one. Gives its answer and its width, or 0 for the width if it can't
     /// be read, so that nothing tells where the next begins.
@@ -142,6 +153,10 @@ impl Desk {
             0x12 | 0x22 => {
                 let value = value_at(bytes, 3);
                 self.cache.probe(design, catalog, column_at(bytes), value)
+            }
+            0x18 => {
+                let row = u16::from_le_bytes([bytes[1], bytes[2]]);
+                self.reasons.reason(design, catalog, &self.cache, row)
             }
             0x19 => {
                 let value = value_at(bytes, 3);

@@ -11,7 +11,8 @@
 //! - [`catalog`] has the groups and the links between them.
 //! - [`cache`] has the cached rows and loads values.
 //! - [`dropping`] drops them.
-//! - [`probe`], [`query`], [`total`], [`opener`], [`even`] and [`knot`] answer.
+//! - [`probe`], [`query`], [`total`], [`reason`],
+//!   [`opener`], [`even`] and [`knot`] answer.
 //! - [`desk`] carries out a script's commands.
 //! - [`mod@report`] prints.
 //!
@@ -30,6 +31,7 @@ pub mod knot;
 pub mod opener;
 pub mod probe;
 pub mod query;
+pub mod reason;
 pub mod report;
 pub mod total;
 

@@ -75,6 +75,10 @@ fn write_operations(
         put_number(text, number);
         text.push(b' ');
         put_answer(text, answer, place as u64);
+        if let Answer::Reason(_) = answer {
+            text.extend_from_slice(desk.text());
+            text.push(b'\n');
+        }
         if let Answer::Lists(count) = answer {
             // A QUERY's number of joins is its eighth byte.
             let positions = usize::from(script[place + 7]) + 1;
@@ -106,6 +110,9 @@ fn put_answer(text: &mut Vec<u8>, answer: Answer, place: u64) {
         Answer::Uneven { i, j } => (b"uneven ", &[u64::from(i), u64::from(j)]),
         Answer::Total(total) => (b"total ", &[total]),
         Answer::Desk(desk) => (b"desk ", &[u64::from(desk)]),
+        // Its text follows.
+        Answer::Reason(_) => return,
+        Answer::Absent => (b"absent", &[]),
         Answer::Open => (b"open", &[]),
         Answer::Opener { filling, value } => {
             let (number, issue) = (u64::from(number(value)), value & 0xff);
@@ -134,7 +141,8 @@ fn put_numbers(text: &mut Vec<u8>, numbers: &[u64]) {
     text.push(b'\n');
 }
 
-fn put_number(text: &mut Vec<u8>, mut number: u64) {
+/// Puts a number in decimal.
+pub(crate) fn put_number(text: &mut Vec<u8>, mut number: u64) {
     let mut digits = [0; 20];
     let mut start = digits.len();
     loop {

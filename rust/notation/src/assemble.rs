@@ -90,6 +90,7 @@ impl<'a> Operands<'a> {
             "even" => Command::Even,
             "total" => Command::Total(self.total()?),
             "knot" => Command::Knot,
+            "reason" => Command::Reason(self.u16("a row's number")?),
             "opener" => Command::Opener(self.probe()?),
             "desk" => Command::Desk(self.u8("a desk's number")?),
             "bytes" => return self.raw_bytes(),
@@ -229,6 +230,11 @@ impl<'a> Operands<'a> {
     fn u8(&mut self, what: &str) -> Result<u8, Fault> {
         let number = self.number(what, u8::MAX.into())?;
         Ok(number as u8)
+    }
+
+    fn u16(&mut self, what: &str) -> Result<u16, Fault> {
+        let number = self.number(what, u16::MAX.into())?;
+        Ok(number as u16)
     }
 
     fn u32(&mut self, what: &str) -> Result<u32, Fault> {

@@ -18,6 +18,7 @@ const EVEN: u8 = 0x14;
 const TOTAL: u8 = 0x15;
 const ROW_WITH_ISSUES: u8 = 0x07;
 const DESK: u8 = 0x17;
+const REASON: u8 = 0x18;
 const OPENER: u8 = 0x19;
 const KNOT: u8 = 0x1c;
 
@@ -28,7 +29,7 @@ const WITH_VALUE: [u8; 5] = [REFER, DROP, PROBE, QUERY, TOTAL];
 const WITH_ISSUE: u8 = 0x10;
 
 /// The bytes that begin a command.
-pub const COMMAND_BYTES: [u8; 20] = [
+pub const COMMAND_BYTES: [u8; 21] = [
     TABLE,
     CONSTRAINT,
     FILLING,
@@ -47,6 +48,7 @@ pub const COMMAND_BYTES: [u8; 20] = [
     QUERY + WITH_ISSUE,
     TOTAL + WITH_ISSUE,
     DESK,
+    REASON,
     OPENER,
     KNOT,
 ];
@@ -80,6 +82,7 @@ impl Command {
             }),
             Command::Knot => writer.u8(KNOT),
             Command::Desk(desk) => writer.u8(DESK).u8(*desk),
+            Command::Reason(row) => writer.u8(REASON).u16(*row),
             Command::Opener(Probe { column, value }) => {
                 let writer = writer.u8(OPENER).column(*column).u32(value.number);
                 writer.u8(value.issue())
@@ -169,6 +172,11 @@ struct Writer(Vec<u8>);
 impl Writer {
     fn u8(&mut self, number: u8) -> &mut Writer {
         self.0.push(number);
+        self
+    }
+
+    fn u16(&mut self, number: u16) -> &mut Writer {
+        self.0.extend(number.to_le_bytes());
         self
     }
 
@@ -269,6 +277,7 @@ impl Reader<'_> {
             }),
             KNOT => Command::Knot,
             DESK => Command::Desk(self.u8()?),
+            REASON => Command::Reason(self.u16()?),
             OPENER => Command::Opener(Probe {
                 column: self.column()?,
                 value: Value::new(self.u32()?, self.u8()?),
@@ -281,6 +290,12 @@ impl Reader<'_> {
         let (&byte, rest) = self.0.split_first()?;
         self.0 = rest;
         Some(byte)
+    }
+
+    fn u16(&mut self) -> Option<u16> {
+        let (bytes, rest) = self.0.split_first_chunk()?;
+        self.0 = rest;
+        Some(u16::from_le_bytes(*bytes))
     }
 
     fn u32(&mut self) -> Option<u32> {

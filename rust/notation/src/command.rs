@@ -217,6 +217,8 @@ pub enum Command {
     Knot,
     /// Name the desk for what follows.
     Desk(u8),
+    /// Ask why a row is cached.
+    Reason(u16),
     /// Ask for the value whose load would give a ground. It always has an issue
     /// byte.
     Opener(Probe),

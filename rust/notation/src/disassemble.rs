@@ -59,6 +59,7 @@ impl fmt::Display for Command {
             },
             Command::Knot => write!(out, "knot"),
             Command::Desk(desk) => write!(out, "desk {desk}"),
+            Command::Reason(row) => write!(out, "reason {row}"),
             Command::Opener(Probe { column, value }) => write!(out, "opener {column} = {value}"),
         }
     }

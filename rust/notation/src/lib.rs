@@ -20,6 +20,7 @@
 //!                                               total 0.1 = 3 join 0 by 0 of 1 column 2
 //! knot                                          knot
 //! desk NUMBER                                   desk 1
+//! reason ROW                                    reason 5
 //! opener COLUMN = VALUE                         opener 1.1 = 8
 //! bytes BYTE ..                                 bytes 0xff 0x01
 //! ```

@@ -96,6 +96,11 @@ fn messages() {
         ("desk 256", 6, "a desk's number is at most 255, not 256"),
         ("desk 1 2", 8, "expected the end of the line, found `2`"),
         ("opener 0.0 3", 12, "expected `=`, found `3`"),
+        (
+            "reason 65536",
+            8,
+            "a row's number is at most 65535, not 65536",
+        ),
         ("uneven", 1, "`uneven` is no command"),
         (
             "total 0.0 = 1",

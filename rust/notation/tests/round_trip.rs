@@ -69,6 +69,7 @@ fn one_of_each() -> Vec<Command> {
         }),
         Command::Knot,
         Command::Desk(3),
+        Command::Reason(300),
         Command::Opener(Probe {
             column,
             value: issued,

@@ -3,7 +3,7 @@
 use notation::{assemble, disassemble};
 
 /// A command in its canonical words, and its bytes.
-const COMMANDS: [(&str, &[u8]); 33] = [
+const COMMANDS: [(&str, &[u8]); 35] = [
     ("table 2", &[1, 2, 0]),
     ("table 200 unique 0 3 7", &[1, 200, 0b1000_1001]),
     ("constraint 0.1 -> 2.3", &[2, 0, 1, 2, 3]),
@@ -97,6 +97,8 @@ const COMMANDS: [(&str, &[u8]); 33] = [
     ("knot", &[0x1c]),
     ("desk 0", &[0x17, 0]),
     ("desk 255", &[0x17, 255]),
+    ("reason 5", &[0x18, 5, 0]),
+    ("reason 65535", &[0x18, 255, 255]),
     ("opener 1.2 = 3", &[0x19, 1, 2, 3, 0, 0, 0, 0]),
     ("opener 1.2 = 3#9", &[0x19, 1, 2, 3, 0, 0, 0, 9]),
     ("bytes 0xff 0x01", &[0xff, 0x01]),

@@ -194,6 +194,7 @@ impl Stage {
             | Command::Total(_)
             | Command::Knot
             | Command::Desk(_)
+            | Command::Reason(_)
             | Command::Opener(_) => None,
         }
     }

@@ -1,11 +1,15 @@
 //! The operations: loads, drops and probes, and how a question refers its value
 //! first (queries and totals are in [`crate::query`], the reports on designs in
-//! [`crate::even`] and [`crate::knot`], what would open a probe in [`crate::opener`]).
+//! [`crate::even`] and [`crate::knot`], what would open a probe in [`crate::opener`], and why a row is cached
+//! in [`crate::reason`]).
 
 use crate::design::Design;
 use crate::held::Holding;
 use crate::refusal::Cause;
 use crate::script::{Column, Command, Pair, Probe, Value};
+
+/// The bytes for text that the program lends.
+const TEXT_BYTES: usize = 16_384;
 
 /// A design at work: what it holds and which rows are cached for that.
 #[derive(Clone, Debug)]
@@ -14,6 +18,7 @@ pub struct Desk {
     pub(crate) cached: Vec<bool>,
     held: Holding,
     pub(crate) answer_words: usize,
+    pub(crate) text_bytes: usize,
     /// What the report on knots says, once it has been asked for.
     knot: Option<Answer>,
 }
@@ -63,6 +68,10 @@ pub enum Answer {
     Knot(Vec<usize>),
     /// The desk that is named from now on.
     Desk(usize),
+    /// Why a row is cached.
+    Reason(String),
+    /// The row isn't cached.
+    Absent,
     /// The probe has a ground already.
     Open,
     /// The pair whose reference would give it one.
@@ -72,15 +81,22 @@ pub enum Answer {
 }
 
 impl Desk {
-    /// A desk that holds nothing and lends queries `answer_words` words.
+    /// A desk that holds nothing and lends queries `answer_words` words, and as many
+    /// bytes for text as the program does.
     pub fn new(design: Design, answer_words: usize) -> Desk {
         Desk {
             cached: vec![false; design.rows.len()],
             design,
             held: Holding::default(),
             answer_words,
+            text_bytes: TEXT_BYTES,
             knot: None,
         }
+    }
+
+    /// The desk with another number of bytes for text.
+    pub fn lending_text(self, text_bytes: usize) -> Desk {
+        Desk { text_bytes, ..self }
     }
 
     /// The design.
@@ -103,6 +119,7 @@ impl Desk {
             Command::Even => Ok(self.design.evenness()),
             Command::Total(total) => self.total(total),
             Command::Knot => Ok(self.knot()),
+            Command::Reason(row) => self.reason(*row),
             Command::Opener(probe) => self.opener(*probe),
             Command::Desk(desk) => self.held.name(*desk).map(|()| Answer::Desk(*desk)),
             _ => Err(Cause::OutOfOrder),

@@ -16,8 +16,9 @@ pub mod held;
 pub mod knot;
 pub mod opener;
 pub mod query;
+pub mod reason;
 pub mod refusal;
 pub mod report;
 pub mod script;
 
-pub use report::{report, report_lending, ANSWER_WORDS};
+pub use report::{report, report_lending, report_lending_text, ANSWER_WORDS};

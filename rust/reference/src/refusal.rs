@@ -27,7 +27,7 @@ pub enum Cause {
     /// DROP of a pair that the desk doesn't hold.
     NotHeld = 10,
     /// QUERY with a ground, or referred first, whose list needs more words than
-    /// are lent.
+    /// are lent; or a reason longer than the lent text.
     AnswerTooLong = 11,
     /// A total above 2^64 - 1.
     TotalTooLarge = 13,

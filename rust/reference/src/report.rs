@@ -17,11 +17,22 @@ pub fn report(script: &[u8]) -> String {
 
 /// The report of a program that lends another number of answer words.
 pub fn report_lending(script: &[u8], answer_words: usize) -> String {
+    report_of(script, |design| Desk::new(design, answer_words))
+}
+
+/// The report of a program that lends another number of bytes for text.
+pub fn report_lending_text(script: &[u8], text_bytes: usize) -> String {
+    report_of(script, |design| {
+        Desk::new(design, ANSWER_WORDS).lending_text(text_bytes)
+    })
+}
+
+fn report_of(script: &[u8], open: impl Fn(Design) -> Desk) -> String {
     match Design::read(script) {
         Err(refusal) => format!("{refusal}\n"),
         Ok((design, place)) => {
             let head = head(&design);
-            head + &operations(Desk::new(design, answer_words), script, place)
+            head + &operations(open(design), script, place)
         }
     }
 }
@@ -67,6 +78,8 @@ impl fmt::Display for Answer {
             Answer::Even => write!(out, "even"),
             Answer::Uneven { i, j } => write!(out, "uneven {i} {j}"),
             Answer::Total(total) => write!(out, "total {total}"),
+            Answer::Reason(sentence) => write!(out, "{sentence}"),
+            Answer::Absent => write!(out, "absent"),
             Answer::Open => write!(out, "open"),
             Answer::Opener(Pair { filling, value }) => {
                 write!(out, "{filling} {} {}", value.number, value.issue)

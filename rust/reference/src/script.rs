@@ -153,6 +153,8 @@ pub enum Command {
     Knot,
     /// Name the desk for what follows.
     Desk(usize),
+    /// Ask why a row is cached.
+    Reason(usize),
     /// Ask for the value whose reference would give a probe a ground.
     Opener(Probe),
 }
@@ -185,6 +187,7 @@ pub fn read_command(script: &[u8], place: usize) -> Result<(Command, usize), Cau
         0x14 => Command::Even,
         0x15 => Command::Total(reader.total()?),
         0x17 => Command::Desk(reader.number()?),
+        0x18 => Command::Reason(reader.u16()?.into()),
         0x19 => Command::Opener(reader.with_issue(Reader::probe, |probe| &mut probe.value)?),
         0x1c => Command::Knot,
         0x20 => Command::Refer(reader.with_issue(Reader::pair, |pair| &mut pair.value)?),
@@ -208,6 +211,10 @@ impl Reader<'_> {
         let byte = *self.script.get(self.place).ok_or(Cause::TooFewBytes)?;
         self.place += 1;
         Ok(byte)
+    }
+
+    fn u16(&mut self) -> Result<u16, Cause> {
+        Ok(u16::from_le_bytes([self.u8()?, self.u8()?]))
     }
 
     fn u32(&mut self) -> Result<u32, Cause> {

@@ -120,15 +120,19 @@ pub fn many_commands(random: &mut Random) -> Vec<u8> {
     }
 }
 
-/// The design with a load, a probe and a drop of its first value, and some
-/// operations.
+/// The design with a load, a probe and a drop of its first value, reasons for rows
+/// in between, and some operations.
 fn loaded(random: &mut Random, mut draft: Draft) -> Vec<u8> {
     let column = draft.design.fillings[0].column;
     draft.design.fillings[0] = every_value(column);
     let value = draft.values.get(0);
     let probe = Command::Probe(Probe { column, value });
     let drop = Command::Drop(Pair { filling: 0, value });
-    let commands = [draft.design.commands(), vec![refer(value), probe, drop]].concat();
+    let rows = draft.design.rows.len();
+    let last = Command::Reason(rows as u16 - 1);
+    let any = Command::Reason(random.below(rows) as u16);
+    let operations = vec![refer(value), probe, last, any, drop];
+    let commands = [draft.design.commands(), operations].concat();
     with_operations(random, &draft, commands, 5)
 }
 

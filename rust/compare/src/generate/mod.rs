@@ -11,6 +11,7 @@ mod grounds;
 mod limits;
 mod openings;
 mod operations;
+mod reasons;
 mod spoil;
 mod totals;
 
@@ -24,7 +25,7 @@ use spoil::spoil;
 /// A way to make a script, with its share among all scripts.
 type Kind = (usize, fn(&mut Random) -> Vec<u8>);
 
-const KINDS: [Kind; 30] = [
+const KINDS: [Kind; 31] = [
     (40, |random| ordinary(random, &Shape::SPARSE)),
     (25, |random| ordinary(random, &Shape::DENSE)),
     (15, |random| worked(random, Draft::chain)),
@@ -52,6 +53,7 @@ const KINDS: [Kind; 30] = [
     (6, desks::full),
     (16, openings::openers),
     (3, openings::far),
+    (16, reasons::rows),
     (8, totals::largest),
     (6, totals::crowd),
     (6, totals::beside_a_group),

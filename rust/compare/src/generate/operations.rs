@@ -44,9 +44,10 @@ impl<'a> Operator<'a> {
         if random.percent(MISPLACED) {
             return *random.pick(&self.design.commands());
         }
-        let operation = match random.below(26) {
+        let operation = match random.below(27) {
             24 => self.name(random),
             25 => self.opener(random),
+            26 => self.reason(random),
             0..=6 => Command::Refer(self.refer(random)),
             7..=10 => Command::Drop(self.drop(random)),
             11..=14 => Command::Probe(self.probe(random)),
@@ -74,6 +75,11 @@ impl<'a> Operator<'a> {
             }
         }
         operation
+    }
+
+    /// Why a row is cached, or one that isn't there.
+    pub fn reason(&self, random: &mut Random) -> Command {
+        Command::Reason(random.below(self.design.rows.len() + 1) as u16)
     }
 
     /// What would open a probe. The second implementation tries every value, so that

@@ -19,7 +19,11 @@ pub fn spoil(random: &mut Random, design: &Design, command: Command) -> Command 
         Command::Row(row) => Command::Row(spoil_row(random, design, row)),
         Command::End | Command::Even | Command::Knot => command,
         Command::Opener(probe) => Command::Opener(spoil_probe(random, design, probe)),
-        Command::Desk(_) => Command::Desk(random.within(4..=255) as u8),
+        Command::Reason(_) => Command::Reason(spoil_row_number(random, design)),
+        Command::Desk(_) => Command::Desk(match random.below(2) {
+            0 => 4,
+            _ => random.byte(),
+        }),
         Command::Refer(pair) => Command::Refer(spoil_pair(random, design, pair)),
         Command::Drop(pair) => Command::Drop(spoil_pair(random, design, pair)),
         Command::Probe(probe) => Command::Probe(spoil_probe(random, design, probe)),
@@ -77,6 +81,15 @@ fn spoil_row(random: &mut Random, design: &Design, mut row: Row) -> Row {
         _ => row.issues.get_or_insert_default()[random.below(CELLS)] = random.byte(),
     }
     row
+}
+
+/// The first number that no row has, the first that none can have, or any.
+fn spoil_row_number(random: &mut Random, design: &Design) -> u16 {
+    match random.below(4) {
+        0 | 1 => design.rows.len() as u16,
+        2 => 512,
+        _ => u16::from_le_bytes([random.byte(), random.byte()]),
+    }
 }
 
 fn spoil_pair(random: &mut Random, design: &Design, mut pair: Pair) -> Pair {

@@ -6,6 +6,7 @@
 //!   designs that a report is on.
 //! - `issues` tells where the issue of a value shows.
 //! - `desks` tells what one desk meets of another.
+//! - `reasons` tells how long the chains of reasons are, and what there was to choose.
 //! - `openers` tells which loads would open a probe, and how.
 //! - `fetching` tells what came of queries and totals that refer.
 //! - `totals` tells what a total shows beside other questions.
@@ -17,6 +18,7 @@ mod issues;
 mod links;
 mod names;
 mod openers;
+mod reasons;
 mod totals;
 
 use std::collections::BTreeMap;
@@ -239,6 +241,7 @@ fn replayed(script: &[u8]) -> Vec<&'static str> {
         outcomes.extend(issues::outcomes(&replay, &command));
         outcomes.extend(desks::outcomes(&replay, &command));
         outcomes.extend(openers::outcomes(&replay, &command));
+        outcomes.extend(reasons::outcomes(&replay, &command));
         outcomes.extend(fetching.perform(&mut replay, &command));
     }
     outcomes

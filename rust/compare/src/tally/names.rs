@@ -11,7 +11,7 @@ use notation::{Command, Piece, Value};
 /// 3. Causes 7 and 12 are about lent memory, which no script can spoil. No
 /// answer needs 4,097 words: that has no divisor from 2 to 5, and 512 rows make
 /// no more than 512 lists of one.
-pub const OUTCOMES: [(u32, &str); 127] = [
+pub const OUTCOMES: [(u32, &str); 138] = [
     (0, "design accepted"),
     (0, "design refused 1"),
     (0, "design refused 2"),
@@ -72,6 +72,17 @@ pub const OUTCOMES: [(u32, &str); 127] = [
     (7, "query or total of what another desk holds"),
     (7, "refused 8 while another desk has room"),
     (7, "refused 10 for what another desk holds"),
+    (8, "reason by a value"),
+    (8, "reason by a constraint"),
+    (8, "absent"),
+    (8, "reason of three links or more"),
+    (8, "reason of over 255 links"),
+    (8, "reason with an issue"),
+    (8, "reason by another desk's value"),
+    (8, "reason with a choice of constraints"),
+    (8, "reason with a choice of rows"),
+    (8, "reason with a choice of values"),
+    (8, "reason refused 5"),
     (9, "open"),
     (9, "opener"),
     (9, "none"),
@@ -142,7 +153,7 @@ pub const OUTCOMES: [(u32, &str); 127] = [
 ];
 
 /// The kinds of commands, and last what can't be read as one.
-pub const COMMANDS: [&str; 21] = [
+pub const COMMANDS: [&str; 22] = [
     "table",
     "constraint",
     "filling",
@@ -162,6 +173,7 @@ pub const COMMANDS: [&str; 21] = [
     "total with an issue",
     "knot",
     "desk",
+    "reason",
     "opener",
     "no command",
 ];
@@ -192,6 +204,7 @@ pub fn kind(piece: &Piece) -> &'static str {
         Command::Total(_) => "total",
         Command::Knot => "knot",
         Command::Desk(_) => "desk",
+        Command::Reason(_) => "reason",
         Command::Opener(_) => "opener",
     }
 }

@@ -7,6 +7,7 @@ mod issues;
 mod knots;
 mod openers;
 mod performing;
+mod reasons;
 mod totals;
 
 use compare::level::Level;

@@ -79,6 +79,11 @@ pub fn desk(number: u8) -> Vec<u8> {
     vec![0x17, number]
 }
 
+/// Asks why a row is cached.
+pub fn reason(row: u16) -> Vec<u8> {
+    [&[0x18], &row.to_le_bytes()[..]].concat()
+}
+
 /// What would open a probe, with an issue.
 pub fn opener(column: Column, value: u32, issue: u8) -> Vec<u8> {
     [&[0x19], &probe(column, value)[1..], &[issue]].concat()
@@ -132,6 +137,7 @@ pub fn operations() -> Vec<(&'static str, Vec<u8>)> {
         ("knot", knot()),
         ("desk", desk(1)),
         ("opener", opener((0, 0), 1, 1)),
+        ("reason", reason(0)),
         ("refer with an issue", with_issue(1, &refer(0, 1))),
         ("drop with an issue", with_issue(1, &drop(0, 1))),
         ("probe with an issue", with_issue(1, &probe((0, 0), 1))),

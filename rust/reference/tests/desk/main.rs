@@ -18,5 +18,6 @@ mod openers;
 mod operation_refusals;
 mod queries;
 mod random;
+mod reasons;
 mod rounds;
 mod totals;
