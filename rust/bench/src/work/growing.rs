@@ -34,7 +34,11 @@ pub fn works(rows: usize) -> Vec<Work> {
 
 /// Questions that SQL has no statement for, beside the load of as many rows.
 pub fn questions(rows: usize) -> Vec<Work> {
-    vec![chain(rows), opener_of_a_chain(rows)]
+    vec![
+        chain(rows),
+        opener_of_a_chain(rows),
+        reason_in_a_chain(rows),
+    ]
 }
 
 /// Each row demands the next, so that a load takes a round for each row.
@@ -66,6 +70,18 @@ fn opener_of_a_chain(rows: usize) -> Work {
         "chain: what opens its last row",
         design,
         vec![],
+        &operations,
+    )
+}
+
+/// All rows of the chain are cached, and its last one for the longest reason.
+fn reason_in_a_chain(rows: usize) -> Work {
+    let operations = [Command::Reason(rows as u16 - 1)];
+    let design = chain_design(rows);
+    Work::repeating(
+        "chain: why its last row is here",
+        design,
+        vec![refer(0, 1)],
         &operations,
     )
 }
