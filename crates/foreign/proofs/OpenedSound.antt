@@ -29,6 +29,7 @@ use Rattle.format.specs.Reading.{advanced, readOn, readFrom, readDesign, readIn
 use Rattle.format.specs.Reading.Advanced.{on, complete, refused}
 use Rattle.format.specs.Reading.DesignRead.{accepted, refusedAt}
 use Rattle.format.proofs.Small.{Small}
+use Rattle.script.specs.Step.{outputs}
 use Rattle.script.specs.Runs.{buffers, justRead}
 use Rattle.script.proofs.JustRead.{Begun, begun}
 use Rattle.foreign.specs.Words.{designLength, heldLength, designWords, heldWords, wordsDesign, wordsHeld}
@@ -135,7 +136,7 @@ module _ (script : List ℕ) (cs : Cells) (ts ms ds hs : List ℕ) (n : ℕ) (cs
           let marks : ms′ ≡ marksAfter (accepted p i) ms = o .marks ∙ ap (λ (v : DesignRead). marksAfter v ms) q in
           let design : ds′ ≡ sets ds 0 (designWords (p .design)) = o .design ∙ ap (λ (v : DesignRead). designWordsAfter v ds) q in
           let held : hs′ ≡ sets hs 0 (heldWords noneHeld) = o .held ∙ ap (λ (v : DesignRead). heldWordsAfter v hs) q in
-          let b : Begun (buffers cs ts ms []) p i = begun script small (buffers cs ts ms []) p i (w .2) (subst Stored cells stored) in
+          let b : Begun (buffers cs ts ms (outputs [] [])) p i = begun script small (buffers cs ts ms (outputs [] [])) p i (w .2) (subst Stored cells stored) in
           let z = b .sizes in
           let d : wordsDesign ds′ ≡ p .design =
           ap wordsDesign design ∙
@@ -143,7 +144,7 @@ module _ (script : List ℕ) (cs : Cells) (ts ms ds hs : List ℕ) (n : ℕ) (cs
           (narrow-design (p .design) (b .design)) ds (w .0) in
           let h : wordsHeld hs′ ≡ noneHeld =
           ap wordsHeld held ∙ held-stored noneHeld none-long (narrow-held (p .design) noneHeld (b .design) (parts _ (b .sound) .held) none-issues) hs (w .1) in
-          let s : wordsState ds′ cs′ ts′ ms′ hs′ ≡ justRead (accepted p i) (buffers cs ts ms []) =
+          let s : wordsState ds′ cs′ ts′ ms′ hs′ ≡ justRead (accepted p i) (buffers cs ts ms (outputs [] [])) =
           λ x. lent (d x) (cells x) (tables x) (marks x) (h x) in
           record {
             design = omega (arith, w .0, ap length design, length-sets ds 0 (designWords (p .design)));

@@ -22,6 +22,7 @@ use Rattle.format.specs.Reading.{Draft, DesignRead, readInto, verdictOf, design
 use Rattle.format.specs.Reading.DesignRead.{accepted, refusedAt}
 use Rattle.format.proofs.Small.{Small}
 use Rattle.format.proofs.RoundTrip.{accepted-lawful}
+use Rattle.script.specs.Step.{outputs}
 use Rattle.script.specs.Runs.{buffers}
 use Rattle.script.proofs.JustRead.{into-parts}
 use Rattle.foreign.specs.Words.{designLength, heldLength, designWords, heldWords}
@@ -146,7 +147,7 @@ opened-lawful script cs ts ms r cs′ ts′ ms′ read j v small = go (readInto 
     go : (w : DesignRead) → readInto script cs ts ms ≡ w → LawfulDesign (r .design)
     go (accepted p i) e =
         subst LawfulDesign (sym (read .design ∙ ap designOf e))
-        (design-says (p .design) (accepted-lawful script small p i (into-parts script (buffers cs ts ms []) p i e .1) .0))
+        (design-says (p .design) (accepted-lawful script small p i (into-parts script (buffers cs ts ms (outputs [] [])) p i e .1) .0))
     go (refusedAt c i) e = absurd (let z : _≡_ {A = ℕ} 0 1 = cc (v, read .verdict ∙ ap verdictOf e) in omega arith)
 
 -- nothing is held

@@ -17,7 +17,7 @@ use Rattle.state.specs.Lent.{State, lent, sound}
 use Rattle.lawful.proofs.HeldLaws.{held-count}
 use Rattle.lawful.proofs.SoundState.{parts}
 use Rattle.script.specs.declared.outcome.Step.{Step}
-use Rattle.script.specs.Step.{Stepped, stepAt, Does}
+use Rattle.script.specs.Step.{Outputs, Stepped, stepAt, Does}
 use Rattle.script.specs.Runs.{Left, leaving, leftFrom}
 use Rattle.script.proofs.StepLaws.{step-sound}
 use Rattle.script.proofs.RunLaws.{left-sound}
@@ -43,8 +43,8 @@ module _ (ds : List ℕ) (cs : Cells) (ts ms hs : List ℕ) (k : Arrays) (d : De
   pub ready-few : h .count ≤ 64
   ready-few = few (lent d cs ts ms h) (ready-lawful .0)
 
-  -- the state that is left, with the held values `kept`, is the sound state s, and the words that are left are w
-  module _ (s : State) (w : List ℕ) (fine : sound s ≡ true) (ms′ ws′ : List ℕ) (kept : Held)
+  -- the state that is left, with the held values `kept`, is the sound state s, and of what is lent for answers w is left
+  module _ (s : State) (w : Outputs) (fine : sound s ≡ true) (ms′ : List ℕ) (ws′ : Outputs) (kept : Held)
       (is : leaving (lent d cs ts ms′ kept) ws′ ≡ leaving s w) where
     still : sound (lent d cs ts ms′ kept) ≡ true
     still = ap (λ (l : Left). sound (l .state)) is ∙ fine
@@ -64,7 +64,7 @@ module _ (ds : List ℕ) (cs : Cells) (ts ms hs : List ℕ) (k : Arrays) (d : De
       left-kept =
           record {
             marks = ap (λ (l : Left). l .state .marks) is;
-            words = ap (λ (l : Left). l .words) is;
+            outputs = ap (λ (l : Left). l .outputs) is;
             held = stored ∙ ap (λ (l : Left). sets hs 0 (heldWords (l .state .held))) is;
             ready = record {
               design = ready .design;
@@ -74,24 +74,24 @@ module _ (ds : List ℕ) (cs : Cells) (ts ms hs : List ℕ) (k : Arrays) (d : De
             };
           }
 
-  module _ (words script : List ℕ) (i : ℕ) (ms′ ws′ : List ℕ) where
+  module _ (out : Outputs) (script : List ℕ) (i : ℕ) (ms′ : List ℕ) (ws′ : Outputs) where
     -- ---- a step
 
-    module _ (t : Step) (does : Does (stepAt (lent d cs ts ms h) words script i) t (lent d cs ts ms′ (t .held)) ws′) where
+    module _ (t : Step) (does : Does (stepAt (lent d cs ts ms h) out script i) t (lent d cs ts ms′ (t .held)) ws′) where
       abbrev R : Stepped
-      R = stepAt (wordsState ds cs ts ms hs) words script i
+      R = stepAt (wordsState ds cs ts ms hs) out script i
 
-      R-is : stepAt (lent d cs ts ms h) words script i ≡ R
-      R-is = ap (λ (s : State). stepAt s words script i) same
+      R-is : stepAt (lent d cs ts ms h) out script i ≡ R
+      R-is = ap (λ (s : State). stepAt s out script i) same
 
-      step-left : leaving (lent d cs ts ms′ (t .held)) ws′ ≡ leaving (R .state) (R .words)
-      step-left = λ x. leaving ((does .state ∙ ap (λ (Q : Stepped). Q .state) R-is) x) ((does .words ∙ ap (λ (Q : Stepped). Q .words) R-is) x)
+      step-left : leaving (lent d cs ts ms′ (t .held)) ws′ ≡ leaving (R .state) (R .outputs)
+      step-left = λ x. leaving ((does .state ∙ ap (λ (Q : Stepped). Q .state) R-is) x) ((does .outputs ∙ ap (λ (Q : Stepped). Q .outputs) R-is) x)
 
       R-sound : sound (R .state) ≡ true
-      R-sound = step-sound (wordsState ds cs ts ms hs) words script i (ready .sound)
+      R-sound = step-sound (wordsState ds cs ts ms hs) out script i (ready .sound)
 
       pub step-few : t .held .count ≤ 64
-      step-few = left-few (R .state) (R .words) R-sound ms′ ws′ (t .held) step-left
+      step-few = left-few (R .state) (R .outputs) R-sound ms′ ws′ (t .held) step-left
 
       pub step-taken : (hs′ : List ℕ) → hs′ ≡ sets hs 0 (heldWords (t .held)) → length (t .held .values) ≡ 64 →
           ((j : ℕ) → j < 64 → heldAt (t .held) j .pair .value .issue < 256) → (n : ℕ) (ns′ : List ℕ) (q′ : ℕ) →
@@ -99,24 +99,24 @@ module _ (ds : List ℕ) (cs : Cells) (ts ms hs : List ℕ) (k : Arrays) (d : De
       step-taken hs′ stored long issues n ns′ q′ told =
           record {
             told = subst (λ (a : Answer). Told a n ns′ q′) (does .answer ∙ ap (λ (Q : Stepped). Q .answer) R-is) told;
-            kept = left-kept (R .state) (R .words) R-sound ms′ ws′ (t .held) step-left hs′ stored long issues;
+            kept = left-kept (R .state) (R .outputs) R-sound ms′ ws′ (t .held) step-left hs′ stored long issues;
           }
 
     -- ---- a run
 
-    module _ (kept : Held) (left : leaving (lent d cs ts ms′ kept) ws′ ≡ leftFrom (length script) script (lent d cs ts ms h) words i) where
+    module _ (kept : Held) (left : leaving (lent d cs ts ms′ kept) ws′ ≡ leftFrom (length script) script (lent d cs ts ms h) out i) where
       abbrev l : Left
-      l = leftFrom (length script) script (wordsState ds cs ts ms hs) words i
+      l = leftFrom (length script) script (wordsState ds cs ts ms hs) out i
 
       run-left : leaving (lent d cs ts ms′ kept) ws′ ≡ l
-      run-left = left ∙ ap (λ (s : State). leftFrom (length script) script s words i) same
+      run-left = left ∙ ap (λ (s : State). leftFrom (length script) script s out i) same
 
       l-sound : sound (l .state) ≡ true
-      l-sound = left-sound script (length script) (wordsState ds cs ts ms hs) (ready .sound) words i
+      l-sound = left-sound script (length script) (wordsState ds cs ts ms hs) (ready .sound) out i
 
       pub run-few : kept .count ≤ 64
-      run-few = left-few (l .state) (l .words) l-sound ms′ ws′ kept run-left
+      run-few = left-few (l .state) (l .outputs) l-sound ms′ ws′ kept run-left
 
       pub run-made : (hs′ : List ℕ) → hs′ ≡ sets hs 0 (heldWords kept) → length (kept .values) ≡ 64 →
           ((j : ℕ) → j < 64 → heldAt kept j .pair .value .issue < 256) → RunMade l ds cs ts k ms′ ws′ hs hs′
-      run-made = left-kept (l .state) (l .words) l-sound ms′ ws′ kept run-left
+      run-made = left-kept (l .state) (l .outputs) l-sound ms′ ws′ kept run-left

@@ -13,7 +13,7 @@ use Rattle.state.specs.declared.design.Design.{Design}
 use Rattle.catalog.specs.Catalog.{Catalogued}
 use Rattle.format.specs.Reading.{Draft, DesignRead, readInto, cellsAfter, tablesAfter, marksAfter}
 use Rattle.format.specs.Reading.DesignRead.{accepted, refusedAt}
-use Rattle.script.specs.Step.{Stepped}
+use Rattle.script.specs.Step.{Outputs, Stepped}
 use Rattle.script.specs.Runs.{Left}
 use Rattle.foreign.specs.Words.{designLength, heldLength, designWords, heldWords, wordsDesign, wordsHeld}
 use Rattle.foreign.specs.Told.{Told}
@@ -81,20 +81,22 @@ pub record Ready (ds : List ℕ) (cs : Cells) (ts : List ℕ) (k : Arrays) (ms h
   pub sound : sound (wordsState ds cs ts ms hs) ≡ true
   pub catalog : CatalogIn k (wordsDesign ds) cs ts
 
--- the state s and the answer words w are left: the marks and words afterwards, the held words hs before and hs′ after; and the next step can be taken
-pub record Kept (s : State) (w ds : List ℕ) (cs : Cells) (ts : List ℕ) (k : Arrays) (ms′ ws′ hs hs′ : List ℕ) : Type 0 where
+-- the state s, and w of what is lent for answers, are left: the marks ms′ and ws′ afterwards, the held words hs before and hs′ after; and the next step
+-- can be taken
+pub record Kept (s : State) (w : Outputs) (ds : List ℕ) (cs : Cells) (ts : List ℕ) (k : Arrays) (ms′ : List ℕ) (ws′ : Outputs) (hs hs′ : List ℕ) : Type 0 where
   pub marks : ms′ ≡ s .marks
-  pub words : ws′ ≡ w
+  pub outputs : ws′ ≡ w
   pub held : hs′ ≡ sets hs 0 (heldWords (s .held))
   pub ready : Ready ds cs ts k ms′ hs′
 
 -- the step R was taken: the number n, the buffer ns′ and the count q′ tell its answer, and what it leaves is kept
-pub record StepTaken (R : Stepped) (n : ℕ) (ns′ : List ℕ) (q′ : ℕ) (ds : List ℕ) (cs : Cells) (ts : List ℕ) (k : Arrays) (ms′ ws′ hs hs′ : List ℕ) : Type 0 where
+pub record StepTaken (R : Stepped) (n : ℕ) (ns′ : List ℕ) (q′ : ℕ) (ds : List ℕ) (cs : Cells) (ts : List ℕ) (k : Arrays) (ms′ : List ℕ)
+    (ws′ : Outputs) (hs hs′ : List ℕ) : Type 0 where
   pub told : Told (R .answer) n ns′ q′
-  pub kept : Kept (R .state) (R .words) ds cs ts k ms′ ws′ hs hs′
+  pub kept : Kept (R .state) (R .outputs) ds cs ts k ms′ ws′ hs hs′
 
 -- ---- wurzsige_run
 
 -- the run that leaves l was made: that is kept
-abbrev pub RunMade : Left → List ℕ → Cells → List ℕ → Arrays → List ℕ → List ℕ → List ℕ → List ℕ → Type 0
-RunMade l = Kept (l .state) (l .words)
+abbrev pub RunMade : Left → List ℕ → Cells → List ℕ → Arrays → List ℕ → Outputs → List ℕ → List ℕ → Type 0
+RunMade l = Kept (l .state) (l .outputs)

@@ -3,7 +3,7 @@
 // numbers behind the word in a lent buffer, with how many there are (specs/Told.antt). That buffer, the catalog of a design's rows and the working memory of a query are arrays of
 // fixed length, each a plain pointer.
 ghost use lib.ListN.{length};
-ghost use Rattle.script.specs.Step.{stepAt};
+ghost use Rattle.script.specs.Step.{outputs, stepAt};
 ghost use Rattle.script.specs.Runs.{leftFrom};
 ghost use Rattle.state.specs.Cells.{cellsIn};
 ghost use Rattle.foreign.specs.Calls.{opening, Opened, arrays, Catalogs, wordsState, Ready, StepTaken, RunMade};
@@ -84,9 +84,10 @@ pub extern "C" fn wurzsige_open(
 }
 
 // The step at place `at` of a script, over a state known sound with the catalog of its rows: the number of its answer's word, in `numbers` the numbers
-// behind the word, 0 behind the last of them, and in `count` how many there are. A caller keeps to memory that only these functions write: what `wurzsige_open` leaves with number 0
-// is ready (proofs/OpenedSound.antt), and each step leaves it so, so the `requires` holds from call to call. The four arrays before `numbers` are working
-// memory, whatever stands in them. The cost of the command's operation, and a copy of the design's and the held values' words.
+// behind the word, 0 behind the last of them, and in `count` how many there are; a reason's sentence stands in `text`, from its first byte on, and has as
+// many bytes as its number says. A caller keeps to memory that only these functions write: what `wurzsige_open` leaves with number 0 is ready
+// (proofs/OpenedSound.antt), and each step leaves it so, so the `requires` holds from call to call. The four arrays before `numbers` are working memory,
+// whatever stands in them. The cost of the command's operation, and a copy of the design's and the held values' words.
 #[no_mangle]
 pub extern "C" fn wurzsige_step(
     script: &[u8],
@@ -103,6 +104,7 @@ pub extern "C" fn wurzsige_step(
     design: &[u32],
     held: &mut [u32],
     words: &mut [u32],
+    text: &mut [u8],
     weights: &mut [u64; 2560],
     sums: &mut [u64; 2560],
     froms: &mut [u16; 2560],
@@ -113,10 +115,10 @@ pub extern "C" fn wurzsige_step(
     requires { ⌜ Ready (now design) (cellsIn (now cells) (now issues)) (now tables) (arrays (now next) (now first) (now keys) (now heads) (now starts)) (now marks) (now held) ⌝ }
     ensures { λ n. ⌜ StepTaken
         (stepAt (wordsState (now (design .entry)) (cellsIn (now (cells .entry)) (now (issues .entry))) (now (tables .entry)) (now (marks .entry)) (now (held .entry)))
-        (now (words .entry)) (now (script .entry)) at)
+        (outputs (now (words .entry)) (now (text .entry))) (now (script .entry)) at)
         n (now (numbers .exit)) (now (count .exit)) (now (design .entry)) (cellsIn (now (cells .entry)) (now (issues .entry))) (now (tables .entry))
         (arrays (now (next .entry)) (now (first .entry)) (now (keys .entry)) (now (heads .entry)) (now (starts .entry)))
-        (now (marks .exit)) (now (words .exit)) (now (held .entry)) (now (held .exit)) ⌝ }
+        (now (marks .exit)) (outputs (now (words .exit)) (now (text .exit))) (now (held .entry)) (now (held .exit)) ⌝ }
 {
     let d = design_from(design);
     let h = held_from(held);
@@ -135,6 +137,7 @@ pub extern "C" fn wurzsige_step(
         marks,
         h,
         words,
+        text,
         weights,
         sums,
         froms,
@@ -146,8 +149,8 @@ pub extern "C" fn wurzsige_step(
     tell(a, numbers, count)
 }
 
-// All steps from place `at` of a script on, until it ends or cause 1, 2 or 4 stops it, over a state as `wurzsige_step` asks for; no answer is told, and
-// the answer words are the last query's. The cost of the operations, and one copy of the design's and the held values' words.
+// All steps from place `at` of a script on, until it ends or cause 1, 2 or 4 stops it, over a state as `wurzsige_step` asks for; no answer is told,
+// the answer words are the last query's, and the text is the last reason's. The cost of the operations, and one copy of the design's and the held values' words.
 #[no_mangle]
 pub extern "C" fn wurzsige_run(
     script: &[u8],
@@ -164,6 +167,7 @@ pub extern "C" fn wurzsige_run(
     design: &[u32],
     held: &mut [u32],
     words: &mut [u32],
+    text: &mut [u8],
     weights: &mut [u64; 2560],
     sums: &mut [u64; 2560],
     froms: &mut [u16; 2560],
@@ -172,10 +176,11 @@ pub extern "C" fn wurzsige_run(
     requires { ⌜ Ready (now design) (cellsIn (now cells) (now issues)) (now tables) (arrays (now next) (now first) (now keys) (now heads) (now starts)) (now marks) (now held) ⌝ }
     ensures { λ _. ⌜ RunMade
         (leftFrom (length (now (script .entry))) (now (script .entry))
-        (wordsState (now (design .entry)) (cellsIn (now (cells .entry)) (now (issues .entry))) (now (tables .entry)) (now (marks .entry)) (now (held .entry))) (now (words .entry)) at)
+        (wordsState (now (design .entry)) (cellsIn (now (cells .entry)) (now (issues .entry))) (now (tables .entry)) (now (marks .entry)) (now (held .entry)))
+        (outputs (now (words .entry)) (now (text .entry))) at)
         (now (design .entry)) (cellsIn (now (cells .entry)) (now (issues .entry))) (now (tables .entry))
         (arrays (now (next .entry)) (now (first .entry)) (now (keys .entry)) (now (heads .entry)) (now (starts .entry)))
-        (now (marks .exit)) (now (words .exit)) (now (held .entry)) (now (held .exit)) ⌝ }
+        (now (marks .exit)) (outputs (now (words .exit)) (now (text .exit))) (now (held .entry)) (now (held .exit)) ⌝ }
 {
     let d = design_from(design);
     let h = held_from(held);
@@ -194,6 +199,7 @@ pub extern "C" fn wurzsige_run(
         marks,
         h,
         words,
+        text,
         weights,
         sums,
         froms,
