@@ -108,20 +108,34 @@ fn longer(script: &[u8]) -> Outcome {
     read_into(script, &mut cells, &mut issues, &mut tables, &mut marks)
 }
 
-// The causes of the six operations, and whether everything that had to stay untouched did.
+// The causes of the seven operations, and whether everything that had to stay untouched did.
 pub struct Tried {
     pub causes: Causes,
     pub is_left: bool,
 }
 
-// The six operations on buffers of 9s, of which one is too short: they leave everything.
+// The seven operations on buffers of 9s, of which one is too short: they leave everything.
 fn try_short(s: State, cells: &[u32], issues: &[u8], tables: &[u8], marks: &mut [u8]) -> Tried {
     let mut words = [9u32; 8];
+    let mut text = [9u8; 512];
     let mut out = [9u8; 512];
     let d = s.design;
     let h = s.held;
-    let causes = operated(d, cells, issues, tables, marks, h, &mut words, &mut out);
-    let is_left = are_bytes_left(marks, 0) && are_cells_left(&words, 0) && are_bytes_left(&out, 0);
+    let causes = operated(
+        d,
+        cells,
+        issues,
+        tables,
+        marks,
+        h,
+        &mut words,
+        &mut text,
+        &mut out,
+    );
+    let is_left = are_bytes_left(marks, 0)
+        && are_cells_left(&words, 0)
+        && are_bytes_left(&text, 0)
+        && are_bytes_left(&out, 0);
     Tried {
         causes,
         is_left: is_left && causes.is_held,
@@ -146,6 +160,7 @@ fn load_3(
     let design = r.design;
     let none = Held::none();
     let mut words = [0u32; 8];
+    let mut text = [0u8; 512];
     let refer = Operation::Refer(held_3());
     let o = perform(
         refer,
@@ -156,18 +171,30 @@ fn load_3(
         marks,
         none,
         &mut words,
+        &mut text,
     );
     let held = o.held;
     Loaded { design, held }
 }
 
-// The six operations on a lawful state: past the sizes they leave everything.
+// The seven operations on a lawful state: past the sizes they leave everything.
 fn try_long(l: Loaded, cells: &[u32], issues: &[u8], tables: &[u8], marks: &mut [u8]) -> Tried {
     let mut words = [9u32; 8];
+    let mut text = [9u8; 512];
     let mut out = [9u8; 512];
     let d = l.design;
     let h = l.held;
-    let causes = operated(d, cells, issues, tables, marks, h, &mut words, &mut out);
+    let causes = operated(
+        d,
+        cells,
+        issues,
+        tables,
+        marks,
+        h,
+        &mut words,
+        &mut text,
+        &mut out,
+    );
     Tried {
         causes,
         is_left: are_left(0, cells, issues, tables, marks),

@@ -39,6 +39,7 @@ pub(crate) fn state_after(script: &[u8], number: usize) -> State {
     let mut tables = [0u8; 512];
     let mut marks = [0u8; 512];
     let mut words = [0u32; 8];
+    let mut text = [0u8; 512];
     let reading = read_design(script, &mut cells, &mut issues, &mut tables, &mut marks);
     let design = reading.design;
     let verdict = reading.verdict;
@@ -54,6 +55,7 @@ pub(crate) fn state_after(script: &[u8], number: usize) -> State {
             &mut marks,
             number,
             &mut words,
+            &mut text,
         );
         let kept = t.held;
         held = kept;
@@ -193,7 +195,7 @@ pub(crate) fn changed(mut s: State, kind: usize, i: usize, v: usize) -> State {
 
 // ---- operations, which a lawful state allows
 
-// The causes of refusal of the six operations, 0 for none; and whether the held values that they gave back were the ones that they were lent.
+// The causes of refusal of the seven operations, 0 for none; and whether the held values that they gave back were the ones that they were lent.
 pub struct Causes {
     pub is_held: bool,
     pub refer: u8,
@@ -202,6 +204,7 @@ pub struct Causes {
     pub query: u8,
     pub step: u8,
     pub write: u8,
+    pub reason: u8,
 }
 
 fn cause_of(answer: Answer) -> u8 {
@@ -306,8 +309,9 @@ fn ask(
     marks: &mut [u8],
     held: Held,
     words: &mut [u32],
+    text: &mut [u8],
 ) -> Asked {
-    let o = perform(op, design, cells, issues, tables, marks, held, words);
+    let o = perform(op, design, cells, issues, tables, marks, held, words, text);
     let answer = o.answer;
     let kept = o.held;
     Asked {
@@ -325,6 +329,7 @@ fn step_4(
     held: Held,
 ) -> Asked {
     let mut words = [0u32; 8];
+    let mut text = [0u8; 512];
     let script = b"\x10\x00\x04\x00\x00\x00";
     let t = step(
         script,
@@ -336,6 +341,7 @@ fn step_4(
         marks,
         held,
         &mut words,
+        &mut text,
     );
     let answer = t.answer;
     let kept = t.held;
@@ -366,13 +372,34 @@ fn drop_and_refer(
     marks: &mut [u8],
     held: Held,
     words: &mut [u32],
+    text: &mut [u8],
 ) -> Causes {
     let drop = Operation::Drop(held_3());
-    let o = perform(drop, design, cells, issues, tables, marks, held, words);
+    let o = perform(
+        drop,
+        design,
+        cells,
+        issues,
+        tables,
+        marks,
+        held,
+        words,
+        text,
+    );
     let a = o.answer;
     let kept = o.held;
     let refer = Operation::Refer(held_3());
-    let p = perform(refer, design, cells, issues, tables, marks, kept, words);
+    let p = perform(
+        refer,
+        design,
+        cells,
+        issues,
+        tables,
+        marks,
+        kept,
+        words,
+        text,
+    );
     let b = p.answer;
     let last = p.held;
     Causes {
@@ -383,6 +410,7 @@ fn drop_and_refer(
         query: 0,
         step: 0,
         write: 0,
+        reason: 0,
     }
 }
 
@@ -396,18 +424,85 @@ fn probe_and_query(
     marks: &mut [u8],
     held: Held,
     words: &mut [u32],
+    text: &mut [u8],
 ) -> Causes {
     let probe = Operation::Probe(column_1(), value_3());
-    let p = ask(probe, design, cells, issues, tables, marks, held, words);
+    let p = ask(
+        probe,
+        design,
+        cells,
+        issues,
+        tables,
+        marks,
+        held,
+        words,
+        text,
+    );
     let query = Operation::Query(plain_query());
-    let q = ask(query, design, cells, issues, tables, marks, held, words);
+    let q = ask(
+        query,
+        design,
+        cells,
+        issues,
+        tables,
+        marks,
+        held,
+        words,
+        text,
+    );
     c.probe = p.cause;
     c.query = q.cause;
     c.is_held = c.is_held && p.is_held && q.is_held;
     c
 }
 
-// All six on one state, the step last: it is the only one that leaves a lawful state changed.
+// REFER, DROP, PROBE and QUERY on one state.
+fn four(
+    design: Design,
+    cells: &[u32],
+    issues: &[u8],
+    tables: &[u8],
+    marks: &mut [u8],
+    held: Held,
+    words: &mut [u32],
+    text: &mut [u8],
+) -> Causes {
+    let two = drop_and_refer(design, cells, issues, tables, marks, held, words, text);
+    probe_and_query(two, design, cells, issues, tables, marks, held, words, text)
+}
+
+// The causes c, with those of a step and of the reason for row 0. The step is last: it is the only one that leaves a lawful state changed.
+fn reason_and_step(
+    mut c: Causes,
+    design: Design,
+    cells: &[u32],
+    issues: &[u8],
+    tables: &[u8],
+    marks: &mut [u8],
+    held: Held,
+    words: &mut [u32],
+    text: &mut [u8],
+) -> Causes {
+    let reason = Operation::Reason(0);
+    let r = ask(
+        reason,
+        design,
+        cells,
+        issues,
+        tables,
+        marks,
+        held,
+        words,
+        text,
+    );
+    let t = step_4(design, cells, issues, tables, marks, held);
+    c.reason = r.cause;
+    c.step = t.cause;
+    c.is_held = c.is_held && r.is_held && t.is_held;
+    c
+}
+
+// All seven on one state.
 pub(crate) fn operated(
     design: Design,
     cells: &[u32],
@@ -416,13 +511,10 @@ pub(crate) fn operated(
     marks: &mut [u8],
     held: Held,
     words: &mut [u32],
+    text: &mut [u8],
     out: &mut [u8],
 ) -> Causes {
-    let two = drop_and_refer(design, cells, issues, tables, marks, held, words);
-    let mut c = probe_and_query(two, design, cells, issues, tables, marks, held, words);
+    let mut c = four(design, cells, issues, tables, marks, held, words, text);
     c.write = write_out(design, cells, issues, tables, marks, held, out);
-    let t = step_4(design, cells, issues, tables, marks, held);
-    c.step = t.cause;
-    c.is_held = c.is_held && t.is_held;
-    c
+    reason_and_step(c, design, cells, issues, tables, marks, held, words, text)
 }

@@ -3,13 +3,15 @@
 //   = BYTES              the script from here on, in hexadecimal; spaces don't count
 //   + TIMES BYTES        more of it, so many times over
 //   w WORDS              how many answer words are lent from here on: 5, 6, else 4,096
+//   x BYTES              how many bytes of text are lent from here on, 512 at the most
 //   ? NAME|LINE          the line that the desk prints for the command of that number, or for the refused design
 //   a NAME|WORDS|NUMBER  the words lent (5, 6, else 7), 9 each before, behind the command of that number
+//   t NAME|TEXT|NUMBER   the text lent, full stops before, behind the command of that number
 //   ! NAME|CAUSES|NUMBER CHANGE CHANGE
 //                        the state behind the command of that number, with two changes (lent.rt): the causes with which REFER, DROP, PROBE, QUERY,
-//                        a step and writing refuse it, and whether everything was left as it was
+//                        a step, writing and a reason refuse it, and whether everything was left as it was
 //   r NAME|CAUSE|KIND    reading the script's design into buffers (buffers.rt): the cause, and whether what had to stay untouched did
-//   b NAME|CAUSES|KIND   the six operations on buffers of which one is too short, or on longer ones, and the same
+//   b NAME|CAUSES|KIND   the seven operations on buffers of which one is too short, or on longer ones, and the same
 // Any other line is a comment.
 mod buffers;
 mod lent;
@@ -27,10 +29,11 @@ use crate::vectors::fields_of;
 use crate::vectors::say_tally;
 use crate::vectors::vector;
 
-// How far the list has been read: the script's length, the words lent, and the tally.
+// How far the list has been read: the script's length, the words and the bytes of text lent, and the tally.
 pub struct Progress {
     pub length: usize,
     pub words: usize,
+    pub bytes: usize,
     pub tally: Tally,
 }
 
@@ -60,9 +63,10 @@ fn read_line(text: &[u8], from: usize, to: usize, script: &mut [u8], mut p: Prog
         b'=' => p.length = put_hex(text, next, to, script, 0),
         b'+' => p.length = append(text, next, to, script, p.length),
         b'w' => p.words = number_at(text, next, to).value,
-        b'?' | b'a' | b'!' | b'r' | b'b' => {
+        b'x' => p.bytes = number_at(text, next, to).value,
+        b'?' | b'a' | b't' | b'!' | b'r' | b'b' => {
             let f = fields_of(text, next, to);
-            p.tally = vector(text, kind, f, script, p.length, p.words, p.tally);
+            p.tally = vector(text, kind, f, script, p.length, p.words, p.bytes, p.tally);
         }
         _ => {}
     }
@@ -74,6 +78,7 @@ fn read_lines(text: &[u8], script: &mut [u8]) -> Tally {
     let mut p = Progress {
         length: 0,
         words: 4096,
+        bytes: 512,
         tally: Tally {
             vectors: 0,
             wrong: 0,

@@ -1,4 +1,5 @@
 // Scripts run command by command: the line that the desk prints for one of their commands, or for a refused design.
+ghost use Prim.Native.Nat.{_≤_};
 use format::Verdict;
 use format::read_design;
 use report::put_command_line;
@@ -10,12 +11,12 @@ use state::Held;
 
 // A line, with how many bytes it has without its end.
 pub struct Line {
-    pub bytes: [u8; 512],
+    pub bytes: [u8; 1024],
     pub length: usize,
 }
 
 // A line of so many bytes, the last of which ends it. Constant time.
-fn line_of(bytes: [u8; 512], n: usize) -> Line {
+fn line_of(bytes: [u8; 1024], n: usize) -> Line {
     if n == 0 {
         return Line { bytes, length: 0 };
     }
@@ -40,6 +41,7 @@ pub(crate) fn step_of(
     marks: &mut [u8],
     number: usize,
     words: &mut [u32],
+    text: &mut [u8],
 ) -> Step {
     let none = Held::none();
     let mut t = step(
@@ -52,6 +54,7 @@ pub(crate) fn step_of(
         marks,
         none,
         words,
+        text,
     );
     let mut i: usize = 0;
     while i < MOST_COMMANDS {
@@ -70,29 +73,74 @@ pub(crate) fn step_of(
             marks,
             held,
             words,
+            text,
         );
         t = next;
     }
     t
 }
 
-// A command's line.
-fn command_line(number: usize, t: Step) -> Line {
-    let mut bytes = [0u8; 512];
+// A command's line, and the text behind the command.
+pub struct Told {
+    pub line: Line,
+    pub text: [u8; 512],
+}
+
+// A command's line, where this text was lent.
+fn command_line(number: usize, t: Step, text: [u8; 512]) -> Line {
+    let mut bytes = [0u8; 1024];
     let answer = t.answer;
-    let n = put_command_line(&mut bytes, 0, number, answer, t.place);
+    let n = put_command_line(&mut bytes, 0, number, answer, t.place, &text);
     line_of(bytes, n)
+}
+
+// How much of a text of 512 bytes is lent. Constant time.
+pub(crate) fn bytes_lent(room: usize) -> usize
+    ensures { λ n. ⌜ n ≤ 512 ⌝ }
+{
+    if room < 512 { room } else { 512 }
+}
+
+// The line and the text of the command with this number; each byte of the text is a full stop before, and so many of them are lent.
+fn told_at(
+    script: &[u8],
+    at: usize,
+    design: Design,
+    cells: &[u32],
+    issues: &[u8],
+    tables: &[u8],
+    marks: &mut [u8],
+    number: usize,
+    words: &mut [u32],
+    room: usize,
+) -> Told {
+    let mut text = [b'.'; 512];
+    let n = bytes_lent(room);
+    let t = step_of(
+        script,
+        at,
+        design,
+        cells,
+        issues,
+        tables,
+        marks,
+        number,
+        words,
+        &mut text[..n],
+    );
+    let line = command_line(number, t, text);
+    Told { line, text }
 }
 
 // A refused design's line.
 fn refusal_line(cause: u8, place: usize) -> Line {
-    let mut bytes = [0u8; 512];
+    let mut bytes = [0u8; 1024];
     let n = put_refusal_line(&mut bytes, 0, cause, place);
     line_of(bytes, n)
 }
 
-// The line of the command with this number, with these words lent.
-pub(crate) fn line_at(script: &[u8], number: usize, words: &mut [u32]) -> Line {
+// The line of the command with this number, or of the refused design, and the text behind it, with these words and so many bytes of text lent.
+pub(crate) fn line_at(script: &[u8], number: usize, words: &mut [u32], room: usize) -> Told {
     let mut cells = [0u32; 4096];
     let mut issues = [0u8; 4096];
     let mut tables = [0u8; 512];
@@ -101,20 +149,21 @@ pub(crate) fn line_at(script: &[u8], number: usize, words: &mut [u32]) -> Line {
     let design = reading.design;
     let verdict = reading.verdict;
     match verdict {
-        Verdict::Accepted(at) => {
-            let t = step_of(
-                script,
-                at,
-                design,
-                &cells,
-                &issues,
-                &tables,
-                &mut marks,
-                number,
-                words,
-            );
-            command_line(number, t)
-        }
-        Verdict::Refused(cause, place) => refusal_line(cause, place),
+        Verdict::Accepted(at) => told_at(
+            script,
+            at,
+            design,
+            &cells,
+            &issues,
+            &tables,
+            &mut marks,
+            number,
+            words,
+            room,
+        ),
+        Verdict::Refused(cause, place) => Told {
+            line: refusal_line(cause, place),
+            text: [b'.'; 512],
+        },
     }
 }

@@ -9,6 +9,7 @@ use crate::lent::changed;
 use crate::lent::operated;
 use crate::lent::state_after;
 use crate::scripts::Line;
+use crate::scripts::bytes_lent;
 use crate::scripts::line_at;
 use crate::text::after;
 use crate::text::byte_at;
@@ -58,28 +59,29 @@ fn put_left(bytes: &mut [u8], at: usize, is_left: bool) -> usize {
     put(bytes, at, b)
 }
 
-// The causes of the six operations, then l if everything was left as it was, and c if something was changed.
+// The causes of the seven operations, then l if everything was left as it was, and c if something was changed.
 fn causes_line(c: Causes, is_left: bool) -> Line {
-    let mut bytes = [0u8; 512];
+    let mut bytes = [0u8; 1024];
     let n = put_cause(&mut bytes, 0, c.refer);
     let n = put_cause(&mut bytes, n, c.drop);
     let n = put_cause(&mut bytes, n, c.probe);
     let n = put_cause(&mut bytes, n, c.query);
     let n = put_cause(&mut bytes, n, c.step);
     let n = put_cause(&mut bytes, n, c.write);
+    let n = put_cause(&mut bytes, n, c.reason);
     let length = put_left(&mut bytes, n, is_left);
     Line { bytes, length }
 }
 
 fn reading_line(script: &[u8], kind: usize) -> Line {
     let o = reading(script, kind);
-    let mut bytes = [0u8; 512];
+    let mut bytes = [0u8; 1024];
     let n = put_cause(&mut bytes, 0, o.cause);
     let length = put_left(&mut bytes, n, o.is_left);
     Line { bytes, length }
 }
 
-// The six operations on a state, and whether they left it, the answer words and the buffer to write into as they were.
+// The seven operations on a state, and whether they left it, the answer words, the text and the buffer to write into as they were.
 fn state_line(s: State) -> Line {
     let cells = s.cells;
     let issues = s.issues;
@@ -89,6 +91,7 @@ fn state_line(s: State) -> Line {
     let design = s.design;
     let held = s.held;
     let mut words = [9u32; 8];
+    let mut text = [9u8; 512];
     let mut out = [9u8; 512];
     let c = operated(
         design,
@@ -98,10 +101,12 @@ fn state_line(s: State) -> Line {
         &mut marks,
         held,
         &mut words,
+        &mut text,
         &mut out,
     );
     let is_left = check::same(&marks, &before)
         && are_cells_left(&words, 0)
+        && are_bytes_left(&text, 0)
         && are_bytes_left(&out, 0);
     causes_line(c, is_left && c.is_held)
 }
@@ -135,7 +140,7 @@ fn low_digits(w: u32) -> u8 {
 }
 
 fn words_text(words: &[u32]) -> Line {
-    let mut bytes = [0u8; 512];
+    let mut bytes = [0u8; 1024];
     let length = put_words(words, &mut bytes);
     Line { bytes, length }
 }
@@ -145,29 +150,38 @@ fn words_line(number: usize, script: &[u8], words: usize) -> Line {
     match words {
         5 => {
             let mut lent = [9u32; 5];
-            line_at(script, number, &mut lent);
+            line_at(script, number, &mut lent, 512);
             words_text(&lent)
         }
         6 => {
             let mut lent = [9u32; 6];
-            line_at(script, number, &mut lent);
+            line_at(script, number, &mut lent, 512);
             words_text(&lent)
         }
         _ => {
             let mut lent = [9u32; 7];
-            line_at(script, number, &mut lent);
+            line_at(script, number, &mut lent, 512);
             words_text(&lent)
         }
     }
 }
 
+// The text behind a command, as much of it as was lent.
+fn text_line(number: usize, script: &[u8], room: usize) -> Line {
+    let told = line_at(script, number, &mut [9u32; 4096], room);
+    let text = told.text;
+    let mut bytes = [0u8; 1024];
+    let length = copy(&text, 0, bytes_lent(room), &mut bytes);
+    Line { bytes, length }
+}
+
 // The line of the command whose number the expected line begins with.
-fn command_line(text: &[u8], f: Fields, script: &[u8], words: usize) -> Line {
+fn command_line(text: &[u8], f: Fields, script: &[u8], words: usize, room: usize) -> Line {
     let number = first_number(text, f);
     match words {
-        5 => line_at(script, number, &mut [9u32; 5]),
-        6 => line_at(script, number, &mut [9u32; 6]),
-        _ => line_at(script, number, &mut [9u32; 4096]),
+        5 => line_at(script, number, &mut [9u32; 5], room).line,
+        6 => line_at(script, number, &mut [9u32; 6], room).line,
+        _ => line_at(script, number, &mut [9u32; 4096], room).line,
     }
 }
 
@@ -179,11 +193,12 @@ fn first_number(text: &[u8], f: Fields) -> usize {
     number_at(text, f.expected, f.end).value
 }
 
-fn line_of(text: &[u8], kind: u8, f: Fields, script: &[u8], words: usize) -> Line {
+fn line_of(text: &[u8], kind: u8, f: Fields, script: &[u8], words: usize, room: usize) -> Line {
     match kind {
-        b'?' => command_line(text, f, script, words),
+        b'?' => command_line(text, f, script, words, room),
         b'!' => state_line(state_of(text, f, script)),
         b'a' => words_line(number_at(text, f.rest, f.end).value, script, words),
+        b't' => text_line(number_at(text, f.rest, f.end).value, script, room),
         b'r' => reading_line(script, number_at(text, f.rest, f.end).value),
         _ => {
             let s = state_after(script, 0);
@@ -249,10 +264,11 @@ pub(crate) fn vector(
     script: &[u8],
     length: usize,
     words: usize,
+    room: usize,
     t: Tally,
 ) -> Tally {
     let n = io::count((length % 131072) as isize, script);
-    let got = line_of(text, kind, f, &script[..n], words);
+    let got = line_of(text, kind, f, &script[..n], words, room);
     let end = end_of_expected(text, f);
     say_part(text, f.name, find(text, f.name, f.end, b'|'));
     say(b": expected ");

@@ -33,6 +33,9 @@ const POSITIONS: usize = 2_560;
 /// The numbers that an answer can have at most.
 const NUMBERS: usize = 16;
 
+/// The bytes of text, which are lent as the desk program lends them.
+const TEXT: usize = 16_384;
+
 // A Rattle slice goes across as a pointer and a length, and an array of a fixed
 // size as a pointer, which is what a reference to an array is in Rust.
 #[link(name = "foreign", kind = "static")]
@@ -82,6 +85,8 @@ extern "C" {
         held_length: usize,
         words: *mut u32,
         words_length: usize,
+        text: *mut u8,
+        text_length: usize,
         weights: &mut [u64; POSITIONS],
         sums: &mut [u64; POSITIONS],
         froms: &mut [u16; POSITIONS],
@@ -113,6 +118,8 @@ extern "C" {
         held_length: usize,
         words: *mut u32,
         words_length: usize,
+        text: *mut u8,
+        text_length: usize,
         weights: &mut [u64; POSITIONS],
         sums: &mut [u64; POSITIONS],
         froms: &mut [u16; POSITIONS],
@@ -138,6 +145,7 @@ struct Lent {
     design: Box<[u32; DESIGN_WORDS]>,
     held: Box<[u32; HELD_WORDS]>,
     words: Box<[u32; ANSWER_WORDS]>,
+    text: Box<[u8; TEXT]>,
     weights: Box<[u64; POSITIONS]>,
     sums: Box<[u64; POSITIONS]>,
     froms: Box<[u16; POSITIONS]>,
@@ -193,6 +201,8 @@ macro_rules! call {
                 $lent.held.len(),
                 $lent.words.as_mut_ptr(),
                 $lent.words.len(),
+                $lent.text.as_mut_ptr(),
+                $lent.text.len(),
                 &mut $lent.weights,
                 &mut $lent.sums,
                 &mut $lent.froms,
@@ -219,6 +229,7 @@ impl Lent {
             design: zeros(),
             held: zeros(),
             words: zeros(),
+            text: zeros(),
             weights: zeros(),
             sums: zeros(),
             froms: zeros(),
@@ -293,6 +304,11 @@ impl OpenDesk for Lent {
             13 => Answer::Open,
             14 => Answer::Opener(number as usize, numbers[1] as u32, numbers[2] as u8),
             15 => Answer::NoOpener,
+            16 => Answer::Absent,
+            17 => {
+                let sentence = &self.text[..number as usize];
+                Answer::Reason(String::from_utf8_lossy(sentence).into_owned())
+            }
             word => unreachable!("no answer has the word {word}"),
         }
     }

@@ -1,13 +1,13 @@
 //! The vectors of the proved library (`crates/vectors/stdin`, in a notation that
 //! its `src/main.rt` sets out), held to the second implementation: those that a
-//! script and the words lent decide. Those on lent memory are passed over. And
-//! `stdout` beside it is what is printed if none is wrong.
+//! script and the words and the text lent decide. Those on lent memory are passed
+//! over. And `stdout` beside it is what is printed if none is wrong.
 
 use std::fs;
 use std::path::Path;
 
 use compare::answers::answers;
-use reference::report_lending;
+use reference::{report_lending, report_lending_text};
 
 /// One of the files.
 fn file(name: &str) -> String {
@@ -15,7 +15,8 @@ fn file(name: &str) -> String {
     fs::read_to_string(directory.join(name)).expect("a file of the vectors")
 }
 
-/// A vector, with the script and the words lent that it is about.
+/// A vector, with the script and the words and bytes of text lent that it is
+/// about.
 struct Vector<'a> {
     kind: &'a str,
     name: &'a str,
@@ -24,6 +25,7 @@ struct Vector<'a> {
     rest: &'a str,
     script: Vec<u8>,
     words: usize,
+    text: usize,
 }
 
 /// The vectors of a list.
@@ -31,6 +33,7 @@ fn vectors(list: &str) -> Vec<Vector<'_>> {
     let mut vectors = Vec::new();
     let mut script = Vec::new();
     let mut words = 4_096;
+    let mut text = 512;
     for line in list.lines() {
         let (kind, rest) = line.split_at_checked(1).unwrap_or_default();
         match kind {
@@ -40,7 +43,8 @@ fn vectors(list: &str) -> Vec<Vector<'_>> {
                 script.extend(bytes(more).repeat(number(times)));
             }
             "w" => words = number(rest),
-            "?" | "a" | "!" | "r" | "b" => {
+            "x" => text = number(rest),
+            "?" | "a" | "t" | "!" | "r" | "b" => {
                 let mut fields = rest[1..].splitn(3, '|');
                 let mut field = || fields.next().unwrap_or_default();
                 vectors.push(Vector {
@@ -50,6 +54,7 @@ fn vectors(list: &str) -> Vec<Vector<'_>> {
                     rest: field(),
                     script: script.clone(),
                     words,
+                    text,
                 });
             }
             _ => {}
@@ -72,7 +77,10 @@ fn bytes(text: &str) -> Vec<u8> {
 
 /// The line of a command, or of a refused design.
 fn line(vector: &Vector) -> String {
-    let report = report_lending(&vector.script, vector.words);
+    let report = match vector.words {
+        words @ (5 | 6) => report_lending(&vector.script, words),
+        _ => report_lending_text(&vector.script, vector.text),
+    };
     if report.starts_with("refused ") {
         return report.trim_end().into();
     }
@@ -102,6 +110,20 @@ fn words_behind(vector: &Vector) -> String {
     words.iter().map(|word| format!("{word:0>2} ")).collect()
 }
 
+/// The text lent behind a command, full stops before.
+fn text_behind(vector: &Vector) -> String {
+    let report = report_lending_text(&vector.script, vector.text);
+    let (_, operations) = report.split_once('\n').expect("a head");
+    let answers = answers(operations);
+    let mut text = ".".repeat(vector.text);
+    for answer in &answers[..=number(vector.rest)] {
+        if answer.text.starts_with("row ") {
+            text.replace_range(..answer.text.len(), answer.text);
+        }
+    }
+    text
+}
+
 #[test]
 fn the_second_implementation_gives_what_is_expected() {
     let list = file("stdin");
@@ -112,6 +134,7 @@ fn the_second_implementation_gives_what_is_expected() {
         let got = match vector.kind {
             "?" => line(&vector),
             "a" => words_behind(&vector),
+            "t" => text_behind(&vector),
             _ => continue,
         };
         assert_eq!(got, vector.expected, "{}", vector.name);

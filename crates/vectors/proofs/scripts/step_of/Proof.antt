@@ -8,10 +8,11 @@ use Rattle.vectors.proofs.scripts.step_of.Statement.{statement}
 use Rattle.vectors.proofs.scripts.step_of.Tie as tie
 
 abbrev Inv-loop : tie.InvT-loop
-Inv-loop script at design cells issues tables marks₀ number words₀ t₀ i₀ marks words t i = (length marks ≡ length marks₀) × (length words ≡ length words₀)
+Inv-loop script at design cells issues tables marks₀ number words₀ text₀ t₀ i₀ marks words text t i =
+    (length marks ≡ length marks₀) × (length words ≡ length words₀) × (length text ≡ length text₀)
 
 abbrev μ-loop : tie.MeasureT-loop
-μ-loop script at design cells issues tables marks₀ number words₀ t₀ i₀ marks words t i = 65537 - i
+μ-loop script at design cells issues tables marks₀ number words₀ text₀ t₀ i₀ marks words text t i = 65537 - i
 
 none-requires : tie.Need-none-requires Inv-loop μ-loop
 none-requires c κs = search needs
@@ -20,13 +21,16 @@ step-requires : tie.Need-step-requires Inv-loop μ-loop
 step-requires c κs = search needs
 
 loop-holds : tie.Need-loop-holds Inv-loop μ-loop
-loop-holds c = (refl, refl)
+loop-holds c = (refl, refl, refl)
 
 same-length : tie.Need-same-length Inv-loop μ-loop
 same-length c = omega arith
 
 same-length-2 : tie.Need-same-length-2 Inv-loop μ-loop
 same-length-2 c = omega arith
+
+same-length-3 : tie.Need-same-length-3 Inv-loop μ-loop
+same-length-3 c = omega arith
 
 returns : tie.Need-returns Inv-loop μ-loop
 returns c = tt
@@ -41,13 +45,16 @@ loop-less : tie.Need-loop-less Inv-loop μ-loop
 loop-less c = omega arith
 
 loop-again : tie.Need-loop-again Inv-loop μ-loop
-loop-again c = (omega arith, omega arith)
-
-same-length-3 : tie.Need-same-length-3 Inv-loop μ-loop
-same-length-3 c = omega arith
+loop-again c = (omega arith, omega arith, omega arith)
 
 same-length-4 : tie.Need-same-length-4 Inv-loop μ-loop
 same-length-4 c = omega arith
+
+same-length-5 : tie.Need-same-length-5 Inv-loop μ-loop
+same-length-5 c = omega arith
+
+same-length-6 : tie.Need-same-length-6 Inv-loop μ-loop
+same-length-6 c = omega arith
 
 returns-2 : tie.Need-returns-2 Inv-loop μ-loop
 returns-2 c = tt
@@ -63,11 +70,13 @@ step-of-spec =
     loop-holds
     same-length
     same-length-2
+    same-length-3
     returns
     add-i
     step-requires-2
     loop-less
     loop-again
-    same-length-3
     same-length-4
+    same-length-5
+    same-length-6
     returns-2)
