@@ -318,3 +318,60 @@ impl OpenDesk for Lent {
         operations.list.len()
     }
 }
+
+#[cfg(test)]
+mod tests {
+    use std::fs;
+    use std::mem::discriminant;
+    use std::path::Path;
+
+    use notation::{assemble, encode, split, Command, Design, Piece};
+
+    use super::*;
+    use crate::second::SecondImplementation;
+
+    /// The commands of an example.
+    fn commands(path: &Path) -> Vec<Command> {
+        let text = fs::read_to_string(path).expect("an example");
+        let script = assemble(&text).expect("a script");
+        let command = |piece| match piece {
+            Piece::Command(command) => command,
+            Piece::Rest(_) => panic!("{} has a command cut short", path.display()),
+        };
+        split(&script).into_iter().map(command).collect()
+    }
+
+    #[test]
+    fn the_examples_are_answered_as_by_the_second_implementation() {
+        let examples = Path::new(env!("CARGO_MANIFEST_DIR")).join("../../examples");
+        let mut kinds = Vec::new();
+        let mut held = 0;
+        for entry in fs::read_dir(examples).expect("the examples") {
+            let path = entry.expect("an entry").path();
+            if path.extension().is_none_or(|extension| extension != "desk") {
+                continue;
+            }
+            let commands = commands(&path);
+            let end = commands.iter().position(|command| *command == Command::End);
+            let (design, operations) = commands.split_at(end.expect("an END") + 1);
+            let opening = Opening {
+                design: Design::default(),
+                script: encode(design),
+            };
+            let mut proved = ProvedDesk.open(&opening);
+            let mut second = SecondImplementation.open(&opening);
+            for operation in &Operations::from(operations).list {
+                let answer = proved.answer(operation);
+                let command = operation.command;
+                assert_eq!(answer, second.answer(operation), "{command:?} of {path:?}");
+                if !kinds.contains(&discriminant(&answer)) {
+                    kinds.push(discriminant(&answer));
+                }
+            }
+            held += 1;
+        }
+        assert!(held > 9, "only {held} examples");
+        assert!(kinds.contains(&discriminant(&Answer::Reason(String::new()))));
+        assert!(kinds.contains(&discriminant(&Answer::Absent)));
+    }
+}
