@@ -1,19 +1,20 @@
--- What a desk's REFER is answered, and whether its pair or its query's is taken, come from the desk's own pairs: the other desks decide rows and rounds alone
--- (02, Req 07). Assumes nothing.
+-- What a desk's REFER and its load of a range are answered, and whether its pair, its query's or its range is taken, come from the desk's own pairs and ranges:
+-- the other desks decide rows and rounds alone (02, Req 07 and 10). Assumes nothing.
 use Prim.Native.Nat.{ℕ}
 use native.Mathlib.Omega.{arith}
 use mathlib.Core.Path.{_≡_, refl, sym, ap, ap₂, _∙_}
 use mathlib.Core.Logic.{_↔_}
 use mathlib.Core.Bool.{Bool, true, false, not, _&&_}
 use mathlib.Core.List.{List}
-use lib.Dec.{ltb}
+use lib.Dec.{leb, ltb}
 use lib.ListN.{length}
 use Rattle.finite.specs.Sameness.{listed}
 use Rattle.model.specs.Cell.{numberless}
 use Rattle.model.specs.Scheme.{Scheme, candidate}
 use Rattle.model.specs.Database.{Database}
-use Rattle.model.specs.Holding.{places, Pair, samePair, Holding, holds, hasRoom}
-use Rattle.model.specs.Runs.{refer, taken, Cache}
+use Rattle.model.specs.Ranges.{Range, isRange, onlyCandidates, joined, contains}
+use Rattle.model.specs.Holding.{places, mostRanges, Pair, samePair, Holding, holds, hasRoom, coversRange, hasRangeRoom}
+use Rattle.model.specs.Runs.{refer, referRange, taken, rangeTaken, Cache}
 use Rattle.model.specs.Answers.{Answer, loaded, held, noCandidate, refused, unless, orAnswer, answer}
 use Rattle.model.specs.Desks.{SameDesk, SameButRows, same, loads}
 use Rattle.model.proofs.HoldingLaws.{own-listed}
@@ -30,6 +31,16 @@ module _ {h g : Holding} (d : SameDesk h g) where
   unfolding taken
   taken-alone S p =
       ap₂ (λ (a b : Bool). ltb (p .filling) (S .fillings) && (candidate (S .filling (p .filling)) (p .value) && (not a && b))) (holds-alone p) room-alone
+
+  covers-alone : (r : Range) → coversRange h r ≡ coversRange g r
+  covers-alone r = ap (λ (rs : List Range). listed contains r rs) (d .ranges)
+
+  range-room-alone : (r : Range) → hasRangeRoom h r ≡ hasRangeRoom g r
+  range-room-alone r = ap (λ (rs : List Range). leb (length (joined r rs)) mostRanges) (d .ranges)
+
+  pub range-taken-alone : (S : Scheme) (r : Range) → rangeTaken S h r ≡ rangeTaken S g r
+  unfolding rangeTaken
+  range-taken-alone S r = ap₂ (λ (a b : Bool). isRange S r && (onlyCandidates S r && (not a && b))) (covers-alone r) (range-room-alone r)
 
 -- behind the same tests stand the same answers, but for a load's numbers
 behind : (a b c d e : Bool) (rows rounds others turns : ℕ) →
@@ -50,6 +61,14 @@ module _ (S : Scheme) (D E : Database) (c e : Cache) (d : SameDesk (c .held) (e 
       rw (holds-alone d p, room-alone d)
       (behind (not (ltb (p .filling) (S .fillings))) (numberless (p .value)) (not (candidate (S .filling (p .filling)) (p .value))) (holds (e .held) p)
       (not (hasRoom (e .held))) _ _ _ _)
+
+-- THEOREM: and so a load of a range
+pub desk-alone-range : (S : Scheme) (D E : Database) (c e : Cache) → SameDesk (c .held) (e .held) → (r : Range) →
+    SameButRows (answer S D c (referRange r)) (answer S E e (referRange r))
+unfolding answer
+desk-alone-range S D E c e d r =
+    rw (covers-alone d r, range-room-alone d r)
+    (behind (not (isRange S r)) false (not (onlyCandidates S r)) (coversRange (e .held) r) (not (hasRangeRoom (e .held) r)) _ _ _ _)
 
 -- two such answers are refused alike
 pub refused-alike : {a b : Answer} → SameButRows a b → (n : ℕ) → (a ≡ refused n) ↔ (b ≡ refused n)

@@ -1,4 +1,5 @@
--- What a REFER answers in an even design: of T tables no more than 2 T − 1 later rounds, whatever the rows (02, Req 01). Assumes nothing.
+-- What a REFER, and a load of a range, answers in an even design: of T tables no more than 2 T − 1 later rounds, whatever the rows (02, Req 01; Req 10: "The even
+-- design's bound on rounds covers ranges"). Assumes nothing.
 use Prim.Native.Nat.{ℕ, _-_, _*_, _≤_}
 use native.Mathlib.Omega.{arith}
 use mathlib.Core.Path.{_≡_, refl, ap, _∙_}
@@ -12,11 +13,13 @@ use Rattle.model.specs.Scheme.{Scheme, candidate}
 use Rattle.model.specs.Database.{Database, Lawful}
 use Rattle.model.specs.Rounds.{laterRounds}
 use Rattle.model.specs.Even.{Even}
-use Rattle.model.specs.Holding.{Pair, holds, hasRoom}
-use Rattle.model.specs.Runs.{refer, marked, Cache, referLevels}
+use Rattle.model.specs.Ranges.{Range, isRange, onlyCandidates}
+use Rattle.model.specs.Holding.{Pair, holds, hasRoom, coversRange, hasRangeRoom}
+use Rattle.model.specs.Runs.{refer, referRange, marked, Cache, referLevels, rangeLevels}
 use Rattle.model.specs.Answers.{Answer, loaded, held, noCandidate, refused, shown, unless, orAnswer, answer}
 use Rattle.model.proofs.Closed.{constraints-closed}
 use Rattle.model.proofs.Loads.{one-wants}
+use Rattle.model.proofs.RangesHeld.{range-wants}
 use Rattle.model.proofs.EvenRounds.{even-rounds}
 use Rattle.model.proofs.RunLaws.{Sound}
 
@@ -50,3 +53,17 @@ module _ {S : Scheme} {D : Database} (lawful : Lawful S D) (even : Even S) (c : 
       behind (not (ltb (p .filling) (S .fillings))) (numberless (p .value)) (not (candidate (S .filling (p .filling)) (p .value))) (holds (c .held) p)
       (not (hasRoom (c .held))) _ _ e in
       omega (arith, refer-rounds)
+
+module _ {S : Scheme} {D : Database} (lawful : Lawful S D) (even : Even S) (c : Cache) (sound : Sound S D c) (r : Range) where
+  pub range-rounds : laterRounds D (rangeLevels S D (marked (c .marks)) r) ≤ 2 * S .tables - 1
+  unfolding rangeLevels
+  range-rounds =
+      even-rounds lawful even (constraints-closed (sound .meets .rows) (sound .meets .constraints)) (λ s e. range-wants S D r .wanted s e .has .live)
+
+  -- THE BOUND, of a load of a range
+  pub range-bound : (rows rounds : ℕ) → answer S D c (referRange r) ≡ loaded rows rounds → rounds ≤ 2 * S .tables - 1
+  unfolding answer
+  range-bound rows rounds e =
+      let n : laterRounds D (rangeLevels S D (marked (c .marks)) r) ≡ rounds =
+      behind (not (isRange S r)) false (not (onlyCandidates S r)) (coversRange (c .held) r) (not (hasRangeRoom (c .held) r)) _ _ e in
+      omega (arith, range-rounds)

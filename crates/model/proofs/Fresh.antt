@@ -7,11 +7,12 @@ use lib.Dec.{ltb}
 use Rattle.model.specs.Scheme.{Scheme}
 use Rattle.model.specs.Database.{Database}
 use Rattle.model.specs.Rounds.{reached}
-use Rattle.model.specs.Holding.{desks, Pair, holds, withPair}
-use Rattle.model.specs.Runs.{Operation, refer, drop, ask, query, name, taken, pairFor, refers, marks, marked, Cache, reloadLevels, referred, atDesk, cacheAfter}
+use Rattle.model.specs.Ranges.{Range}
+use Rattle.model.specs.Holding.{desks, Pair, holds, withPair, holdsRange, withRange}
+use Rattle.model.specs.Runs.{Operation, refer, drop, ask, query, name, referRange, dropRange, taken, rangeTaken, pairFor, refers, marks, marked, Cache, reloadLevels, referred, referredRange, atDesk, cacheAfter}
 use Rattle.model.proofs.Loads.{one-smallest}
 use Rattle.model.proofs.Marks.{marks-same}
-use Rattle.model.proofs.RunLaws.{Sound, refer-smallest, held-smallest, reload-sound}
+use Rattle.model.proofs.RunLaws.{Sound, refer-smallest, range-smallest, held-smallest, reload-sound}
 
 -- the marks are those of a load of all pairs from nothing
 pub record Fresh (S : Scheme) (D : Database) (c : Cache) : Type 0 where
@@ -30,6 +31,10 @@ refer-fresh : (S : Scheme) (D : Database) (c : Cache) (p : Pair) → Fresh S D c
 refer-fresh S D c p f =
     record { reloaded = marks-same D _ _ (λ r l. one-smallest (refer-smallest c p (fresh-sound S D c f)) (held-smallest S D (withPair (c .held) p)) r) }
 
+range-fresh : (S : Scheme) (D : Database) (c : Cache) (r : Range) → Fresh S D c → Fresh S D (referredRange S D c r)
+range-fresh S D c r f =
+    record { reloaded = marks-same D _ _ (λ s l. one-smallest (range-smallest c r (fresh-sound S D c f)) (held-smallest S D (withRange (c .held) r)) s) }
+
 -- an operation leaves one
 pub step-fresh : (S : Scheme) (D : Database) (c : Cache) (o : Operation) → Fresh S D c → Fresh S D (cacheAfter S D c o)
 unfolding cacheAfter reloadLevels
@@ -38,3 +43,5 @@ step-fresh S D c (drop p) f = cond-fresh (holds (c .held) p) _ c (record { reloa
 step-fresh S D c (ask q) f = f
 step-fresh S D c (query q out) f = cond-fresh (refers S D (c .held) (marked (c .marks)) q out) _ c (refer-fresh S D c (pairFor S q) f) f
 step-fresh S D c (name d) f = cond-fresh (ltb d desks) (atDesk c d) c (record { reloaded = f .reloaded }) f
+step-fresh S D c (referRange r) f = cond-fresh (rangeTaken S (c .held) r) _ c (range-fresh S D c r f) f
+step-fresh S D c (dropRange r) f = cond-fresh (holdsRange (c .held) r) _ c (record { reloaded = refl }) f

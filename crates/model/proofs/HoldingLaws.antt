@@ -1,6 +1,6 @@
--- What is held fits a scheme: one of four desks is named, and each desk has at most 16 pairs of an existing filling and a candidate, none twice. It still
--- fits when a REFER puts a pair at the end, when one goes, and when another desk is named; a listed pair is one of them. What a desk is told of its own pairs
--- comes from these alone. Assumes nothing.
+-- What is held fits a scheme: one of four desks is named, each desk has at most 16 pairs of an existing filling and a candidate, none twice, and its ranges fit
+-- (`RangesFit.antt`). It still fits when a REFER puts a pair at the end, when one goes, when a range is held or dropped, and when another desk is named; a listed
+-- pair is one of them. What a desk is told of its own pairs comes from these alone. Assumes nothing.
 use Prim.Native.Nat.{ℕ, zero, suc, _+_, _≤_, _<_}
 use native.Mathlib.Decide.{decLt}
 use native.Mathlib.Numerals.{add-one}
@@ -21,13 +21,16 @@ use Rattle.finite.proofs.Sameness.{end-length, end-before, end-last, unlisted-a
 use Rattle.model.specs.Cell.{Cell, isBlank}
 use Rattle.model.specs.Scheme.{Column, Scheme, candidate, sameColumn}
 use Rattle.model.specs.Database.{Database, has}
-use Rattle.model.specs.Holding.{desks, places, Pair, samePair, Owned, sameOwned, ownAmong, Holding, withDesk, ownOf, mine, heldCount, heldPair, someHolds, holds, hasRoom, withPair, withoutPair, one, pairsHold, pairsWant, heldIn, wanted}
+use Rattle.model.specs.Holding.{desks, places, Pair, samePair, Owned, sameOwned, ownAmong, Holding, withDesk, ownOf, mine, heldCount, heldPair, someHolds, holds, hasRoom, withPair, withoutPair, holdsRange, withoutRange, allRanges, rangeCount, heldRange, someHoldsRange, one, pairsHold, pairsWant, rangesHold, heldIn}
 pub use Rattle.model.specs.Holding.{noOwned}
 use Rattle.model.specs.Cache.{RowSet}
+use Rattle.model.specs.Ranges.{Range, sameRange, rangeHolds}
 use Rattle.model.specs.Probe as Probe
 use Rattle.model.specs.Query.{Query}
-use Rattle.model.specs.Runs.{Output, Operation, refer, drop, ask, query, name, taken, cachedFor, pairFor, answerable, refers, heldAfter}
+use Rattle.model.specs.Runs.{Output, Operation, refer, drop, ask, query, name, referRange, dropRange, taken, rangeTaken, cachedFor, pairFor, answerable, refers, heldAfter}
 use Rattle.model.proofs.CellLaws.{equal-same, equal-self}
+use Rattle.model.proofs.RangeLaws.{same-range, RangeFits}
+use Rattle.model.proofs.RangesFit.{ListsFit, all-fit, every-at, some-found, range-taken-says, lists-more, lists-fewer}
 
 abbrev pub ownedAt : List Owned → ℕ → Owned
 ownedAt os i = getD os i noOwned
@@ -106,6 +109,7 @@ pub record ValuesFit (S : Scheme) (os : List Owned) : Type 0 where
 pub record HoldingFits (S : Scheme) (h : Holding) : Type 0 where
   pub named : h .desk < desks
   pub values : ValuesFit S (h .values)
+  pub ranges : ListsFit S (h .ranges)
 
 -- so there are at most 64
 desks-few : (os : List Owned) → ((i : ℕ) → i < length os → ownedAt os i .desk < desks) → ((d : ℕ) → d < desks → length (ownAmong d os) ≤ places) → length os ≤ 64
@@ -171,6 +175,7 @@ module _ (S : Scheme) (h : Holding) (H : HoldingFits S h) (p : Pair) where
           value = λ i l. value i l (decLt i (length os));
           once = λ j i k l. once j i k l (decLt i (length os));
         };
+        ranges = H .ranges;
       }
     where
       filling : (i : ℕ) → i < length more → Dec (i < length os) → ownedAt more i .pair .filling < S .fillings
@@ -204,6 +209,7 @@ module _ (S : Scheme) (h : Holding) (H : HoldingFits S h) (p : Pair) where
               once = λ j i k l. rw (remove-at sameOwned noOwned o os m j, remove-at sameOwned noOwned o os m i)
                   (H .values .once (skip gap j) (skip gap i) (skip-rises gap j i k) (inside i l));
             };
+            ranges = H .ranges;
           }
         where
           inside : (i : ℕ) → i < length (remove sameOwned o os) → skip gap i < length os
@@ -230,6 +236,10 @@ refers-takes S D h X q out e =
     let a = and-eq-true-iff (answerable S D q out) _ .0 e in
     and-eq-true-iff (eqb (Probe.probe S D (heldIn S h) X (q .column) (q .value)) 0) (taken S h (pairFor S q)) .0 (a .1) .1
 
+-- what is left when a range goes fits
+pub fit-without : (S : Scheme) (h : Holding) → HoldingFits S h → (r : Range) → HoldingFits S (withoutRange h r)
+fit-without S h H r = record { named = H .named; values = H .values; ranges = lists-fewer S h (H .named) (H .ranges) r }
+
 -- so what is held after an operation fits
 pub step-fit : (S : Scheme) (D : Database) (h : Holding) (o : Operation) → HoldingFits S h → HoldingFits S (heldAfter S D h o)
 unfolding heldAfter
@@ -238,7 +248,11 @@ step-fit S D h (drop p) H = cond-fit (holds h p) _ h (λ e. fit-fewer S h H p) H
 step-fit S D h (ask q) H = H
 step-fit S D h (query q out) H =
     cond-fit (refers S D h (cachedFor S D h) q out) _ h (λ e. fit-more S h H (pairFor S q) (taken-says S h (pairFor S q) (refers-takes S D h _ q out e))) H
-step-fit S D h (name d) H = cond-fit (ltb d desks) _ h (λ e. record { named = ltb-true _ _ e; values = H .values }) H
+step-fit S D h (name d) H = cond-fit (ltb d desks) _ h (λ e. record { named = ltb-true _ _ e; values = H .values; ranges = H .ranges }) H
+step-fit S D h (referRange r) H =
+    cond-fit (rangeTaken S h r) _ h
+    (λ e. record { named = H .named; values = H .values; ranges = lists-more S h (H .named) (H .ranges) r (range-taken-says S h r e) }) H
+step-fit S D h (dropRange r) H = cond-fit (holdsRange h r) _ h (λ e. fit-without S h H r) H
 
 -- ---- a listed pair
 
@@ -275,8 +289,12 @@ module _ (S : Scheme) (h : Holding) (H : HoldingFits S h) (p : Pair) (e : holds 
 -- it is a value of a filling's column, so some filling ends at the column
 pub held-from : (S : Scheme) (h : Holding) → HoldingFits S h → (k : Column) (v : Cell) → heldIn S h k v ≡ true →
     (f : ℕ) × (f < S .fillings) × (sameColumn (S .filling f .column) k ≡ true)
-unfolding pairsHold one
-held-from S h H k v e = go (h .values) (H .values .filling) e
+unfolding pairsHold one rangeHolds
+held-from S h H k v e =
+    ⊎-elim (λ x. go (h .values) (H .values .filling) x)
+    (λ x. let f = some-found (λ r. rangeHolds S r k v) (allRanges (h .ranges)) (all-fit (H .ranges)) x in
+    (f .0 .filling, f .1 .filling, and-eq-true-iff (sameColumn (S .filling (f .0 .filling) .column) k) _ .0 (f .2) .0))
+    (or-cases (pairsHold S (h .values) k v) (rangesHold S (allRanges (h .ranges)) k v) e)
   where
     go : (os : List Owned) → ((i : ℕ) → i < length os → ownedAt os i .pair .filling < S .fillings) → pairsHold S os k v ≡ true →
         (f : ℕ) × (f < S .fillings) × (sameColumn (S .filling f .column) k ≡ true)
@@ -311,9 +329,16 @@ held-at h p e = let f = any-found (heldCount h) (λ i. samePair (heldPair h i) p
 pub held-fits : (S : Scheme) (h : Holding) → HoldingFits S h → (p : Pair) → someHolds h p ≡ true → p .filling < S .fillings
 held-fits S h H p e = let f = held-at h p e in subst (λ (q : Pair). q .filling < S .fillings) (f .2) (H .values .filling (f .0) (f .1))
 
--- the rows that are wanted are those that have one of the pairs
+-- a range that some desk holds fits
+pub some-range-fits : (S : Scheme) (h : Holding) → HoldingFits S h → (q : Range) → someHoldsRange h q ≡ true → RangeFits S q
+unfolding someHoldsRange
+some-range-fits S h H q e =
+    let f = any-found (rangeCount h) (λ i. sameRange (heldRange h i) q) e in
+    subst (RangeFits S) (same-range (heldRange h (f .0)) q (f .2)) (every-at (allRanges (h .ranges)) (all-fit (H .ranges)) (f .0) (f .1))
+
+-- the rows that pairs want are those that have one of them
 pub wanted-some : (S : Scheme) (D : Database) (h : Holding) (r : ℕ) →
-    wanted S D h r ≡ any (heldCount h) (λ i. has D (S .filling (heldPair h i .filling) .column) (heldPair h i .value) r)
+    pairsWant S D (h .values) r ≡ any (heldCount h) (λ i. has D (S .filling (heldPair h i .filling) .column) (heldPair h i .value) r)
 unfolding pairsWant
 wanted-some S D h r = go (h .values)
   where

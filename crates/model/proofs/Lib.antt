@@ -1,12 +1,16 @@
 -- CellLaws, DatabaseLaws, ProbeLaws: the tests say what they are named for. Closed, RoundsLaws, Loads: rounds reach the smallest row set.
--- ReachLaws, EvenRounds, EvenLaws, EvenRefers: even designs. KnotOrder, KnotLaws: the smallest knot. Exact: the probe. Marks, HoldingLaws, RunLaws, Fresh, DeskAlone, Demand3: runs. QueryLaws, ListLaws, TotalLaws, Referring, Demand2, CountedRows: queries. Examples: the worked
--- cases. TurnedLaws, Opens, OpenerLaws, OpenerDesks: the value that would open a query. ReasonLaws, SentenceLaws, ReasonCases: the reason for a row, its words, and what it answers and writes.
+-- ReachLaws, EvenRounds, EvenLaws, EvenRefers: even designs. KnotOrder, KnotLaws: the smallest knot. Exact: the probe. RangeLaws, RangesHeld, RangesFit: ranges. Marks, HoldingLaws, RunLaws, Fresh, DeskAlone, Demand3: runs. QueryLaws, ListLaws, TotalLaws, Referring, Demand2, CountedRows: queries. Examples: the worked
+-- cases. TurnedLaws, Opens, OpenerLaws, OpenerDesks: the value that would open a query. OriginLaws, ReasonLaws, SentenceLaws, ReasonCases: the reason for a row, its words, and what it answers and writes. SeeingLaws: columns where
+-- seeing a value is enough.
 pub mod CellLaws
 pub mod DatabaseLaws
 pub mod ProbeLaws
+pub mod RangeLaws
 pub mod Closed
 pub mod RoundsLaws
 pub mod Loads
+pub mod RangesHeld
+pub mod RangesFit
 pub mod Exact
 pub mod Marks
 pub mod HoldingLaws
@@ -30,7 +34,9 @@ pub mod TurnedLaws
 pub mod Opens
 pub mod OpenerLaws
 pub mod OpenerDesks
+pub mod OriginLaws
 pub mod ReasonLaws
 pub mod SentenceLaws
 pub mod ReasonCases
+pub mod SeeingLaws
 pub mod Examples

@@ -1,30 +1,33 @@
--- The desks and the value that would open a query: which desk is named decides nothing (02, Req 09: "Desk limits are disregarded"), and a pair that some desk
--- holds opens none. Assumes nothing.
+-- The desks and the value that would open a query: which desk is named decides nothing (02, Req 09: "Desk limits are disregarded"), and a value that some desk
+-- holds, as a pair or in a range, opens none. Assumes nothing.
 use Prim.Native.Nat.{ℕ, _^_}
-use mathlib.Core.Path.{_≡_, refl, sym, ap, _∙_, fun-ext}
+use mathlib.Core.Path.{_≡_, sym, ap, _∙_, fun-ext}
 use mathlib.Core.Logic.{inl, inr, ⊎-elim}
 use mathlib.Core.Bool.{Bool, true, false, not, _&&_, and-eq-true-iff}
-use mathlib.Core.List.{List, [], _∷_}
-use borrow.Author.Tests.{eqb-true}
 use lib.Dec.{eqb, ltb}
 use Rattle.finite.specs.Finite.{any, first}
 use Rattle.finite.specs.Sameness.{listed}
-use Rattle.finite.proofs.Bools.{clash, or-cases, or-left, refute}
-use Rattle.model.specs.Cell.{Cell, issued}
-use Rattle.model.specs.Scheme.{Column, candidate, Scheme}
-use Rattle.model.specs.Database.{Database, has}
+use Rattle.finite.proofs.Bools.{both, clash, or-left, refute}
+use Rattle.finite.proofs.Search.{any-true, any-found}
+use Rattle.model.specs.Cell.{Cell, issued, equal}
+use Rattle.model.specs.Scheme.{Column, sameColumn, candidate, Scheme}
+use Rattle.model.specs.Database.{Database}
 use Rattle.model.specs.Cache.{Held}
 use Rattle.model.specs.Probe.{probe}
-use Rattle.model.specs.Holding.{Pair, samePair, Owned, sameOwned, Holding, withDesk, withPair, one, pairsHold, pairsWant, heldIn}
+use Rattle.model.specs.Ranges.{Range, sameRange, inRange, rangeHolds}
+use Rattle.model.specs.Holding.{Pair, Owned, sameOwned, Holding, withDesk, withPair, allRanges, rangeCount, heldRange, someHoldsRange, one, pairsHold, heldIn}
 use Rattle.model.specs.Runs.{Cache, marked, referred, atDesk}
 use Rattle.model.specs.Opener.{isOpen, opens, lowestFilling, lowestNumber, lowestIssue}
 use Rattle.model.specs.Turned.{gives}
 use Rattle.model.specs.Answers.{Answer, opened, openedBy, noOpener, orAnswer, openerAnswer}
 use Rattle.model.proofs.CellLaws.{equal-same}
-use Rattle.model.proofs.HoldingLaws.{same-parts}
+use Rattle.model.proofs.DatabaseLaws.{same-column, same-column-self, has-Has}
+use Rattle.model.proofs.RangeLaws.{same-range, or-second}
+use Rattle.model.proofs.RangesFit.{some-any}
+use Rattle.model.proofs.Referring.{listed-held}
 use Rattle.model.proofs.RunLaws.{Sound, held-more, held-wants}
 use Rattle.model.proofs.TurnedLaws.{then-cached}
-use Rattle.model.proofs.Opens.{or-second, gives-inside, open-gives, opens-cases}
+use Rattle.model.proofs.Opens.{gives-inside, open-gives, opens-cases}
 
 -- ---- the desk that is named
 
@@ -50,42 +53,36 @@ module _ (S : Scheme) (D : Database) (c : Cache) (d : ℕ) (k : Column) (v : Cel
   unfolding openerAnswer lowestFilling lowestNumber lowestIssue isOpen
   desk-opens-alike = ap by (fun-ext opens-anywhere)
 
--- ---- pairs that are held
+-- ---- values that are held
 
--- a listed value is held in its column, and the rows that have it are wanted
-module _ (S : Scheme) (D : Database) (o : Owned) where
-  abbrev col : Column
-  col = S .filling (o .pair .filling) .column
-
-  same-pair : (q : Owned) → sameOwned q o ≡ true → q .pair ≡ o .pair
-  unfolding samePair
-  same-pair q e =
-      let s = and-eq-true-iff (eqb (q .pair .filling) (o .pair .filling)) _ .0 (same-parts q o e .1) in
-      let f = eqb-true _ _ (s .0) in
-      let w = equal-same (q .pair .value) (o .pair .value) (s .1) in
-      λ x. record { filling = f x; value = w x }
-
-  listed-held : (os : List Owned) → listed sameOwned o os ≡ true → (k : Column) (v : Cell) → one col (o .pair .value) k v ≡ true → pairsHold S os k v ≡ true
-  unfolding listed pairsHold
-  listed-held [] e k v h = clash refl (sym e)
-  listed-held (q ∷ qs) e k v h = ⊎-elim
-      (λ a. sym (or-left _ (pairsHold S qs k v) (ap (λ (p : Pair). one (S .filling (p .filling) .column) (p .value) k v) (same-pair q a) ∙ h)))
-      (λ b. or-second (one (S .filling (q .pair .filling) .column) (q .pair .value) k v) (pairsHold S qs k v) (listed-held qs b k v h))
-      (or-cases (sameOwned q o) (listed sameOwned o qs) e)
-
-  listed-wanted : (os : List Owned) → listed sameOwned o os ≡ true → (r : ℕ) → has D col (o .pair .value) r ≡ true → pairsWant S D os r ≡ true
-  unfolding listed pairsWant
-  listed-wanted [] e r h = clash refl (sym e)
-  listed-wanted (q ∷ qs) e r h = ⊎-elim
-      (λ a. sym (or-left _ (pairsWant S D qs r) (ap (λ (p : Pair). has D (S .filling (p .filling) .column) (p .value) r) (same-pair q a) ∙ h)))
-      (λ b. or-second (has D (S .filling (q .pair .filling) .column) (q .pair .value) r) (pairsWant S D qs r) (listed-wanted qs b r h))
-      (or-cases (sameOwned q o) (listed sameOwned o qs) e)
-
--- THEOREM: where the probe has no ground, a pair that some desk holds opens nothing
+-- THEOREM: where the probe has no ground, a value that is held in its filling's column, whichever desk holds it and whether as a pair or in a range, opens nothing
 pub held-opens-nothing : (S : Scheme) (D : Database) (c : Cache) → Sound S D c → (k : Column) (v : Cell) → isOpen S D k v c ≡ false →
-    (o : Owned) → listed sameOwned o (c .held .values) ≡ true → opens S D k v c (o .pair) ≡ false
-held-opens-nothing S D c sound k v shut o e = refute _ (λ t. ⊎-elim
-    (λ h. clash (open-gives S D k v c .1 (inl (listed-held S D o (c .held .values) e k v h))) shut)
+    (p : Pair) → heldIn S (c .held) (S .filling (p .filling) .column) (p .value) ≡ true → opens S D k v c p ≡ false
+unfolding one
+held-opens-nothing S D c sound k v shut p e = refute _ (λ t. ⊎-elim
+    (λ h. let q = and-eq-true-iff (sameColumn (S .filling (p .filling) .column) k) (equal (p .value) v) .0 h in
+    clash (open-gives S D k v c .1 (inl (rw (same-column _ k (q .0), equal-same (p .value) v (q .1)) at e))) shut)
     (λ g. clash (open-gives S D k v c .1 (inr (then-cached sound (held-wants S D (c .held)) (gives S D k v) (gives-inside S D k v)
-    (record { row = g .row; first = listed-wanted S D o (c .held .values) e (g .row) (g .first); second = g .second })))) shut)
-    (opens-cases S D c sound k v shut (o .pair) t .1))
+    (record {
+      row = g .row;
+      first = held-wants S D (c .held) .covers _ (p .value) (g .row) e (has-Has D _ (p .value) (g .row) (g .first));
+      second = g .second;
+    })))) shut)
+    (opens-cases S D c sound k v shut p t .1))
+
+-- a pair that some desk holds is one, and so is every value of a range that some desk holds
+pub pair-held : (S : Scheme) (h : Holding) (o : Owned) → listed sameOwned o (h .values) ≡ true →
+    heldIn S h (S .filling (o .pair .filling) .column) (o .pair .value) ≡ true
+pair-held S h o e =
+    let k = S .filling (o .pair .filling) .column in
+    sym (or-left (pairsHold S (h .values) k (o .pair .value)) _ (listed-held S (h .values) o k e (same-column-self k)))
+
+pub range-held : (S : Scheme) (h : Holding) (r : Range) → someHoldsRange h r ≡ true → (v : Cell) → inRange r v ≡ true →
+    heldIn S h (S .filling (r .filling) .column) v ≡ true
+unfolding someHoldsRange rangeHolds
+range-held S h r e v i =
+    let k = S .filling (r .filling) .column in
+    let f = any-found (rangeCount h) (λ j. sameRange (heldRange h j) r) e in
+    let q : Range → Bool = λ s. sameColumn (S .filling (s .filling) .column) k && inRange s v in
+    or-second (pairsHold S (h .values) k v) _
+    (some-any q (allRanges (h .ranges)) ∙ any-true (rangeCount h) (λ j. q (heldRange h j)) (f .0) (f .1) (ap q (same-range (heldRange h (f .0)) r (f .2)) ∙ both (same-column-self k) i))

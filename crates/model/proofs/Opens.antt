@@ -1,7 +1,7 @@
 -- Which single reference gives a ground, where there is none: one of the value itself in the probed column, or of a value that a row has which leads on to a
 -- row that gives one. Assumes nothing.
 use Prim.Native.Nat.{ℕ}
-use mathlib.Core.Path.{_≡_, refl, sym, ap, _∙_}
+use mathlib.Core.Path.{_≡_, sym, ap, _∙_}
 use mathlib.Core.Logic.{_↔_, _≢_, _⊎_, inl, inr, ⊎-elim}
 use mathlib.Core.Bool.{Bool, true, false, _&&_, _||_, and-eq-true-iff}
 use borrow.Author.Tests.{eqb-false, not-true}
@@ -19,14 +19,11 @@ use Rattle.model.specs.Opener.{isOpen, opens}
 use Rattle.model.specs.Turned.{gives, leadsOn}
 use Rattle.model.proofs.DatabaseLaws.{same-column, same-column-self, has-Has, Has-has}
 use Rattle.model.proofs.ProbeLaws.{Seen, seen-Seen, Seen-seen, Demanded, demanded-Demanded, Demanded-demanded, probe-yes, probe-sent}
+use Rattle.model.proofs.RangeLaws.{or-second}
 use Rattle.model.proofs.Loads.{Wants, one-wants, both-want}
 use Rattle.model.proofs.Marks.{marks-smallest}
 use Rattle.model.proofs.RunLaws.{Sound, refer-smallest, held-more, held-wants}
 use Rattle.model.proofs.TurnedLaws.{Common, then-cached, then-wanted}
-
-pub or-second : (a b : Bool) → b ≡ true → a || b ≡ true
-or-second true b e = refl
-or-second false b e = e
 
 -- ---- a ground, by a row that gives it
 

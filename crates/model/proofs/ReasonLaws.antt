@@ -13,38 +13,18 @@ use Rattle.finite.specs.Finite.{any, lowerThen, lowestOf}
 use Rattle.finite.proofs.Bools.{both, clash, dec, order}
 use Rattle.finite.proofs.Search.{any-true, any-found}
 use Rattle.finite.proofs.First.{First, first-from}
-use Rattle.finite.proofs.Lowest.{Order, order-of, Lowest, lowest-is}
-use Rattle.finite.proofs.Order.{lower-less, lower-same, lower-self, lower-trans, lower-neither}
+use Rattle.finite.proofs.Lowest.{order-of, Lowest, lowest-is}
+use Rattle.finite.proofs.Order.{lower-less, lower-same}
 use Rattle.model.specs.Scheme.{Constraint, Scheme}
-use Rattle.model.specs.Database.{Database, has}
+use Rattle.model.specs.Database.{Database}
 use Rattle.model.specs.Rounds.{leads, demands, level, load}
 use Rattle.model.specs.Holding.{Holding, wanted}
 use Rattle.model.specs.Runs.{reloadLevels, cachedFor}
 use Rattle.model.specs.Reason.{Origin, originCount, originAt, isHeld, hasOrigin, lowerOrigin, Chain, byHeld, byConstraint, Explains, linksOf, lowerChain, isLink, lastConstraint, lastRow, chainBy, lowestHeld, distance, reasonFor}
-use Rattle.model.proofs.CellLaws.{lower-cells, lower-cell-neither}
 use Rattle.model.proofs.Closed.{Demand, demands-Demand, Demand-demands, Closed}
-use Rattle.model.proofs.DatabaseLaws.{has-Has, has-full}
-use Rattle.model.proofs.HoldingLaws.{held-at, at-held, wanted-some}
+use Rattle.model.proofs.OriginLaws.{lower-origins, lower-origin-neither, origin-at, at-origin, wanted-origin}
 use Rattle.model.proofs.RunLaws.{held-wants}
 use Rattle.model.proofs.RoundsLaws.{Distances, load-distances, load-bound, load-closed, reached-level, level-reached}
-
--- ---- the order of what is held
-
-pub lower-origins : Order lowerOrigin
-unfolding lowerOrigin
-lower-origins =
-    record {
-      self = λ a. lower-self (a .filling) _ (lower-cells .self (a .value));
-      trans = λ a b c. lower-trans (a .filling) (b .filling) (c .filling) _ _ _ (lower-cells .trans (a .value) (b .value) (c .value));
-    }
-
--- where neither of two is the lower they are the same
-pub lower-origin-neither : (a b : Origin) → lowerOrigin a b ≡ false → lowerOrigin b a ≡ false → a ≡ b
-unfolding lowerOrigin
-lower-origin-neither a b s t =
-    let q = lower-neither (a .filling) (b .filling) _ _ s t in
-    let v = lower-cell-neither (a .value) (b .value) (q .1) (q .2) in
-    λ i. record { filling = q .0 i; value = v i }
 
 -- ---- the levels of a reload
 
@@ -68,8 +48,8 @@ pub reload-levels : (S : Scheme) (D : Database) (h : Holding) → Levels S D h (
 unfolding reloadLevels isLink demands
 reload-levels S D h =
     record {
-      held = λ r i l e. two r (d .seeds r (wanted-some S D h r ∙ any-true _ _ i l e));
-      some = λ r e. sym (wanted-some S D h r) ∙ d .is-seed r e;
+      held = λ r i l e. two r (d .seeds r (wanted-origin h S D r ∙ any-true _ _ i l e));
+      some = λ r e. sym (wanted-origin h S D r) ∙ d .is-seed r e;
       none = λ r e. clash (d .is-old r e) refl;
       link = linked;
       rows = λ r p. load-closed S D (λ _. false) (wanted S D h) C I .rows r (level-reached _ r p);
@@ -181,7 +161,7 @@ module _ (S : Scheme) (D : Database) (h : Holding) (L : List ℕ) (u : Levels S 
   chain-level : (r : ℕ) (c : Chain) → Explains S D h r c → (0 < level L r) × (level L r ≤ linksOf c + 2)
   unfolding Explains linksOf
   chain-level r (byHeld o) e =
-      let f = held-at h o (e .0) in
+      let f = origin-at h o (e .0) in
       let t = u .held r (f .0) (f .1) (ap (hasOrigin S D r) (f .2) ∙ e .1) in
       omega arith
   chain-level r (byConstraint i s c) e =
@@ -198,12 +178,12 @@ module _ (S : Scheme) (D : Database) (h : Holding) (L : List ℕ) (u : Levels S 
 
     origin-true : (isHeld h (lowestHeld S D h r) ≡ true) × (hasOrigin S D r (lowestHeld S D h r) ≡ true)
     unfolding lowestHeld
-    origin-true = (at-held h _ (lowest-found .bound) (has-full (has-Has D _ _ r (lowest-found .passes))), lowest-found .passes)
+    origin-true = (at-origin h S D r _ (lowest-found .bound) (lowest-found .passes), lowest-found .passes)
 
     origin-lowest : (o : Origin) → isHeld h o ≡ true → hasOrigin S D r o ≡ true → (o ≡ lowestHeld S D h r) ⊎ (lowerOrigin (lowestHeld S D h r) o ≡ true)
     unfolding lowestHeld
     origin-lowest o a b =
-        let f = held-at h o a in
+        let f = origin-at h o a in
         let q : lowerOrigin o (lowestHeld S D h r) ≡ false =
         subst (λ (x : Origin). lowerOrigin x (lowestHeld S D h r) ≡ false) (f .2) (lowest-found .least (f .0) (f .1) (ap (hasOrigin S D r) (f .2) ∙ b)) in
         ⊎-elim (λ t. inr t) (λ t. inl (lower-origin-neither o (lowestHeld S D h r) q t)) (dec (lowerOrigin (lowestHeld S D h r) o))

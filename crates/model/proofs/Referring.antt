@@ -57,7 +57,7 @@ takes S h q e =
     }
 
 -- a value that a desk holds is held in its filling's column
-listed-held : (S : Scheme) (os : List Owned) (o : Owned) (k : Column) → listed sameOwned o os ≡ true → sameColumn (S .filling (o .pair .filling) .column) k ≡ true →
+pub listed-held : (S : Scheme) (os : List Owned) (o : Owned) (k : Column) → listed sameOwned o os ≡ true → sameColumn (S .filling (o .pair .filling) .column) k ≡ true →
     pairsHold S os k (o .pair .value) ≡ true
 unfolding listed pairsHold samePair one
 listed-held S [] o k e c = clash e refl
@@ -84,7 +84,8 @@ module _ (S : Scheme) (h : Holding) (q : Query) where
           (hasRoom h ≡ true) ⊎ (hasRoom h ≡ false) → (holds h (pairFor S q) ≡ true) ⊎ (holds h (pairFor S q) ≡ false) →
           Unreferred S h (q .column) (q .value)
       room c l (inr f) p = full f
-      room c l (inl t) (inl y) = clash (listed-held S (h .values) (mine h (pairFor S q)) (q .column) y (first-filling S q .here (ltb-true _ _ l))) n
+      room c l (inl t) (inl y) =
+          clash (sym (or-left (pairsHold S (h .values) (q .column) (q .value)) _ (listed-held S (h .values) (mine h (pairFor S q)) (q .column) y (first-filling S q .here (ltb-true _ _ l))))) n
       room c l (inl t) (inr y) = clash (both l (both c (both (ap not y) t))) e
 
       value : ltb (fillingFor S (q .column)) (S .fillings) ≡ true →

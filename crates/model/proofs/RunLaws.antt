@@ -1,18 +1,21 @@
 -- Runs of operations: what a cache holds is found from the rows, the operands and the words lent alone, and a cache that is the smallest row set for what it holds stays so. Assumes nothing.
 use Prim.Native.Nat.{ℕ}
 use mathlib.Core.Path.{_≡_, refl, sym, ap, _∙_, fun-ext}
-use mathlib.Core.Bool.{Bool, true, false, cond, _||_, or-false, or-assoc}
+use mathlib.Core.Bool.{Bool, true, false, cond, _||_, or-false, or-assoc, or-comm}
 use mathlib.Core.List.{List, [], _∷_, _++_}
 use lib.Dec.{ltb}
+use Rattle.finite.specs.Finite.{tab}
 use Rattle.model.specs.Cell.{Cell}
 use Rattle.model.specs.Scheme.{Column, Scheme}
 use Rattle.model.specs.Database.{Database}
 use Rattle.model.specs.Cache.{RowSet, Smallest}
 use Rattle.model.specs.Rounds.{reached}
-use Rattle.model.specs.Holding.{desks, Pair, Owned, Holding, mine, holds, withPair, withoutPair, one, pairsHold, pairsWant, heldIn, wanted}
-use Rattle.model.specs.Runs.{Operation, refer, drop, ask, query, name, taken, pairFor, refers, heldAfter, heldFrom, marked, Cache, emptyCache, referLevels, reloadLevels, atDesk, reloaded, cacheAfter, cacheFrom}
+use Rattle.model.specs.Ranges.{Range, someRange}
+use Rattle.model.specs.Holding.{desks, Pair, Owned, Holding, mine, holds, withPair, withoutPair, holdsRange, withRange, withoutRange, allRanges, one, pairsHold, pairsWant, rangesHold, heldIn, wanted}
+use Rattle.model.specs.Runs.{Operation, refer, drop, ask, query, name, referRange, dropRange, taken, rangeTaken, pairFor, refers, heldAfter, heldFrom, marked, Cache, emptyCache, referLevels, rangeLevels, reloadLevels, atDesk, reloaded, cacheAfter, cacheFrom}
 use Rattle.model.proofs.Loads.{one-smallest, Wants, load-smallest, reload-smallest, none-smallest, none-wants, one-wants, both-want}
 use Rattle.model.proofs.Marks.{marks-smallest}
+use Rattle.model.proofs.RangesHeld.{range-more, range-wants, ranges-want}
 
 -- ---- what is held
 
@@ -20,8 +23,13 @@ use Rattle.model.proofs.Marks.{marks-smallest}
 pub held-more : (S : Scheme) (h : Holding) (p : Pair) →
     heldIn S (withPair h p) ≡ (λ k v. heldIn S h k v || one (S .filling (p .filling) .column) (p .value) k v)
 unfolding pairsHold
-held-more S h p = fun-ext (λ k. fun-ext (λ v. go (h .values) k v))
+held-more S h p =
+    fun-ext (λ k. fun-ext (λ v. ap (λ (b : Bool). b || rangesHold S (allRanges (h .ranges)) k v) (go (h .values) k v) ∙
+    swap (pairsHold S (h .values) k v) (one (S .filling (p .filling) .column) (p .value) k v) (rangesHold S (allRanges (h .ranges)) k v)))
   where
+    swap : (a b c : Bool) → (a || b) || c ≡ (a || c) || b
+    swap a b c = or-assoc a b c ∙ ap (λ (x : Bool). a || x) (or-comm b c) ∙ sym (or-assoc a c b)
+
     go : (os : List Owned) (k : Column) (v : Cell) → pairsHold S (os ++ (mine h p ∷ [])) k v ≡ (pairsHold S os k v || one (S .filling (p .filling) .column) (p .value) k v)
     go [] k v = or-false (one (S .filling (p .filling) .column) (p .value) k v)
     go (o ∷ os) k v =
@@ -35,7 +43,7 @@ pairs-want S D [] = none-wants D
 pairs-want S D (o ∷ os) = both-want (one-wants D (S .filling (o .pair .filling) .column) (o .pair .value)) (pairs-want S D os)
 
 pub held-wants : (S : Scheme) (D : Database) (h : Holding) → Wants D (heldIn S h) (wanted S D h)
-held-wants S D h = pairs-want S D (h .values)
+held-wants S D h = both-want (pairs-want S D (h .values)) (ranges-want S D (allRanges (h .ranges)))
 
 -- ---- what is cached
 
@@ -45,7 +53,7 @@ Sound S D c = Smallest S D (heldIn S (c .held)) (marked (c .marks))
 
 -- the empty cache is sound
 pub empty-sound : (S : Scheme) (D : Database) → Sound S D (emptyCache D)
-unfolding emptyCache pairsHold
+unfolding emptyCache pairsHold someRange allRanges tab
 empty-sound S D = marks-smallest (none-smallest S D)
 
 -- a load of one more value gives the smallest set with it
@@ -53,6 +61,12 @@ pub refer-smallest : {S : Scheme} {D : Database} (c : Cache) (p : Pair) → Soun
     Smallest S D (heldIn S (withPair (c .held) p)) (reached (referLevels S D (marked (c .marks)) p))
 unfolding referLevels
 refer-smallest {S} {D} c p m = rw (held-more S (c .held) p) (load-smallest m (one-wants D (S .filling (p .filling) .column) (p .value)))
+
+-- so does a load of one more range
+pub range-smallest : {S : Scheme} {D : Database} (c : Cache) (r : Range) → Sound S D c →
+    Smallest S D (heldIn S (withRange (c .held) r)) (reached (rangeLevels S D (marked (c .marks)) r))
+unfolding rangeLevels
+range-smallest {S} {D} c r m = rw (range-more S (c .held) r) (load-smallest m (range-wants S D r))
 
 -- a reload gives the smallest set for whatever is held
 pub held-smallest : (S : Scheme) (D : Database) (h : Holding) → Smallest S D (heldIn S h) (reached (reloadLevels S D h))
@@ -72,6 +86,8 @@ step-sound c (ask q) m = m
 step-sound {S} {D} c (query q out) m =
     cond-sound (refers S D (c .held) (marked (c .marks)) q out) _ c (marks-smallest (refer-smallest c (pairFor S q) m)) m
 step-sound c (name d) m = cond-sound (ltb d desks) (atDesk c d) c m m
+step-sound {S} c (referRange r) m = cond-sound (rangeTaken S (c .held) r) _ c (marks-smallest (range-smallest c r m)) m
+step-sound {S} {D} c (dropRange r) m = cond-sound (holdsRange (c .held) r) _ c (marks-smallest (held-smallest S D (withoutRange (c .held) r))) m
 
 -- so does a run
 pub run-sound : {S : Scheme} {D : Database} (c : Cache) (os : List Operation) → Sound S D c → Sound S D (cacheFrom S D c os)
@@ -105,6 +121,8 @@ step-held {S} {D} c (query q out) m =
     held-cond (refers S D (c .held) (marked (c .marks)) q out) _ c ∙
     ap (λ (X : RowSet). cond (refers S D (c .held) X q out) (withPair (c .held) (pairFor S q)) (c .held)) (fun-ext (sound-reloaded c m))
 step-held c (name d) m = held-cond (ltb d desks) (atDesk c d) c
+step-held {S} c (referRange r) m = held-cond (rangeTaken S (c .held) r) _ c
+step-held c (dropRange r) m = held-cond (holdsRange (c .held) r) _ c
 
 -- so is what a run leaves held
 pub run-held : {S : Scheme} {D : Database} (c : Cache) (os : List Operation) → Sound S D c → cacheFrom S D c os .held ≡ heldFrom S D (c .held) os

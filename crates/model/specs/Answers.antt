@@ -14,15 +14,16 @@ use Rattle.model.specs.Probe
 use Rattle.model.specs.Rounds.{addedRows, laterRounds, reached}
 use Rattle.model.specs.Even.{unevenFrom, lowestUneven}
 use Rattle.model.specs.Knot.{isUnevenScheme, knotOf}
-use Rattle.model.specs.Holding.{desks, holds, hasRoom, withoutPair, heldIn}
+use Rattle.model.specs.Ranges.{isRange, onlyCandidates}
+use Rattle.model.specs.Holding.{desks, holds, hasRoom, withoutPair, holdsRange, coversRange, hasRangeRoom, withoutRange, heldIn}
 use Rattle.model.specs.Opener.{isOpen, lowestFilling, lowestNumber, lowestIssue}
 use Rattle.model.specs.Sentence.{reasonText}
-use Rattle.model.specs.Runs.{Question, probe, evenness, smallestKnot, opener, reason, Output, asLists, asTotal, Operation, refer, drop, ask, query, name, taken, pairFor, outputFits, withinLimit, marked, Cache, referLevels, reloadLevels}
+use Rattle.model.specs.Runs.{Question, probe, evenness, smallestKnot, opener, reason, Output, asLists, asTotal, Operation, refer, drop, ask, query, name, referRange, dropRange, taken, pairFor, outputFits, withinLimit, marked, Cache, referLevels, rangeLevels, reloadLevels}
 use Rattle.model.specs.Query.{Query, wordsOf, fullLists, fullTotal}
 
 -- `loaded` rows rounds, `held`, `no candidate`, `dropped` rows, `ground` g rows, `sent`, `answer` lists, `refused` number; `even`, `uneven` i j (02, Req 01);
 -- `total` n (02, Req 03); `knot` constraints (02, Req 11); `desk` d (02, Req 07); `open`, filling number issue, `none` (02, Req 09); `absent`, and a reason in
--- words, which answers the length of the text (02, Req 08)
+-- words, which answers the length of the text (02, Req 08); `rows` came went (02, Req 12)
 pub data Answer : Type 0 where
   loaded : ℕ → ℕ → Answer
   held noCandidate : Answer
@@ -41,6 +42,7 @@ pub data Answer : Type 0 where
   noOpener : Answer
   absent : Answer
   explained : ℕ → Answer
+  changed : ℕ → ℕ → Answer
 
 -- an answer as the report shows it: its word, by number, and the numbers behind it. Whatever depends on what an answer is goes through this
 pub record Shown : Type 0 where
@@ -75,6 +77,7 @@ shown (openedBy f n i) = record { word = 14; numbers = f ∷ n ∷ i ∷ [] }
 shown noOpener = record { word = 15; numbers = [] }
 shown absent = record { word = 16; numbers = [] }
 shown (explained n) = record { word = explainedWord; numbers = n ∷ [] }
+shown (changed came went) = record { word = 18; numbers = came ∷ went ∷ [] }
 
 -- the answer has lists; it is a refusal; it has a text
 unfoldable pub hasLists : Answer → Bool
@@ -206,6 +209,17 @@ answer S D c (ask q) = questionAnswer S D c q
 answer S D c (query q out) = queryAnswer S D c q out
 -- "It refuses a desk above 3 with 5"
 answer S D c (name d) = unless (not (ltb d desks)) 5 (named d)
+-- "They print as REFER and DROP do"; "not wholly of candidates answers "no candidate"; one inside a held range answers "held", both before 8"
+answer S D c (referRange r) =
+    unless (not (isRange S r)) 5
+    (orAnswer (not (onlyCandidates S r)) noCandidate
+    (orAnswer (coversRange (c .held) r) held
+    (unless (not (hasRangeRoom (c .held) r)) 8
+    (let L = rangeLevels S D (marked (c .marks)) r in loaded (addedRows D L) (laterRounds D L)))))
+answer S D c (dropRange r) =
+    unless (not (isRange S r)) 5
+    (unless (not (holdsRange (c .held) r)) 10
+    (let L = reloadLevels S D (withoutRange (c .held) r) in dropped (count (D .size) (λ s. marked (c .marks) s && not (reached L s)))))
 
 -- the words that an operation writes
 unfoldable pub written : Scheme → Database → Cache → Operation → List ℕ
@@ -214,6 +228,8 @@ written S D c (drop p) = []
 written S D c (ask q) = []
 written S D c (query q out) = queryWords S D c q out
 written S D c (name d) = []
+written S D c (referRange r) = []
+written S D c (dropRange r) = []
 
 -- the text that an operation writes
 unfoldable pub textOf : Scheme → Database → Cache → Operation → List ℕ
@@ -222,3 +238,5 @@ textOf S D c (drop p) = []
 textOf S D c (ask q) = questionText S D c q
 textOf S D c (query q out) = []
 textOf S D c (name d) = []
+textOf S D c (referRange r) = []
+textOf S D c (dropRange r) = []

@@ -7,6 +7,7 @@ pub mod Probe
 pub mod Rounds
 pub mod Even
 pub mod Knot
+pub mod Ranges
 pub mod Holding
 pub mod Query
 pub mod Runs
@@ -17,3 +18,4 @@ pub mod Sentence
 pub mod Answers
 pub mod Desks
 pub mod Demand
+pub mod Seeing

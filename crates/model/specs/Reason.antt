@@ -1,43 +1,50 @@
 -- Why a row is cached: the chains of demands that end with a held value, and which of them is the row's reason (02, Req 08: "The chain is a shortest one;
--- among those take the lowest last constraint, then the lowest row it comes from, and so on back, then the lowest filling, value and issue"). That the
+-- among those take the lowest last constraint, then the lowest row it comes from, and so on back, then the lowest filling, value and issue"; Req 10). That the
 -- reason is true, shortest and lowest is proved in `proofs/ReasonLaws.antt`. Assumes nothing.
-use Prim.Native.Nat.{ℕ, zero, suc, _-_, _<_}
+use Prim.Native.Nat.{ℕ, zero, suc, _+_, _-_, _<_}
 use mathlib.Core.Path.{_≡_}
-use mathlib.Core.Bool.{Bool, true, false, _&&_}
+use mathlib.Core.Bool.{Bool, true, false, cond, _&&_}
 use mathlib.Core.List.{List}
-use lib.Dec.{eqb}
+use lib.Dec.{eqb, ltb}
 use Rattle.finite.specs.Finite.{any, first, lowerThen, lowestOf}
 use Rattle.model.specs.Cell.{lowerCell}
 use Rattle.model.specs.Scheme.{Scheme}
 use Rattle.model.specs.Database.{Database, has}
 use Rattle.model.specs.Rounds.{leads, level}
-use Rattle.model.specs.Holding.{Pair, Holding, heldCount, heldPair, someHolds}
+use Rattle.model.specs.Ranges.{Range, hasRange}
+use Rattle.model.specs.Holding.{Pair, Holding, heldCount, heldPair, someHolds, rangeCount, heldRange, someHoldsRange}
 use Rattle.model.specs.Runs.{reloadLevels}
 
 -- ---- what a chain ends with
 
--- something held: a pair of filling and value
-abbrev pub Origin : Type 0
-Origin = Pair
+-- something held: a pair of filling and value, or a range
+pub data Origin : Type 0 where
+  byValue : Pair → Origin
+  byRange : Range → Origin
 
--- one by one: how many, and each
+-- one by one: how many, and each, the pairs first
 abbrev pub originCount : Holding → ℕ
-originCount h = heldCount h
+originCount h = heldCount h + rangeCount h
 
-abbrev pub originAt : Holding → ℕ → Origin
-originAt h i = heldPair h i
+unfoldable pub originAt : Holding → ℕ → Origin
+originAt h i = cond (ltb i (heldCount h)) (byValue (heldPair h i)) (byRange (heldRange h (i - heldCount h)))
 
 -- by whatever desk: "The cached rows are the smallest set for all desks together" (02, Req 07)
-abbrev pub isHeld : Holding → Origin → Bool
-isHeld h o = someHolds h o
+unfoldable pub isHeld : Holding → Origin → Bool
+isHeld h (byValue p) = someHolds h p
+isHeld h (byRange q) = someHoldsRange h q
 
--- row r has the value in the filling's column
-abbrev pub hasOrigin : Scheme → Database → ℕ → Origin → Bool
-hasOrigin S D r o = has D (S .filling (o .filling) .column) (o .value) r
+-- row r has the value, or one of the range's, in the filling's column
+unfoldable pub hasOrigin : Scheme → Database → ℕ → Origin → Bool
+hasOrigin S D r (byValue p) = has D (S .filling (p .filling) .column) (p .value) r
+hasOrigin S D r (byRange q) = hasRange D (S .filling (q .filling) .column) q r
 
--- "the lowest filling, value and issue"
+-- "the lowest filling, value and issue"; "in one filling values go before ranges, then the lowest low, then high" (02, Req 10)
 unfoldable pub lowerOrigin : Origin → Origin → Bool
-lowerOrigin o q = lowerThen (o .filling) (q .filling) (lowerCell (o .value) (q .value))
+lowerOrigin (byValue o) (byValue q) = lowerThen (o .filling) (q .filling) (lowerCell (o .value) (q .value))
+lowerOrigin (byValue o) (byRange q) = lowerThen (o .filling) (q .filling) true
+lowerOrigin (byRange o) (byValue q) = lowerThen (o .filling) (q .filling) false
+lowerOrigin (byRange o) (byRange q) = lowerThen (o .filling) (q .filling) (lowerThen (o .low) (q .low) (ltb (o .high) (q .high)))
 
 -- ---- chains
 

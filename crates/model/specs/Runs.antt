@@ -1,5 +1,5 @@
 -- Operations and runs: what a list of operations leaves held, found from the scheme, the rows, the operands and the words lent alone, and what it leaves
--- cached (01, "Runs"; 02, Req 02 and 07). Assumes nothing.
+-- cached (01, "Runs"; 02, Req 02, 07 and 10). Assumes nothing.
 use Prim.Native.Nat.{ℕ, _^_}
 use mathlib.Core.Bool.{Bool, false, not, cond, _&&_}
 use mathlib.Core.List.{List, [], _∷_}
@@ -12,7 +12,8 @@ use Rattle.model.specs.Database.{Database, has}
 use Rattle.model.specs.Cache.{RowSet}
 use Rattle.model.specs.Probe
 use Rattle.model.specs.Rounds.{reached, load}
-use Rattle.model.specs.Holding.{desks, Pair, Holding, nothingHeld, withDesk, holds, hasRoom, withPair, withoutPair, heldIn, wanted}
+use Rattle.model.specs.Ranges.{Range, isRange, onlyCandidates, hasRange}
+use Rattle.model.specs.Holding.{desks, Pair, Holding, nothingHeld, withDesk, holds, hasRoom, withPair, withoutPair, holdsRange, coversRange, hasRangeRoom, withRange, withoutRange, heldIn, wanted}
 use Rattle.model.specs.Query.{Query, operandsFit, positionFits, wordsOf, fullLists, fullTotal}
 
 -- a question, which changes nothing
@@ -32,22 +33,31 @@ pub data Output : Type 0 where
   asLists : ℕ → Output
   asTotal : ℕ → ℕ → Output
 
--- REFER, DROP, a question, QUERY, and naming a desk (02, Req 07)
+-- REFER, DROP, a question, QUERY, naming a desk (02, Req 07), and holding and dropping a range (02, Req 10)
 pub data Operation : Type 0 where
   refer : Pair → Operation
   drop : Pair → Operation
   ask : Question → Operation
   query : Query → Output → Operation
   name : ℕ → Operation
+  referRange : Range → Operation
+  dropRange : Range → Operation
 
 -- "REFER: if the filling exists, the value is a candidate, the pair isn't listed and fewer than 64 are, the pair goes to the end", where listed and room
 -- go "by the pairs of the desk then named", of which fewer than 16 are to be listed (02, Req 07)
 unfoldable pub taken : Scheme → Holding → Pair → Bool
 taken S h p = ltb (p .filling) (S .fillings) && (candidate (S .filling (p .filling)) (p .value) && (not (holds h p) && hasRoom h))
 
--- the levels of a load of one more value, and of a load of all values from nothing, which a drop makes
+-- a range is held from then on: its operands fit, it is wholly of candidates, it isn't inside a range of the desk, and leaves that no more than 8
+unfoldable pub rangeTaken : Scheme → Holding → Range → Bool
+rangeTaken S h r = isRange S r && (onlyCandidates S r && (not (coversRange h r) && hasRangeRoom h r))
+
+-- the levels of a load of one more value, of one more range, "its values all joining round 0", and of a load of all values from nothing, which a drop makes
 unfoldable pub referLevels : Scheme → Database → RowSet → Pair → List ℕ
 referLevels S D X p = load S D X (has D (S .filling (p .filling) .column) (p .value))
+
+unfoldable pub rangeLevels : Scheme → Database → RowSet → Range → List ℕ
+rangeLevels S D X r = load S D X (hasRange D (S .filling (r .filling) .column) r)
 
 unfoldable pub reloadLevels : Scheme → Database → Holding → List ℕ
 reloadLevels S D h = load S D (λ _. false) (wanted S D h)
@@ -94,6 +104,8 @@ heldAfter S D h (drop p) = cond (holds h p) (withoutPair h p) h
 heldAfter S D h (ask q) = h
 heldAfter S D h (query q out) = cond (refers S D h (cachedFor S D h) q out) (withPair h (pairFor S q)) h
 heldAfter S D h (name d) = cond (ltb d desks) (withDesk h d) h
+heldAfter S D h (referRange r) = cond (rangeTaken S h r) (withRange h r) h
+heldAfter S D h (dropRange r) = cond (holdsRange h r) (withoutRange h r) h
 
 -- after a run
 unfoldable pub heldFrom : Scheme → Database → Holding → List Operation → Holding
@@ -121,6 +133,10 @@ emptyCache D = record { held = nothingHeld; marks = marks D (λ _. false) }
 abbrev pub referred : Scheme → Database → Cache → Pair → Cache
 referred S D c p = record { held = withPair (c .held) p; marks = marks D (reached (referLevels S D (marked (c .marks)) p)) }
 
+-- a range more is held, and loaded
+abbrev pub referredRange : Scheme → Database → Cache → Range → Cache
+referredRange S D c r = record { held = withRange (c .held) r; marks = marks D (reached (rangeLevels S D (marked (c .marks)) r)) }
+
 -- another desk is named
 abbrev pub atDesk : Cache → ℕ → Cache
 atDesk c d = record { held = withDesk (c .held) d; marks = c .marks }
@@ -135,6 +151,8 @@ cacheAfter S D c (drop p) = cond (holds (c .held) p) (reloaded S D (withoutPair 
 cacheAfter S D c (ask q) = c
 cacheAfter S D c (query q out) = cond (refers S D (c .held) (marked (c .marks)) q out) (referred S D c (pairFor S q)) c
 cacheAfter S D c (name d) = cond (ltb d desks) (atDesk c d) c
+cacheAfter S D c (referRange r) = cond (rangeTaken S (c .held) r) (referredRange S D c r) c
+cacheAfter S D c (dropRange r) = cond (holdsRange (c .held) r) (reloaded S D (withoutRange (c .held) r)) c
 
 unfoldable pub cacheFrom : Scheme → Database → Cache → List Operation → Cache
 cacheFrom S D c [] = c

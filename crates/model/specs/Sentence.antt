@@ -1,5 +1,5 @@
 -- A row's chain in words, as ASCII text (02, Req 08: "row 5 by constraint 1 from row 3 by constraint 0 from row 0 by value 3 of filling 0. With an issue
--- other than 0 the value is followed by issue and its number"). That two chains never give one sentence is proved in `proofs/SentenceLaws.antt`.
+-- other than 0 the value is followed by issue and its number"; Req 10: "by range low to high of filling number"). That two chains never give one sentence is proved in `proofs/SentenceLaws.antt`.
 -- Assumes nothing.
 use Prim.Native.Nat.{ℕ}
 use mathlib.Core.Bool.{cond}
@@ -10,9 +10,9 @@ use Rattle.model.specs.Cell.{Cell}
 use Rattle.model.specs.Scheme.{Scheme}
 use Rattle.model.specs.Database.{Database}
 use Rattle.model.specs.Holding.{Holding}
-use Rattle.model.specs.Reason.{Origin, Chain, byHeld, byConstraint, reasonFor}
+use Rattle.model.specs.Reason.{Origin, byValue, byRange, Chain, byHeld, byConstraint, reasonFor}
 
--- "row", " by constraint", " from row", " by value", " issue", " of filling"
+-- "row", " by constraint", " from row", " by value", " issue", " by range", " to", " of filling"
 abbrev pub row-word : List ℕ
 row-word = 114 ∷ 111 ∷ 119 ∷ []
 
@@ -28,6 +28,12 @@ by-value = 32 ∷ 98 ∷ 121 ∷ 32 ∷ 118 ∷ 97 ∷ 108 ∷ 117 ∷ 101 ∷ [
 abbrev pub issue-word : List ℕ
 issue-word = 32 ∷ 105 ∷ 115 ∷ 115 ∷ 117 ∷ 101 ∷ []
 
+abbrev pub by-range : List ℕ
+by-range = 32 ∷ 98 ∷ 121 ∷ 32 ∷ 114 ∷ 97 ∷ 110 ∷ 103 ∷ 101 ∷ []
+
+abbrev pub to-word : List ℕ
+to-word = 32 ∷ 116 ∷ 111 ∷ []
+
 abbrev pub of-filling : List ℕ
 of-filling = 32 ∷ 111 ∷ 102 ∷ 32 ∷ 102 ∷ 105 ∷ 108 ∷ 108 ∷ 105 ∷ 110 ∷ 103 ∷ []
 
@@ -38,9 +44,10 @@ issueText k = cond (eqb k 0) [] (issue-word ++ spaced k)
 unfoldable pub cellText : Cell → List ℕ
 cellText v = spaced (v .number) ++ issueText (v .issue)
 
--- by value v of filling f
+-- by value v of filling f, or by range low to high of filling f
 unfoldable pub originText : Origin → List ℕ
-originText o = by-value ++ (cellText (o .value) ++ (of-filling ++ spaced (o .filling)))
+originText (byValue p) = by-value ++ (cellText (p .value) ++ (of-filling ++ spaced (p .filling)))
+originText (byRange q) = by-range ++ (spaced (q .low) ++ (to-word ++ (spaced (q .high) ++ (of-filling ++ spaced (q .filling)))))
 
 -- by constraint i from row s
 unfoldable pub linkText : ℕ → ℕ → List ℕ
