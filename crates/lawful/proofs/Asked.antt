@@ -1,5 +1,5 @@
 -- What the functions that an operation calls ask of a design, rows and held values: a sound state has it. Assumes nothing.
-use Prim.Native.Nat.{ℕ, _≤_, _<_}
+use Prim.Native.Nat.{_≤_, _<_}
 use native.Mathlib.Omega.{arith}
 use mathlib.Core.Path.{_≡_}
 use mathlib.Core.Bool.{true}
@@ -7,15 +7,14 @@ use lib.ListN.{length}
 use Rattle.model.specs.Scheme.{isColumn}
 use Rattle.state.specs.declared.design.Column.{Column}
 use Rattle.state.specs.declared.design.Design.{Design}
-use Rattle.state.specs.declared.held.Held.{Held}
 use Rattle.state.specs.Design.{InRange, Backed}
-use Rattle.state.specs.Held.{heldAt, Tidy}
+use Rattle.state.specs.Held.{Bounded, Tidy}
 use Rattle.state.specs.Meaning.{columnOf, schemeOf}
-use Rattle.state.specs.Lawful.{lawfulDesign, lawfulHeld}
+use Rattle.state.specs.Lawful.{lawfulDesign}
 use Rattle.state.specs.Lent.{State, longEnough, sound}
-use Rattle.state.proofs.Arrays.{Sized}
+use Rattle.state.proofs.Arrays.{Sized, HeldSized}
 use Rattle.lawful.proofs.DesignLaws.{column-says, design-says, in-range}
-use Rattle.lawful.proofs.HeldLaws.{held-says, held-filling}
+use Rattle.lawful.proofs.HeldLaws.{held-tidy, held-bounded}
 use Rattle.lawful.proofs.SoundState.{long-parts, parts}
 
 -- a column that exists lies below 8
@@ -27,10 +26,6 @@ column-below d w k e = let c = column-says (schemeOf d) (columnOf k) e in omega 
 pub table-below : (d : Design) → lawfulDesign d ≡ true → (k : Column) → isColumn (schemeOf d) (columnOf k) ≡ true → k .table < 8
 unfolding schemeOf
 table-below d w k e = omega (arith, column-says (schemeOf d) (columnOf k) e .table, design-says d w .tables)
-
--- a lawful record
-pub lawful-tidy : (d : Design) (h : Held) → lawfulDesign d ≡ true → lawfulHeld d h ≡ true → Tidy h
-lawful-tidy d h w e = let l = held-says d h w e in record { few = l .count; unused = λ i m k. l .rest i k m }
 
 module _ (s : State) (e : sound s ≡ true) where
   pub sound-range : Sized (s .design) → InRange (s .design)
@@ -46,10 +41,10 @@ module _ (s : State) (e : sound s ≡ true) where
   sound-fillings = design-says (s .design) (parts s e .design) .fillings
 
   pub sound-tidy : Tidy (s .held)
-  sound-tidy = lawful-tidy (s .design) (s .held) (parts s e .design) (parts s e .held)
+  sound-tidy = held-tidy (s .design) (s .held) (parts s e .held)
 
-  pub sound-filling : length (s .held .values) ≡ 64 → (i : ℕ) → heldAt (s .held) i .pair .filling < 8
-  sound-filling l = held-filling (s .design) (s .held) (parts s e .design) (parts s e .held) l
+  pub sound-bounded : HeldSized (s .held) → Bounded (s .held)
+  sound-bounded z = held-bounded (s .design) (s .held) (parts s e .design) (parts s e .held) z
 
   pub sound-column : (k : Column) → isColumn (schemeOf (s .design)) (columnOf k) ≡ true → k .place < 8
   sound-column = column-below (s .design) (parts s e .design)

@@ -160,15 +160,13 @@ design-says d e =
     let g = and-eq-true-iff (constraintsLawful d) (fillingsLawful d) .0 (h .1) in
     let q = and-eq-true-iff _ _ .0 (p .0) in
     let o = and-eq-true-iff _ _ .0 (q .1) in
-    let k = and-eq-true-iff _ _ .0 (o .1) in
     let a : d .tables ≤ 8 = leb-true _ _ (q .0) in
     let b : d .constraints ≤ 16 = leb-true _ _ (o .0) in
-    let c : d .fillings ≤ 8 = leb-true _ _ (k .0) in
+    let c : d .fillings ≤ 8 = leb-true _ _ (o .1) in
     record {
       tables = a;
       constraints = b;
       fillings = c;
-      rows = leb-true _ _ (k .1);
       table = λ t l. table-says _ (used-at 8 _ _ _ (h .0) t (lt-of-lt-of-le l a) l);
       constraint = λ i l. constraint-says d i _ (used-at 16 _ _ _ (g .0) i (lt-of-lt-of-le l b) l) .0;
       filling = λ f l. filling-says d f _ (used-at 8 _ _ _ (g .1) f (lt-of-lt-of-le l c) l) .0;
@@ -182,7 +180,7 @@ design-says d e =
 pub design-if : {d : Design} → LawfulDesign d → lawfulDesign d ≡ true
 unfolding lawfulDesign countsFit
 design-if {d} l =
-    both (both (le-leb _ _ (l .tables)) (both (le-leb _ _ (l .constraints)) (both (le-leb _ _ (l .fillings)) (le-leb _ _ (l .rows)))))
+    both (both (le-leb _ _ (l .tables)) (both (le-leb _ _ (l .constraints)) (le-leb _ _ (l .fillings))))
     (both (all-places 8 _ _ _ (λ t _ h. table-if (l .table t h)) (λ t b h. table-zero _ (l .tableRest t b h)))
     (both (all-places 16 _ _ _ (λ j _ h. constraint-if d j _ (l .constraint j h) (λ i b. l .constraintOnce i j b h))
     (λ j b h. constraint-zero _ (l .constraintRest j b h)))
@@ -206,7 +204,6 @@ in-range d z e =
       tables = l .tables;
       constraints = l .constraints;
       fillings = l .fillings;
-      rows = l .rows;
       source = in-array (d .constraint) noConstraint 16 (d .constraints) (λ c. c .source .place < 8) (z .constraint)
           (λ i h. place-below _ l (l .constraint i h .source)) (l .constraintRest) (lit< tt);
       target = in-array (d .constraint) noConstraint 16 (d .constraints) (λ c. c .target .place < 8) (z .constraint)

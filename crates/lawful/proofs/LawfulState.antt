@@ -102,7 +102,7 @@ lawful-says s u e =
 
 pub lawful-if : {s : State} → LawfulState s → lawful s ≡ true
 unfolding lawful
-lawful-if {s} w = both (design-if (w .design)) (both (rows-if (w .rows)) (both (held-if (w .held)) (marks-if s (w .marks) (w .smallest))))
+lawful-if {s} w = both (design-if (w .design)) (both (rows-if (w .rows)) (both (held-if (design-if (w .design)) (w .held)) (marks-if s (w .marks) (w .smallest))))
 
 -- cause 12 does not apply exactly to the states that are lawful in plain terms
 pub lawful-is : (s : State) → Stored (s .cells) → lawful s ≡ true ↔ LawfulState s

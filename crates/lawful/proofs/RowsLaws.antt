@@ -1,9 +1,9 @@
--- What the tests of the rows say, both ways: the lent rows are a lawful database, and the rest is 0. Assumes nothing.
+-- What the tests of the rows say, both ways: the lent rows are a lawful database, and numbers without a row have no cells. Assumes nothing.
 use Prim.Native.Nat.{ℕ, _+_, _*_, _^_, _≤_, _<_}
 use native.Mathlib.Omega.{arith}
 use mathlib.Core.Path.{_≡_, refl, sym, ap, subst, _∙_}
 use mathlib.Core.Logic.{⊎-elim}
-use mathlib.Core.Bool.{true, false, not, _&&_, and-eq-true-iff}
+use mathlib.Core.Bool.{Bool, true, false, not, _&&_, and-eq-true-iff}
 use mathlib.Core.List.{List}
 use borrow.Author.Tests.{lt-ltb, le-ltb, ltb-true, ltb-false, eqb-true, eq-eqb, not-true}
 use lib.Dec.{ltb}
@@ -20,9 +20,9 @@ use Rattle.state.specs.Cells.{Cells}
 use Rattle.state.specs.declared.design.Design.{Design}
 use Rattle.state.specs.Held.{noCell}
 use Rattle.state.specs.Meaning.{cellOf, cellBack, cellAt, schemeOf, databaseOf}
-use Rattle.state.specs.Lawful.{cellFits, rowFits, repeatsAt, repeats, zeroRow, lawfulRows}
+use Rattle.state.specs.Lawful.{cellFits, rowFits, repeatsAt, repeats, blankRow, lawfulRows}
 use Rattle.state.proofs.RowLaws.{cell-at}
-use Rattle.state.proofs.Places.{used-at, unused-at, all-places}
+use Rattle.state.proofs.Places.{where-used, where-unused, all-where}
 use Rattle.lawful.specs.LawfulState.{LawfulRows}
 use Rattle.lawful.specs.Parts.{rowsStand}
 use Rattle.lawful.proofs.RowTests.{fits-blank, fits-number}
@@ -100,61 +100,59 @@ repeats-none S D r l h = refute _ (λ e. let f = any-found 8 (repeatsAt S D r) e
 -- ---- the lent rows
 
 -- past the eighth cell a row is blank
-pub cell-past : (rows : ℕ) (cells : Cells) (tables : List ℕ) (r c : ℕ) → 8 ≤ c → databaseOf rows cells tables .cell r c ≡ blank
+pub cell-past : (cells : Cells) (tables : List ℕ) (r c : ℕ) → 8 ≤ c → databaseOf cells tables .cell r c ≡ blank
 unfolding databaseOf
-cell-past rows cells tables r c h = cond-false (ltb c 8) _ _ (le-ltb c 8 h)
+cell-past cells tables r c h = cond-false (ltb c 8) _ _ (le-ltb c 8 h)
 
-live-says : (rows : ℕ) (cells : Cells) (tables : List ℕ) (r : ℕ) → databaseOf rows cells tables .live r ≡ true → (r < 512) × (r < rows)
+pub live-below : (cells : Cells) (tables : List ℕ) (r : ℕ) → databaseOf cells tables .live r ≡ true → r < 512
 unfolding databaseOf
-live-says rows cells tables r e = let h = and-eq-true-iff (ltb r 512) (ltb r rows) .0 e in (ltb-true _ _ (h .0), ltb-true _ _ (h .1))
-
-live-if : (rows : ℕ) (cells : Cells) (tables : List ℕ) (r : ℕ) → r < 512 → r < rows → databaseOf rows cells tables .live r ≡ true
-unfolding databaseOf
-live-if rows cells tables r a b = both (lt-ltb _ _ a) (lt-ltb _ _ b)
+live-below cells tables r e = databaseOf cells tables .finite r e
 
 module _ (d : Design) (cells : Cells) (tables : List ℕ) where
   -- the lent rows as a database
   abbrev rows : Database
-  rows = databaseOf (d .rows) cells tables
+  rows = databaseOf cells tables
+
+  -- what a row that there is passes
+  abbrev lawfulRow : ℕ → Bool
+  lawfulRow r = rowFits (schemeOf d) rows r && not (repeats (schemeOf d) rows r)
 
   -- a cell is blank, in the database and in the buffer
   blank-says : (r c : ℕ) → c < 8 → isBlank (rows .cell r c) ≡ true → cellAt cells r c ≡ noCell
   unfolding blank
-  blank-says r c l e = ap cellBack (sym (cell-at (d .rows) cells tables r c l) ∙ is-blank (rows .cell r c) e)
+  blank-says r c l e = ap cellBack (sym (cell-at cells tables r c l) ∙ is-blank (rows .cell r c) e)
 
   blank-if : (r c : ℕ) → c < 8 → cellAt cells r c ≡ noCell → isBlank (rows .cell r c) ≡ true
   unfolding blank
-  blank-if r c l e = ap isBlank (cell-at (d .rows) cells tables r c l ∙ ap cellOf e) ∙ blank-is
+  blank-if r c l e = ap isBlank (cell-at cells tables r c l ∙ ap cellOf e) ∙ blank-is
 
-  zero-says : (r : ℕ) → zeroRow rows r ≡ true → (getD tables r 0 ≡ 0) × ((c : ℕ) → c < 8 → cellAt cells r c ≡ noCell)
-  unfolding zeroRow databaseOf
-  zero-says r e = let h = and-eq-true-iff _ _ .0 e in (eqb-true _ 0 (h .0), λ c l. blank-says r c l (all-at 8 (λ b. isBlank (rows .cell r b)) (h .1) c l))
+  blanks-are : (r : ℕ) → blankRow rows r ≡ true → (c : ℕ) → c < 8 → cellAt cells r c ≡ noCell
+  unfolding blankRow
+  blanks-are r e c l = blank-says r c l (all-at 8 (λ b. isBlank (rows .cell r b)) e c l)
 
-  zero-if : (r : ℕ) → getD tables r 0 ≡ 0 → ((c : ℕ) → c < 8 → cellAt cells r c ≡ noCell) → zeroRow rows r ≡ true
-  unfolding zeroRow databaseOf
-  zero-if r t h = both (eq-eqb _ 0 t) (all-true 8 _ (λ c l. blank-if r c l (h c l)))
+  blanks-if : (r : ℕ) → ((c : ℕ) → c < 8 → cellAt cells r c ≡ noCell) → blankRow rows r ≡ true
+  unfolding blankRow
+  blanks-if r h = all-true 8 _ (λ c l. blank-if r c l (h c l))
 
   module _ (e : lawfulRows d cells tables ≡ true) where
     -- a row that there is
     row-says : (r : ℕ) → rows .live r ≡ true → (rowFits (schemeOf d) rows r ≡ true) × (repeats (schemeOf d) rows r ≡ false)
     unfolding lawfulRows
     row-says r l =
-        let h = live-says (d .rows) cells tables r l in
-        let g = and-eq-true-iff _ _ .0
-        (used-at 512 (d .rows) (λ s. rowFits (schemeOf d) rows s && not (repeats (schemeOf d) rows s)) (zeroRow rows) e r (h .0) (h .1)) in
+        let g = and-eq-true-iff _ _ .0 (where-used 512 (rows .live) lawfulRow (blankRow rows) e r (live-below cells tables r l) l) in
         (g .0, not-true _ (g .1))
 
     -- a number that has none
-    rest-says : (r : ℕ) → r < 512 → d .rows ≤ r → zeroRow rows r ≡ true
+    rest-says : (r : ℕ) → r < 512 → rows .live r ≡ false → blankRow rows r ≡ true
     unfolding lawfulRows
-    rest-says r l h = unused-at 512 (d .rows) (λ s. rowFits (schemeOf d) rows s && not (repeats (schemeOf d) rows s)) (zeroRow rows) e r l h
+    rest-says r l h = where-unused 512 (rows .live) lawfulRow (blankRow rows) e r l h
 
     -- of two rows with one value in a unique column none comes before the other
     never-before : (k : Column) (v : Cell) (r s : ℕ) → schemeOf d .unique k ≡ true → Has rows k v r → Has rows k v s → r < s → ⊥
     never-before k v r s u a b l =
         ⊎-elim (λ (q : ltb (k .place) 8 ≡ true). no-repeat (schemeOf d) rows k v r s (row-says s (b .live) .1) (ltb-true _ _ q) u l a b)
         (λ (q : ltb (k .place) 8 ≡ false).
-        clash (ap isBlank (cell-past (d .rows) cells tables s (k .place) (ltb-false _ _ q)) ∙ blank-is) (equal-full _ v (b .value)))
+        clash (ap isBlank (cell-past cells tables s (k .place) (ltb-false _ _ q)) ∙ blank-is) (equal-full _ v (b .value)))
         (dec (ltb (k .place) 8))
 
     pub unique-says : (k : Column) (v : Cell) (r s : ℕ) → schemeOf d .unique k ≡ true → Has rows k v r → Has rows k v s → r ≡ s
@@ -167,7 +165,7 @@ module _ (d : Design) (cells : Cells) (tables : List ℕ) where
     blanks-say : (r c : ℕ) → rows .live r ≡ true → schemeOf d .columns (rows .table r) ≤ c → rows .cell r c ≡ blank
     blanks-say r c l h =
         ⊎-elim (λ (q : ltb c 8 ≡ true). is-blank (rows .cell r c) (past-says _ c _ (fits-says (schemeOf d) rows r (row-says r l .0) .1 c (ltb-true c 8 q)) h))
-        (λ (q : ltb c 8 ≡ false). cell-past (d .rows) cells tables r c (ltb-false c 8 q))
+        (λ (q : ltb c 8 ≡ false). cell-past cells tables r c (ltb-false c 8 q))
         (dec (ltb c 8))
 
 -- ---- lawful rows are those that stand and have no value twice in a unique column
@@ -176,32 +174,28 @@ module _ (d : Design) (cells : Cells) (tables : List ℕ) where
   pub lawful-stand : lawfulRows d cells tables ≡ true → rowsStand d cells tables ≡ true
   unfolding rowsStand
   lawful-stand e =
-      all-places 512 (d .rows) _ (zeroRow (rows d cells tables)) (λ r a b. row-says d cells tables e r (live-if (d .rows) cells tables r a b) .0)
-      (rest-says d cells tables e)
+      all-where 512 (rows d cells tables .live) _ (blankRow (rows d cells tables)) (λ r a b. row-says d cells tables e r b .0) (rest-says d cells tables e)
 
   module _ (e : rowsStand d cells tables ≡ true) where
-    stand-used : (r : ℕ) → r < 512 → r < d .rows → rowFits (schemeOf d) (rows d cells tables) r ≡ true
+    pub stand-used : (r : ℕ) → r < 512 → rows d cells tables .live r ≡ true → rowFits (schemeOf d) (rows d cells tables) r ≡ true
     unfolding rowsStand
-    stand-used r l h = used-at 512 (d .rows) (rowFits (schemeOf d) (rows d cells tables)) (zeroRow (rows d cells tables)) e r l h
+    stand-used r l h = where-used 512 (rows d cells tables .live) (rowFits (schemeOf d) (rows d cells tables)) (blankRow (rows d cells tables)) e r l h
 
-    stand-unused : (r : ℕ) → r < 512 → d .rows ≤ r → zeroRow (rows d cells tables) r ≡ true
+    pub stand-unused : (r : ℕ) → r < 512 → rows d cells tables .live r ≡ false → blankRow (rows d cells tables) r ≡ true
     unfolding rowsStand
-    stand-unused r l h = unused-at 512 (d .rows) (rowFits (schemeOf d) (rows d cells tables)) (zeroRow (rows d cells tables)) e r l h
+    stand-unused r l h = where-unused 512 (rows d cells tables .live) (rowFits (schemeOf d) (rows d cells tables)) (blankRow (rows d cells tables)) e r l h
 
-    -- each row number names a table, if there is any
-    pub stand-table : d .tables ≤ 8 → (r : ℕ) → r < 512 → getD tables r 0 < 8
+    -- each row names a table
+    pub stand-table : d .tables ≤ 8 → (r : ℕ) → rows d cells tables .live r ≡ true → getD tables r 0 < 8
     unfolding schemeOf databaseOf
-    stand-table t r l =
-        ⊎-elim (λ (q : ltb r (d .rows) ≡ true). omega (arith, fits-says (schemeOf d) (rows d cells tables) r (stand-used r l (ltb-true _ _ q)) .0))
-        (λ (q : ltb r (d .rows) ≡ false). omega (arith, zero-says d cells tables r (stand-unused r l (ltb-false _ _ q)) .0))
-        (dec (ltb r (d .rows)))
+    stand-table t r l = omega (arith, fits-says (schemeOf d) (rows d cells tables) r (stand-used r (live-below cells tables r l) l) .0)
 
     pub stand-lawful : ((k : Column) (v : Cell) (r s : ℕ) → schemeOf d .unique k ≡ true → Has (rows d cells tables) k v r →
         Has (rows d cells tables) k v s → r ≡ s) → lawfulRows d cells tables ≡ true
     unfolding lawfulRows
     stand-lawful h =
-        all-places 512 (d .rows) _ (zeroRow (rows d cells tables))
-        (λ r a b. both (stand-used r a b) (ap not (repeats-none (schemeOf d) (rows d cells tables) r (live-if (d .rows) cells tables r a b) h)))
+        all-where 512 (rows d cells tables .live) (lawfulRow d cells tables) (blankRow (rows d cells tables))
+        (λ r a b. both (stand-used r a b) (ap not (repeats-none (schemeOf d) (rows d cells tables) r b h)))
         stand-unused
 
 -- the lent numbers are u32 and the issues u8, as their types say
@@ -212,8 +206,8 @@ pub record Stored (cells : Cells) : Type 0 where
 cells-fit : (d : Design) (cells : Cells) (tables : List ℕ) → lawfulRows d cells tables ≡ true → Stored cells → (r c : ℕ) → rows d cells tables .live r ≡ true →
     Fits (rows d cells tables .cell r c)
 cells-fit d cells tables e u r c l =
-    ⊎-elim (λ (q : ltb c 8 ≡ true). let k = ltb-true c 8 q in subst Fits (sym (cell-at (d .rows) cells tables r c k)) (inside k))
-    (λ (q : ltb c 8 ≡ false). subst Fits (sym (cell-past (d .rows) cells tables r c (ltb-false c 8 q))) blank-fits)
+    ⊎-elim (λ (q : ltb c 8 ≡ true). let k = ltb-true c 8 q in subst Fits (sym (cell-at cells tables r c k)) (inside k))
+    (λ (q : ltb c 8 ≡ false). subst Fits (sym (cell-past cells tables r c (ltb-false c 8 q))) blank-fits)
     (dec (ltb c 8))
   where
     inside : c < 8 → Fits (cellOf (cellAt cells r c))
@@ -221,12 +215,12 @@ cells-fit d cells tables e u r c l =
         record {
           number = u .number (8 * r + c);
           issue = u .issue (8 * r + c);
-          full = full-says _ c _ (rw (cell-at (d .rows) cells tables r c k) at (fits-says (schemeOf d) (rows d cells tables) r (row-says d cells tables e r l .0) .1 c k));
+          full = full-says _ c _ (rw (cell-at cells tables r c k) at (fits-says (schemeOf d) (rows d cells tables) r (row-says d cells tables e r l .0) .1 c k));
         }
 
 -- lawful rows are a lawful database
 pub lawful-database : (d : Design) (cells : Cells) (tables : List ℕ) → lawfulRows d cells tables ≡ true → Stored cells →
-    Lawful (schemeOf d) (databaseOf (d .rows) cells tables)
+    Lawful (schemeOf d) (databaseOf cells tables)
 lawful-database d cells tables e u =
     record {
       cells = cells-fit d cells tables e u;
@@ -239,18 +233,17 @@ pub rows-say : (d : Design) (cells : Cells) (tables : List ℕ) → Stored cells
 rows-say d cells tables u e =
     record {
       database = lawful-database d cells tables e u;
-      memberRest = λ r l h. zero-says d cells tables r (rest-says d cells tables e r l h) .0;
-      cellRest = λ r c l b h. zero-says d cells tables r (rest-says d cells tables e r l h) .1 c b;
+      cellRest = λ r c l b h. blanks-are d cells tables r (rest-says d cells tables e r l h) c b;
     }
 
 pub rows-if : {d : Design} {cells : Cells} {tables : List ℕ} → LawfulRows d cells tables → lawfulRows d cells tables ≡ true
 unfolding lawfulRows
 rows-if {d} {cells} {tables} w =
-    all-places 512 (d .rows) _ (zeroRow (rows d cells tables)) (λ r a b. there r (live-if (d .rows) cells tables r a b))
-    (λ r a b. zero-if d cells tables r (w .memberRest r a b) (λ c l. w .cellRest r c a l b))
+    all-where 512 (rows d cells tables .live) (lawfulRow d cells tables) (blankRow (rows d cells tables)) (λ r a b. there r b)
+    (λ r a b. blanks-if d cells tables r (λ c l. w .cellRest r c a l b))
   where
     there : (r : ℕ) → rows d cells tables .live r ≡ true →
-        rowFits (schemeOf d) (rows d cells tables) r && not (repeats (schemeOf d) (rows d cells tables) r) ≡ true
+        lawfulRow d cells tables r ≡ true
     there r l =
         both
         (fits-if (schemeOf d) (rows d cells tables) r (w .database .tables r l)

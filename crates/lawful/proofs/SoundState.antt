@@ -14,7 +14,7 @@ use Rattle.finite.proofs.Tables.{tab-at, tab-of}
 use Rattle.model.specs.Answers.{Answer, refused, unless, answer, written, textOf}
 use Rattle.model.specs.Runs.{Operation, marks, Cache, cacheAfter}
 use Rattle.model.proofs.Marks.{length-marks}
-use Rattle.model.proofs.HoldingLaws.{HoldingFits, values-few, step-fit}
+use Rattle.model.proofs.HoldingLaws.{HoldingFits, step-fit}
 use Rattle.model.proofs.RunLaws.{Sound, step-held}
 use Rattle.model.proofs.Fresh.{Fresh, fresh-sound, step-fresh}
 use Rattle.state.specs.Cells.{Cells}
@@ -23,6 +23,7 @@ use Rattle.state.specs.declared.held.Held.{Held}
 use Rattle.state.specs.Meaning.{schemeOf, databaseOf, holdingOf, heldOf, cacheOf}
 use Rattle.state.specs.Lawful.{lawfulDesign, lawfulRows, lawfulHeld, lawfulMarks}
 use Rattle.state.specs.Lent.{State, lent, scheme, database, cache, longEnough, lawful, sound, causeAt, guarded, stateAfter, answerAt, heldAfterAt, marksAfterAt, wordsAt, textAt}
+use Rattle.state.proofs.Arrays.{HeldSized}
 use Rattle.lawful.proofs.HeldLaws.{held-back, holding-fits, holding-back, fit-held}
 
 -- ---- the parts
@@ -71,17 +72,17 @@ held-unlawful s e = sym (and-right (lawfulDesign (s .design)) _ (and-right (lawf
 -- ---- the marks
 
 pub lawful-fresh : (d : Design) (cells : Cells) (tables : List ℕ) (h : Held) (m : List ℕ) → 512 ≤ length m → lawfulMarks d cells tables h m ≡ true →
-    Fresh (schemeOf d) (databaseOf (d .rows) cells tables) (cacheOf h m)
+    Fresh (schemeOf d) (databaseOf cells tables) (cacheOf h m)
 unfolding lawfulMarks marks databaseOf
 lawful-fresh d cells tables h m l e =
     record { reloaded = tab-of 0 512 _ (take 512 m) (length-take-le 512 m l) (λ r k. getD-take 512 m r 0 k ∙ eqb-true _ _ (all-at 512 _ e r k)) }
 
-pub fresh-long : (d : Design) (cells : Cells) (tables : List ℕ) (c : Cache) → Fresh (schemeOf d) (databaseOf (d .rows) cells tables) c → length (c .marks) ≡ 512
+pub fresh-long : (d : Design) (cells : Cells) (tables : List ℕ) (c : Cache) → Fresh (schemeOf d) (databaseOf cells tables) c → length (c .marks) ≡ 512
 unfolding databaseOf
-fresh-long d cells tables c f = ap length (f .reloaded) ∙ length-marks (databaseOf (d .rows) cells tables) _
+fresh-long d cells tables c f = ap length (f .reloaded) ∙ length-marks (databaseOf cells tables) _
 
 pub fresh-lawful : (d : Design) (cells : Cells) (tables : List ℕ) (h : Held) (m rest : List ℕ) →
-    Fresh (schemeOf d) (databaseOf (d .rows) cells tables) (record { held = holdingOf h; marks = m }) → lawfulMarks d cells tables h (m ++ rest) ≡ true
+    Fresh (schemeOf d) (databaseOf cells tables) (record { held = holdingOf h; marks = m }) → lawfulMarks d cells tables h (m ++ rest) ≡ true
 unfolding lawfulMarks marks databaseOf
 fresh-lawful d cells tables h m rest f =
     all-true 512 _ (λ r k. eq-eqb _ _ (List·getD-append m rest 0 r (omega (arith, fresh-long d cells tables _ f)) ∙
@@ -151,10 +152,10 @@ module _ (s : State) (e : sound s ≡ true) (o : Operation) where
       long = fresh-long (s .design) (s .cells) (s .tables) (after s o) after-fresh
 
       fresh : Fresh (scheme s) (database s) (record { held = holdingOf (heldOf (after s o .held)); marks = after s o .marks })
-      fresh = rw (holding-back (after s o .held) (values-few (after-fit .values))) after-fresh
+      fresh = rw (holding-back (after s o .held) after-fit) after-fresh
 
   -- an operation that leaves the cache as it was leaves the state as it was
-  pub unchanged : length (s .held .values) ≡ 64 → after s o ≡ cache s → stateAfter s o ≡ s
+  pub unchanged : HeldSized (s .held) → after s o ≡ cache s → stateAfter s o ≡ s
   unchanged l k =
       rw (
         held-after ∙ ap (λ (c : Cache). heldOf (c .held)) k ∙ held-back (s .design) (s .held) (parts s e .held) l,
@@ -187,7 +188,7 @@ cause-none s e = go (longEnough s) (lawful s) e
 
 -- one does: that is the answer, and the operation changes and writes nothing
 module _ (s : State) (n : (causeAt s ≡ 0 → ⊥)) where
-  cause-unsound : sound s ≡ false
+  pub cause-unsound : sound s ≡ false
   unfolding causeAt
   cause-unsound = go (longEnough s) (lawful s) n
     where

@@ -1,8 +1,9 @@
 -- What a lawful state is, in plain terms: the counts, what stands in each used place, that nothing stands twice, that the rest is 0, and that
 -- the marks are the smallest row set. That the tests of cause 12 say this, both ways, is proved in proofs/LawfulState.antt. Assumes nothing.
-use Prim.Native.Nat.{ℕ, _^_, _≤_, _<_}
+use Prim.Native.Nat.{ℕ, suc, _+_, _^_, _≤_, _<_}
 use mathlib.Core.Path.{_≡_}
-use mathlib.Core.Logic.{_≢_}
+use mathlib.Core.Bool.{false}
+use mathlib.Core.Logic.{_≢_, _⊎_}
 use mathlib.Core.List.{List}
 use lib.ListN.{getD, take}
 use Rattle.model.specs.Scheme.{ColumnOf}
@@ -16,9 +17,11 @@ use Rattle.state.specs.declared.design.Constraint.{Constraint}
 use Rattle.state.specs.declared.design.Filling.{Filling}
 use Rattle.state.specs.declared.design.Design.{Design}
 use Rattle.state.specs.declared.held.HeldValue.{HeldValue}
+use Rattle.state.specs.declared.held.Range.{Range}
+use Rattle.state.specs.declared.held.DeskRanges.{DeskRanges}
 use Rattle.state.specs.declared.held.Held.{Held}
 use Rattle.state.specs.Design.{noTable, noConstraint, noFilling, tableAt, constraintAt, fillingAt}
-use Rattle.state.specs.Held.{noCell, noValue, heldAt}
+use Rattle.state.specs.Held.{noCell, noValue, noRange, heldAt, rangeAt, rangesAt}
 use Rattle.state.specs.Meaning.{cellAt, columnOf, schemeOf, databaseOf, holdingOf}
 use Rattle.state.specs.Lawful.{ownCount}
 use Rattle.state.specs.Lent.{State, scheme, database}
@@ -44,7 +47,6 @@ pub record LawfulDesign (d : Design) : Type 0 where
   pub tables : d .tables ≤ 8
   pub constraints : d .constraints ≤ 16
   pub fillings : d .fillings ≤ 8
-  pub rows : d .rows ≤ 512
   pub table : (t : ℕ) → t < d .tables → LawfulTable (tableAt d t)
   pub constraint : (i : ℕ) → i < d .constraints → LawfulConstraint d (constraintAt d i)
   pub filling : (f : ℕ) → f < d .fillings → LawfulFilling d (fillingAt d f)
@@ -59,10 +61,9 @@ pub record LawfulDesign (d : Design) : Type 0 where
 -- ---- the rows
 
 pub record LawfulRows (d : Design) (cells : Cells) (tables : List ℕ) : Type 0 where
-  pub database : Lawful (schemeOf d) (databaseOf (d .rows) cells tables)
-  -- numbers without a row are 0
-  pub memberRest : (r : ℕ) → r < 512 → d .rows ≤ r → getD tables r 0 ≡ 0
-  pub cellRest : (r c : ℕ) → r < 512 → c < 8 → d .rows ≤ r → cellAt cells r c ≡ noCell
+  pub database : Lawful (schemeOf d) (databaseOf cells tables)
+  -- numbers without a row have no cells
+  pub cellRest : (r c : ℕ) → r < 512 → c < 8 → databaseOf cells tables .live r ≡ false → cellAt cells r c ≡ noCell
 
 -- ---- the held values
 
@@ -71,6 +72,23 @@ pub record LawfulPair (d : Design) (v : HeldValue) : Type 0 where
   pub filling : v .filling < d .fillings
   pub low : fillingAt d (v .filling) .low ≤ v .value .number
   pub high : v .value .number ≤ fillingAt d (v .filling) .high
+
+-- a range of an existing filling, not empty and wholly of candidates
+pub record LawfulRange (d : Design) (r : Range) : Type 0 where
+  pub filling : r .filling < d .fillings
+  pub full : r .low ≤ r .high
+  pub low : fillingAt d (r .filling) .low ≤ r .low
+  pub high : r .high ≤ fillingAt d (r .filling) .high
+
+-- a rises to b, with a gap in one filling
+abbrev pub Rises : Range → Range → Type 0
+Rises a b = (a .filling < b .filling) ⊎ ((a .filling ≡ b .filling) × (a .high + 1 < b .low))
+
+pub record LawfulRanges (d : Design) (s : DeskRanges) : Type 0 where
+  pub count : s .count ≤ 8
+  pub range : (i : ℕ) → i < s .count → LawfulRange d (rangeAt s i)
+  pub rises : (i : ℕ) → suc i < s .count → Rises (rangeAt s i) (rangeAt s (suc i))
+  pub rest : (i : ℕ) → i < 8 → s .count ≤ i → rangeAt s i ≡ noRange
 
 pub record LawfulHeld (d : Design) (h : Held) : Type 0 where
   pub count : h .count ≤ 64
@@ -82,6 +100,8 @@ pub record LawfulHeld (d : Design) (h : Held) : Type 0 where
   -- no pair twice in a desk
   pub once : (i j : ℕ) → i < j → j < h .count → heldAt h i ≢ heldAt h j
   pub rest : (i : ℕ) → i < 64 → h .count ≤ i → heldAt h i ≡ noValue
+  -- each desk's ranges
+  pub ranges : (e : ℕ) → e < 4 → LawfulRanges d (rangesAt h e)
 
 -- ---- the whole
 

@@ -16,10 +16,7 @@ fn counts_fit(d: Design) -> bool
     if Design::CONSTRAINTS < d.constraints {
         return false;
     }
-    if Design::FILLINGS < d.fillings {
-        return false;
-    }
-    d.rows <= Design::ROWS
+    d.fillings <= Design::FILLINGS
 }
 
 // Whether a script gives this design: counts, tables, constraints and fillings, each place used or 0. Constraints squared.

@@ -1,4 +1,4 @@
-// The held values: how many each desk has, whether one can stand at its place, and whether all of them are lawful.
+// What is held: how many values each desk has, whether one can stand at its place, and whether all of them, and the ranges of each desk, are lawful.
 ghost use mathlib.Core.Path.{_≡_};
 ghost use Prim.Native.Nat.{_≤_, _<_};
 ghost use Rattle.finite.specs.Finite.{any};
@@ -6,8 +6,9 @@ ghost use Rattle.model.specs.Holding.{sameOwned};
 ghost use Rattle.state.specs.Held.{heldAt};
 ghost use Rattle.state.specs.Meaning.{ownedOf};
 ghost use Rattle.state.specs.Lawful.{heldFits, lawfulHeld, ownCount, zeroHeld};
-ghost use Rattle.lawful.specs.Parts.{heldLawful, sharesKept};
+ghost use Rattle.lawful.specs.Parts.{heldLawful, rangesLawful, sharesKept};
 use crate::fillings::is_candidate;
+use crate::ranges::lawful_ranges;
 use state::Design;
 use state::Held;
 use state::OwnedValue;
@@ -103,7 +104,22 @@ fn held_lawful(d: Design, held: Held, i: usize) -> bool
     held_fits(d, held, i, held.values[i])
 }
 
-// Whether a desk is named that exists, and each desk holds at most 16 values, each a candidate and none twice, unused places 0. Half the held values squared.
+// Whether the ranges of every desk are lawful. One look at each of their places.
+fn ranges_lawful(d: Design, held: Held) -> bool
+    ensures { λ b. ⌜ b ≡ rangesLawful d held ⌝ }
+{
+    // read from here, as above
+    let ranges = held.ranges;
+    for e in 0..4usize {
+        if !lawful_ranges(d, ranges[e]) {
+            return false;
+        }
+    }
+    true
+}
+
+// Whether a desk is named that exists, and each desk holds at most 16 values, each a candidate and none twice, and lawful ranges, unused places 0. Half the
+// held values squared.
 pub fn lawful_held(d: Design, held: Held) -> bool
     ensures { λ b. ⌜ b ≡ lawfulHeld d held ⌝ }
 {
@@ -121,5 +137,5 @@ pub fn lawful_held(d: Design, held: Held) -> bool
             return false;
         }
     }
-    true
+    ranges_lawful(d, held)
 }

@@ -93,6 +93,7 @@ few-numbers (A.OpenedBy f n i) = omega arith
 few-numbers A.NoOpener = omega arith
 few-numbers A.Absent = omega arith
 few-numbers (A.Explained n) = omega arith
+few-numbers (A.Changed came went) = omega arith
 
 pub shows-few : (s : Shown) (a : Answer) → s ≡ shownOf (Model.shown (answerOf a)) → s .count ≤ 16
 shows-few s a h = omega (arith, few-numbers a, ap (λ (x : Shown). x .count) h)

@@ -3,7 +3,7 @@ use Prim.Native.Nat.{ℕ, _+_, _≤_, _<_}
 use native.Mathlib.Omega.{arith}
 use mathlib.Core.Path.{_≡_, sym, ap, subst, _∙_}
 use mathlib.Core.Logic.{_⊎_, ⊎-elim}
-use mathlib.Core.Bool.{Bool, true, false}
+use mathlib.Core.Bool.{Bool, true, false, cond}
 use mathlib.Core.List.{List}
 use borrow.Author.Tests.{lt-ltb, le-ltb, ltb-true, ltb-false}
 use lib.Dec.{ltb}
@@ -36,20 +36,30 @@ unused i n a b h e = e ∙ sym (unused-is i n a b h)
 pub none-used : (i n : ℕ) (a b c : Bool) → n ≡ 0 → usedOr i n a c ≡ true → usedOr i n b c ≡ true
 none-used i n a b c e h = unused-is i n b c (omega arith) ∙ sym (unused-is i n a c (omega arith)) ∙ h
 
--- ---- all places below n, of which those below m are used: p is the test of a used place, q of an unused one
+-- ---- all places below n, of which those of u are used: p is the test of a used place, q of an unused one
 
+module _ (n : ℕ) (u p q : ℕ → Bool) where
+  pub where-used : all n (λ i. cond (u i) (p i) (q i)) ≡ true → (i : ℕ) → i < n → u i ≡ true → p i ≡ true
+  where-used e i l h = sym (cond-true (u i) (p i) (q i) h) ∙ all-at n _ e i l
+
+  pub where-unused : all n (λ i. cond (u i) (p i) (q i)) ≡ true → (i : ℕ) → i < n → u i ≡ false → q i ≡ true
+  where-unused e i l h = sym (cond-false (u i) (p i) (q i) h) ∙ all-at n _ e i l
+
+  pub all-where : ((i : ℕ) → i < n → u i ≡ true → p i ≡ true) → ((i : ℕ) → i < n → u i ≡ false → q i ≡ true) → all n (λ i. cond (u i) (p i) (q i)) ≡ true
+  all-where f g =
+      all-true n _
+      (λ i l. ⊎-elim (λ (e : u i ≡ true). cond-true (u i) (p i) (q i) e ∙ f i l e) (λ (e : u i ≡ false). cond-false (u i) (p i) (q i) e ∙ g i l e) (dec (u i)))
+
+-- the same where those below m are used
 module _ (n m : ℕ) (p q : ℕ → Bool) where
   pub used-at : all n (λ i. usedOr i m (p i) (q i)) ≡ true → (i : ℕ) → i < n → i < m → p i ≡ true
-  used-at e i l h = sym (used-is i m (p i) (q i) h) ∙ all-at n _ e i l
+  used-at e i l h = where-used n (λ j. ltb j m) p q e i l (lt-ltb i m h)
 
   pub unused-at : all n (λ i. usedOr i m (p i) (q i)) ≡ true → (i : ℕ) → i < n → m ≤ i → q i ≡ true
-  unused-at e i l h = sym (unused-is i m (p i) (q i) h) ∙ all-at n _ e i l
+  unused-at e i l h = where-unused n (λ j. ltb j m) p q e i l (le-ltb i m h)
 
   pub all-places : ((i : ℕ) → i < n → i < m → p i ≡ true) → ((i : ℕ) → i < n → m ≤ i → q i ≡ true) → all n (λ i. usedOr i m (p i) (q i)) ≡ true
-  all-places f g =
-      all-true n _
-      (λ i l. ⊎-elim (λ (e : ltb i m ≡ true). let h = ltb-true i m e in used-is i m (p i) (q i) h ∙ f i l h)
-      (λ (e : ltb i m ≡ false). let h = ltb-false i m e in unused-is i m (p i) (q i) h ∙ g i l h) (dec (ltb i m)))
+  all-places f g = all-where n (λ j. ltb j m) p q (λ i l e. f i l (ltb-true i m e)) (λ i l e. g i l (ltb-false i m e))
 
 -- one more place of m is used: the n before it are tested as they were, it passes its test, and those behind it are as they were
 module _ (m n : ℕ) (test test′ empty empty′ : ℕ → Bool) where

@@ -41,7 +41,6 @@ emptyDesign =
       constraint = tab 16 (λ _. noConstraint);
       fillings = 0;
       filling = tab 8 (λ _. noFilling);
-      rows = 0;
     }
 
 -- what inner functions ask of a design: its numbers stay inside the arrays. Every lawful design has this.
@@ -49,7 +48,6 @@ pub record InRange (d : Design) : Type 0 where
   pub tables : d .tables ≤ 8
   pub constraints : d .constraints ≤ 16
   pub fillings : d .fillings ≤ 8
-  pub rows : d .rows ≤ 512
   pub source : (i : ℕ) → constraintAt d i .source .place < 8
   pub target : (i : ℕ) → constraintAt d i .target .place < 8
   pub column : (f : ℕ) → fillingAt d f .column .place < 8

@@ -32,7 +32,7 @@ abbrev pub scheme : State → Scheme
 scheme s = schemeOf (s .design)
 
 abbrev pub database : State → Database
-database s = databaseOf (s .design .rows) (s .cells) (s .tables)
+database s = databaseOf (s .cells) (s .tables)
 
 abbrev pub cache : State → Cache
 cache s = cacheOf (s .held) (s .marks)

@@ -1,6 +1,6 @@
 -- What the lent values mean in the model: nothing above this file looks at buffers. Assumes nothing.
 use Prim.Native.Nat.{ℕ, _+_, _-_, _*_, _/_, _%_, _^_}
-use mathlib.Core.Bool.{Bool, cond, _&&_, and-eq-true-iff}
+use mathlib.Core.Bool.{Bool, not, cond, _&&_, and-eq-true-iff}
 use mathlib.Core.List.{List, [], _∷_}
 use borrow.Author.Tests.{ltb-true}
 use lib.Dec.{eqb, ltb}
@@ -10,7 +10,8 @@ use Rattle.model.specs.Cell as Model-cell
 use Rattle.model.specs.Cell.{blank}
 use Rattle.model.specs.Scheme as Model
 use Rattle.model.specs.Database.{Database}
-use Rattle.model.specs.Holding.{Pair, Owned, Holding, holding}
+use Rattle.model.specs.Ranges as Model-range
+use Rattle.model.specs.Holding.{desks, mostRanges, Pair, Owned, Holding, holding, rangesOf}
 use Rattle.model.specs.Query as Model-query
 use Rattle.model.specs.Runs as Runs
 use Rattle.model.specs.Runs.{Cache}
@@ -22,6 +23,8 @@ use Rattle.state.specs.declared.design.Filling.{Filling}
 use Rattle.state.specs.declared.design.Design.{Design}
 use Rattle.state.specs.declared.held.HeldValue.{HeldValue}
 use Rattle.state.specs.declared.held.OwnedValue.{OwnedValue}
+use Rattle.state.specs.declared.held.Range.{Range}
+use Rattle.state.specs.declared.held.DeskRanges.{DeskRanges}
 use Rattle.state.specs.declared.held.Held.{Held}
 use Rattle.state.specs.declared.answer.Answer.{Answer}
 use Rattle.state.specs.declared.answer.Answer.the-variants as A
@@ -32,7 +35,7 @@ use Rattle.state.specs.declared.operation.Operation.{Operation}
 use Rattle.state.specs.declared.operation.Operation.the-variants as O
 use Rattle.state.specs.Cells.{Cells}
 use Rattle.state.specs.Design.{tableAt, constraintAt, fillingAt}
-use Rattle.state.specs.Held.{noValue, heldAt}
+use Rattle.state.specs.Held.{noValue, noRange, heldAt, rangeAt, rangesAt}
 
 -- ---- cells
 
@@ -80,15 +83,19 @@ schemeOf d =
 
 -- ---- the rows
 
--- the first `rows` numbers have a row
-unfoldable pub databaseOf : ℕ → Cells → List ℕ → Database
-databaseOf rows cells tables =
+-- "a free number has row table 255" (02, Req 12)
+abbrev pub freeTable : ℕ
+freeTable = 255
+
+-- the numbers that aren't free have a row
+unfoldable pub databaseOf : Cells → List ℕ → Database
+databaseOf cells tables =
     record {
       size = 512;
-      live = λ r. ltb r 512 && ltb r rows;
+      live = λ r. ltb r 512 && not (eqb (getD tables r 0) freeTable);
       table = λ r. getD tables r 0;
       cell = λ r c. cond (ltb c 8) (cellOf (cellAt cells r c)) blank;
-      finite = λ r e. ltb-true r 512 (and-eq-true-iff (ltb r 512) (ltb r rows) .0 e .0);
+      finite = λ r e. ltb-true r 512 (and-eq-true-iff (ltb r 512) (not (eqb (getD tables r 0) freeTable)) .0 e .0);
     }
 
 -- ---- what is held and cached
@@ -109,9 +116,26 @@ ownedBack o = record { desk = o .desk; pair = pairBack (o .pair) }
 unfoldable pub valuesOf : Held → List Owned
 valuesOf h = tab (h .count) (λ i. ownedOf (heldAt h i))
 
+abbrev pub rangeOf : Range → Model-range.Range
+rangeOf r = record { filling = r .filling; low = r .low; high = r .high }
+
+abbrev pub rangeBack : Model-range.Range → Range
+rangeBack r = record { filling = r .filling; low = r .low; high = r .high }
+
+-- a desk's ranges as a list, and those that stand for a list, unused places 0
+unfoldable pub listOf : DeskRanges → List Model-range.Range
+listOf s = tab (s .count) (λ i. rangeOf (rangeAt s i))
+
+unfoldable pub listBack : List Model-range.Range → DeskRanges
+listBack rs = record { count = length rs; list = tab mostRanges (λ i. rangeBack (getD rs i (rangeOf noRange))) }
+
+-- one list for each desk
+unfoldable pub listsOf : Held → List (List Model-range.Range)
+listsOf h = tab desks (λ e. listOf (rangesAt h e))
+
 -- what the record holds
 abbrev pub holdingOf : Held → Holding
-holdingOf h = holding (h .desk) (valuesOf h)
+holdingOf h = holding (h .desk) (valuesOf h) (listsOf h)
 
 -- the record that holds this, unused places 0
 unfoldable pub heldOf : Holding → Held
@@ -120,6 +144,7 @@ heldOf h =
       desk = h .desk;
       count = length (h .values);
       values = tab 64 (λ i. ownedBack (getD (h .values) i (ownedOf noValue)));
+      ranges = tab desks (λ e. listBack (rangesOf (h .ranges) e));
     }
 
 abbrev pub cacheOf : Held → List ℕ → Cache
@@ -150,6 +175,8 @@ operationOf (O.Total t) room bytes = Runs.query (queryOf (t .query)) (Runs.asTot
 operationOf (O.Name d) room bytes = Runs.name d
 operationOf (O.Opener k v) room bytes = Runs.ask (Runs.opener (columnOf k) (cellOf v))
 operationOf (O.Reason r) room bytes = Runs.ask (Runs.reason r bytes)
+operationOf (O.ReferRange r) room bytes = Runs.referRange (rangeOf r)
+operationOf (O.DropRange r) room bytes = Runs.dropRange (rangeOf r)
 
 -- ---- sets of constraints
 
@@ -178,6 +205,7 @@ answerOf (A.OpenedBy f n i) = Answers.openedBy f n i
 answerOf A.NoOpener = Answers.noOpener
 answerOf A.Absent = Answers.absent
 answerOf (A.Explained n) = Answers.explained n
+answerOf (A.Changed came went) = Answers.changed came went
 
 -- an array of sixteen numbers, 0 behind the last
 abbrev pub sixteen : List ℕ → List ℕ

@@ -39,6 +39,8 @@ pub enum Answer {
     Absent,
     // the length of the text that says why a row is cached
     Explained(usize),
+    // rows that came and rows that went, where the rows themselves have changed
+    Changed(usize, usize),
 }
 
 // An answer as the report shows it: its word, by number, how many numbers stand behind it, and these, 0 behind the last.
@@ -129,6 +131,7 @@ pub fn show(answer: Answer) -> Shown
         Answer::NoOpener => words(15, 0, 0, 0),
         Answer::Absent => words(16, 0, 0, 0),
         Answer::Explained(n) => words(17, 1, n as u64, 0),
+        Answer::Changed(came, went) => words(18, 2, came as u64, went as u64),
     }
 }
 

@@ -1,4 +1,5 @@
-// A design as a value: its tables, constraints and fillings, each with how many are used, and how many rows belong to it. Unused places are 0.
+// A design as a value: its tables, constraints and fillings, each with how many are used. Unused places are 0. Which numbers have a row is seen from the lent
+// row tables.
 ghost use mathlib.Core.Path.{_≡_};
 ghost use Rattle.state.specs.Design.{emptyDesign};
 
@@ -33,7 +34,6 @@ pub struct Design {
     pub constraint: [Constraint; 16],
     pub fillings: usize,
     pub filling: [Filling; 8],
-    pub rows: usize,
 }
 
 // The largest counts of document 01, and the design that an empty list of commands describes.
@@ -49,6 +49,9 @@ impl Design {
     pub const ROWS: usize = 512;
 
     pub const CELLS: usize = 4096;
+
+    // the row table of a number without a row
+    pub const FREE: u8 = 255;
 
     pub fn empty() -> Design
         ensures { λ r. ⌜ r ≡ emptyDesign ⌝ }
@@ -74,7 +77,6 @@ impl Design {
             constraint: [c; Design::CONSTRAINTS],
             fillings: 0,
             filling: [f; Design::FILLINGS],
-            rows: 0,
         }
     }
 }

@@ -1,6 +1,7 @@
-// The held values: a small record with the desk named last and the values of all desks, in order of reference. Unused places are 0.
+// What is held: a small record with the desk named last, the values of all desks, in order of reference, and the ranges of each desk, rising. Unused
+// places are 0.
 ghost use mathlib.Core.Path.{_≡_};
-ghost use Rattle.state.specs.Held.{noneHeld};
+ghost use Rattle.state.specs.Held.{emptyRanges, noneHeld};
 use crate::cell::Cell;
 
 // A filling's number and a value.
@@ -15,10 +16,40 @@ pub struct OwnedValue {
     pub pair: HeldValue,
 }
 
+// A range of a filling's values, both ends counted.
+pub struct Range {
+    pub filling: u8,
+    pub low: u32,
+    pub high: u32,
+}
+
+// A desk's ranges: how many, and these.
+pub struct DeskRanges {
+    pub count: usize,
+    pub list: [Range; 8],
+}
+
+impl DeskRanges {
+    pub fn none() -> DeskRanges
+        ensures { λ r. ⌜ r ≡ emptyRanges ⌝ }
+    {
+        let r = Range {
+            filling: 0,
+            low: 0,
+            high: 0,
+        };
+        DeskRanges {
+            count: 0,
+            list: [r; Held::RANGES],
+        }
+    }
+}
+
 pub struct Held {
     pub desk: u8,
     pub count: usize,
     pub values: [OwnedValue; 64],
+    pub ranges: [DeskRanges; 4],
 }
 
 impl Held {
@@ -27,6 +58,8 @@ impl Held {
     pub const SHARE: usize = 16;
 
     pub const PLACES: usize = 64;
+    // for each desk
+    pub const RANGES: usize = 8;
 
     pub fn none() -> Held
         ensures { λ r. ⌜ r ≡ noneHeld ⌝ }
@@ -41,10 +74,12 @@ impl Held {
                 },
             },
         };
+        let none = DeskRanges::none();
         Held {
             desk: 0,
             count: 0,
             values: [v; Held::PLACES],
+            ranges: [none; 4],
         }
     }
 }

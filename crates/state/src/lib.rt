@@ -1,4 +1,4 @@
-// The values that everything above works on: cells, the design, the held values, an operation and its answer; and the leaves that compare them and
+// The values that everything above works on: cells, the design, the held values and ranges, an operation and its answer; and the leaves that compare them and
 // read their places and lent rows.
 // What they mean as the model's scheme, database and cache is in specs/Meaning.antt, when a lent state is lawful in specs/Lawful.antt, and what
 // an operation answers and leaves in specs/Lent.antt.
@@ -10,6 +10,7 @@ mod equality;
 mod held;
 mod lookup;
 mod operation;
+mod ranges;
 mod rows;
 
 pub use answer::Answer;
@@ -33,14 +34,21 @@ pub use design::Table;
 pub use equality::same_column;
 pub use equality::same_owned;
 pub use equality::same_pair;
+pub use held::DeskRanges;
 pub use held::Held;
 pub use held::HeldValue;
 pub use held::OwnedValue;
+pub use held::Range;
 pub use lookup::filling_at;
 pub use lookup::table_at;
 pub use operation::Join;
 pub use operation::Operation;
 pub use operation::Query;
 pub use operation::Total;
+pub use ranges::in_range;
+pub use ranges::row_has_range;
+pub use ranges::same_range;
+pub use ranges::stands_before;
+pub use rows::Row;
 pub use rows::is_live;
 pub use rows::row_has;

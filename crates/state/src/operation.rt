@@ -2,6 +2,7 @@
 use crate::cell::Cell;
 use crate::design::Column;
 use crate::held::HeldValue;
+use crate::held::Range;
 
 // An earlier position of a query, and the constraint by which a row is joined to it.
 pub struct Join {
@@ -43,4 +44,7 @@ pub enum Operation {
     Opener(Column, Cell),
     // why a row is cached
     Reason(u16),
+    // holding a range for the named desk, and dropping one
+    ReferRange(Range),
+    DropRange(Range),
 }

@@ -17,14 +17,7 @@ returns-2 c = and-go _ _ (le-leb _ _ (c .before .before .if1 .left)) (and-stop _
 returns-3 : tie.Need-returns-3
 unfolding countsFit
 returns-3 c =
-    and-go _ _ (le-leb _ _ (c .before .before .before .before .if1 .left))
-    (and-go _ _ (le-leb _ _ (c .before .before .if2 .left)) (and-stop _ _ (lt-leb _ _ (c .if3 .taken))))
-
-returns-4 : tie.Need-returns-4
-unfolding countsFit
-returns-4 c =
-    and-go _ _ (le-leb _ _ (c .before .before .before .before .before .if1 .left))
-    (and-go _ _ (le-leb _ _ (c .before .before .before .if2 .left)) (and-go _ _ (le-leb _ _ (c .before .if3 .left)) refl))
+    and-go _ _ (le-leb _ _ (c .before .before .before .if1 .left)) (and-go _ _ (le-leb _ _ (c .before .if2 .left)) refl)
 
 pub counts-fit-spec : {M : Type 1} → statement M
-counts-fit-spec = tie.close (tie.spec returns returns-2 returns-3 returns-4)
+counts-fit-spec = tie.close (tie.spec returns returns-2 returns-3)

@@ -48,7 +48,7 @@ returns-4 c =
     and-go _ _ (lt-ltb _ _ (c .before .before .before .before .before .before .before .before .if1 .left))
     (and-go _ _ (le-leb _ _ (c .before .before .before .before .before .before .if2 .left))
     (and-go _ _ (sym (c .before .before .before .before .before .shares-kept .ensures) ∙ not-false _ (c .before .before .before .before .if3 .left))
-    (all-stop 64 (c .before .before .before .loop .i) _ (omega arith) (sym (c .before .held-lawful .ensures) ∙ not-true _ (c .if4 .taken)))))
+    (and-stop _ _ (sym (all-stop 64 (c .before .before .before .loop .i) _ (omega arith) (sym (c .before .held-lawful .ensures) ∙ not-true _ (c .if4 .taken)))))))
 
 add-i : tie.Need-add-i Inv-loop μ-loop
 add-i c = omega arith
@@ -59,13 +59,16 @@ loop-less c = omega arith
 loop-again : tie.Need-loop-again Inv-loop μ-loop
 loop-again c = (omega arith, all-more _ _ (c .before .before .before .loop .inv .1) (sym (c .before .held-lawful .ensures) ∙ not-false _ (c .if4 .left)))
 
+ranges-lawful-requires : tie.Need-ranges-lawful-requires Inv-loop μ-loop
+ranges-lawful-requires c κs = search needs
+
 returns-5 : tie.Need-returns-5 Inv-loop μ-loop
 unfolding lawfulHeld
 returns-5 c =
-    and-go _ _ (lt-ltb _ _ (c .before .before .before .before .before .before .if1 .left))
-    (and-go _ _ (le-leb _ _ (c .before .before .before .before .if2 .left))
-    (and-go _ _ (sym (c .before .before .before .shares-kept .ensures) ∙ not-false _ (c .before .before .if3 .left))
-    (all-end _ _ _ (c .before .loop .inv .0) (c .loop-test .left) (c .before .loop .inv .1))))
+    and-go _ _ (lt-ltb _ _ (c .before .before .before .before .before .before .before .if1 .left))
+    (and-go _ _ (le-leb _ _ (c .before .before .before .before .before .if2 .left))
+    (and-go _ _ (sym (c .before .before .before .before .shares-kept .ensures) ∙ not-false _ (c .before .before .before .if3 .left))
+    (and-go _ _ (sym (all-end _ _ _ (c .before .before .loop .inv .0) (c .before .loop-test .left) (c .before .before .loop .inv .1))) (c .ranges-lawful .ensures))))
 
 pub lawful-held-spec : {M : Type 1} → statement M
 lawful-held-spec =
@@ -83,4 +86,5 @@ lawful-held-spec =
     add-i
     loop-less
     loop-again
+    ranges-lawful-requires
     returns-5)

@@ -139,6 +139,12 @@ enum-known-answer-11 c = search needs
 words-requires-16 : tie.Need-words-requires-16
 words-requires-16 c κs = search needs
 
+enum-known-answer-12 : tie.Need-enum-known-answer-12
+enum-known-answer-12 c = search needs
+
+words-requires-17 : tie.Need-words-requires-17
+words-requires-17 c κs = search needs
+
 returns : tie.Need-returns
 unfolding shown tab
 returns c = shows-case (c .words .ensures) (c .before .before .answer .given .1) refl
@@ -211,6 +217,10 @@ returns-18 : tie.Need-returns-18
 unfolding shown tab
 returns-18 c = shows-case (c .words16 .ensures) (c .before .before .answer11 .given .1) refl
 
+returns-19 : tie.Need-returns-19
+unfolding shown tab
+returns-19 c = shows-case (c .words17 .ensures) (c .before .before .answer12 .given .1) refl
+
 pub show-spec : {M : Type 1} → statement M
 show-spec =
     tie.close
@@ -259,6 +269,8 @@ show-spec =
     words-requires-15
     enum-known-answer-11
     words-requires-16
+    enum-known-answer-12
+    words-requires-17
     returns
     returns-2
     returns-3
@@ -276,4 +288,5 @@ show-spec =
     returns-15
     returns-16
     returns-17
-    returns-18)
+    returns-18
+    returns-19)

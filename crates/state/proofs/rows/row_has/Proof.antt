@@ -11,15 +11,15 @@ is-live-requires : tie.Need-is-live-requires
 is-live-requires c κs = search needs
 
 returns : tie.Need-returns
-returns c = has-absent _ _ _ _ _ _ (omega arith) (omega arith) (sym (c .before .is-live .ensures _ _) ∙ not-true _ (c .if1 .taken))
+returns c = has-absent _ _ _ _ _ (omega arith) (omega arith) (sym (c .before .is-live .ensures _) ∙ not-true _ (c .if1 .taken))
 
 shared-slice-read-if2 : tie.Need-shared-slice-read-if2
 shared-slice-read-if2 c = search needs
 
 returns-2 : tie.Need-returns-2
 returns-2 c =
-    has-elsewhere _ _ _ _ _ _ (omega arith) (omega arith)
-    (sym (c .before .before .before .before .is-live .ensures _ _) ∙ not-false _ (c .before .before .before .if1 .left)) (c .if2 .taken)
+    has-elsewhere _ _ _ _ _ (omega arith) (omega arith)
+    (sym (c .before .before .before .before .is-live .ensures _) ∙ not-false _ (c .before .before .before .if1 .left)) (c .if2 .taken)
 
 cast-cell-at : tie.Need-cast-cell-at
 cast-cell-at c = search needs
@@ -33,8 +33,8 @@ same-cell-requires c κs = search needs
 returns-3 : tie.Need-returns-3
 returns-3 c =
     c .same-cell .ensures ∙
-    has-value _ _ _ _ _ _ (omega arith) (omega arith)
-    (sym (c .before .before .before .before .before .before .before .is-live .ensures _ _) ∙ not-false _ (c .before .before .before .before .before .before .if1 .left))
+    has-value _ _ _ _ _ (omega arith) (omega arith)
+    (sym (c .before .before .before .before .before .before .before .is-live .ensures _) ∙ not-false _ (c .before .before .before .before .before .before .if1 .left))
     _ (c .before .cell-at .ensures) (c .before .before .before .if2 .left)
 
 pub row-has-spec : {M : Type 1} → statement M
