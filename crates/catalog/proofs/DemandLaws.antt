@@ -28,9 +28,9 @@ use Rattle.catalog.proofs.Rows.{table-is}
 
 -- ---- one row
 
-module _ (rows : ℕ) (cells : Cells) (tables : List ℕ) (j : Model.Constraint) (s : ℕ) where
+module _ (cells : Cells) (tables : List ℕ) (j : Model.Constraint) (s : ℕ) where
   abbrev D : Database
-  D = databaseOf rows cells tables
+  D = databaseOf cells tables
 
   pub demanded-absent : D .live s ≡ false → 512 ≡ firstFrom 512 (leads D j s) 0
   unfolding leads
@@ -40,7 +40,7 @@ module _ (rows : ℕ) (cells : Cells) (tables : List ℕ) (j : Model.Constraint)
   unfolding leads
   demanded-elsewhere h =
       sym (first-none 512 (leads D j s) 0
-      (λ r _ _. and-right (D .live s) _ (and-left (eqb (D .table s) (j .source .table)) _ (ne-eqb _ _ (λ e. h (sym (table-is rows cells tables s) ∙ e))))))
+      (λ r _ _. and-right (D .live s) _ (and-left (eqb (D .table s) (j .source .table)) _ (ne-eqb _ _ (λ e. h (sym (table-is cells tables s) ∙ e))))))
 
   pub demanded-value : D .live s ≡ true → j .source .place < 8 → getD tables s 0 ≡ j .source .table → (v : State.Cell)
       → v ≡ cellAt cells s (j .source .place) → (n : ℕ) → n ≡ firstFrom 512 (has D (j .target) (cellOf v)) 0 → n ≡ firstFrom 512 (leads D j s) 0
@@ -52,8 +52,8 @@ module _ (rows : ℕ) (cells : Cells) (tables : List ℕ) (j : Model.Constraint)
       same r =
           ap (λ (b : Bool). b && (eqb (D .table s) (j .source .table) && has D (j .target) (D .cell s (j .source .place)) r))
           h
-          ∙ ap (λ (b : Bool). b && has D (j .target) (D .cell s (j .source .place)) r) (eq-eqb _ _ (table-is rows cells tables s ∙ e))
-          ∙ ap (λ (a : Cell). has D (j .target) a r) (cell-at rows cells tables s (j .source .place) p ∙ ap cellOf (sym w))
+          ∙ ap (λ (b : Bool). b && has D (j .target) (D .cell s (j .source .place)) r) (eq-eqb _ _ (table-is cells tables s ∙ e))
+          ∙ ap (λ (a : Cell). has D (j .target) a r) (cell-at cells tables s (j .source .place) p ∙ ap cellOf (sym w))
 
 -- ---- constraint by constraint
 

@@ -2,7 +2,7 @@
 -- rows are put in.
 -- Found: what is found at a value's place. Rows: the tests of a row. PutLaws: one row and all rows put in. ColumnLaws: one column after the other.
 -- LinkLaws: the next row of a cell. DemandLaws: the first rows that constraints demand. Entries: what stands where, for those who walk
--- the catalog. CatalogLaws: a row that has a value, and its link. Walks: a loop along the links does what a loop over all rows does.
+-- the catalog. CatalogLaws: a row that has a value, and its link. Walks: a loop along the links does what a loop over all rows does. SpanLaws: the values of a range.
 pub mod HitLaws
 pub mod Searching
 pub mod KeyLaws
@@ -16,3 +16,4 @@ pub mod DemandLaws
 pub mod Entries
 pub mod Walks
 pub mod CatalogLaws
+pub mod SpanLaws

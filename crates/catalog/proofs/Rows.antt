@@ -1,9 +1,10 @@
 -- Which rows have a value: in any database, and in the lent rows test by test. Assumes nothing.
 use Prim.Native.Nat.{ℕ, _≤_, _<_}
+use native.Mathlib.Omega.{arith}
 use mathlib.Core.Path.{_≡_, refl, sym, ap, _∙_}
-use mathlib.Core.Bool.{true, false}
+use mathlib.Core.Bool.{true, false, not}
 use mathlib.Core.List.{List}
-use borrow.Author.Tests.{lt-ltb, le-ltb, ne-eqb}
+use borrow.Author.Tests.{le-ltb, ne-eqb}
 use lib.Dec.{eqb, ltb}
 use lib.ListN.{getD}
 use Rattle.finite.proofs.Bools.{clash, refute, and-left, and-right, cond-false}
@@ -13,7 +14,7 @@ use Rattle.model.proofs.CellLaws.{equal-full, equal-self}
 use Rattle.model.specs.Scheme as Model
 use Rattle.state.specs.Cells.{Cells}
 use Rattle.state.specs.declared.cell.Cell as State
-use Rattle.state.specs.Meaning.{cellOf, cellAt, databaseOf}
+use Rattle.state.specs.Meaning.{cellOf, cellAt, freeTable, databaseOf}
 use Rattle.state.proofs.RowLaws.{cell-at, live-at, has-value}
 use Rattle.catalog.specs.Catalog.{nextOf}
 
@@ -43,28 +44,29 @@ module _ (D : Database) (t p r : ℕ) where
 
 -- ---- in the lent rows
 
-module _ (rows : ℕ) (cells : Cells) (tables : List ℕ) (r : ℕ) where
-  pub table-is : databaseOf rows cells tables .table r ≡ getD tables r 0
+module _ (cells : Cells) (tables : List ℕ) (r : ℕ) where
+  pub table-is : databaseOf cells tables .table r ≡ getD tables r 0
   unfolding databaseOf
   table-is = refl
 
-  pub dead-at : rows ≤ r → databaseOf rows cells tables .live r ≡ false
+  pub dead-at : 512 ≤ r → databaseOf cells tables .live r ≡ false
   unfolding databaseOf
-  dead-at h = and-right (ltb r 512) _ (le-ltb r rows h)
+  dead-at h = and-left (ltb r 512) _ (le-ltb r 512 h)
 
-  pub live-in : r < 512 → r < rows → databaseOf rows cells tables .live r ≡ true
-  live-in l h = live-at rows cells tables r l ∙ lt-ltb r rows h
+  -- a row of a table
+  pub live-in : (t : ℕ) → r < 512 → t < 8 → getD tables r 0 ≡ t → databaseOf cells tables .live r ≡ true
+  live-in t l h e = live-at cells tables r l ∙ ap not (ne-eqb (getD tables r 0) freeTable (λ q. omega arith))
 
-  pub table-at : (t : ℕ) → getD tables r 0 ≡ t → databaseOf rows cells tables .table r ≡ t
+  pub table-at : (t : ℕ) → getD tables r 0 ≡ t → databaseOf cells tables .table r ≡ t
   table-at t e = table-is ∙ e
 
-  pub elsewhere-at : (t : ℕ) → (getD tables r 0 ≡ t → ⊥) → databaseOf rows cells tables .table r ≡ t → ⊥
+  pub elsewhere-at : (t : ℕ) → (getD tables r 0 ≡ t → ⊥) → databaseOf cells tables .table r ≡ t → ⊥
   elsewhere-at t ne e = ne (sym table-is ∙ e)
 
   module _ (p : ℕ) (q : p < 8) (x : State.Cell) (w : x ≡ cellAt cells r p) where
-    pub blank-at : isBlank (cellOf x) ≡ true → isBlank (databaseOf rows cells tables .cell r p) ≡ true
-    blank-at e = ap isBlank (cell-at rows cells tables r p q) ∙ sym (ap (λ (y : State.Cell). isBlank (cellOf y)) w) ∙ e
+    pub blank-at : isBlank (cellOf x) ≡ true → isBlank (databaseOf cells tables .cell r p) ≡ true
+    blank-at e = ap isBlank (cell-at cells tables r p q) ∙ sym (ap (λ (y : State.Cell). isBlank (cellOf y)) w) ∙ e
 
-    pub value-at : (t : ℕ) → r < 512 → databaseOf rows cells tables .live r ≡ true → getD tables r 0 ≡ t → isBlank (cellOf x) ≡ false
-        → has (databaseOf rows cells tables) (record { table = t; place = p }) (cellOf x) r ≡ true
-    value-at t l h e z = sym (has-value rows cells tables (record { table = t; place = p }) (cellOf x) r l q h x w e) ∙ equal-self (cellOf x) z
+    pub value-at : (t : ℕ) → r < 512 → databaseOf cells tables .live r ≡ true → getD tables r 0 ≡ t → isBlank (cellOf x) ≡ false
+        → has (databaseOf cells tables) (record { table = t; place = p }) (cellOf x) r ≡ true
+    value-at t l h e z = sym (has-value cells tables (record { table = t; place = p }) (cellOf x) r l q h x w e) ∙ equal-self (cellOf x) z

@@ -72,6 +72,6 @@ pub record Directory (D : Database) (keys heads starts : List ℕ) : Type 0 wher
 
 -- the catalog of a design with lent rows, whatever they are
 pub record Catalogued (d : Design) (cells : Cells) (tables next first keys heads starts : List ℕ) : Type 0 where
-  pub next-is : next ≡ nexts (databaseOf (d .rows) cells tables)
-  pub first-is : first ≡ firsts (schemeOf d) (databaseOf (d .rows) cells tables)
-  pub directory : Directory (databaseOf (d .rows) cells tables) keys heads starts
+  pub next-is : next ≡ nexts (databaseOf cells tables)
+  pub first-is : first ≡ firsts (schemeOf d) (databaseOf cells tables)
+  pub directory : Directory (databaseOf cells tables) keys heads starts

@@ -14,7 +14,7 @@ use Rattle.catalog.specs.Listing.{inTable}
 abbrev pub columnNo : ℕ → Model.Column
 columnNo j = record { table = j / 8; place = j % 8 }
 
--- how many rows table t has, counting numbers without a row too
+-- how many row numbers have row table t
 unfoldable pub sizeOf : Database → ℕ → ℕ
 sizeOf D t = count 512 (inTable D t)
 

@@ -60,7 +60,7 @@ Entered x r from m keys heads keys′ heads′ to next = Known x r from m keys h
 
 -- ---- rows
 
--- row s is a row of table t, or would be if there were so many rows
+-- number s has row table t: it is a row of table t, if there is such a table
 abbrev pub inTable : Database → ℕ → ℕ → Bool
 inTable D t s = eqb (D .table s) t
 

@@ -1,6 +1,6 @@
 // Listing all columns.
 ghost use mathlib.Core.Path.{_≡_};
-ghost use Prim.Native.Nat.{ℕ, _≤_};
+ghost use Prim.Native.Nat.{ℕ};
 ghost use lib.ListN.{length};
 ghost use Rattle.state.specs.Cells.{cellsIn};
 ghost use Rattle.state.specs.Design.{Backed};
@@ -9,9 +9,8 @@ ghost use Rattle.catalog.specs.Columns.{Columns};
 use crate::listing::add_column;
 use state::Column;
 
-// Lists the values of the 64 columns one after the other, and sets the next rows of their cells. One turn for each column and row.
+// Lists the values of the 64 columns one after the other, and sets the next rows of their cells. One turn for each column and row number.
 pub(crate) fn add_columns(
-    rows: usize,
     cells: &[u32],
     issues: &[u8],
     tables: &[u8],
@@ -21,8 +20,8 @@ pub(crate) fn add_columns(
     next: &mut [u16; 4096],
 )
     requires { ⌜ Backed (cellsIn (now cells) (now issues)) (now tables) ⌝ }
-    requires { ⌜ (rows ≤ 512) × (length (now keys) ≡ 4096) × (length (now heads) ≡ 4096) × (length (now starts) ≡ 65) × (length (now next) ≡ 4096) ⌝ }
-    ensures { λ _. ⌜ ((m : ℕ) × Columns (databaseOf rows (cellsIn (now (cells .entry)) (now (issues .entry))) (now (tables .entry))) 64 m
+    requires { ⌜ (length (now keys) ≡ 4096) × (length (now heads) ≡ 4096) × (length (now starts) ≡ 65) × (length (now next) ≡ 4096) ⌝ }
+    ensures { λ _. ⌜ ((m : ℕ) × Columns (databaseOf (cellsIn (now (cells .entry)) (now (issues .entry))) (now (tables .entry))) 64 m
         (now (keys .exit)) (now (heads .exit)) (now (starts .exit)) (now (next .exit))) ⌝ }
 {
     starts[0] = 0;
@@ -32,7 +31,7 @@ pub(crate) fn add_columns(
             table: (n / 8) as u8,
             place: (n % 8) as u8,
         };
-        m = add_column(rows, cells, issues, tables, k, m, keys, heads, next);
+        m = add_column(cells, issues, tables, k, m, keys, heads, next);
         starts[n + 1] = m as u16;
     }
 }

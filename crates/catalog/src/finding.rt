@@ -52,7 +52,7 @@ pub(crate) fn stands(keys: &[u64; 4096], to: usize, a: usize, x: u64) -> bool
 }
 
 // A u16 as a usize.
-fn wide(x: u16) -> usize
+pub(crate) fn wide(x: u16) -> usize
     ensures { λ r. ⌜ r ≡ x ⌝ }
 {
     x as usize

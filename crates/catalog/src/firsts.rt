@@ -16,7 +16,6 @@ use state::is_live;
 
 // The first row that constraint j demands of row s; 512 if there is none. The cost is that of `find`.
 fn demanded(
-    rows: usize,
     cells: &[u32],
     issues: &[u8],
     tables: &[u8],
@@ -28,11 +27,11 @@ fn demanded(
 ) -> u16
     requires { ⌜ Backed (cellsIn (now cells) (now issues)) (now tables) ⌝ }
     requires { ⌜ (s < 512) × (j .source .place < 8) × (j .target .table < 8) × (j .target .place < 8) ⌝ }
-    requires { ⌜ Directory (databaseOf rows (cellsIn (now cells) (now issues)) (now tables)) (now keys) (now heads) (now starts) ⌝ }
-    ensures { λ n. ⌜ n ≡ firstFrom 512 (leads (databaseOf rows (cellsIn (now (cells .entry)) (now (issues .entry))) (now (tables .entry)))
+    requires { ⌜ Directory (databaseOf (cellsIn (now cells) (now issues)) (now tables)) (now keys) (now heads) (now starts) ⌝ }
+    ensures { λ n. ⌜ n ≡ firstFrom 512 (leads (databaseOf (cellsIn (now (cells .entry)) (now (issues .entry))) (now (tables .entry)))
         (constraintOf j) s) 0 ⌝ }
 {
-    if !is_live(rows, s) {
+    if !is_live(tables, s) {
         return 512;
     }
     let k = j.source;
@@ -46,7 +45,6 @@ fn demanded(
 
 // Stores the first rows that constraint j, number i, demands of each row. One step for each row number.
 fn add_firsts(
-    rows: usize,
     cells: &[u32],
     issues: &[u8],
     tables: &[u8],
@@ -59,23 +57,13 @@ fn add_firsts(
 )
     requires { ⌜ Backed (cellsIn (now cells) (now issues)) (now tables) ⌝ }
     requires { ⌜ (i < 16) × (j .source .place < 8) × (j .target .table < 8) × (j .target .place < 8) ⌝ }
-    requires { ⌜ Directory (databaseOf rows (cellsIn (now cells) (now issues)) (now tables)) (now keys) (now heads) (now starts) ⌝ }
+    requires { ⌜ Directory (databaseOf (cellsIn (now cells) (now issues)) (now tables)) (now keys) (now heads) (now starts) ⌝ }
     ensures { λ _. ⌜ now (first .exit) ≡ sets (now (first .entry)) (512 * i)
-        (tab 512 (λ s. firstFrom 512 (leads (databaseOf rows (cellsIn (now (cells .entry)) (now (issues .entry))) (now (tables .entry)))
+        (tab 512 (λ s. firstFrom 512 (leads (databaseOf (cellsIn (now (cells .entry)) (now (issues .entry))) (now (tables .entry)))
         (constraintOf j) s) 0)) ⌝ }
 {
     for s in 0..Design::ROWS {
-        first[Design::ROWS * i + s] = demanded(
-            rows,
-            cells,
-            issues,
-            tables,
-            keys,
-            heads,
-            starts,
-            j,
-            s,
-        );
+        first[Design::ROWS * i + s] = demanded(cells, issues, tables, keys, heads, starts, j, s);
     }
 }
 
@@ -91,25 +79,13 @@ pub fn make_firsts(
     first: &mut [u16; 8192],
 )
     requires { ⌜ InRange d × Backed (cellsIn (now cells) (now issues)) (now tables) ⌝ }
-    requires { ⌜ Directory (databaseOf (d .rows) (cellsIn (now cells) (now issues)) (now tables)) (now keys) (now heads) (now starts) ⌝ }
-    ensures { λ _. ⌜ now (first .exit) ≡ firsts (schemeOf d) (databaseOf (d .rows) (cellsIn (now (cells .entry)) (now (issues .entry)))
+    requires { ⌜ Directory (databaseOf (cellsIn (now cells) (now issues)) (now tables)) (now keys) (now heads) (now starts) ⌝ }
+    ensures { λ _. ⌜ now (first .exit) ≡ firsts (schemeOf d) (databaseOf (cellsIn (now (cells .entry)) (now (issues .entry)))
         (now (tables .entry))) ⌝ }
 {
     *first = [512; 8192];
-    let constraint = d.constraint;
     for i in 0..d.constraints {
-        let j = constraint[i];
-        add_firsts(
-            d.rows,
-            cells,
-            issues,
-            tables,
-            keys,
-            heads,
-            starts,
-            j,
-            i,
-            first,
-        );
+        let j = d.constraint[i];
+        add_firsts(cells, issues, tables, keys, heads, starts, j, i, first);
     }
 }

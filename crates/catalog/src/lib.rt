@@ -9,7 +9,11 @@ mod linking;
 mod listing;
 mod making;
 mod scanning;
+mod spanning;
 
 pub use finding::find;
 pub use firsts::make_firsts;
 pub use making::build;
+pub use spanning::Span;
+pub use spanning::find_range;
+pub use spanning::first_of;

@@ -16,16 +16,16 @@ use state::is_blank;
 use state::is_live;
 
 // The next row of cell number x, where it is known for the rows of the first 8 tables. Constant time for those.
-fn settled(rows: usize, cells: &[u32], issues: &[u8], tables: &[u8], x: usize, known: u16) -> u16
+fn settled(cells: &[u32], issues: &[u8], tables: &[u8], x: usize, known: u16) -> u16
     requires { ⌜ (x < 4096) × Backed (cellsIn (now cells) (now issues)) (now tables) ⌝ }
-    ensures { λ n. ⌜ ((databaseOf rows (cellsIn (now (cells .entry)) (now (issues .entry))) (now (tables .entry)) .live (x / 8) ≡ true
+    ensures { λ n. ⌜ ((databaseOf (cellsIn (now (cells .entry)) (now (issues .entry))) (now (tables .entry)) .live (x / 8) ≡ true
         → getD (now (tables .entry)) (x / 8) 0 < 8
-        → known ≡ nextOf (databaseOf rows (cellsIn (now (cells .entry)) (now (issues .entry))) (now (tables .entry))) (x / 8) (x % 8))
-        → n ≡ nextOf (databaseOf rows (cellsIn (now (cells .entry)) (now (issues .entry))) (now (tables .entry))) (x / 8) (x % 8)) ⌝ }
+        → known ≡ nextOf (databaseOf (cellsIn (now (cells .entry)) (now (issues .entry))) (now (tables .entry))) (x / 8) (x % 8))
+        → n ≡ nextOf (databaseOf (cellsIn (now (cells .entry)) (now (issues .entry))) (now (tables .entry))) (x / 8) (x % 8)) ⌝ }
 {
     let r = x / 8;
     let c = x % 8;
-    if !is_live(rows, r) {
+    if !is_live(tables, r) {
         return 512;
     }
     let t = tables[r];
@@ -40,22 +40,16 @@ fn settled(rows: usize, cells: &[u32], issues: &[u8], tables: &[u8], x: usize, k
         table: t,
         place: c as u8,
     };
-    scan(rows, cells, issues, tables, k, v, r + 1) as u16
+    scan(cells, issues, tables, k, v, r + 1) as u16
 }
 
 // Sets the next rows of the cells that are in no column of the directory. One step for each cell.
-pub(crate) fn settle(
-    rows: usize,
-    cells: &[u32],
-    issues: &[u8],
-    tables: &[u8],
-    next: &mut [u16; 4096],
-)
+pub(crate) fn settle(cells: &[u32], issues: &[u8], tables: &[u8], next: &mut [u16; 4096])
     requires { ⌜ Backed (cellsIn (now cells) (now issues)) (now tables) × (length (now next) ≡ 4096) ⌝ }
-    requires { ⌜ Linked (databaseOf rows (cellsIn (now cells) (now issues)) (now tables)) 64 (now next) ⌝ }
-    ensures { λ _. ⌜ now (next .exit) ≡ nexts (databaseOf rows (cellsIn (now (cells .entry)) (now (issues .entry))) (now (tables .entry))) ⌝ }
+    requires { ⌜ Linked (databaseOf (cellsIn (now cells) (now issues)) (now tables)) 64 (now next) ⌝ }
+    ensures { λ _. ⌜ now (next .exit) ≡ nexts (databaseOf (cellsIn (now (cells .entry)) (now (issues .entry))) (now (tables .entry))) ⌝ }
 {
     for x in 0..Design::CELLS {
-        next[x] = settled(rows, cells, issues, tables, x, next[x]);
+        next[x] = settled(cells, issues, tables, x, next[x]);
     }
 }

@@ -1,6 +1,5 @@
 // Listing the values of one column.
 ghost use mathlib.Core.Path.{_≡_};
-ghost use mathlib.Core.Bool.{true};
 ghost use Prim.Native.Nat.{_+_, _≤_, _<_};
 ghost use lib.ListN.{length};
 ghost use Rattle.finite.specs.Finite.{count};
@@ -63,10 +62,9 @@ fn enter(
     }
 }
 
-// Puts row r in, if it is a row of the column's table, and sets the next row of its cell there; where the column's values end then. The cost is that
+// Puts row r in, if there is one and it is a row of the column's table, and sets the next row of its cell there; where the column's values end then. The cost is that
 // of `enter`.
 fn put(
-    rows: usize,
     cells: &[u32],
     issues: &[u8],
     tables: &[u8],
@@ -79,11 +77,11 @@ fn put(
     r: usize,
 ) -> usize
     requires { ⌜ Backed (cellsIn (now cells) (now issues)) (now tables) ⌝ }
-    requires { ⌜ (k .place < 8) × (databaseOf rows (cellsIn (now cells) (now issues)) (now tables) .live r ≡ true) × (r < 512)
+    requires { ⌜ (k .place < 8) × (k .table < 8) × (r < 512)
         × (length (now keys) ≡ 4096) × (length (now heads) ≡ 4096) × (length (now next) ≡ 4096) ⌝ }
-    requires { ⌜ Listed (databaseOf rows (cellsIn (now cells) (now issues)) (now tables)) (columnOf k) (r + 1) from m (now keys) (now heads) ⌝ }
-    requires { ⌜ m + count (r + 1) (inTable (databaseOf rows (cellsIn (now cells) (now issues)) (now tables)) (k .table)) ≤ 4096 ⌝ }
-    ensures { λ to. ⌜ Put (databaseOf rows (cellsIn (now (cells .entry)) (now (issues .entry))) (now (tables .entry))) (columnOf k) r from m
+    requires { ⌜ Listed (databaseOf (cellsIn (now cells) (now issues)) (now tables)) (columnOf k) (r + 1) from m (now keys) (now heads) ⌝ }
+    requires { ⌜ m + count (r + 1) (inTable (databaseOf (cellsIn (now cells) (now issues)) (now tables)) (k .table)) ≤ 4096 ⌝ }
+    ensures { λ to. ⌜ Put (databaseOf (cellsIn (now (cells .entry)) (now (issues .entry))) (now (tables .entry))) (columnOf k) r from m
         (now (keys .entry)) (now (heads .entry)) (now (next .entry)) to (now (keys .exit)) (now (heads .exit)) (now (next .exit)) ⌝ }
 {
     if tables[r] != k.table {
@@ -101,10 +99,9 @@ fn put(
     e.to
 }
 
-// Lists the values of column k from place `from` on, and sets the next rows of its cells; where the values end. One turn for each row, from the last
+// Lists the values of column k from place `from` on, and sets the next rows of its cells; where the values end. One turn for each row number, from the last
 // to the first.
 pub(crate) fn add_column(
-    rows: usize,
     cells: &[u32],
     issues: &[u8],
     tables: &[u8],
@@ -115,28 +112,16 @@ pub(crate) fn add_column(
     next: &mut [u16; 4096],
 ) -> usize
     requires { ⌜ Backed (cellsIn (now cells) (now issues)) (now tables) ⌝ }
-    requires { ⌜ (rows ≤ 512) × (k .place < 8) × (length (now keys) ≡ 4096) × (length (now heads) ≡ 4096) × (length (now next) ≡ 4096) ⌝ }
-    requires { ⌜ from + count 512 (inTable (databaseOf rows (cellsIn (now cells) (now issues)) (now tables)) (k .table)) ≤ 4096 ⌝ }
-    ensures { λ to. ⌜ Added (databaseOf rows (cellsIn (now (cells .entry)) (now (issues .entry))) (now (tables .entry))) (columnOf k) 0 from
+    requires { ⌜ (k .place < 8) × (k .table < 8) × (length (now keys) ≡ 4096) × (length (now heads) ≡ 4096) × (length (now next) ≡ 4096) ⌝ }
+    requires { ⌜ from + count 512 (inTable (databaseOf (cellsIn (now cells) (now issues)) (now tables)) (k .table)) ≤ 4096 ⌝ }
+    ensures { λ to. ⌜ Added (databaseOf (cellsIn (now (cells .entry)) (now (issues .entry))) (now (tables .entry))) (columnOf k) 0 from
         (now (keys .entry)) (now (heads .entry)) (now (next .entry)) to (now (keys .exit)) (now (heads .exit)) (now (next .exit)) ⌝ }
 {
     let mut m = from;
-    let mut r = rows;
+    let mut r = Design::ROWS;
     while 0 < r {
         r -= 1;
-        m = put(
-            rows,
-            cells,
-            issues,
-            tables,
-            k,
-            from,
-            m,
-            keys,
-            heads,
-            next,
-            r,
-        );
+        m = put(cells, issues, tables, k, from, m, keys, heads, next, r);
     }
     m
 }

@@ -7,8 +7,8 @@ use crate::firsts::make_firsts;
 use crate::linking::settle;
 use state::Design;
 
-// Makes the catalog of the design's rows, whatever stood in the arrays. One turn for each column and row, one step for each cell, and a search for
-// each constraint and row.
+// Makes the catalog of the design's rows, whatever stood in the arrays. One turn for each column and row number, one step for each cell, and a
+// search for each constraint and row.
 pub fn build(
     d: Design,
     cells: &[u32],
@@ -28,7 +28,7 @@ pub fn build(
     *keys = [0; 4096];
     *heads = [512; 4096];
     *starts = [0; 65];
-    add_columns(d.rows, cells, issues, tables, keys, heads, starts, next);
-    settle(d.rows, cells, issues, tables, next);
+    add_columns(cells, issues, tables, keys, heads, starts, next);
+    settle(cells, issues, tables, next);
     make_firsts(d, cells, issues, tables, keys, heads, starts, first);
 }

@@ -13,7 +13,6 @@ use state::row_has;
 
 // The first row from `from` on that has the value v in column k; 512 if none has. One step for each row.
 pub(crate) fn scan(
-    rows: usize,
     cells: &[u32],
     issues: &[u8],
     tables: &[u8],
@@ -22,12 +21,12 @@ pub(crate) fn scan(
     from: usize,
 ) -> usize
     requires { ⌜ (from ≤ 512) × (k .place < 8) × Backed (cellsIn (now cells) (now issues)) (now tables) ⌝ }
-    ensures { λ s. ⌜ (s ≡ firstFrom 512 (has (databaseOf rows (cellsIn (now (cells .entry)) (now (issues .entry))) (now (tables .entry))) (columnOf k)
+    ensures { λ s. ⌜ (s ≡ firstFrom 512 (has (databaseOf (cellsIn (now (cells .entry)) (now (issues .entry))) (now (tables .entry))) (columnOf k)
         (cellOf v)) from) × (s ≤ 512) ⌝ }
 {
     let mut r = from;
     while r < Design::ROWS {
-        if row_has(rows, cells, issues, tables, k, v, r) {
+        if row_has(cells, issues, tables, k, v, r) {
             return r;
         }
         r += 1;

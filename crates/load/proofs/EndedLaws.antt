@@ -169,16 +169,16 @@ pub within-all : (S : Scheme) (D : Database) (seed : RowSet) → Within S D seed
 within-all S D seed =
     record { set = λ _. true; covers = record { closed = λ s r x y. refl; seeds = λ r e. refl }; few = count-le 512 (λ _. true) }
 
-module _ (S : Scheme) (number : ℕ) (cells : Cells) (tables : List ℕ) (L M : List ℕ) (rows rounds : ℕ) where
+module _ (S : Scheme) (cells : Cells) (tables : List ℕ) (L M : List ℕ) (rows rounds : ℕ) where
   abbrev D : Database
-  D = databaseOf number cells tables
+  D = databaseOf cells tables
 
   -- there are no 513 rows: the load is whole
   pub ended-load : (old seed : RowSet) → L ≡ start D old seed → Ended S D L 513 M rows rounds →
       (M ≡ load S D old seed) × (rows ≡ addedRows D M) × (rounds ≡ laterRounds D M)
   unfolding addedRows added databaseOf
   ended-load old seed e u =
-      ⊎-elim (λ w. (w .levels ∙ ap (λ (K : List ℕ). levels S D K 512) e ∙ load-is S number cells tables old seed, u .size, w .counted))
+      ⊎-elim (λ w. (w .levels ∙ ap (λ (K : List ℕ). levels S D K 512) e ∙ load-is S cells tables old seed, u .size, w .counted))
       (λ w. absurd (omega (arith, w .reached, count-le 512 (added M)))) (u .end)
 
   -- a load from nothing inside a row set that has no more than `most` rows: the levels are those of a whole load
@@ -201,7 +201,7 @@ module _ (S : Scheme) (number : ℕ) (cells : Cells) (tables : List ℕ) (L M : 
         record {
           long = long n f;
           levels = ext-getD 0 M (levels S D (start D (λ _. false) seed) 512) (long n f ∙ sym (levels-length S D (λ _. false) seed 512))
-              (λ r l. ap (λ (K : List ℕ). level K r) (after n f) ∙ h r (omega (arith, long n f))) ∙ load-is S number cells tables (λ _. false) seed;
+              (λ r l. ap (λ (K : List ℕ). level K r) (after n f) ∙ h r (omega (arith, long n f))) ∙ load-is S cells tables (λ _. false) seed;
           size = s ∙ count-same 512 _ _ (λ r l. fresh n f r);
         }
 

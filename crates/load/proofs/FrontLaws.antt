@@ -97,9 +97,9 @@ pub asks-here : (d : ℕ → RowSet) (from : ℕ) (q q′ : List ℕ) (j : ℕ) 
 unfolding asks
 asks-here d from q q′ j l e r = ap (λ (s : ℕ). d s r) e ∙ sym (ap (λ (b : Bool). b && d (getD q j 0) r) (le-leb from j l))
 
-module _ (S : Scheme) (rows : ℕ) (cells : Cells) (tables : List ℕ) (n : ℕ) (L q : List ℕ) (from end : ℕ) (u : Listed (added L) q end) (w : Front (n + 2) L q from end) where
+module _ (S : Scheme) (cells : Cells) (tables : List ℕ) (n : ℕ) (L q : List ℕ) (from end : ℕ) (u : Listed (added L) q end) (w : Front (n + 2) L q from end) where
   abbrev D : Database
-  D = databaseOf rows cells tables
+  D = databaseOf cells tables
 
   -- what the rows in the front demand is what the rows of round n demand
   asked : (r : ℕ) → any end (λ j. asks (demands S D) from q j r) ≡ reachedFrom S D n L r

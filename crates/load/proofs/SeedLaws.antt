@@ -28,8 +28,8 @@ seeds-any seed r l = bool-ext _ _
     subst (λ (x : ℕ). getD seed x false ≡ true) (sym (eqb-true r (f .0) (q .1))) (q .0))
     (λ t. any-true 512 (λ j. seeds seed j r) r l (both t (eq-eqb r r refl)))
 
-pub start-seeds : (rows : ℕ) (cells : Cells) (tables : List ℕ) (seed : List Bool) (L : List ℕ) → L ≡ raised (replicate 512 0) 2 (λ r. any 512 (λ j. seeds seed j r)) →
-    L ≡ start (databaseOf rows cells tables) (λ _. false) (λ r. getD seed r false)
-start-seeds rows cells tables seed L e =
+pub start-seeds : (cells : Cells) (tables : List ℕ) (seed : List Bool) (L : List ℕ) → L ≡ raised (replicate 512 0) 2 (λ r. any 512 (λ j. seeds seed j r)) →
+    L ≡ start (databaseOf cells tables) (λ _. false) (λ r. getD seed r false)
+start-seeds cells tables seed L e =
     start-raised (λ _. false) (replicate 512 0) (replicate-tab 512 0)
-    rows cells tables (λ r. any 512 (λ j. seeds seed j r)) (λ r. getD seed r false) L e (seeds-any seed)
+    cells tables (λ r. any 512 (λ j. seeds seed j r)) (λ r. getD seed r false) L e (seeds-any seed)

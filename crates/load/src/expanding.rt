@@ -44,13 +44,13 @@ pub(crate) fn expand(
     end: usize,
 ) -> usize
     requires { ⌜ InRange d × (s < 512) × (1 < to) × (length (now levels) ≡ 512) ⌝ }
-    requires { ⌜ (now next ≡ nexts (databaseOf (d .rows) (cellsIn (now cells) (now issues)) (now tables)))
-        × (now first ≡ firsts (schemeOf d) (databaseOf (d .rows) (cellsIn (now cells) (now issues)) (now tables))) ⌝ }
+    requires { ⌜ (now next ≡ nexts (databaseOf (cellsIn (now cells) (now issues)) (now tables)))
+        × (now first ≡ firsts (schemeOf d) (databaseOf (cellsIn (now cells) (now issues)) (now tables))) ⌝ }
     requires { ⌜ (now places ≡ targetPlaces d) × Listed (added (now levels)) (now queue) end ⌝ }
-    requires { ⌜ Walked (databaseOf (d .rows) (cellsIn (now cells) (now issues)) (now tables)) (now walked) (now levels) ⌝ }
-    ensures { λ e. ⌜ Grown to (demands (schemeOf d) (databaseOf (d .rows) (cellsIn (now (cells .entry)) (now (issues .entry))) (now (tables .entry))) s)
+    requires { ⌜ Walked (databaseOf (cellsIn (now cells) (now issues)) (now tables)) (now walked) (now levels) ⌝ }
+    ensures { λ e. ⌜ Grown to (demands (schemeOf d) (databaseOf (cellsIn (now (cells .entry)) (now (issues .entry))) (now (tables .entry))) s)
         (now (levels .entry)) (now (queue .entry)) end (now (levels .exit)) (now (queue .exit)) e ⌝ }
-    ensures { λ _. ⌜ Walked (databaseOf (d .rows) (cellsIn (now (cells .entry)) (now (issues .entry))) (now (tables .entry))) (now (walked .exit))
+    ensures { λ _. ⌜ Walked (databaseOf (cellsIn (now (cells .entry)) (now (issues .entry))) (now (tables .entry))) (now (walked .exit))
         (now (levels .exit)) ⌝ }
 {
     let mut e = end;
@@ -58,7 +58,6 @@ pub(crate) fn expand(
         let place = places[i];
         let r = first[Design::ROWS * i + s] as usize;
         e = walk_once(
-            d.rows,
             cells,
             issues,
             tables,

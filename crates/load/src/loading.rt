@@ -1,26 +1,29 @@
-// Whole loads: of one value more, and of all held values from nothing. Round 0 and the later rounds share one queue.
+// Whole loads: of one value or range more, and of all that is held from nothing. Round 0 and the later rounds share one queue.
 ghost use mathlib.Core.Path.{_≡_};
-ghost use Prim.Native.Nat.{ℕ, _≤_, _<_};
+ghost use Prim.Native.Nat.{_≤_, _<_};
 ghost use lib.ListN.{length};
 ghost use Rattle.model.specs.Database.{has};
+ghost use Rattle.model.specs.Ranges.{hasRange};
 ghost use Rattle.model.specs.Rounds as Rounds;
 ghost use Rattle.model.specs.Rounds.{addedRows, laterRounds};
 ghost use Rattle.model.specs.Holding.{wanted};
 ghost use Rattle.model.specs.Runs.{marked, reloadLevels};
 ghost use Rattle.state.specs.Cells.{cellsIn};
 ghost use Rattle.state.specs.Design.{InRange};
-ghost use Rattle.state.specs.Held.{heldAt};
-ghost use Rattle.state.specs.Meaning.{cellOf, columnOf, databaseOf, schemeOf, holdingOf};
+ghost use Rattle.state.specs.Held.{Bounded};
+ghost use Rattle.state.specs.Meaning.{cellOf, columnOf, databaseOf, rangeOf, schemeOf, holdingOf};
 ghost use Rattle.catalog.specs.Catalog.{Catalogued};
 ghost use Rattle.load.specs.Ended.{Within, Reaches};
 use crate::outcome::Growth;
 use crate::rounds::close;
 use crate::start::start_held;
+use crate::start::start_range;
 use crate::start::start_value;
 use state::Cell;
 use state::Column;
 use state::Design;
 use state::Held;
+use state::Range;
 
 // The load of the value v in column k beside the marked rows: its levels. One pass over the marks, a search of the directory, the walk of the value's
 // rows, then a step for each row that is added and each constraint.
@@ -41,16 +44,15 @@ pub fn load_value(
 ) -> Growth
     requires { ⌜ InRange d × (k .table < 8) × (k .place < 8) × (512 ≤ length (now marks)) × (length (now levels) ≡ 512) ⌝ }
     requires { ⌜ Catalogued d (cellsIn (now cells) (now issues)) (now tables) (now next) (now first) (now keys) (now heads) (now starts) ⌝ }
-    ensures { λ g. ⌜ (now (levels .exit) ≡ Rounds.load (schemeOf d) (databaseOf (d .rows) (cellsIn (now (cells .entry)) (now (issues .entry)))
-        (now (tables .entry))) (marked (now (marks .entry))) (has (databaseOf (d .rows) (cellsIn (now (cells .entry)) (now (issues .entry)))
+    ensures { λ g. ⌜ (now (levels .exit) ≡ Rounds.load (schemeOf d) (databaseOf (cellsIn (now (cells .entry)) (now (issues .entry)))
+        (now (tables .entry))) (marked (now (marks .entry))) (has (databaseOf (cellsIn (now (cells .entry)) (now (issues .entry)))
         (now (tables .entry))) (columnOf k) (cellOf v)))
-        × (g .rows ≡ addedRows (databaseOf (d .rows) (cellsIn (now (cells .entry)) (now (issues .entry))) (now (tables .entry))) (now (levels .exit)))
-        × (g .rounds ≡ laterRounds (databaseOf (d .rows) (cellsIn (now (cells .entry)) (now (issues .entry))) (now (tables .entry)))
+        × (g .rows ≡ addedRows (databaseOf (cellsIn (now (cells .entry)) (now (issues .entry))) (now (tables .entry))) (now (levels .exit)))
+        × (g .rounds ≡ laterRounds (databaseOf (cellsIn (now (cells .entry)) (now (issues .entry))) (now (tables .entry)))
         (now (levels .exit))) ⌝ }
 {
     let mut queue = [0u16; 512];
     let end = start_value(
-        d.rows,
         cells,
         issues,
         tables,
@@ -78,8 +80,64 @@ pub fn load_value(
     )
 }
 
-// The levels of a load of all held values from nothing; how many rows have one. It stops once `most` rows are reached,
-// if no more can be. For each held value a search of the directory and the walk of its rows, then a step for each row that is reached and each constraint.
+// The load of the values of range q in column k beside the marked rows: its levels. One pass over the marks, a search of the directory, the walk of the range's
+// values, then a step for each row that is added and each constraint.
+pub fn load_range(
+    d: Design,
+    cells: &[u32],
+    issues: &[u8],
+    tables: &[u8],
+    next: &[u16; 4096],
+    first: &[u16; 8192],
+    keys: &[u64; 4096],
+    heads: &[u16; 4096],
+    starts: &[u16; 65],
+    marks: &[u8],
+    k: Column,
+    q: Range,
+    levels: &mut [u16; 512],
+) -> Growth
+    requires { ⌜ InRange d × (k .table < 8) × (k .place < 8) × (512 ≤ length (now marks)) × (length (now levels) ≡ 512) ⌝ }
+    requires { ⌜ Catalogued d (cellsIn (now cells) (now issues)) (now tables) (now next) (now first) (now keys) (now heads) (now starts) ⌝ }
+    ensures { λ g. ⌜ (now (levels .exit) ≡ Rounds.load (schemeOf d) (databaseOf (cellsIn (now (cells .entry)) (now (issues .entry)))
+        (now (tables .entry))) (marked (now (marks .entry))) (hasRange (databaseOf (cellsIn (now (cells .entry)) (now (issues .entry)))
+        (now (tables .entry))) (columnOf k) (rangeOf q)))
+        × (g .rows ≡ addedRows (databaseOf (cellsIn (now (cells .entry)) (now (issues .entry))) (now (tables .entry))) (now (levels .exit)))
+        × (g .rounds ≡ laterRounds (databaseOf (cellsIn (now (cells .entry)) (now (issues .entry))) (now (tables .entry)))
+        (now (levels .exit))) ⌝ }
+{
+    let mut queue = [0u16; 512];
+    let end = start_range(
+        cells,
+        issues,
+        tables,
+        next,
+        keys,
+        heads,
+        starts,
+        marks,
+        k,
+        q,
+        levels,
+        &mut queue,
+    );
+    close(
+        d,
+        cells,
+        issues,
+        tables,
+        next,
+        first,
+        levels,
+        &mut queue,
+        end,
+        Design::ROWS + 1,
+    )
+}
+
+// The levels of a load of all that is held from nothing; how many rows have one. It stops once `most` rows are reached,
+// if no more can be. For each held value a search of the directory and the walk of its rows, the same for each held range, then a step for each row that is
+// reached and each constraint.
 pub fn load_held(
     d: Design,
     cells: &[u32],
@@ -94,12 +152,12 @@ pub fn load_held(
     most: usize,
     levels: &mut [u16; 512],
 ) -> usize
-    requires { ⌜ InRange d × (held .count ≤ 64) × ((i : ℕ) → heldAt held i .pair .filling < 8) ⌝ }
+    requires { ⌜ InRange d × Bounded held ⌝ }
     requires { ⌜ Catalogued d (cellsIn (now cells) (now issues)) (now tables) (now next) (now first) (now keys) (now heads) (now starts) ⌝ }
-    requires { ⌜ Within (schemeOf d) (databaseOf (d .rows) (cellsIn (now cells) (now issues)) (now tables))
-        (wanted (schemeOf d) (databaseOf (d .rows) (cellsIn (now cells) (now issues)) (now tables)) (holdingOf held)) most ⌝ }
+    requires { ⌜ Within (schemeOf d) (databaseOf (cellsIn (now cells) (now issues)) (now tables))
+        (wanted (schemeOf d) (databaseOf (cellsIn (now cells) (now issues)) (now tables)) (holdingOf held)) most ⌝ }
     ensures { λ n. ⌜ Reaches (now (levels .exit))
-        (reloadLevels (schemeOf d) (databaseOf (d .rows) (cellsIn (now (cells .entry)) (now (issues .entry))) (now (tables .entry)))
+        (reloadLevels (schemeOf d) (databaseOf (cellsIn (now (cells .entry)) (now (issues .entry))) (now (tables .entry)))
         (holdingOf held)) n ⌝ }
 {
     let mut queue = [0u16; 512];

@@ -33,14 +33,14 @@ pub(crate) fn round(
     end: usize,
 ) -> usize
     requires { ⌜ InRange d × (n < 512) × (length (now levels) ≡ 512) ⌝ }
-    requires { ⌜ (now next ≡ nexts (databaseOf (d .rows) (cellsIn (now cells) (now issues)) (now tables)))
-        × (now first ≡ firsts (schemeOf d) (databaseOf (d .rows) (cellsIn (now cells) (now issues)) (now tables))) ⌝ }
+    requires { ⌜ (now next ≡ nexts (databaseOf (cellsIn (now cells) (now issues)) (now tables)))
+        × (now first ≡ firsts (schemeOf d) (databaseOf (cellsIn (now cells) (now issues)) (now tables))) ⌝ }
     requires { ⌜ (now places ≡ targetPlaces d) × Listed (added (now levels)) (now queue) end × Front (n + 2) (now levels) (now queue) from end
-        × Walked (databaseOf (d .rows) (cellsIn (now cells) (now issues)) (now tables)) (now walked) (now levels) ⌝ }
-    ensures { λ _. ⌜ now (levels .exit) ≡ Rounds.next (schemeOf d) (databaseOf (d .rows) (cellsIn (now (cells .entry)) (now (issues .entry)))
+        × Walked (databaseOf (cellsIn (now cells) (now issues)) (now tables)) (now walked) (now levels) ⌝ }
+    ensures { λ _. ⌜ now (levels .exit) ≡ Rounds.next (schemeOf d) (databaseOf (cellsIn (now (cells .entry)) (now (issues .entry)))
         (now (tables .entry))) n (now (levels .entry)) ⌝ }
     ensures { λ e. ⌜ Listed (added (now (levels .exit))) (now (queue .exit)) e × Front (n + 3) (now (levels .exit)) (now (queue .exit)) end e
-        × Walked (databaseOf (d .rows) (cellsIn (now (cells .entry)) (now (issues .entry))) (now (tables .entry))) (now (walked .exit))
+        × Walked (databaseOf (cellsIn (now (cells .entry)) (now (issues .entry))) (now (tables .entry))) (now (walked .exit))
         (now (levels .exit)) ⌝ }
 {
     let mut e = end;
@@ -81,11 +81,11 @@ pub(crate) fn run(
     most: usize,
 ) -> Growth
     requires { ⌜ InRange d × (length (now levels) ≡ 512) × ((r : ℕ) → getD (now levels) r 0 ≤ 2) ⌝ }
-    requires { ⌜ (now next ≡ nexts (databaseOf (d .rows) (cellsIn (now cells) (now issues)) (now tables)))
-        × (now first ≡ firsts (schemeOf d) (databaseOf (d .rows) (cellsIn (now cells) (now issues)) (now tables))) ⌝ }
+    requires { ⌜ (now next ≡ nexts (databaseOf (cellsIn (now cells) (now issues)) (now tables)))
+        × (now first ≡ firsts (schemeOf d) (databaseOf (cellsIn (now cells) (now issues)) (now tables))) ⌝ }
     requires { ⌜ (now places ≡ targetPlaces d) × Listed (added (now levels)) (now queue) end × Front 2 (now levels) (now queue) 0 end
-        × Walked (databaseOf (d .rows) (cellsIn (now cells) (now issues)) (now tables)) (now walked) (now levels) ⌝ }
-    ensures { λ g. ⌜ Ended (schemeOf d) (databaseOf (d .rows) (cellsIn (now (cells .entry)) (now (issues .entry))) (now (tables .entry)))
+        × Walked (databaseOf (cellsIn (now cells) (now issues)) (now tables)) (now walked) (now levels) ⌝ }
+    ensures { λ g. ⌜ Ended (schemeOf d) (databaseOf (cellsIn (now (cells .entry)) (now (issues .entry))) (now (tables .entry)))
         (now (levels .entry)) most (now (levels .exit)) (g .rows) (g .rounds) ⌝ }
 {
     let mut n: u16 = 0;
@@ -145,9 +145,9 @@ pub(crate) fn close(
     most: usize,
 ) -> Growth
     requires { ⌜ InRange d × (length (now levels) ≡ 512) × ((r : ℕ) → getD (now levels) r 0 ≤ 2) × Listed (added (now levels)) (now queue) end ⌝ }
-    requires { ⌜ (now next ≡ nexts (databaseOf (d .rows) (cellsIn (now cells) (now issues)) (now tables)))
-        × (now first ≡ firsts (schemeOf d) (databaseOf (d .rows) (cellsIn (now cells) (now issues)) (now tables))) ⌝ }
-    ensures { λ g. ⌜ Ended (schemeOf d) (databaseOf (d .rows) (cellsIn (now (cells .entry)) (now (issues .entry))) (now (tables .entry)))
+    requires { ⌜ (now next ≡ nexts (databaseOf (cellsIn (now cells) (now issues)) (now tables)))
+        × (now first ≡ firsts (schemeOf d) (databaseOf (cellsIn (now cells) (now issues)) (now tables))) ⌝ }
+    ensures { λ g. ⌜ Ended (schemeOf d) (databaseOf (cellsIn (now (cells .entry)) (now (issues .entry))) (now (tables .entry)))
         (now (levels .entry)) most (now (levels .exit)) (g .rows) (g .rounds) ⌝ }
 {
     if end == 0 {

@@ -36,7 +36,7 @@ fn reach_if(
 // Round 0: the rows of the seed; how many they are, and stand in the queue. One pass over the row numbers.
 fn start_rows(seed: &[bool; 512], levels: &mut [u16; 512], queue: &mut [u16; 512]) -> usize
     requires { ⌜ length (now queue) ≡ 512 ⌝ }
-    ensures { λ e. ⌜ ((rows : ℕ) (cells : Cells) (tables : List ℕ) → now (levels .exit) ≡ start (databaseOf rows cells tables) (λ _. false)
+    ensures { λ e. ⌜ ((cells : Cells) (tables : List ℕ) → now (levels .exit) ≡ start (databaseOf cells tables) (λ _. false)
         (λ r. getD (now (seed .entry)) r false))
         × Listed (added (now (levels .exit))) (now (queue .exit)) e ⌝ }
 {
@@ -60,9 +60,9 @@ pub fn load_rows(
     levels: &mut [u16; 512],
 )
     requires { ⌜ InRange d ⌝ }
-    requires { ⌜ (now next ≡ nexts (databaseOf (d .rows) (cellsIn (now cells) (now issues)) (now tables)))
-        × (now first ≡ firsts (schemeOf d) (databaseOf (d .rows) (cellsIn (now cells) (now issues)) (now tables))) ⌝ }
-    ensures { λ _. ⌜ now (levels .exit) ≡ Rounds.load (schemeOf d) (databaseOf (d .rows) (cellsIn (now (cells .entry)) (now (issues .entry)))
+    requires { ⌜ (now next ≡ nexts (databaseOf (cellsIn (now cells) (now issues)) (now tables)))
+        × (now first ≡ firsts (schemeOf d) (databaseOf (cellsIn (now cells) (now issues)) (now tables))) ⌝ }
+    ensures { λ _. ⌜ now (levels .exit) ≡ Rounds.load (schemeOf d) (databaseOf (cellsIn (now (cells .entry)) (now (issues .entry)))
         (now (tables .entry))) (λ _. false) (λ r. getD (now (seed .entry)) r false) ⌝ }
 {
     let mut queue = [0u16; 512];

@@ -13,7 +13,6 @@ use state::Design;
 // Gives level `to` and a place in the queue to the rows without a level that have the value of row `from` at this place; where the queue ends then.
 // `from` is the first of them, or 512. One step for each of them. The rows themselves are not read: they say what the links are.
 pub(crate) fn walk(
-    rows: usize,
     cells: &[u32],
     issues: &[u8],
     tables: &[u8],
@@ -25,10 +24,10 @@ pub(crate) fn walk(
     queue: &mut [u16; 512],
     end: usize,
 ) -> usize
-    requires { ⌜ now next ≡ nexts (databaseOf rows (cellsIn (now cells) (now issues)) (now tables)) ⌝ }
-    requires { ⌜ (place < 8) × Begins (databaseOf rows (cellsIn (now cells) (now issues)) (now tables)) place from ⌝ }
+    requires { ⌜ now next ≡ nexts (databaseOf (cellsIn (now cells) (now issues)) (now tables)) ⌝ }
+    requires { ⌜ (place < 8) × Begins (databaseOf (cellsIn (now cells) (now issues)) (now tables)) place from ⌝ }
     requires { ⌜ (1 < to) × (length (now levels) ≡ 512) × Listed (added (now levels)) (now queue) end ⌝ }
-    ensures { λ e. ⌜ Grown to (along (databaseOf rows (cellsIn (now (cells .entry)) (now (issues .entry))) (now (tables .entry))) place from)
+    ensures { λ e. ⌜ Grown to (along (databaseOf (cellsIn (now (cells .entry)) (now (issues .entry))) (now (tables .entry))) place from)
         (now (levels .entry)) (now (queue .entry)) end (now (levels .exit)) (now (queue .exit)) e ⌝ }
 {
     let mut e = end;
@@ -43,7 +42,6 @@ pub(crate) fn walk(
 // The same, unless the value has been walked before: then its rows have levels. `walked` has a place for each cell; a value's is its first row's.
 // Constant time, and the first time the walk.
 pub(crate) fn walk_once(
-    rows: usize,
     cells: &[u32],
     issues: &[u8],
     tables: &[u8],
@@ -56,13 +54,13 @@ pub(crate) fn walk_once(
     queue: &mut [u16; 512],
     end: usize,
 ) -> usize
-    requires { ⌜ now next ≡ nexts (databaseOf rows (cellsIn (now cells) (now issues)) (now tables)) ⌝ }
-    requires { ⌜ (place < 8) × Begins (databaseOf rows (cellsIn (now cells) (now issues)) (now tables)) place from ⌝ }
+    requires { ⌜ now next ≡ nexts (databaseOf (cellsIn (now cells) (now issues)) (now tables)) ⌝ }
+    requires { ⌜ (place < 8) × Begins (databaseOf (cellsIn (now cells) (now issues)) (now tables)) place from ⌝ }
     requires { ⌜ (1 < to) × (length (now levels) ≡ 512) × Listed (added (now levels)) (now queue) end
-        × Walked (databaseOf rows (cellsIn (now cells) (now issues)) (now tables)) (now walked) (now levels) ⌝ }
-    ensures { λ e. ⌜ Grown to (along (databaseOf rows (cellsIn (now (cells .entry)) (now (issues .entry))) (now (tables .entry))) place from)
+        × Walked (databaseOf (cellsIn (now cells) (now issues)) (now tables)) (now walked) (now levels) ⌝ }
+    ensures { λ e. ⌜ Grown to (along (databaseOf (cellsIn (now (cells .entry)) (now (issues .entry))) (now (tables .entry))) place from)
         (now (levels .entry)) (now (queue .entry)) end (now (levels .exit)) (now (queue .exit)) e ⌝ }
-    ensures { λ _. ⌜ Walked (databaseOf rows (cellsIn (now (cells .entry)) (now (issues .entry))) (now (tables .entry))) (now (walked .exit))
+    ensures { λ _. ⌜ Walked (databaseOf (cellsIn (now (cells .entry)) (now (issues .entry))) (now (tables .entry))) (now (walked .exit))
         (now (levels .exit)) ⌝ }
 {
     if Design::ROWS <= from {
@@ -73,7 +71,6 @@ pub(crate) fn walk_once(
         return end;
     }
     let e = walk(
-        rows,
         cells,
         issues,
         tables,

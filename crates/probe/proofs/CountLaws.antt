@@ -69,7 +69,7 @@ module _ (D : Database) (X : RowSet) (k : Column) (v : Cell) (r : ℕ) where
           }
 
 -- in the lent rows: there is none left
-pub counting-end : (rows : ℕ) (cells : Cells) (tables : List ℕ) (X : RowSet) (k : Column) (v : Cell) (r n : ℕ) → Counting (databaseOf rows cells tables) X k v r n →
-    512 ≤ r → n ≡ cachedRows (databaseOf rows cells tables) X k v
+pub counting-end : (cells : Cells) (tables : List ℕ) (X : RowSet) (k : Column) (v : Cell) (r n : ℕ) → Counting (databaseOf cells tables) X k v r n →
+    512 ≤ r → n ≡ cachedRows (databaseOf cells tables) X k v
 unfolding cachedRows databaseOf
-counting-end rows cells tables X k v r n w h = count-end n r 512 (λ i. X i && has (databaseOf rows cells tables) k v i) (w .stands .bound) h (w .found)
+counting-end cells tables X k v r n w h = count-end n r 512 (λ i. X i && has (databaseOf cells tables) k v i) (w .stands .bound) h (w .found)

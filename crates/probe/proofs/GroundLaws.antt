@@ -15,6 +15,7 @@ use Rattle.model.specs.Scheme.{Column, Scheme, sameColumn}
 use Rattle.model.specs.Database.{Database, has}
 use Rattle.model.specs.Cache.{RowSet, Held}
 use Rattle.model.specs.Probe.{seen, demanded, uniquelySeen, lowest, probe, cachedRows}
+use Rattle.model.specs.Ranges.{Range, inRange, rangeHolds}
 use Rattle.model.specs.Holding.{Pair, Owned, one, pairsHold}
 use Rattle.model.specs.Runs.{marked}
 use Rattle.state.specs.Cells.{Cells}
@@ -32,6 +33,10 @@ held-any S k v zero f = refl
 held-any S k v (suc n) f =
     ap (λ (b : Bool). pairHolds S k v (f 0 .pair) || b) (held-any S k v n (λ i. f (suc i))) ∙ sym (any-front n (λ i. pairHolds S k v (f i .pair)))
 
+and-last : (a b : Bool) → b ≡ true → a ≡ a && b
+and-last true b h = sym h
+and-last false b h = refl
+
 -- one held value: the value, then the column
 module _ (j k : Column) (w v : Cell) where
   pub one-other : equal w v ≡ false → false ≡ one j w k v
@@ -40,11 +45,17 @@ module _ (j k : Column) (w v : Cell) where
 
   pub one-column : equal w v ≡ true → sameColumn j k ≡ one j w k v
   unfolding one
-  one-column e = go (sameColumn j k) (equal w v) e
-    where
-      go : (a b : Bool) → b ≡ true → a ≡ a && b
-      go true b h = sym h
-      go false b h = refl
+  one-column e = and-last (sameColumn j k) (equal w v) e
+
+-- one held range in the same way
+module _ (S : Scheme) (q : Range) (k : Column) (v : Cell) where
+  pub range-other : inRange q v ≡ false → false ≡ rangeHolds S q k v
+  unfolding rangeHolds
+  range-other e = sym (and-right (sameColumn (S .filling (q .filling) .column) k) (inRange q v) e)
+
+  pub range-column : inRange q v ≡ true → sameColumn (S .filling (q .filling) .column) k ≡ rangeHolds S q k v
+  unfolding rangeHolds
+  range-column e = and-last (sameColumn (S .filling (q .filling) .column) k) (inRange q v) e
 
 -- ---- grounds 2 and 3, and the count of cached rows, look at the row set below the database's size alone
 
@@ -73,18 +84,18 @@ unfolding marked
 marked-front m n r l = ap (λ (x : ℕ). eqb x 1) (sym (getD-take n m r 0 l))
 
 -- so a probe over lent buffers looks at the first 512 marks alone
-pub probe-front : (S : Scheme) (rows : ℕ) (cells : Cells) (tables m : List ℕ) (H : Held) (k : Column) (v : Cell) →
-    probe S (databaseOf rows cells tables) H (marked m) k v ≡ probe S (databaseOf rows cells tables) H (marked (take 512 m)) k v
+pub probe-front : (S : Scheme) (cells : Cells) (tables m : List ℕ) (H : Held) (k : Column) (v : Cell) →
+    probe S (databaseOf cells tables) H (marked m) k v ≡ probe S (databaseOf cells tables) H (marked (take 512 m)) k v
 unfolding databaseOf
-probe-front S rows cells tables m H k v =
-    probe-same (databaseOf rows cells tables) (marked m) (marked (take 512 m)) (λ r l. marked-front m 512 r l) v S H k
+probe-front S cells tables m H k v =
+    probe-same (databaseOf cells tables) (marked m) (marked (take 512 m)) (λ r l. marked-front m 512 r l) v S H k
 
 -- ... and so does a count
-pub rows-front : (rows : ℕ) (cells : Cells) (tables m : List ℕ) (k : Column) (v : Cell) →
-    cachedRows (databaseOf rows cells tables) (marked m) k v ≡ cachedRows (databaseOf rows cells tables) (marked (take 512 m)) k v
+pub rows-front : (cells : Cells) (tables m : List ℕ) (k : Column) (v : Cell) →
+    cachedRows (databaseOf cells tables) (marked m) k v ≡ cachedRows (databaseOf cells tables) (marked (take 512 m)) k v
 unfolding databaseOf
-rows-front rows cells tables m k v =
-    rows-same (databaseOf rows cells tables) (marked m) (marked (take 512 m)) (λ r l. marked-front m 512 r l) v k
+rows-front cells tables m k v =
+    rows-same (databaseOf cells tables) (marked m) (marked (take 512 m)) (λ r l. marked-front m 512 r l) v k
 
 -- ---- the lowest ground
 

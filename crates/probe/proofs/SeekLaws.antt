@@ -39,11 +39,11 @@ module _ (D : Database) (X : RowSet) (k : Column) (v : Cell) (r : ℕ) where
       }
 
 -- in the lent rows: row r is cached, and there is none left
-module _ (rows : ℕ) (cells : Cells) (tables : List ℕ) (X : RowSet) (k : Column) (v : Cell) (r : ℕ) (w : Seeking (databaseOf rows cells tables) X k v r) where
-  pub seek-found : r < 512 → X r ≡ true → true ≡ seen (databaseOf rows cells tables) X k v
+module _ (cells : Cells) (tables : List ℕ) (X : RowSet) (k : Column) (v : Cell) (r : ℕ) (w : Seeking (databaseOf cells tables) X k v r) where
+  pub seek-found : r < 512 → X r ≡ true → true ≡ seen (databaseOf cells tables) X k v
   unfolding seen databaseOf
-  seek-found l h = any-hit 512 r (λ i. X i && has (databaseOf rows cells tables) k v i) l (both h (w .stands .here l))
+  seek-found l h = any-hit 512 r (λ i. X i && has (databaseOf cells tables) k v i) l (both h (w .stands .here l))
 
-  pub seek-end : 512 ≤ r → false ≡ seen (databaseOf rows cells tables) X k v
+  pub seek-end : 512 ≤ r → false ≡ seen (databaseOf cells tables) X k v
   unfolding seen databaseOf
-  seek-end h = any-end 512 r (λ i. X i && has (databaseOf rows cells tables) k v i) (w .stands .bound) h (w .none)
+  seek-end h = any-end 512 r (λ i. X i && has (databaseOf cells tables) k v i) (w .stands .bound) h (w .none)

@@ -15,7 +15,6 @@ use state::Design;
 // Whether a cached row has the value in the column. A search of the directory, and one step for each row that has the value, up to the first that is
 // cached.
 pub(crate) fn seen(
-    rows: usize,
     cells: &[u32],
     issues: &[u8],
     tables: &[u8],
@@ -28,9 +27,9 @@ pub(crate) fn seen(
     v: Cell,
 ) -> bool
     requires { ⌜ (k .table < 8) × (k .place < 8) × (512 ≤ length (now marks)) ⌝ }
-    requires { ⌜ (now next ≡ nexts (databaseOf rows (cellsIn (now cells) (now issues)) (now tables)))
-        × Directory (databaseOf rows (cellsIn (now cells) (now issues)) (now tables)) (now keys) (now heads) (now starts) ⌝ }
-    ensures { λ b. ⌜ b ≡ Probe.seen (databaseOf rows (cellsIn (now (cells .entry)) (now (issues .entry))) (now (tables .entry)))
+    requires { ⌜ (now next ≡ nexts (databaseOf (cellsIn (now cells) (now issues)) (now tables)))
+        × Directory (databaseOf (cellsIn (now cells) (now issues)) (now tables)) (now keys) (now heads) (now starts) ⌝ }
+    ensures { λ b. ⌜ b ≡ Probe.seen (databaseOf (cellsIn (now (cells .entry)) (now (issues .entry))) (now (tables .entry)))
         (marked (now (marks .entry))) (columnOf k) (cellOf v) ⌝ }
 {
     let mut r = find(keys, heads, starts, k, v);

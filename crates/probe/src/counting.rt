@@ -14,7 +14,6 @@ use state::Design;
 
 // How many cached rows have the value in the column. A search of the directory, and one step for each row that has the value.
 pub(crate) fn rows_with(
-    rows: usize,
     cells: &[u32],
     issues: &[u8],
     tables: &[u8],
@@ -27,9 +26,9 @@ pub(crate) fn rows_with(
     v: Cell,
 ) -> usize
     requires { ⌜ (k .table < 8) × (k .place < 8) × (512 ≤ length (now marks)) ⌝ }
-    requires { ⌜ (now next ≡ nexts (databaseOf rows (cellsIn (now cells) (now issues)) (now tables)))
-        × Directory (databaseOf rows (cellsIn (now cells) (now issues)) (now tables)) (now keys) (now heads) (now starts) ⌝ }
-    ensures { λ n. ⌜ n ≡ Probe.cachedRows (databaseOf rows (cellsIn (now (cells .entry)) (now (issues .entry))) (now (tables .entry)))
+    requires { ⌜ (now next ≡ nexts (databaseOf (cellsIn (now cells) (now issues)) (now tables)))
+        × Directory (databaseOf (cellsIn (now cells) (now issues)) (now tables)) (now keys) (now heads) (now starts) ⌝ }
+    ensures { λ n. ⌜ n ≡ Probe.cachedRows (databaseOf (cellsIn (now (cells .entry)) (now (issues .entry))) (now (tables .entry)))
         (marked (now (marks .entry))) (columnOf k) (cellOf v) ⌝ }
 {
     let mut n = 0;

@@ -1,5 +1,5 @@
 // Grounds 2 and 3, and the lowest of the three.
-ghost use Prim.Native.Nat.{ℕ, _<_, _≤_};
+ghost use Prim.Native.Nat.{_<_, _≤_};
 ghost use mathlib.Core.Bool.{_&&_};
 ghost use mathlib.Core.Path.{_≡_};
 ghost use lib.ListN.{length, take};
@@ -9,7 +9,7 @@ ghost use Rattle.model.specs.Runs.{marked};
 ghost use Rattle.model.specs.Scheme.{sameColumn};
 ghost use Rattle.state.specs.Cells.{cellsIn};
 ghost use Rattle.state.specs.Design.{InRange};
-ghost use Rattle.state.specs.Held.{heldAt};
+ghost use Rattle.state.specs.Held.{Bounded};
 ghost use Rattle.state.specs.Meaning.{cellOf, columnOf, constraintOf, holdingOf, schemeOf, databaseOf};
 ghost use Rattle.catalog.specs.Catalog.{nexts, Directory};
 use crate::cached::seen;
@@ -25,7 +25,6 @@ use state::same_column;
 // Whether the constraint ends at the column and a cached row has the value in its source column. If it ends there, the cost
 // of looking for the value.
 fn is_demanded_by(
-    rows: usize,
     cells: &[u32],
     issues: &[u8],
     tables: &[u8],
@@ -39,10 +38,10 @@ fn is_demanded_by(
     v: Cell,
 ) -> bool
     requires { ⌜ (c .source .table < 8) × (c .source .place < 8) × (512 ≤ length (now marks)) ⌝ }
-    requires { ⌜ (now next ≡ nexts (databaseOf rows (cellsIn (now cells) (now issues)) (now tables)))
-        × Directory (databaseOf rows (cellsIn (now cells) (now issues)) (now tables)) (now keys) (now heads) (now starts) ⌝ }
+    requires { ⌜ (now next ≡ nexts (databaseOf (cellsIn (now cells) (now issues)) (now tables)))
+        × Directory (databaseOf (cellsIn (now cells) (now issues)) (now tables)) (now keys) (now heads) (now starts) ⌝ }
     ensures { λ b. ⌜ b ≡ sameColumn (constraintOf c .target) (columnOf k)
-        && Probe.seen (databaseOf rows (cellsIn (now (cells .entry)) (now (issues .entry))) (now (tables .entry))) (marked (now (marks .entry)))
+        && Probe.seen (databaseOf (cellsIn (now (cells .entry)) (now (issues .entry))) (now (tables .entry))) (marked (now (marks .entry)))
         (constraintOf c .source) (cellOf v) ⌝ }
 {
     let target = c.target;
@@ -51,7 +50,6 @@ fn is_demanded_by(
     }
     let source = c.source;
     seen(
-        rows,
         cells,
         issues,
         tables,
@@ -81,9 +79,9 @@ fn is_demanded(
     v: Cell,
 ) -> bool
     requires { ⌜ InRange d × (512 ≤ length (now marks)) ⌝ }
-    requires { ⌜ (now next ≡ nexts (databaseOf (d .rows) (cellsIn (now cells) (now issues)) (now tables)))
-        × Directory (databaseOf (d .rows) (cellsIn (now cells) (now issues)) (now tables)) (now keys) (now heads) (now starts) ⌝ }
-    ensures { λ b. ⌜ b ≡ Probe.demanded (schemeOf d) (databaseOf (d .rows) (cellsIn (now (cells .entry)) (now (issues .entry))) (now (tables .entry)))
+    requires { ⌜ (now next ≡ nexts (databaseOf (cellsIn (now cells) (now issues)) (now tables)))
+        × Directory (databaseOf (cellsIn (now cells) (now issues)) (now tables)) (now keys) (now heads) (now starts) ⌝ }
+    ensures { λ b. ⌜ b ≡ Probe.demanded (schemeOf d) (databaseOf (cellsIn (now (cells .entry)) (now (issues .entry))) (now (tables .entry)))
         (marked (now (marks .entry))) (columnOf k) (cellOf v) ⌝ }
 {
     let n = d.constraints;
@@ -92,7 +90,6 @@ fn is_demanded(
     for i in 0..n {
         let c = constraint[i];
         if is_demanded_by(
-            d.rows,
             cells,
             issues,
             tables,
@@ -126,16 +123,15 @@ fn is_uniquely_seen(
     v: Cell,
 ) -> bool
     requires { ⌜ (k .table < 8) × (k .place < 8) × (512 ≤ length (now marks)) ⌝ }
-    requires { ⌜ (now next ≡ nexts (databaseOf (d .rows) (cellsIn (now cells) (now issues)) (now tables)))
-        × Directory (databaseOf (d .rows) (cellsIn (now cells) (now issues)) (now tables)) (now keys) (now heads) (now starts) ⌝ }
-    ensures { λ b. ⌜ b ≡ Probe.uniquelySeen (schemeOf d) (databaseOf (d .rows) (cellsIn (now (cells .entry)) (now (issues .entry)))
+    requires { ⌜ (now next ≡ nexts (databaseOf (cellsIn (now cells) (now issues)) (now tables)))
+        × Directory (databaseOf (cellsIn (now cells) (now issues)) (now tables)) (now keys) (now heads) (now starts) ⌝ }
+    ensures { λ b. ⌜ b ≡ Probe.uniquelySeen (schemeOf d) (databaseOf (cellsIn (now (cells .entry)) (now (issues .entry)))
         (now (tables .entry))) (marked (now (marks .entry))) (columnOf k) (cellOf v) ⌝ }
 {
     if !is_unique(d, k) {
         return false;
     }
     seen(
-        d.rows,
         cells,
         issues,
         tables,
@@ -165,11 +161,10 @@ pub(crate) fn ground(
     k: Column,
     v: Cell,
 ) -> u8
-    requires { ⌜ InRange d × (512 ≤ length (now marks)) × (held .count ≤ 64) × (k .table < 8) × (k .place < 8)
-        × ((i : ℕ) → heldAt held i .pair .filling < 8) ⌝ }
-    requires { ⌜ (now next ≡ nexts (databaseOf (d .rows) (cellsIn (now cells) (now issues)) (now tables)))
-        × Directory (databaseOf (d .rows) (cellsIn (now cells) (now issues)) (now tables)) (now keys) (now heads) (now starts) ⌝ }
-    ensures { λ g. ⌜ g ≡ Probe.probe (schemeOf d) (databaseOf (d .rows) (cellsIn (now (cells .entry)) (now (issues .entry))) (now (tables .entry)))
+    requires { ⌜ InRange d × (512 ≤ length (now marks)) × Bounded held × (k .table < 8) × (k .place < 8) ⌝ }
+    requires { ⌜ (now next ≡ nexts (databaseOf (cellsIn (now cells) (now issues)) (now tables)))
+        × Directory (databaseOf (cellsIn (now cells) (now issues)) (now tables)) (now keys) (now heads) (now starts) ⌝ }
+    ensures { λ g. ⌜ g ≡ Probe.probe (schemeOf d) (databaseOf (cellsIn (now (cells .entry)) (now (issues .entry))) (now (tables .entry)))
         (heldIn (schemeOf d) (holdingOf held)) (marked (take 512 (now (marks .entry)))) (columnOf k) (cellOf v) ⌝ }
 {
     if is_held(d, held, k, v) {

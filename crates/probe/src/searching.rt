@@ -1,5 +1,5 @@
 // The search behind every yes: the ground, and the cached rows behind it.
-ghost use Prim.Native.Nat.{ℕ, _<_, _≤_};
+ghost use Prim.Native.Nat.{_<_, _≤_};
 ghost use mathlib.Core.Path.{_≡_};
 ghost use lib.ListN.{length, take};
 ghost use Rattle.model.specs.Probe as Probe;
@@ -7,7 +7,7 @@ ghost use Rattle.model.specs.Holding.{heldIn};
 ghost use Rattle.model.specs.Runs.{marked};
 ghost use Rattle.state.specs.Cells.{cellsIn};
 ghost use Rattle.state.specs.Design.{InRange};
-ghost use Rattle.state.specs.Held.{heldAt};
+ghost use Rattle.state.specs.Held.{Bounded};
 ghost use Rattle.state.specs.Meaning.{cellOf, columnOf, holdingOf, schemeOf, databaseOf};
 ghost use Rattle.catalog.specs.Catalog.{nexts, Directory};
 use crate::counting::rows_with;
@@ -39,13 +39,12 @@ pub fn search(
     k: Column,
     v: Cell,
 ) -> Found
-    requires { ⌜ InRange d × (512 ≤ length (now marks)) × (held .count ≤ 64) × (k .table < 8) × (k .place < 8)
-        × ((i : ℕ) → heldAt held i .pair .filling < 8) ⌝ }
-    requires { ⌜ (now next ≡ nexts (databaseOf (d .rows) (cellsIn (now cells) (now issues)) (now tables)))
-        × Directory (databaseOf (d .rows) (cellsIn (now cells) (now issues)) (now tables)) (now keys) (now heads) (now starts) ⌝ }
-    ensures { λ s. ⌜ (s .ground ≡ Probe.probe (schemeOf d) (databaseOf (d .rows) (cellsIn (now (cells .entry)) (now (issues .entry)))
+    requires { ⌜ InRange d × (512 ≤ length (now marks)) × Bounded held × (k .table < 8) × (k .place < 8) ⌝ }
+    requires { ⌜ (now next ≡ nexts (databaseOf (cellsIn (now cells) (now issues)) (now tables)))
+        × Directory (databaseOf (cellsIn (now cells) (now issues)) (now tables)) (now keys) (now heads) (now starts) ⌝ }
+    ensures { λ s. ⌜ (s .ground ≡ Probe.probe (schemeOf d) (databaseOf (cellsIn (now (cells .entry)) (now (issues .entry)))
         (now (tables .entry))) (heldIn (schemeOf d) (holdingOf held)) (marked (take 512 (now (marks .entry)))) (columnOf k) (cellOf v))
-        × (s .rows ≡ Probe.rowsBehind (s .ground) (databaseOf (d .rows) (cellsIn (now (cells .entry)) (now (issues .entry))) (now (tables .entry)))
+        × (s .rows ≡ Probe.rowsBehind (s .ground) (databaseOf (cellsIn (now (cells .entry)) (now (issues .entry))) (now (tables .entry)))
         (marked (take 512 (now (marks .entry)))) (columnOf k) (cellOf v)) ⌝ }
 {
     let g = ground(
@@ -66,7 +65,6 @@ pub fn search(
         return Found { ground: g, rows: 0 };
     }
     let n = rows_with(
-        d.rows,
         cells,
         issues,
         tables,

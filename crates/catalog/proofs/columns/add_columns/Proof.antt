@@ -10,28 +10,28 @@ use Rattle.catalog.proofs.columns.add_columns.Statement.{statement}
 use Rattle.catalog.proofs.columns.add_columns.Tie as tie
 
 abbrev Inv-loop : tie.InvT-loop
-Inv-loop rows cells issues tables keys₀ heads₀ starts₀ next₀ m₀ n₀ keys heads starts next m n = (n ≤ 64) × Columns (databaseOf rows (cellsIn cells issues) tables) n m keys heads starts next
+Inv-loop cells issues tables keys₀ heads₀ starts₀ next₀ m₀ n₀ keys heads starts next m n = (n ≤ 64) × Columns (databaseOf (cellsIn cells issues) tables) n m keys heads starts next
 
 abbrev μ-loop : tie.MeasureT-loop
-μ-loop rows cells issues tables keys₀ heads₀ starts₀ next₀ m₀ n₀ keys heads starts next m n = 64 - n
+μ-loop cells issues tables keys₀ heads₀ starts₀ next₀ m₀ n₀ keys heads starts next m n = 64 - n
 
 element-write-starts : tie.Need-element-write-starts Inv-loop μ-loop
 element-write-starts c = omega arith
 
 loop-holds : tie.Need-loop-holds Inv-loop μ-loop
-loop-holds c = let b = c .before .before .before .pre .1 in (omega arith, columns-start _ _ _ (c .before .before .before .args .starts .now) _ (b .1) (b .2) (b .3) (b .4))
+loop-holds c = let b = c .before .before .before .pre .1 in (omega arith, columns-start _ _ _ (c .before .before .before .args .starts .now) _ (b .0) (b .1) (b .2) (b .3))
 
-cast-t16 : tie.Need-cast-t16 Inv-loop μ-loop
-cast-t16 c = omega arith
+cast-t15 : tie.Need-cast-t15 Inv-loop μ-loop
+cast-t15 c = omega arith
 
-cast-t18 : tie.Need-cast-t18 Inv-loop μ-loop
-cast-t18 c = omega arith
+cast-t17 : tie.Need-cast-t17 Inv-loop μ-loop
+cast-t17 c = omega arith
 
 add-column-requires : tie.Need-add-column-requires Inv-loop μ-loop
 add-column-requires c κs =
     let s = c .before .before .before .before .before .before .before .before in
     let x = c .before .before .before .before .loop .inv .1 in
-    (s .pre .0, ((s .pre .1 .0, omega arith, x .keys-long, x .heads-long, x .next-long), columns-room _ _ _ _ _ _ _ x (c .before .before .before .loop-test .taken)))
+    (s .pre .0, ((omega arith, omega arith, x .keys-long, x .heads-long, x .next-long), columns-room _ _ _ _ _ _ _ x (c .before .before .before .loop-test .taken)))
 
 cast-starts : tie.Need-cast-starts Inv-loop μ-loop
 cast-starts c = omega (arith, c .add-column .ensures .listed .bound)
@@ -65,8 +65,8 @@ add-columns-spec =
     μ-loop
     element-write-starts
     loop-holds
-    cast-t16
-    cast-t18
+    cast-t15
+    cast-t17
     add-column-requires
     cast-starts
     add-starts

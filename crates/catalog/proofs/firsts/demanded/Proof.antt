@@ -12,13 +12,13 @@ is-live-requires : tie.Need-is-live-requires
 is-live-requires c κs = search needs
 
 returns : tie.Need-returns
-returns c = demanded-absent _ _ _ _ _ (sym (c .before .is-live .ensures _ _) ∙ not-true _ (c .if1 .taken))
+returns c = demanded-absent _ _ _ _ (sym (c .before .is-live .ensures _) ∙ not-true _ (c .if1 .taken))
 
 shared-slice-read-if2 : tie.Need-shared-slice-read-if2
 shared-slice-read-if2 c = search needs
 
 returns-2 : tie.Need-returns-2
-returns-2 c = demanded-elsewhere _ _ _ _ _ (c .if2 .taken)
+returns-2 c = demanded-elsewhere _ _ _ _ (c .if2 .taken)
 
 cast-cell-at : tie.Need-cast-cell-at
 cast-cell-at c = search needs
@@ -35,7 +35,7 @@ cast-result c = omega (arith, first-hit _ 0 (c .find .result) (c .find .ensures 
 returns-3 : tie.Need-returns-3
 returns-3 c =
     let p = c .before .before .before .before .before .before .before .before .before .before .before .before .before .pre .1 in
-    demanded-value _ _ _ _ _ (sym (c .before .before .before .before .before .before .before .before .before .is-live .ensures _ _) ∙ not-false _ (c .before .before .before .before .before .before .before .before .if1 .left)) (p .0 .1) (c .before .before .before .before .if2 .left) _ (c .before .before .cell-at .ensures) _
+    demanded-value _ _ _ _ (sym (c .before .before .before .before .before .before .before .before .before .is-live .ensures _) ∙ not-false _ (c .before .before .before .before .before .before .before .before .if1 .left)) (p .0 .1) (c .before .before .before .before .if2 .left) _ (c .before .before .cell-at .ensures) _
     (c .find .ensures _ (p .1))
 
 pub demanded-spec : {M : Type 1} → statement M

@@ -10,30 +10,30 @@ use Rattle.catalog.proofs.firsts.make_firsts.Statement.{statement}
 use Rattle.catalog.proofs.firsts.make_firsts.Tie as tie
 
 abbrev Inv-loop : tie.InvT-loop
-Inv-loop d cells issues tables keys heads starts first₀ constraint i₀ i-end first i =
+Inv-loop cells issues tables keys heads starts first₀ d i₀ i-end first i =
     (i ≤ d .constraints)
-    × Upto 0 8192 (512 * i) (λ y. demandedFirst (schemeOf d) (databaseOf (d .rows) (cellsIn cells issues) tables) (y / 512) (y % 512)) (λ _. 512) first
+    × Upto 0 8192 (512 * i) (λ y. demandedFirst (schemeOf d) (databaseOf (cellsIn cells issues) tables) (y / 512) (y % 512)) (λ _. 512) first
 
 abbrev μ-loop : tie.MeasureT-loop
-μ-loop d cells issues tables keys heads starts first₀ constraint i₀ i-end first i = d .constraints - i
+μ-loop cells issues tables keys heads starts first₀ d i₀ i-end first i = d .constraints - i
 
 loop-holds : tie.Need-loop-holds Inv-loop μ-loop
 loop-holds c = (omega arith, firsts-start _ _)
 
 mul-j : tie.Need-mul-j Inv-loop μ-loop
-mul-j c = omega (arith, c .before .before .before .before .before .before .before .pre .0 .0 .constraints, c .loop-test .taken)
+mul-j c = omega (arith, c .before .before .before .before .before .before .pre .0 .0 .constraints, c .loop-test .taken)
 
-array-copy-out-j : tie.Need-array-copy-out-j Inv-loop μ-loop
-array-copy-out-j c = omega (arith, c .before .before .before .before .before .before .before .pre .0 .0 .constraints, c .loop-test .taken)
+element-copy-out-j : tie.Need-element-copy-out-j Inv-loop μ-loop
+element-copy-out-j c = omega (arith, c .before .before .before .before .before .before .pre .0 .0 .constraints, c .loop-test .taken)
 
 add-firsts-requires : tie.Need-add-firsts-requires Inv-loop μ-loop
 add-firsts-requires c κs =
-    let p = c .before .before .before .before .before .before .before .before .before .pre in
+    let p = c .before .before .before .before .before .before .before .before .pre in
     let i = c .before .before .before .loop .i in
     (p .0 .1, ((omega (arith, p .0 .0 .constraints, c .before .before .loop-test .taken), p .0 .0 .source i, p .0 .0 .target-table i, p .0 .0 .target i), p .1))
 
 add-i : tie.Need-add-i Inv-loop μ-loop
-add-i c = omega (arith, c .before .before .before .before .before .before .before .before .before .before .pre .0 .0 .constraints, c .before .before .before .loop-test .taken)
+add-i c = omega (arith, c .before .before .before .before .before .before .before .before .before .pre .0 .0 .constraints, c .before .before .before .loop-test .taken)
 
 loop-less : tie.Need-loop-less Inv-loop μ-loop
 loop-less c = omega arith
@@ -42,7 +42,7 @@ loop-again : tie.Need-loop-again Inv-loop μ-loop
 unfolding schemeOf
 loop-again c =
     let t = c .before .before .before .loop-test .taken in
-    (omega arith, firsts-turn _ _ _ _ _ (c .before .before .before .before .loop .inv .1) (omega (arith, c .before .before .before .before .before .before .before .before .before .before .pre .0 .0 .constraints, t)) t (c .add-firsts .ensures))
+    (omega arith, firsts-turn _ _ _ _ _ (c .before .before .before .before .loop .inv .1) (omega (arith, c .before .before .before .before .before .before .before .before .before .pre .0 .0 .constraints, t)) t (c .add-firsts .ensures))
 
 returns : tie.Need-returns Inv-loop μ-loop
 unfolding schemeOf
@@ -56,7 +56,7 @@ make-firsts-spec =
     μ-loop
     loop-holds
     mul-j
-    array-copy-out-j
+    element-copy-out-j
     add-firsts-requires
     add-i
     loop-less

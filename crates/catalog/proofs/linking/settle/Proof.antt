@@ -13,10 +13,10 @@ use Rattle.catalog.proofs.linking.settle.Statement.{statement}
 use Rattle.catalog.proofs.linking.settle.Tie as tie
 
 abbrev Inv-loop : tie.InvT-loop
-Inv-loop rows cells issues tables next₀ x₀ next x = (x ≤ 4096) × Upto 0 4096 x (λ y. nextOf (databaseOf rows (cellsIn cells issues) tables) (y / 8) (y % 8)) (λ y. getD next₀ y 0) next
+Inv-loop cells issues tables next₀ x₀ next x = (x ≤ 4096) × Upto 0 4096 x (λ y. nextOf (databaseOf (cellsIn cells issues) tables) (y / 8) (y % 8)) (λ y. getD next₀ y 0) next
 
 abbrev μ-loop : tie.MeasureT-loop
-μ-loop rows cells issues tables next₀ x₀ next x = 4096 - x
+μ-loop cells issues tables next₀ x₀ next x = 4096 - x
 
 loop-holds : tie.Need-loop-holds Inv-loop μ-loop
 loop-holds c = (omega arith, upto-start _ _ _ _ (c .before .before .before .pre .0 .1))
@@ -46,7 +46,7 @@ loop-again : tie.Need-loop-again Inv-loop μ-loop
 loop-again c =
     let u = c .before .before .before .loop .inv .1 in
     let t = c .before .before .loop-test .taken in
-    (omega arith, upto-set _ _ _ _ _ _ u t _ (c .settled .ensures (λ a b. upto-here _ _ _ _ _ _ u t ∙ settled-known _ _ _ _ t (c .before .before .before .before .before .before .before .args .next .now) (c .before .before .before .before .before .before .before .pre .1) a b)))
+    (omega arith, upto-set _ _ _ _ _ _ u t _ (c .settled .ensures (λ a b. upto-here _ _ _ _ _ _ u t ∙ settled-known _ _ _ t (c .before .before .before .before .before .before .before .args .next .now) (c .before .before .before .before .before .before .before .pre .1) a b)))
 
 returns : tie.Need-returns Inv-loop μ-loop
 returns c = upto-end _ _ _ _ _ _ (c .before .loop .inv .1) (c .before .loop .inv .0) (c .loop-test .left)

@@ -4,7 +4,7 @@ use borrow.Author.Needs.{needs}
 use Rattle.state.specs.Cells.{cellsIn}
 use Rattle.state.specs.Meaning.{cellOf, databaseOf}
 use Rattle.catalog.proofs.PutLaws.{put-room, put-elsewhere, put-blank, put-entered}
-use Rattle.catalog.proofs.Rows.{table-at, elsewhere-at, blank-at, value-at}
+use Rattle.catalog.proofs.Rows.{live-in, table-at, elsewhere-at, blank-at, value-at}
 use Rattle.catalog.proofs.listing.put.Statement.{statement}
 use Rattle.catalog.proofs.listing.put.Tie as tie
 
@@ -12,7 +12,7 @@ shared-slice-read-if1 : tie.Need-shared-slice-read-if1
 shared-slice-read-if1 c = search needs
 
 returns : tie.Need-returns
-returns c = put-elsewhere _ _ _ _ _ _ _ _ _ (c .before .before .before .before .before .before .pre .1 .1 .0) (elsewhere-at _ _ _ _ _ (c .if1 .taken))
+returns c = put-elsewhere _ _ _ _ _ _ _ _ _ (c .before .before .before .before .before .before .pre .1 .1 .0) (elsewhere-at _ _ _ _ (c .if1 .taken))
 
 cast-c : tie.Need-cast-c
 cast-c c = search needs
@@ -39,8 +39,8 @@ returns-2 : tie.Need-returns-2
 returns-2 c =
     let s = c .before .before .before .before .before .before .before .before .before .before in
     let b = s .pre .1 .0 in
-    put-blank _ _ _ _ _ _ _ _ _ (s .pre .1 .1 .0) (b .2) (b .0) (b .5) (table-at _ _ _ _ _ (c .before .before .before .before .if1 .left))
-    (blank-at _ _ _ _ _ (b .0) _ (c .before .before .cell-at .ensures) (sym (c .before .is-blank .ensures) ∙ c .if2 .taken))
+    put-blank _ _ _ _ _ _ _ _ _ (s .pre .1 .1 .0) (b .2) (b .0) (b .5) (table-at _ _ _ _ (c .before .before .before .before .if1 .left))
+    (blank-at _ _ _ _ (b .0) _ (c .before .before .cell-at .ensures) (sym (c .before .is-blank .ensures) ∙ c .if2 .taken))
 
 key-of-requires : tie.Need-key-of-requires
 key-of-requires c κs = search needs
@@ -50,8 +50,8 @@ enter-requires c κs =
     let s = c .before .before .before .before .before .before .before .before .before .before .before .before .before in
     let b = s .pre .1 .0 in
     let l = s .pre .1 .1 .0 in
-    let D = databaseOf (s .args .rows) (cellsIn (s .args .cells .now) (s .args .issues .now)) (s .args .tables .now) in
-    (l .order, put-room D _ _ _ (table-at _ _ _ _ _ (c .before .before .before .before .before .before .before .if1 .left)) (s .pre .1 .1 .1), b .2, b .3, b .4, l .falls)
+    let D = databaseOf (cellsIn (s .args .cells .now) (s .args .issues .now)) (s .args .tables .now) in
+    (l .order, put-room D _ _ _ (table-at _ _ _ _ (c .before .before .before .before .before .before .before .if1 .left)) (s .pre .1 .1 .1), b .2, b .3, b .4, l .falls)
 
 mul-next-2 : tie.Need-mul-next-2
 mul-next-2 c = search needs
@@ -63,9 +63,9 @@ returns-3 : tie.Need-returns-3
 returns-3 c =
     let s = c .before .before .before .before .before .before .before .before .before .before .before .before .before .before in
     let b = s .pre .1 .0 in
-    put-entered _ _ _ _ _ _ _ _ _ (s .pre .1 .1 .0) (b .2) (b .0) (b .5) (table-at _ _ _ _ _ (c .before .before .before .before .before .before .before .before .if1 .left)) (cellOf (c .before .before .before .before .before .before .cell-at .result)) _ _ _ _ _
+    put-entered _ _ _ _ _ _ _ _ _ (s .pre .1 .1 .0) (b .2) (b .0) (b .5) (table-at _ _ _ _ (c .before .before .before .before .before .before .before .before .if1 .left)) (cellOf (c .before .before .before .before .before .before .cell-at .result)) _ _ _ _ _
     (c .before .key-of .ensures)
-    (value-at _ _ _ _ _ (b .0) _ (c .before .before .before .before .before .before .cell-at .ensures) _ (b .2) (b .1) (c .before .before .before .before .before .before .before .before .if1 .left) (sym (c .before .before .before .before .before .is-blank .ensures) ∙ c .before .before .before .before .if2 .left))
+    (value-at _ _ _ _ (b .0) _ (c .before .before .before .before .before .before .cell-at .ensures) _ (b .2) (live-in _ _ _ _ (b .2) (b .1) (c .before .before .before .before .before .before .before .before .if1 .left)) (c .before .before .before .before .before .before .before .before .if1 .left) (sym (c .before .before .before .before .before .is-blank .ensures) ∙ c .before .before .before .before .if2 .left))
     (s .pre .1 .1 .1) (b .3) (b .4) (c .enter .ensures)
 
 pub put-spec : {M : Type 1} → statement M

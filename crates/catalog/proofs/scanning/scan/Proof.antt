@@ -12,10 +12,10 @@ use Rattle.catalog.proofs.scanning.scan.Statement.{statement}
 use Rattle.catalog.proofs.scanning.scan.Tie as tie
 
 abbrev Inv-loop : tie.InvT-loop
-Inv-loop rows cells issues tables k v from r₀ r = (r ≤ 512) × (firstFrom 512 (has (databaseOf rows (cellsIn cells issues) tables) (columnOf k) (cellOf v)) r ≡ firstFrom 512 (has (databaseOf rows (cellsIn cells issues) tables) (columnOf k) (cellOf v)) from)
+Inv-loop cells issues tables k v from r₀ r = (r ≤ 512) × (firstFrom 512 (has (databaseOf (cellsIn cells issues) tables) (columnOf k) (cellOf v)) r ≡ firstFrom 512 (has (databaseOf (cellsIn cells issues) tables) (columnOf k) (cellOf v)) from)
 
 abbrev μ-loop : tie.MeasureT-loop
-μ-loop rows cells issues tables k v from r₀ r = 512 - r
+μ-loop cells issues tables k v from r₀ r = 512 - r
 
 loop-holds : tie.Need-loop-holds Inv-loop μ-loop
 loop-holds c = (omega arith, refl)

@@ -1,29 +1,29 @@
 -- `load::expanding::expand` meets its contract: a loop of steps to one level. Assumes nothing.
-use Prim.Native.Nat.{_-_, _≤_}
+use Prim.Native.Nat.{_+_, _-_, _*_, _≤_}
 use native.Mathlib.Omega.{arith}
+use mathlib.Core.Path.{refl}
+use lib.ListN.{getD}
 use Rattle.finite.specs.Finite.{any}
 use Rattle.finite.proofs.Search.{any-start}
-use Rattle.model.specs.Rounds.{demands, leads}
 use Rattle.state.specs.Cells.{cellsIn}
-use Rattle.state.specs.Design.{constraintAt}
-use Rattle.state.specs.Meaning.{constraintOf, databaseOf, schemeOf}
+use Rattle.state.specs.Meaning.{databaseOf}
 use Rattle.catalog.proofs.HitLaws.{first-hit}
 use Rattle.load.specs.Queue.{Grown}
-use Rattle.load.specs.Walked.{Walked}
-use Rattle.load.proofs.AlongLaws.{along-leads, begins-leads}
-use Rattle.load.proofs.PlaceLaws.{demanded-at, target-at}
-use Rattle.load.proofs.QueueLaws.{grown-end, grown-start, grown-turn}
+use Rattle.load.specs.Walked.{along, Walked}
+use Rattle.load.proofs.AlongLaws.{begins-leads}
+use Rattle.load.proofs.PlaceLaws.{demanded-at, target-at, demanded-along}
+use Rattle.load.proofs.QueueLaws.{grown-end, grown-same, grown-start, grown-turn}
 use Rattle.load.proofs.expanding.expand.Statement.{statement}
 use Rattle.load.proofs.expanding.expand.Tie as tie
 
 abbrev Inv-loop : tie.InvT-loop
-Inv-loop d cells issues tables next first places s walked₀ levels₀ to queue₀ end e₀ i₀ i-end walked levels queue e i =
-    (i ≤ d .constraints) ×
-    Grown to (λ r. any i (λ j. leads (databaseOf (d .rows) (cellsIn cells issues) tables) (constraintOf (constraintAt d j)) s r)) levels₀ queue₀ end levels queue e ×
-    Walked (databaseOf (d .rows) (cellsIn cells issues) tables) walked levels
+Inv-loop cells issues tables next first places s walked₀ levels₀ to queue₀ end e₀ i₀ i-end walked levels queue e i =
+    (i ≤ i-end) ×
+    Grown to (λ r. any i (λ j. along (databaseOf (cellsIn cells issues) tables) (getD places j 0) (getD first (512 * j + s) 0) r)) levels₀ queue₀ end levels queue e ×
+    Walked (databaseOf (cellsIn cells issues) tables) walked levels
 
 abbrev μ-loop : tie.MeasureT-loop
-μ-loop d cells issues tables next first places s walked₀ levels₀ to queue₀ end e₀ i₀ i-end walked levels queue e i = d .constraints - i
+μ-loop cells issues tables next first places s walked₀ levels₀ to queue₀ end e₀ i₀ i-end walked levels queue e i = i-end - i
 
 loop-holds : tie.Need-loop-holds Inv-loop μ-loop
 loop-holds c = let p = c .before .before .before .pre in (omega arith, grown-start _ _ _ _ _ 0 (p .0 .3) (p .1 .1 .0 .1) (λ r l. any-start _), p .1 .1 .1)
@@ -74,17 +74,15 @@ loop-less c = omega (arith, c .before .before .before .before .before .before .l
 loop-again : tie.Need-loop-again Inv-loop μ-loop
 loop-again c =
     let w = c .before .before .before .before .before .before in
-    let h = w .before .loop in
     let p = w .before .before .before .before .before .pre in
-    let t = w .loop-test .taken in
-    let f = demanded-at _ _ _ (p .1 .0 .1) (p .0 .0) _ _ t (p .0 .1) in
-    let at = target-at (w .before .before .before .before .before .args .d) _ (p .1 .1 .0 .0) (h .i) (omega (arith, p .0 .0 .constraints, t)) in
     let u = c .walk-once .ensures in
-    (omega (arith, t), grown-turn _ _ _ _ _ _ _ _ _ _ _ _ _ (omega (arith, p .0 .2)) (h .inv .1) (u .0) (along-leads _ _ _ _ f _ at), u .1)
+    (omega (arith, w .loop-test .taken), grown-turn _ _ _ _ _ _ _ _ _ _ _ _ _ (omega (arith, p .0 .2)) (w .before .loop .inv .1) (u .0) (λ r l. refl), u .1)
 
 returns : tie.Need-returns Inv-loop μ-loop
-unfolding demands schemeOf
-returns c = (grown-end _ _ _ _ _ _ _ _ _ _ (c .before .loop .inv .0) (c .loop-test .left) (c .before .loop .inv .1), c .before .loop .inv .2)
+returns c =
+    let p = c .before .before .before .before .before .pre in
+    let g = grown-end _ _ _ _ _ _ _ _ _ _ (c .before .loop .inv .0) (c .loop-test .left) (c .before .loop .inv .1) in
+    (grown-same _ _ _ _ _ _ _ _ g _ (demanded-along _ _ _ _ (p .1 .0 .1) (p .1 .1 .0 .0) (p .0 .0) _ (p .0 .1)), c .before .loop .inv .2)
 
 pub expand-spec : {M : Type 1} → statement M
 expand-spec =

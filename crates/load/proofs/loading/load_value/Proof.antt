@@ -19,10 +19,10 @@ close-requires : tie.Need-close-requires
 close-requires c κs =
     let p = c .before .before .before .before .before .before .before .before .before .pre in
     let u = c .before .before .start-value .ensures in
-    ((p .0 .0, started-long _ _ _ _ _ _ (u .0), started-low _ _ _ _ _ _ (u .0), u .1), (p .1 .next-is, p .1 .first-is))
+    ((p .0 .0, started-long _ _ _ _ _ (u .0), started-low _ _ _ _ _ (u .0), u .1), (p .1 .next-is, p .1 .first-is))
 
 returns : tie.Need-returns
-returns c = ended-load _ _ _ _ _ _ _ _ _ _ (c .before .before .before .start-value .ensures .0) (c .close .ensures)
+returns c = ended-load _ _ _ _ _ _ _ _ _ (c .before .before .before .start-value .ensures .0) (c .close .ensures)
 
 pub load-value-spec : {M : Type 1} → statement M
 load-value-spec = tie.close (tie.spec start-value-requires add-close close-requires returns)

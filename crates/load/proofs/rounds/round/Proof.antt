@@ -16,8 +16,8 @@ abbrev Inv-loop : tie.InvT-loop
 Inv-loop d cells issues tables next first places walked₀ levels₀ n queue₀ from end e₀ i₀ walked levels queue e i =
     (from ≤ i) ×
     (i ≤ end) ×
-    Grown (n + 3) (λ r. any i (λ j. asks (demands (schemeOf d) (databaseOf (d .rows) (cellsIn cells issues) tables)) from queue₀ j r)) levels₀ queue₀ end levels queue e ×
-    Walked (databaseOf (d .rows) (cellsIn cells issues) tables) walked levels
+    Grown (n + 3) (λ r. any i (λ j. asks (demands (schemeOf d) (databaseOf (cellsIn cells issues) tables)) from queue₀ j r)) levels₀ queue₀ end levels queue e ×
+    Walked (databaseOf (cellsIn cells issues) tables) walked levels
 
 abbrev μ-loop : tie.MeasureT-loop
 μ-loop d cells issues tables next first places walked₀ levels₀ n queue₀ from end e₀ i₀ walked levels queue e i = end - i
@@ -75,7 +75,7 @@ returns : tie.Need-returns Inv-loop μ-loop
 returns c =
     let p = c .before .before .before .before .before .pre .1 .1 in
     let g = grown-end _ _ _ _ _ _ _ _ _ _ (c .before .loop .inv .1) (c .loop-test .left) (c .before .loop .inv .2) in (
-      front-round _ _ _ _ _ _ _ _ _ (p .1) (p .2) _ (g .levels),
+      front-round _ _ _ _ _ _ _ _ (p .1) (p .2) _ (g .levels),
       (g .queue, front-next _ _ _ _ _ (p .1) (p .2) _ (omega arith) _ _ _ _ g, c .before .loop .inv .3),
     )
 

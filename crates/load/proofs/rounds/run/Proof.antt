@@ -17,10 +17,10 @@ abbrev Inv-loop : tie.InvT-loop
 Inv-loop d cells issues tables next first places walked₀ levels₀ queue₀ end most n₀ from₀ to₀ walked levels queue n from to =
     (n ≤ 512) ×
     (length levels ≡ 512) ×
-    Running (schemeOf d) (databaseOf (d .rows) (cellsIn cells issues) tables) levels₀ n levels ×
+    Running (schemeOf d) (databaseOf (cellsIn cells issues) tables) levels₀ n levels ×
     Listed (added levels) queue to ×
     Front (n + 2) levels queue from to ×
-    Walked (databaseOf (d .rows) (cellsIn cells issues) tables) walked levels
+    Walked (databaseOf (cellsIn cells issues) tables) walked levels
 
 abbrev μ-loop : tie.MeasureT-loop
 μ-loop d cells issues tables next first places walked₀ levels₀ queue₀ end most n₀ from₀ to₀ walked levels queue n from to = 512 - n

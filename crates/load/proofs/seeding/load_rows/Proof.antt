@@ -17,10 +17,10 @@ close-requires : tie.Need-close-requires
 close-requires c κs =
     let p = c .before .before .before .before .before .before .before .before .pre in
     let u = c .before .before .start-rows .ensures in
-    ((p .0, started-long 0 (cellsIn [] []) [] _ _ _ (u .0 _ _ _), started-low 0 (cellsIn [] []) [] _ _ _ (u .0 _ _ _), u .1), p .1)
+    ((p .0, started-long (cellsIn [] []) [] _ _ _ (u .0 _ _), started-low (cellsIn [] []) [] _ _ _ (u .0 _ _), u .1), p .1)
 
 returns : tie.Need-returns
-returns c = ended-load _ _ _ _ _ _ _ _ _ _ (c .before .before .before .start-rows .ensures .0 _ _ _) (c .close .ensures) .0
+returns c = ended-load _ _ _ _ _ _ _ _ _ (c .before .before .before .start-rows .ensures .0 _ _) (c .close .ensures) .0
 
 pub load-rows-spec : {M : Type 1} → statement M
 load-rows-spec = tie.close (tie.spec start-rows-requires add-close close-requires returns)

@@ -1,4 +1,4 @@
--- `load::start::start_held` meets its contract: a loop of steps to level 2. Assumes nothing.
+-- `load::start::start_held` meets its contract: a loop of steps to level 2, and those for the ranges. Assumes nothing.
 use Prim.Native.Nat.{_-_, _≤_, ℕ}
 use native.Mathlib.Omega.{arith}
 use borrow.Author.Needs.{needs}
@@ -12,40 +12,40 @@ use Rattle.state.specs.Held.{noValue}
 use Rattle.state.specs.Meaning.{cellOf, columnOf, databaseOf, schemeOf}
 use Rattle.load.specs.Queue.{Grown}
 use Rattle.load.proofs.AlongLaws.{along-has, begins-has}
-use Rattle.load.proofs.QueueLaws.{grown-end, grown-start, grown-turn}
+use Rattle.load.proofs.QueueLaws.{grown-again, grown-end, grown-start, grown-turn}
 use Rattle.load.proofs.StartLaws.{none-added, start-all}
 use Rattle.load.proofs.start.start_held.Statement.{statement}
 use Rattle.load.proofs.start.start_held.Tie as tie
 
 abbrev Inv-loop : tie.InvT-loop
-Inv-loop d cells issues tables next keys heads starts levels₀ queue₀ end₀ values filling i₀ i-end levels queue end i =
+Inv-loop d cells issues tables next keys heads starts held levels₀ queue₀ end₀ values filling i₀ i-end levels queue end i =
     (i ≤ i-end) ×
     Grown 2
-    (λ r. any i (λ j. has (databaseOf (d .rows) (cellsIn cells issues) tables) (columnOf (fillingAt d (getD values j noValue .pair .filling) .column))
+    (λ r. any i (λ j. has (databaseOf (cellsIn cells issues) tables) (columnOf (fillingAt d (getD values j noValue .pair .filling) .column))
     (cellOf (getD values j noValue .pair .value)) r)) levels₀ queue₀ end₀ levels queue end
 
 abbrev μ-loop : tie.MeasureT-loop
-μ-loop d cells issues tables next keys heads starts levels₀ queue₀ end₀ values filling i₀ i-end levels queue end i = i-end - i
+μ-loop d cells issues tables next keys heads starts held levels₀ queue₀ end₀ values filling i₀ i-end levels queue end i = i-end - i
 
 loop-holds : tie.Need-loop-holds Inv-loop μ-loop
 loop-holds c =
     let p = c .before .before .before .before .before .before .pre .0 in
-    (omega arith, grown-start _ _ _ _ _ 0 (length-replicate {A = ℕ} 512 0) (none-added _ (p .3)) (λ r l. any-start _))
+    (omega arith, grown-start _ _ _ _ _ 0 (length-replicate {A = ℕ} 512 0) (none-added _ (p .2)) (λ r l. any-start _))
 
 mul-o : tie.Need-mul-o Inv-loop μ-loop
-mul-o c = omega (arith, c .before .before .before .before .before .before .before .before .pre .0 .1, c .loop-test .taken)
+mul-o c = omega (arith, c .before .before .before .before .before .before .before .before .pre .0 .1 .count, c .loop-test .taken)
 
 array-copy-out-o : tie.Need-array-copy-out-o Inv-loop μ-loop
-array-copy-out-o c = omega (arith, c .before .before .before .before .before .before .before .before .pre .0 .1, c .loop-test .taken)
+array-copy-out-o c = omega (arith, c .before .before .before .before .before .before .before .before .pre .0 .1 .count, c .loop-test .taken)
 
 cast-f : tie.Need-cast-f Inv-loop μ-loop
 cast-f c = search needs
 
 mul-f : tie.Need-mul-f Inv-loop μ-loop
-mul-f c = let w = c .before .before .before .before in omega (arith, w .before .before .before .before .before .before .before .pre .0 .2 (w .loop .i))
+mul-f c = let w = c .before .before .before .before in omega (arith, w .before .before .before .before .before .before .before .pre .0 .1 .filling (w .loop .i))
 
 array-copy-out-f : tie.Need-array-copy-out-f Inv-loop μ-loop
-array-copy-out-f c = let w = c .before .before .before .before in omega (arith, w .before .before .before .before .before .before .before .pre .0 .2 (w .loop .i))
+array-copy-out-f c = let w = c .before .before .before .before in omega (arith, w .before .before .before .before .before .before .before .pre .0 .1 .filling (w .loop .i))
 
 find-requires : tie.Need-find-requires Inv-loop μ-loop
 find-requires c κs =
@@ -65,7 +65,7 @@ walk-requires c κs =
 add-i : tie.Need-add-i Inv-loop μ-loop
 add-i c =
     let w = c .before .before .before .before .before .before .before .before .before .before in
-    omega (arith, w .before .before .before .before .before .before .before .before .pre .0 .1, w .loop-test .taken)
+    omega (arith, w .before .before .before .before .before .before .before .before .pre .0 .1 .count, w .loop-test .taken)
 
 loop-less : tie.Need-loop-less Inv-loop μ-loop
 loop-less c = omega (arith, c .before .before .before .before .before .before .before .before .before .before .loop-test .taken)
@@ -78,11 +78,18 @@ loop-again c =
     let g = grown-turn _ _ _ _ _ _ _ _ _ _ _ _ _ (omega arith) (t .before .loop .inv .1) (c .walk .ensures) (along-has _ _ _ _ f) in
     (omega (arith, t .loop-test .taken), g)
 
+add-all-ranges-requires : tie.Need-add-all-ranges-requires Inv-loop μ-loop
+add-all-ranges-requires c κs =
+    let p = c .before .before .before .before .before .before .before .before .before .before .pre in
+    let g = c .before .before .before .loop .inv .1 in
+    ((p .0 .0, p .0 .1, g .long, g .queue), p .1)
+
 returns : tie.Need-returns Inv-loop μ-loop
 unfolding schemeOf
 returns c =
-    let g = grown-end _ _ _ _ _ _ _ _ _ _ (c .before .loop .inv .0) (c .loop-test .left) (c .before .loop .inv .1) in
-    (start-all _ _ _ _ _ _ (g .levels), g .queue)
+    let g = grown-end _ _ _ _ _ _ _ _ _ _ (c .before .before .before .before .loop .inv .0) (c .before .before .before .loop-test .left) (c .before .before .before .before .loop .inv .1) in
+    let h = grown-again _ _ _ _ _ _ _ _ _ _ _ _ (omega arith) g (c .add-all-ranges .ensures) in
+    (start-all _ _ _ _ _ (h .levels), h .queue)
 
 pub start-held-spec : {M : Type 1} → statement M
 start-held-spec =
@@ -102,4 +109,5 @@ start-held-spec =
     add-i
     loop-less
     loop-again
+    add-all-ranges-requires
     returns)

@@ -33,7 +33,7 @@ returns : tie.Need-returns
 returns c =
     let w = c .before .before .before .before in
     let f = w .find .ensures _ (w .before .before .before .before .before .before .before .pre .1 .1) in
-    (start-raised _ _ (w .before .cached-levels .ensures) _ _ _ _ _ _ (c .walk .ensures .levels) (along-has _ _ _ _ f), c .walk .ensures .queue)
+    (start-raised _ _ (w .before .cached-levels .ensures) _ _ _ _ _ (c .walk .ensures .levels) (along-has _ _ _ _ f), c .walk .ensures .queue)
 
 pub start-value-spec : {M : Type 1} → statement M
 start-value-spec =

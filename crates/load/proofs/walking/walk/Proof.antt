@@ -12,11 +12,11 @@ use Rattle.load.proofs.walking.walk.Statement.{statement}
 use Rattle.load.proofs.walking.walk.Tie as tie
 
 abbrev Inv-loop : tie.InvT-loop
-Inv-loop rows cells issues tables next place from levels₀ to queue₀ end e₀ r₀ levels queue e r =
-    Walking to (along (databaseOf rows (cellsIn cells issues) tables) place from) levels₀ queue₀ end r levels queue e
+Inv-loop cells issues tables next place from levels₀ to queue₀ end e₀ r₀ levels queue e r =
+    Walking to (along (databaseOf (cellsIn cells issues) tables) place from) levels₀ queue₀ end r levels queue e
 
 abbrev μ-loop : tie.MeasureT-loop
-μ-loop rows cells issues tables next place from levels₀ to queue₀ end e₀ r₀ levels queue e r = 512 - r
+μ-loop cells issues tables next place from levels₀ to queue₀ end e₀ r₀ levels queue e r = 512 - r
 
 loop-holds : tie.Need-loop-holds Inv-loop μ-loop
 loop-holds c =

@@ -19,11 +19,11 @@ use Rattle.probe.proofs.cached.seen.Tie as tie
 
 -- v is not read in the loop: whatever value the search began with
 abbrev Inv-loop : tie.InvT-loop
-Inv-loop rows cells issues tables next keys heads starts marks k r₀ r =
-    (v : Cell) → r₀ ≡ firstFrom 512 (has (databaseOf rows (cellsIn cells issues) tables) (columnOf k) v) 0 → Seeking (databaseOf rows (cellsIn cells issues) tables) (marked marks) (columnOf k) v r
+Inv-loop cells issues tables next keys heads starts marks k r₀ r =
+    (v : Cell) → r₀ ≡ firstFrom 512 (has (databaseOf (cellsIn cells issues) tables) (columnOf k) v) 0 → Seeking (databaseOf (cellsIn cells issues) tables) (marked marks) (columnOf k) v r
 
 abbrev μ-loop : tie.MeasureT-loop
-μ-loop rows cells issues tables next keys heads starts marks k r₀ r = 512 - r
+μ-loop cells issues tables next keys heads starts marks k r₀ r = 512 - r
 
 find-requires : tie.Need-find-requires Inv-loop μ-loop
 find-requires c κs = let p = c .before .before .before .before .pre in (p .0 .0, p .0 .1)
@@ -38,7 +38,7 @@ returns : tie.Need-returns Inv-loop μ-loop
 unfolding marked
 returns c =
     let w = c .before .before .before .loop .inv _ (c .before .before .before .before .find .ensures _ (c .before .before .before .before .before .before .before .before .before .pre .1 .1)) in
-    seek-found _ _ _ _ _ _ _ w (c .before .before .loop-test .taken) (eq-eqb _ _ (c .if1 .taken))
+    seek-found _ _ _ _ _ _ w (c .before .before .loop-test .taken) (eq-eqb _ _ (c .if1 .taken))
 
 mul-r : tie.Need-mul-r Inv-loop μ-loop
 mul-r c = search needs
@@ -78,7 +78,7 @@ loop-again c = λ v e.
     seek-next _ _ _ _ _ w t (ne-eqb _ _ (c .before .before .if1 .left)) _ (next-from _ _ _ _ (w .stands .here t) _ (p .1 .0) t (p .0 .1))
 
 returns-2 : tie.Need-returns-2 Inv-loop μ-loop
-returns-2 c = seek-end _ _ _ _ _ _ _ (c .before .loop .inv _ (c .before .before .find .ensures _ (c .before .before .before .before .before .before .before .pre .1 .1))) (c .loop-test .left)
+returns-2 c = seek-end _ _ _ _ _ _ (c .before .loop .inv _ (c .before .before .find .ensures _ (c .before .before .before .before .before .before .before .pre .1 .1))) (c .loop-test .left)
 
 pub seen-spec : {M : Type 1} → statement M
 seen-spec =

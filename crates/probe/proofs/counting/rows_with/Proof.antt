@@ -19,11 +19,11 @@ use Rattle.probe.proofs.counting.rows_with.Tie as tie
 
 -- v is not read in the loop: whatever value the count began with
 abbrev Inv-loop : tie.InvT-loop
-Inv-loop rows cells issues tables next keys heads starts marks k n₀ r₀ n r =
-    (v : Cell) → r₀ ≡ firstFrom 512 (has (databaseOf rows (cellsIn cells issues) tables) (columnOf k) v) 0 → Counting (databaseOf rows (cellsIn cells issues) tables) (marked marks) (columnOf k) v r n
+Inv-loop cells issues tables next keys heads starts marks k n₀ r₀ n r =
+    (v : Cell) → r₀ ≡ firstFrom 512 (has (databaseOf (cellsIn cells issues) tables) (columnOf k) v) 0 → Counting (databaseOf (cellsIn cells issues) tables) (marked marks) (columnOf k) v r n
 
 abbrev μ-loop : tie.MeasureT-loop
-μ-loop rows cells issues tables next keys heads starts marks k n₀ r₀ n r = 512 - r
+μ-loop cells issues tables next keys heads starts marks k n₀ r₀ n r = 512 - r
 
 find-requires : tie.Need-find-requires Inv-loop μ-loop
 find-requires c κs = let p = c .before .before .before .before .pre in (p .0 .0, p .0 .1)
@@ -79,7 +79,7 @@ loop-again c = λ v e.
     (c .before .before .if1 .came)
 
 returns : tie.Need-returns Inv-loop μ-loop
-returns c = counting-end _ _ _ _ _ _ _ _ (c .before .loop .inv _ (c .before .before .find .ensures _ (c .before .before .before .before .before .before .before .pre .1 .1))) (c .loop-test .left)
+returns c = counting-end _ _ _ _ _ _ _ (c .before .loop .inv _ (c .before .before .find .ensures _ (c .before .before .before .before .before .before .before .pre .1 .1))) (c .loop-test .left)
 
 pub rows-with-spec : {M : Type 1} → statement M
 rows-with-spec =

@@ -4,6 +4,7 @@ use native.Mathlib.Omega.{arith}
 use mathlib.Core.Path.{_≡_, sym, _∙_}
 use mathlib.Core.Bool.{Bool, false, _&&_}
 use mathlib.Core.List.{List}
+use lib.ListN.{getD}
 use Rattle.finite.specs.Finite.{any}
 use Rattle.finite.proofs.Search.{any-start, any-more, any-hit, any-end}
 use Rattle.model.specs.Probe.{seen, demanded}
@@ -11,24 +12,24 @@ use Rattle.model.specs.Runs.{marked}
 use Rattle.model.specs.Scheme.{sameColumn}
 use Rattle.state.specs.Cells.{Cells, cellsIn}
 use Rattle.state.specs.declared.cell.Cell.{Cell}
-use Rattle.state.specs.declared.design.Design.{Design}
 use Rattle.state.specs.declared.design.Column.{Column}
-use Rattle.state.specs.Design.{constraintAt}
+use Rattle.state.specs.declared.design.Constraint.{Constraint}
+use Rattle.state.specs.Design.{noConstraint}
 use Rattle.state.specs.Meaning.{cellOf, columnOf, constraintOf, schemeOf, databaseOf}
 use Rattle.probe.proofs.grounds.is_demanded.Statement.{statement}
 use Rattle.probe.proofs.grounds.is_demanded.Tie as tie
 
 -- constraint i demands v in column k
-abbrev by : Design → Cells → List ℕ → List ℕ → Column → Cell → ℕ → Bool
-by d cells tables marks k v i =
-    sameColumn (constraintOf (constraintAt d i) .target) (columnOf k) &&
-    seen (databaseOf (d .rows) cells tables) (marked marks) (constraintOf (constraintAt d i) .source) (cellOf v)
+abbrev by : List Constraint → Cells → List ℕ → List ℕ → Column → Cell → ℕ → Bool
+by constraint cells tables marks k v i =
+    sameColumn (constraintOf (getD constraint i noConstraint) .target) (columnOf k) &&
+    seen (databaseOf cells tables) (marked marks) (constraintOf (getD constraint i noConstraint) .source) (cellOf v)
 
 abbrev Inv-loop : tie.InvT-loop
-Inv-loop d cells issues tables next keys heads starts marks k v n constraint i₀ i = (i ≤ n) × (any i (by d (cellsIn cells issues) tables marks k v) ≡ false)
+Inv-loop cells issues tables next keys heads starts marks k v n constraint i₀ i = (i ≤ n) × (any i (by constraint (cellsIn cells issues) tables marks k v) ≡ false)
 
 abbrev μ-loop : tie.MeasureT-loop
-μ-loop d cells issues tables next keys heads starts marks k v n constraint i₀ i = n - i
+μ-loop cells issues tables next keys heads starts marks k v n constraint i₀ i = n - i
 
 loop-holds : tie.Need-loop-holds Inv-loop μ-loop
 loop-holds c = (omega arith, any-start _)

@@ -17,7 +17,7 @@ rows-with-requires c κs = search needs
 
 returns-2 : tie.Need-returns-2
 returns-2 c =
-    (c .before .before .ground .ensures, c .rows-with .ensures ∙ rows-front _ _ _ _ _ _ ∙ rows-behind-yes _ _ _ _ _ (c .before .if1 .left))
+    (c .before .before .ground .ensures, c .rows-with .ensures ∙ rows-front _ _ _ _ _ ∙ rows-behind-yes _ _ _ _ _ (c .before .if1 .left))
 
 pub search-spec : {M : Type 1} → statement M
 search-spec = tie.close (tie.spec ground-requires returns rows-with-requires returns-2)

@@ -1,0 +1,83 @@
+-- `load::ranging::add_range` meets its contract: a loop of steps to level 2, one for each value in the span. Assumes nothing.
+use Prim.Native.Nat.{_+_, _-_, _≤_}
+use native.Mathlib.Omega.{arith}
+use mathlib.Core.Path.{sym}
+use borrow.Author.Needs.{needs}
+use lib.ListN.{getD}
+use Rattle.catalog.specs.Spans.{plainValue}
+use Rattle.finite.proofs.Search.{any-start}
+use Rattle.finite.specs.Finite.{any}
+use Rattle.load.proofs.AlongLaws.{along-has, begins-has}
+use Rattle.load.proofs.QueueLaws.{grown-end, grown-same, grown-start, grown-turn}
+use Rattle.load.specs.Queue.{Grown}
+use Rattle.model.specs.Database.{has}
+use Rattle.state.specs.Cells.{cellsIn}
+use Rattle.state.specs.Meaning.{columnOf, databaseOf}
+use Rattle.load.proofs.ranging.add_range.Statement.{statement}
+use Rattle.load.proofs.ranging.add_range.Tie as tie
+
+abbrev Inv-loop : tie.InvT-loop
+Inv-loop cells issues tables next keys heads starts k levels₀ queue₀ end from n e₀ j₀ levels queue e j =
+    (j ≤ n) ×
+    Grown 2 (λ r. any j (λ x. has (databaseOf (cellsIn cells issues) tables) (columnOf k) (plainValue (getD keys (from + x) 0)) r)) levels₀ queue₀ end levels queue e
+
+abbrev μ-loop : tie.MeasureT-loop
+μ-loop cells issues tables next keys heads starts k levels₀ queue₀ end from n e₀ j₀ levels queue e j = n - j
+
+find-range-requires : tie.Need-find-range-requires Inv-loop μ-loop
+find-range-requires c κs = let p = c .before .before .before .pre .0 in (p .0, p .1)
+
+loop-holds : tie.Need-loop-holds Inv-loop μ-loop
+loop-holds c = let p = c .before .before .before .before .pre .0 in (omega arith, grown-start _ _ _ _ _ 0 (p .2) (p .3) (λ r l. any-start _))
+
+add-first-of : tie.Need-add-first-of Inv-loop μ-loop
+add-first-of c = let s = c .before .before .find-range .ensures _ _ (c .before .before .before .before .before .before .pre .1 .1) in omega (arith, s .bound, c .loop-test .taken)
+
+first-of-requires : tie.Need-first-of-requires Inv-loop μ-loop
+first-of-requires c κs = let s = c .before .before .find-range .ensures _ _ (c .before .before .before .before .before .before .pre .1 .1) in omega (arith, s .bound, c .loop-test .taken)
+
+cast-place : tie.Need-cast-place Inv-loop μ-loop
+cast-place c = search needs
+
+walk-requires : tie.Need-walk-requires Inv-loop μ-loop
+walk-requires c κs =
+    let p = c .before .before .before .before .before .before .before .before .before .before .pre in
+    let s = c .before .before .before .before .before .before .find-range .ensures _ _ (p .1 .1) in
+    let f = c .before .before .before .first-of .ensures _ _ (s .first (c .before .before .before .before .before .loop .j) (c .before .before .before .before .loop-test .taken)) in
+    let g = c .before .before .before .before .before .loop .inv .1 in
+    (p .1 .0, ((p .0 .1, begins-has _ _ _ _ f), (omega arith, g .long, g .queue)))
+
+add-j : tie.Need-add-j Inv-loop μ-loop
+add-j c = let s = c .before .before .before .before .before .before .before .find-range .ensures _ _ (c .before .before .before .before .before .before .before .before .before .before .before .pre .1 .1) in omega (arith, s .bound, c .before .before .before .before .before .loop-test .taken)
+
+loop-less : tie.Need-loop-less Inv-loop μ-loop
+loop-less c = omega (arith, c .before .before .before .before .before .loop-test .taken)
+
+loop-again : tie.Need-loop-again Inv-loop μ-loop
+loop-again c =
+    let s = c .before .before .before .before .before .before .before .find-range .ensures _ _ (c .before .before .before .before .before .before .before .before .before .before .before .pre .1 .1) in
+    let f = c .before .before .before .before .first-of .ensures _ _ (s .first (c .before .before .before .before .before .before .loop .j) (c .before .before .before .before .before .loop-test .taken)) in
+    (omega (arith, c .before .before .before .before .before .loop-test .taken), grown-turn _ _ _ _ _ _ _ _ _ _ _ _ _ (omega arith) (c .before .before .before .before .before .before .loop .inv .1) (c .walk .ensures) (along-has _ _ _ _ f))
+
+returns : tie.Need-returns Inv-loop μ-loop
+returns c =
+    let s = c .before .before .find-range .ensures _ _ (c .before .before .before .before .before .before .pre .1 .1) in
+    let g = grown-end _ _ _ _ _ _ _ _ _ _ (c .before .loop .inv .0) (c .loop-test .left) (c .before .loop .inv .1) in
+    grown-same _ _ _ _ _ _ _ _ g _ (λ r l. sym (s .rows r))
+
+pub add-range-spec : {M : Type 1} → statement M
+add-range-spec =
+    tie.close
+    (tie.spec
+    Inv-loop
+    μ-loop
+    find-range-requires
+    loop-holds
+    add-first-of
+    first-of-requires
+    cast-place
+    walk-requires
+    add-j
+    loop-less
+    loop-again
+    returns)
