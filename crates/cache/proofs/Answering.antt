@@ -17,17 +17,17 @@ use Rattle.model.specs.Answers.{Answer, loaded, held, noCandidate, dropped, ref
 -- ---- along the order of causes
 
 -- the cause applies
-stop : (b : Bool) (n : ℕ) (a : Answer) → b ≡ true → refused n ≡ unless b n a
+pub stop : (b : Bool) (n : ℕ) (a : Answer) → b ≡ true → refused n ≡ unless b n a
 stop b n a h = sym (ap (λ (c : Bool). unless c n a) h)
 
 -- it does not
-go : (b : Bool) (n : ℕ) (a : Answer) {r : Answer} → b ≡ false → r ≡ a → r ≡ unless b n a
+pub go : (b : Bool) (n : ℕ) (a : Answer) {r : Answer} → b ≡ false → r ≡ a → r ≡ unless b n a
 go b n a h e = e ∙ sym (ap (λ (c : Bool). unless c n a) h)
 
-first : (b : Bool) (x a : Answer) → b ≡ true → x ≡ orAnswer b x a
+pub first : (b : Bool) (x a : Answer) → b ≡ true → x ≡ orAnswer b x a
 first b x a h = sym (ap (λ (c : Bool). orAnswer c x a) h)
 
-second : (b : Bool) (x a : Answer) {r : Answer} → b ≡ false → r ≡ a → r ≡ orAnswer b x a
+pub second : (b : Bool) (x a : Answer) {r : Answer} → b ≡ false → r ≡ a → r ≡ orAnswer b x a
 second b x a h e = e ∙ sym (ap (λ (c : Bool). orAnswer c x a) h)
 
 -- the operation answers a and leaves the cache as it was

@@ -28,9 +28,9 @@ use Rattle.finite.proofs.First.{first-from}
 use Rattle.catalog.proofs.CatalogLaws.{next-at, next-has}
 use Rattle.cache.specs.Distinct.{linkedAt, distinct}
 
-module _ (d : Design) (cells : Cells) (tables next : List ℕ) (n : next ≡ nexts (databaseOf (d .rows) cells tables)) where
+module _ (d : Design) (cells : Cells) (tables next : List ℕ) (n : next ≡ nexts (databaseOf cells tables)) where
   abbrev D : Database
-  D = databaseOf (d .rows) cells tables
+  D = databaseOf cells tables
 
   row-low : (r : ℕ) → D .live r ≡ true → r < 512
   unfolding databaseOf
@@ -78,7 +78,7 @@ module _ (d : Design) (cells : Cells) (tables next : List ℕ) (n : next ≡ nex
     never k v r s u a b o = ⊎-elim inside outside (dec (ltb (k .place) 8))
       where
         outside : ltb (k .place) 8 ≡ false → ⊥
-        outside p = clash (ap isBlank (cell-past (d .rows) cells tables r (k .place) (ltb-false _ _ p)) ∙ blank-is) (equal-full _ v (a .value))
+        outside p = clash (ap isBlank (cell-past cells tables r (k .place) (ltb-false _ _ p)) ∙ blank-is) (equal-full _ v (a .value))
 
         here : k ≡ columnAt D r (k .place)
         here = λ i. record { table = sym (a .table) i; place = k .place }

@@ -17,14 +17,15 @@ use Rattle.finite.specs.Sameness.{placeOf}
 use Rattle.finite.proofs.Bools.{same-number, cond-false}
 use Rattle.finite.proofs.Sameness.{listed-place, end-length, end-before, end-last, end-past, skip, skip-behind, remove-length, remove-at}
 use Rattle.finite.proofs.Tables.{length-tab, tab-at, tab-of, Upto, upto-set, upto-end}
-use Rattle.model.specs.Holding.{Pair, sameOwned, Holding, mine, holds, withPair, withoutPair}
+use Rattle.model.specs.Holding.{desks, Pair, sameOwned, Holding, mine, holds, withPair, withoutPair, rangesOf}
 use Rattle.model.proofs.HoldingLaws.{noOwned, ownedAt}
 use Rattle.state.specs.declared.held.HeldValue.{HeldValue}
 use Rattle.state.specs.declared.held.OwnedValue.{OwnedValue}
 use Rattle.state.specs.declared.held.Held.{Held}
 use Rattle.state.specs.Held.{noValue, heldAt, Tidy}
-use Rattle.state.specs.Meaning.{pairOf, ownedOf, ownedBack, valuesOf, holdingOf, heldOf}
-use Rattle.lawful.proofs.HeldLaws.{length-values, values-at}
+use Rattle.state.specs.Meaning.{pairOf, ownedOf, ownedBack, valuesOf, listBack, holdingOf, heldOf}
+use Rattle.state.proofs.Arrays.{HeldSized}
+use Rattle.lawful.proofs.HeldLaws.{length-values, values-at, lists-kept}
 use Rattle.cache.specs.Places.{keptAt, without}
 
 -- ---- the values of a record
@@ -40,7 +41,7 @@ pub held-nowhere : (h : Held) (p : Pair) (at : ℕ) → at ≡ placeOf sameOwned
 held-nowhere h p at e l = sym (listed-is h p at e) ∙ le-ltb at (h .count) l
 
 -- with unused places 0, what a place holds is known of every place
-values-all : (h : Held) → Tidy h → length (h .values) ≡ 64 → (i : ℕ) → ownedAt (valuesOf h) i ≡ ownedOf (heldAt h i)
+pub values-all : (h : Held) → Tidy h → length (h .values) ≡ 64 → (i : ℕ) → ownedAt (valuesOf h) i ≡ ownedOf (heldAt h i)
 values-all h t l i = go (decLt i (h .count)) (decLt i 64)
   where
     go : Dec (i < h .count) → Dec (i < 64) → ownedAt (valuesOf h) i ≡ ownedOf (heldAt h i)
@@ -51,14 +52,18 @@ values-all h t l i = go (decLt i (h .count)) (decLt i 64)
 
 -- ---- a record with this desk, this count and these values holds this
 
-held-is : (h : Held) (g : Holding) → h .desk ≡ g .desk → h .count ≡ length (g .values) → length (h .values) ≡ 64 →
-    ((i : ℕ) → i < 64 → heldAt h i ≡ ownedBack (ownedAt (g .values) i)) → h ≡ heldOf g
+pub held-is : (h : Held) (g : Holding) → h .desk ≡ g .desk → h .count ≡ length (g .values) → length (h .values) ≡ 64 →
+    ((i : ℕ) → i < 64 → heldAt h i ≡ ownedBack (ownedAt (g .values) i)) → h .ranges ≡ tab desks (λ x. listBack (rangesOf (g .ranges) x)) → h ≡ heldOf g
 unfolding heldOf
-held-is h g d n l at = λ i. record { desk = d i; count = n i; values = tab-of noValue 64 (λ j. ownedBack (ownedAt (g .values) j)) (h .values) l at i }
+held-is h g d n l at r =
+    λ i. record { desk = d i; count = n i; values = tab-of noValue 64 (λ j. ownedBack (ownedAt (g .values) j)) (h .values) l at i; ranges = r i }
 
 -- ---- one more
 
-module _ (h : Held) (t : Tidy h) (room : h .count < 64) (l : length (h .values) ≡ 64) (p : HeldValue) where
+module _ (h : Held) (t : Tidy h) (room : h .count < 64) (z : HeldSized h) (p : HeldValue) where
+  l : length (h .values) ≡ 64
+  l = z .values
+
   -- the named desk's value
   abbrev v : OwnedValue
   v = record { desk = h .desk; pair = p }
@@ -82,10 +87,10 @@ module _ (h : Held) (t : Tidy h) (room : h .count < 64) (l : length (h .values) 
             (omega arith),
       ))))
 
-  pub append-is : _≡_ {A = Held} (record { desk = h .desk; count = h .count + 1; values = set (h .values) (h .count) v }) (heldOf (withPair (holdingOf h) (pairOf p)))
+  pub append-is : _≡_ {A = Held} (record { desk = h .desk; count = h .count + 1; values = set (h .values) (h .count) v; ranges = h .ranges }) (heldOf (withPair (holdingOf h) (pairOf p)))
   append-is =
       held-is _ (withPair (holdingOf h) (pairOf p)) refl (omega (arith, length-values h, end-length sameOwned noOwned (valuesOf h) (ownedOf v)))
-      (length-set (h .values) (h .count) v ∙ l) ends
+      (length-set (h .values) (h .count) v ∙ l) ends (lists-kept h t z)
 
 -- ---- one fewer
 
@@ -112,18 +117,19 @@ module _ (h : Held) (gap : ℕ) where
         (sym (ap (heldAt h) (skip-behind gap i o) ∙ List·getD-eq-default (h .values) noValue (omega (arith, z .1))))) (omega (arith, z .1)) (omega (arith, z .1))
 
 pub closed-is : (h : Held) (gap : ℕ) (values : List OwnedValue) → values ≡ tab 64 (keptAt h gap) →
-    _≡_ {A = Held} (record { desk = h .desk; count = h .count - 1; values = values }) (without h gap)
+    _≡_ {A = Held} (record { desk = h .desk; count = h .count - 1; values = values; ranges = h .ranges }) (without h gap)
 unfolding without
-closed-is h gap values e = λ i. record { desk = h .desk; count = h .count - 1; values = e i }
+closed-is h gap values e = λ i. record { desk = h .desk; count = h .count - 1; values = e i; ranges = h .ranges }
 
 -- the pair is at a place of the record: the value goes and the gap closes
-pub without-is : (h : Held) → Tidy h → length (h .values) ≡ 64 → (p : Pair) (at : ℕ) → at ≡ placeOf sameOwned (mine (holdingOf h) p) (valuesOf h) → at < h .count →
+pub without-is : (h : Held) → Tidy h → HeldSized h → (p : Pair) (at : ℕ) → at ≡ placeOf sameOwned (mine (holdingOf h) p) (valuesOf h) → at < h .count →
     without h at ≡ heldOf (withoutPair (holdingOf h) p)
 unfolding without
-without-is h t l p at e inside =
+without-is h t z p at e inside =
     held-is _ (withoutPair (holdingOf h) p) refl (omega (arith, remove-length sameOwned noOwned (mine (holdingOf h) p) (valuesOf h) inside′, length-values h)) (length-tab 64 _)
     (λ i k. tab-at noValue 64 (keptAt h at) i k ∙
-    ap ownedBack (sym (remove-at sameOwned noOwned (mine (holdingOf h) p) (valuesOf h) inside′ i ∙ rw (← e) (values-all h t l (skip at i)))))
+    ap ownedBack (sym (remove-at sameOwned noOwned (mine (holdingOf h) p) (valuesOf h) inside′ i ∙ rw (← e) (values-all h t (z .values) (skip at i)))))
+    (lists-kept h t z)
   where
     inside′ : placeOf sameOwned (mine (holdingOf h) p) (valuesOf h) < length (valuesOf h)
     inside′ = omega (arith, length-values h)

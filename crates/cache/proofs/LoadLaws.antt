@@ -15,6 +15,7 @@ use Rattle.model.specs.Answers as Answers
 use Rattle.model.specs.Cache.{RowSet, Inside}
 use Rattle.model.specs.Scheme.{Scheme}
 use Rattle.model.specs.Database.{Database, has}
+use Rattle.model.specs.Ranges.{hasRange}
 use Rattle.model.specs.Rounds.{reached, load, addedRows, laterRounds}
 use Rattle.model.specs.Holding.{wanted}
 use Rattle.model.specs.Runs.{marks, marked, reloadLevels}
@@ -23,12 +24,13 @@ use Rattle.state.specs.Cells.{Cells}
 use Rattle.state.specs.declared.cell.Cell.{Cell}
 use Rattle.state.specs.declared.design.Column.{Column}
 use Rattle.state.specs.declared.design.Design.{Design}
+use Rattle.state.specs.declared.held.Range.{Range}
 use Rattle.state.specs.declared.held.Held.{Held}
-use Rattle.state.specs.Meaning.{cellOf, columnOf, schemeOf, databaseOf, holdingOf}
+use Rattle.state.specs.Meaning.{cellOf, columnOf, rangeOf, schemeOf, databaseOf, holdingOf}
 use Rattle.state.specs.Lawful.{lawfulMarks}
 use Rattle.load.specs.Ended.{Covers, Within, Reaches}
 use Rattle.load.proofs.EndedLaws.{load-covered}
-use Rattle.cache.specs.Loads.{rowsOf, valueLevels, heldLevels, settled, goneRows}
+use Rattle.cache.specs.Loads.{valueLevels, spanLevels, heldLevels, settled, goneRows}
 
 -- ---- counting
 
@@ -55,28 +57,33 @@ module _ (d : Design) (cells : Cells) (tables : List ℕ) where
   -- ---- a load of one value more
 
   pub value-is : (m : List ℕ) (k : Column) (v : Cell) (K : List ℕ) →
-      K ≡ load (schemeOf d) (rowsOf d cells tables) (marked m) (has (rowsOf d cells tables) (columnOf k) (cellOf v)) → K ≡ valueLevels d cells tables m k v
+      K ≡ load (schemeOf d) (databaseOf cells tables) (marked m) (has (databaseOf cells tables) (columnOf k) (cellOf v)) → K ≡ valueLevels d cells tables m k v
   unfolding valueLevels
   value-is m k v K e = e
 
-  pub value-long : (m : List ℕ) (k : Column) (v : Cell) (K : List ℕ) →
-      K ≡ load (schemeOf d) (rowsOf d cells tables) (marked m) (has (rowsOf d cells tables) (columnOf k) (cellOf v)) → length K ≡ 512
-  unfolding load databaseOf
-  value-long m k v K e = ap length e ∙ levels-length (schemeOf d) (rowsOf d cells tables) _ _ 512
+  -- and of one range more
+  pub span-is : (m : List ℕ) (k : Column) (q : Range) (K : List ℕ) →
+      K ≡ load (schemeOf d) (databaseOf cells tables) (marked m) (hasRange (databaseOf cells tables) (columnOf k) (rangeOf q)) → K ≡ spanLevels d cells tables m k q
+  unfolding spanLevels
+  span-is m k q K e = e
 
-  pub loaded-is : (K L : List ℕ) (rows rounds : ℕ) → K ≡ L → rows ≡ addedRows (rowsOf d cells tables) K → rounds ≡ laterRounds (rowsOf d cells tables) K →
-      Answers.loaded rows rounds ≡ Answers.loaded (addedRows (rowsOf d cells tables) L) (laterRounds (rowsOf d cells tables) L)
+  pub load-long : (m : List ℕ) (seed : RowSet) (K : List ℕ) → K ≡ load (schemeOf d) (databaseOf cells tables) (marked m) seed → length K ≡ 512
+  unfolding load databaseOf
+  load-long m seed K e = ap length e ∙ levels-length (schemeOf d) (databaseOf cells tables) _ _ 512
+
+  pub loaded-is : (K L : List ℕ) (rows rounds : ℕ) → K ≡ L → rows ≡ addedRows (databaseOf cells tables) K → rounds ≡ laterRounds (databaseOf cells tables) K →
+      Answers.loaded rows rounds ≡ Answers.loaded (addedRows (databaseOf cells tables) L) (laterRounds (databaseOf cells tables) L)
   loaded-is K L rows rounds e f g =
-      ap₂ Answers.loaded (f ∙ ap (addedRows (rowsOf d cells tables)) e) (g ∙ ap (laterRounds (rowsOf d cells tables)) e)
+      ap₂ Answers.loaded (f ∙ ap (addedRows (databaseOf cells tables)) e) (g ∙ ap (laterRounds (databaseOf cells tables)) e)
 
   -- ---- what is read off levels K that reach the rows that the levels L do
 
   module _ (K L : List ℕ) (same : (r : ℕ) → r < 512 → reached K r ≡ reached L r) where
-    pub settled-is : (m new : List ℕ) → new ≡ tab 512 (λ r. cond (reached K r) 1 0) ++ drop 512 m → new ≡ settled (rowsOf d cells tables) L m
+    pub settled-is : (m new : List ℕ) → new ≡ tab 512 (λ r. cond (reached K r) 1 0) ++ drop 512 m → new ≡ settled (databaseOf cells tables) L m
     unfolding settled marks databaseOf
     settled-is m new f = f ∙ ap (λ (xs : List ℕ). xs ++ drop 512 m) (tab-same 512 _ _ (λ r l. ap (λ (b : Bool). cond b 1 0) (same r l)))
 
-    gone-is : (m : List ℕ) → Inside (reached L) (marked m) → count 512 (reached K) + goneRows (rowsOf d cells tables) L m ≡ count 512 (marked m)
+    gone-is : (m : List ℕ) → Inside (reached L) (marked m) → count 512 (reached K) + goneRows (databaseOf cells tables) L m ≡ count 512 (marked m)
     unfolding goneRows databaseOf
     gone-is m i =
         ap (λ (n : ℕ). n + count 512 (λ r. marked m r && not (reached L r))) (count-same 512 (reached K) (reached L) same) ∙
@@ -84,7 +91,7 @@ module _ (d : Design) (cells : Cells) (tables : List ℕ) where
 
   -- ---- the load of all held values
 
-  module _ (h : Held) (K : List ℕ) (rows : ℕ) (u : Reaches K (reloadLevels (schemeOf d) (rowsOf d cells tables) (holdingOf h)) rows) where
+  module _ (h : Held) (K : List ℕ) (rows : ℕ) (u : Reaches K (reloadLevels (schemeOf d) (databaseOf cells tables) (holdingOf h)) rows) where
     pub held-same : (r : ℕ) → r < 512 → reached K r ≡ reached (heldLevels d cells tables h) r
     unfolding heldLevels
     held-same r l = ap (λ (J : List ℕ). reached J r) (u .levels)
@@ -93,17 +100,17 @@ module _ (d : Design) (cells : Cells) (tables : List ℕ) where
     unfolding lawfulMarks
     agree-is m = all-same 512 _ _ (λ r l. ap (λ (J : List ℕ). eqb (getD m r 0) (cond (reached J r) 1 0)) (u .levels))
 
-    module _ (m : List ℕ) (cached : ℕ) (e : cached ≡ count 512 (marked m)) (c : Covers (schemeOf d) (rowsOf d cells tables) (wanted (schemeOf d)
-        (rowsOf d cells tables) (holdingOf h)) (marked m)) where
+    module _ (m : List ℕ) (cached : ℕ) (e : cached ≡ count 512 (marked m)) (c : Covers (schemeOf d) (databaseOf cells tables) (wanted (schemeOf d)
+        (databaseOf cells tables) (holdingOf h)) (marked m)) where
       all-marked : Inside (reached (heldLevels d cells tables h)) (marked m)
       unfolding heldLevels reloadLevels
-      all-marked = load-covered (schemeOf d) (rowsOf d cells tables) _ (marked m) c
+      all-marked = load-covered (schemeOf d) (databaseOf cells tables) _ (marked m) c
 
-      gone : count 512 (reached K) + goneRows (rowsOf d cells tables) (heldLevels d cells tables h) m ≡ count 512 (marked m)
+      gone : count 512 (reached K) + goneRows (databaseOf cells tables) (heldLevels d cells tables h) m ≡ count 512 (marked m)
       gone = gone-is K _ held-same m all-marked
 
       pub rows-fewer : rows ≤ cached
       rows-fewer = omega (arith, gone, u .size)
 
-      pub dropped-is : Answers.dropped (cached - rows) ≡ Answers.dropped (goneRows (rowsOf d cells tables) (heldLevels d cells tables h) m)
+      pub dropped-is : Answers.dropped (cached - rows) ≡ Answers.dropped (goneRows (databaseOf cells tables) (heldLevels d cells tables h) m)
       dropped-is = ap Answers.dropped (omega (arith, gone, u .size))

@@ -2,25 +2,26 @@
 use Prim.Native.Nat.{ℕ, _≤_, _<_}
 use mathlib.Core.Path.{_≡_, sym, ap, ap₂, _∙_}
 use mathlib.Core.Bool.{Bool, true, not}
-use mathlib.Core.List.{List, _++_}
+use mathlib.Core.List.{_++_}
 use borrow.Author.Tests.{lt-ltb, le-ltb}
 use lib.Dec.{ltb}
-use lib.ListN.{length, drop as past, take-append-drop}
+use lib.ListN.{drop as past, take-append-drop}
 use Rattle.finite.proofs.Bools.{cond-true, cond-false}
 use Rattle.model.specs.Holding.{desks}
 use Rattle.model.specs.Runs.{name, Cache, atDesk, cacheAfter}
-use Rattle.model.specs.Answers.{Answer, named, refused, unless, answer}
+use Rattle.model.specs.Answers.{named, refused, unless, answer}
 use Rattle.state.specs.declared.held.Held.{Held}
-use Rattle.state.specs.Meaning.{heldOf, holdingOf}
-use Rattle.state.specs.Lent.{State, lent, scheme, database, cache, sound, Answered}
+use Rattle.state.specs.Meaning.{heldOf}
+use Rattle.state.specs.Lent.{State, lent, cache, sound, Answered}
+use Rattle.state.proofs.Arrays.{HeldSized}
 use Rattle.lawful.proofs.HeldLaws.{held-back}
 use Rattle.lawful.proofs.SoundState.{parts, after, answer-at, held-after, marks-after, unchanged}
 
 -- the record with another desk named
 abbrev pub renamed : Held → ℕ → Held
-renamed h d = record { desk = d; count = h .count; values = h .values }
+renamed h d = record { desk = d; count = h .count; values = h .values; ranges = h .ranges }
 
-module _ (s : State) (e : sound s ≡ true) (l : length (s .held .values) ≡ 64) (d : ℕ) where
+module _ (s : State) (e : sound s ≡ true) (l : HeldSized (s .held)) (d : ℕ) where
   pub name-5 : desks ≤ d → Answered s (name d) (refused 5) s
   unfolding cacheAfter answer
   name-5 h =

@@ -6,11 +6,10 @@ use mathlib.Core.Bool.{Bool, true, false, not, _&&_}
 use mathlib.Core.List.{List, _++_}
 use borrow.Author.Tests.{lt-ltb, le-ltb}
 use lib.Dec.{ltb}
-use lib.ListN.{length, take, drop as past}
+use lib.ListN.{take, drop as past}
 use Rattle.finite.specs.Finite.{count}
 use Rattle.finite.proofs.Bools.{clash, refute}
 use Rattle.finite.proofs.Counting.{count-same}
-use Rattle.finite.proofs.Tables.{length-tab}
 use Rattle.model.specs.Cell.{numberless}
 use Rattle.model.specs.Scheme.{candidate}
 use Rattle.model.specs.Rounds.{reached, addedRows, laterRounds}
@@ -18,40 +17,63 @@ use Rattle.model.specs.Holding.{Holding, holds, hasRoom, withPair, withoutPair,
 use Rattle.model.specs.Runs.{Operation, refer, drop, marks, marked, Cache, referLevels, reloadLevels, reloaded}
 use Rattle.model.specs.Answers as Answers
 use Rattle.model.specs.Answers.{Answer, answer, loaded, dropped, refused}
-use Rattle.model.proofs.HoldingLaws.{HoldingFits, values-few, room-few, fit-fewer, listed-fits, listed-candidate}
+use Rattle.model.proofs.HoldingLaws.{HoldingFits, room-few, fit-fewer, listed-fits, listed-candidate}
 use Rattle.model.proofs.RoundsLaws.{load-same}
 use Rattle.state.specs.declared.held.HeldValue.{HeldValue}
 use Rattle.state.specs.declared.held.Held.{Held}
 use Rattle.state.specs.Design.{fillingAt}
-use Rattle.state.specs.Held.{heldAt}
+use Rattle.state.specs.Held.{Bounded}
 use Rattle.state.specs.Meaning.{cellOf, fillingOf, schemeOf, databaseOf, pairOf, holdingOf, heldOf}
 use Rattle.state.specs.Lawful.{lawfulHeld}
 use Rattle.state.specs.Lent.{State, lent, scheme, database, cache, sound, Answered}
 use Rattle.lawful.proofs.DesignLaws.{low-full}
-use Rattle.lawful.proofs.HeldLaws.{length-values, held-count, held-filling, holding-fits, holding-back, fit-held}
+use Rattle.state.proofs.Arrays.{HeldSized}
+use Rattle.lawful.proofs.HeldLaws.{length-values, held-bounded, holding-fits, holding-back, held-of-sized, fit-held}
 use Rattle.lawful.proofs.SoundState.{parts, after, answer-at, held-after, marks-after, unchanged}
 use Rattle.probe.proofs.GroundLaws.{marked-front}
 use Rattle.load.specs.Ended.{Covers}
-use Rattle.cache.specs.Loads.{rowsOf, valueLevels, heldLevels, settled, goneRows}
+use Rattle.cache.specs.Loads.{valueLevels, heldLevels, settled, goneRows}
 use Rattle.cache.proofs.Answering.{Kept, refer-nowhere, refer-numberless, refer-none, refer-held, refer-full, refer-loads, refer-leaves, drop-nowhere, drop-numberless, drop-none, drop-drops, drop-leaves}
 use Rattle.cache.proofs.Covered.{sound-covers}
 
 module _ (s : State) (e : sound s ≡ true) where
   -- the parts that the operation leaves
-  steps : (op : Operation) (a : Answer) (h : Held) (m : List ℕ) → a ≡ answer (scheme s) (database s) (cache s) op →
+  pub steps : (op : Operation) (a : Answer) (h : Held) (m : List ℕ) → a ≡ answer (scheme s) (database s) (cache s) op →
       h ≡ heldOf (after s op .held) → m ≡ after s op .marks ++ past 512 (s .marks) → Answered s op a (lent (s .design) (s .cells) (s .tables) m h)
   steps op a h m p q r = record { answer = p ∙ sym (answer-at s e op); state = rw (q ∙ sym (held-after s e op), r ∙ sym (marks-after s e op)) refl }
 
   -- the operation leaves everything as it was
-  stays : length (s .held .values) ≡ 64 → (op : Operation) (a : Answer) → Kept (scheme s) (database s) (cache s) op a → Answered s op a s
+  pub stays : HeldSized (s .held) → (op : Operation) (a : Answer) → Kept (scheme s) (database s) (cache s) op a → Answered s op a s
   stays l op a k = record { answer = k .answers ∙ sym (answer-at s e op); state = sym (unchanged s e op l (k .cache)) }
 
   -- the filling exists
   exists : (v : HeldValue) → v .filling < s .design .fillings → ltb (v .filling) (s .design .fillings) ≡ true
   exists v f = lt-ltb (v .filling) (s .design .fillings) f
 
-  held-fits : HoldingFits (scheme s) (holdingOf (s .held))
+  pub held-fits : HoldingFits (scheme s) (holdingOf (s .held))
   held-fits = holding-fits (s .design) (s .held) (parts s e .held)
+
+  -- ---- what is left after a drop, whichever it is: the record h holds `rest`, which fits
+
+  module _ (rest : Holding) (fits : HoldingFits (scheme s) rest) (h : Held) (q : h ≡ heldOf rest) where
+    -- it is lawful, so it can be reloaded
+    pub left-of-bounded : Bounded h
+    left-of-bounded =
+        held-bounded (s .design) h (parts s e .design) (subst (λ (g : Held). lawfulHeld (s .design) g ≡ true) (sym q) (fit-held (s .design) rest fits))
+        (subst HeldSized (sym q) (held-of-sized rest))
+
+    -- it holds what is left
+    pub left-of-holding : holdingOf h ≡ rest
+    left-of-holding = ap holdingOf q ∙ holding-back rest fits
+
+    -- a load of what it holds is the reload of what is left
+    pub reload-of : heldLevels (s .design) (s .cells) (s .tables) h ≡ reloadLevels (scheme s) (database s) rest
+    unfolding heldLevels
+    reload-of = ap (reloadLevels (scheme s) (database s)) left-of-holding
+
+  pub gone-same : (L : List ℕ) → goneRows (database s) L (s .marks) ≡ count (database s .size) (λ r. marked (take 512 (s .marks)) r && not (reached L r))
+  unfolding goneRows databaseOf
+  gone-same L = count-same 512 _ _ (λ r l. ap (λ (x : Bool). x && not (reached L r)) (marked-front (s .marks) 512 r l))
 
   -- ---- REFER
 
@@ -59,7 +81,7 @@ module _ (s : State) (e : sound s ≡ true) where
   pub room-place : hasRoom (holdingOf (s .held)) ≡ true → s .held .count < 64
   room-place r = omega (arith, room-few (scheme s) (holdingOf (s .held)) held-fits r, length-values (s .held))
 
-  module _ (l : length (s .held .values) ≡ 64) (v : HeldValue) where
+  module _ (l : HeldSized (s .held)) (v : HeldValue) where
     pub refer-5 : s .design .fillings ≤ v .filling → Answered s (refer (pairOf v)) (refused 5) s
     unfolding schemeOf
     refer-5 h = stays l _ _ (refer-nowhere _ _ _ (pairOf v) (le-ltb (v .filling) (s .design .fillings) h))
@@ -94,7 +116,7 @@ module _ (s : State) (e : sound s ≡ true) where
             levels-same = load-same (scheme s) (database s) _ _ _ _ (λ r l. marked-front (s .marks) 512 r l) (λ r l. refl)
 
             pub refer-load : hasRoom (holdingOf (s .held)) ≡ true → (a : Answer) (h : Held) (m : List ℕ) →
-                (let D = rowsOf (s .design) (s .cells) (s .tables) in
+                (let D = databaseOf (s .cells) (s .tables) in
                 let L = valueLevels (s .design) (s .cells) (s .tables) (s .marks) (fillingAt (s .design) (v .filling) .column) (v .value) in
                 (a ≡ loaded (addedRows D L) (laterRounds D L)) × (m ≡ settled D L (s .marks))) →
                 h ≡ heldOf (withPair (holdingOf (s .held)) (pairOf v)) → Answered s (refer (pairOf v)) a (lent (s .design) (s .cells) (s .tables) m h)
@@ -116,7 +138,7 @@ module _ (s : State) (e : sound s ≡ true) where
 
   -- ---- DROP
 
-  module _ (l : length (s .held .values) ≡ 64) (v : HeldValue) where
+  module _ (l : HeldSized (s .held)) (v : HeldValue) where
     pub drop-5 : s .design .fillings ≤ v .filling → Answered s (drop (pairOf v)) (refused 5) s
     unfolding schemeOf
     drop-5 h =
@@ -142,38 +164,20 @@ module _ (s : State) (e : sound s ≡ true) where
           rest-fits : HoldingFits (scheme s) rest
           rest-fits = fit-fewer (scheme s) (holdingOf (s .held)) held-fits (pairOf v)
 
-          -- the record that is left is lawful, so it can be reloaded
-          left-lawful : lawfulHeld (s .design) h ≡ true
-          left-lawful = rw q (fit-held (s .design) rest rest-fits)
-
-          pub left-count : h .count ≤ 64
-          left-count = held-count (s .design) h left-lawful
-
-          pub left-filling : (i : ℕ) → heldAt h i .pair .filling < 8
-          unfolding heldOf
-          left-filling = held-filling (s .design) h (parts s e .design) left-lawful (ap (λ (g : Held). length (g .values)) q ∙ length-tab 64 _)
-
-          -- it holds what is left
-          left-holding : holdingOf h ≡ rest
-          left-holding = ap holdingOf q ∙ holding-back rest (values-few (rest-fits .values))
+          pub left-bounded : Bounded h
+          left-bounded = left-of-bounded rest rest-fits h q
 
           -- the cached rows have what it wants
           pub left-covers : Covers (scheme s) (database s) (wanted (scheme s) (database s) (holdingOf h)) (marked (s .marks))
           left-covers =
               subst (λ (g : Holding). Covers (scheme s) (database s) (wanted (scheme s) (database s) g) (marked (s .marks)))
-              (sym left-holding) (sound-covers s e (pairOf v))
+              (sym (left-of-holding rest rest-fits h q)) (sound-covers s e (pairOf v))
 
-          -- a load of what it holds is the reload of what is left
           reload-same : heldLevels (s .design) (s .cells) (s .tables) h ≡ reloadLevels (scheme s) (database s) rest
-          unfolding heldLevels
-          reload-same = ap (reloadLevels (scheme s) (database s)) left-holding
-
-          gone-same : (L : List ℕ) → goneRows (database s) L (s .marks) ≡ count (database s .size) (λ r. marked (take 512 (s .marks)) r && not (reached L r))
-          unfolding goneRows databaseOf
-          gone-same L = count-same 512 _ _ (λ r l. ap (λ (x : Bool). x && not (reached L r)) (marked-front (s .marks) 512 r l))
+          reload-same = reload-of rest rest-fits h q
 
           pub drop-load : (a : Answer) (m : List ℕ) →
-              (let D = rowsOf (s .design) (s .cells) (s .tables) in
+              (let D = databaseOf (s .cells) (s .tables) in
               let L = heldLevels (s .design) (s .cells) (s .tables) h in
               (a ≡ dropped (goneRows D L (s .marks))) × (m ≡ settled D L (s .marks))) →
               Answered s (drop (pairOf v)) a (lent (s .design) (s .cells) (s .tables) m h)

@@ -5,25 +5,28 @@ use mathlib.Core.List.{List, _++_}
 use lib.ListN.{drop}
 use Rattle.finite.specs.Finite.{count}
 use Rattle.model.specs.Database.{Database, has}
+use Rattle.model.specs.Ranges.{hasRange}
 use Rattle.model.specs.Rounds.{reached, load}
 use Rattle.model.specs.Runs.{marks, marked, reloadLevels}
 use Rattle.state.specs.Cells.{Cells}
 use Rattle.state.specs.declared.cell.Cell.{Cell}
 use Rattle.state.specs.declared.design.Column.{Column}
 use Rattle.state.specs.declared.design.Design.{Design}
+use Rattle.state.specs.declared.held.Range.{Range}
 use Rattle.state.specs.declared.held.Held.{Held}
-use Rattle.state.specs.Meaning.{cellOf, columnOf, schemeOf, databaseOf, holdingOf}
-
-abbrev pub rowsOf : Design → Cells → List ℕ → Database
-rowsOf d cells tables = databaseOf (d .rows) cells tables
+use Rattle.state.specs.Meaning.{cellOf, columnOf, rangeOf, schemeOf, databaseOf, holdingOf}
 
 -- a load of the value v in column k, beside the rows that m marks
 unfoldable pub valueLevels : Design → Cells → List ℕ → List ℕ → Column → Cell → List ℕ
-valueLevels d cells tables m k v = let D = rowsOf d cells tables in load (schemeOf d) D (marked m) (has D (columnOf k) (cellOf v))
+valueLevels d cells tables m k v = let D = databaseOf cells tables in load (schemeOf d) D (marked m) (has D (columnOf k) (cellOf v))
 
--- a load of all held values from nothing
+-- a load of the range q in column k, beside the rows that m marks
+unfoldable pub spanLevels : Design → Cells → List ℕ → List ℕ → Column → Range → List ℕ
+spanLevels d cells tables m k q = let D = databaseOf cells tables in load (schemeOf d) D (marked m) (hasRange D (columnOf k) (rangeOf q))
+
+-- a load of all that is held from nothing
 unfoldable pub heldLevels : Design → Cells → List ℕ → Held → List ℕ
-heldLevels d cells tables h = reloadLevels (schemeOf d) (rowsOf d cells tables) (holdingOf h)
+heldLevels d cells tables h = reloadLevels (schemeOf d) (databaseOf cells tables) (holdingOf h)
 
 -- the marks of the rows that the load reached, before whatever lies past the old marks
 unfoldable pub settled : Database → List ℕ → List ℕ → List ℕ

@@ -13,4 +13,4 @@ keptAt h gap i = heldAt h (cond (ltb i gap) i (i + 1))
 
 -- the record without the value at place `gap`
 unfoldable pub without : Held → ℕ → Held
-without h gap = record { desk = h .desk; count = h .count - 1; values = tab 64 (keptAt h gap) }
+without h gap = record { desk = h .desk; count = h .count - 1; values = tab 64 (keptAt h gap); ranges = h .ranges }

@@ -1,11 +1,12 @@
 // Whether unique columns have no value twice, read off the catalog: one has exactly if some row has a next row there.
-ghost use Prim.Native.Nat.{ℕ, _<_, _≤_};
+ghost use Prim.Native.Nat.{_<_, _≤_};
 ghost use mathlib.Core.Path.{_≡_};
-ghost use lib.ListN.{length, getD};
+ghost use lib.ListN.{length};
 ghost use Rattle.finite.specs.Finite.{any};
 ghost use Rattle.cache.specs.Distinct.{linkedAt, distinct};
 use lawful::has_bit;
 use state::Design;
+use state::table_at;
 
 // Whether column c is unique, by the bits of its table, and row r has a next row there. Constant time.
 fn links_at(unique: u8, next: &[u16; 4096], r: usize, c: u8) -> bool
@@ -31,15 +32,14 @@ fn row_links(unique: u8, next: &[u16; 4096], r: usize) -> bool
     false
 }
 
-// Whether no row has a next row in a unique column. One look at each of the 4,096 cells.
+// Whether no row has a next row in a unique column; a number without a row has no table, and so no unique column. One look at each of the 4,096 cells.
 pub(crate) fn is_distinct(d: Design, tables: &[u8], next: &[u16; 4096]) -> bool
-    requires { ⌜ (512 ≤ length (now tables)) × ((r : ℕ) → r < 512 → getD (now tables) r 0 < 8) ⌝ }
+    requires { ⌜ 512 ≤ length (now tables) ⌝ }
     ensures { λ b. ⌜ b ≡ distinct d (now (tables .entry)) (now (next .entry)) ⌝ }
 {
-    let table = d.table;
     for r in 0..Design::ROWS {
         let t = tables[r] as usize;
-        let x = table[t];
+        let x = table_at(d, t);
         if row_links(x.unique, next, r) {
             return false;
         }

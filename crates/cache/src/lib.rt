@@ -1,4 +1,4 @@
-// REFER, DROP, PROBE and the naming of a desk over a sound state, and the test for causes 7 and 12 that stands before them.
+// REFER, DROP, PROBE, the naming of a desk, and holding and dropping a range over a sound state, and the test for causes 7 and 12 that stands before them.
 mod distinct;
 mod dropping;
 mod lending;
@@ -6,6 +6,8 @@ mod loads;
 mod naming;
 mod outcome;
 mod probing;
+mod ranges;
+mod ranging;
 mod referring;
 mod taking;
 mod tests;
@@ -17,6 +19,8 @@ pub use lending::refer;
 pub use naming::name_lawful;
 pub use outcome::Outcome;
 pub use probing::probe_lawful;
+pub use ranging::drop_range_lawful;
+pub use ranging::refer_range_lawful;
 pub use referring::refer_lawful;
 pub use taking::filling_for;
 pub use taking::takes;

@@ -22,10 +22,12 @@ pub fn name_lawful(held: Held, desk: u8) -> Outcome
         return Outcome { held, answer };
     }
     let values = held.values;
+    let ranges = held.ranges;
     let named = Held {
         desk: desk,
         count: held.count,
         values: values,
+        ranges: ranges,
     };
     Outcome {
         held: named,

@@ -62,10 +62,12 @@ pub(crate) fn appended(held: Held, v: HeldValue) -> Held
         pair: v,
     };
     let count = n + 1;
+    let ranges = held.ranges;
     Held {
         desk: held.desk,
         count: count,
         values: values,
+        ranges: ranges,
     }
 }
 
@@ -90,9 +92,11 @@ pub(crate) fn closed(held: Held, gap: usize) -> Held
         },
     };
     let count = held.count - 1;
+    let ranges = held.ranges;
     Held {
         desk: held.desk,
         count: count,
         values: values,
+        ranges: ranges,
     }
 }

@@ -3,41 +3,41 @@ use Prim.Native.Nat.{_-_, _≤_}
 use native.Mathlib.Omega.{arith}
 use mathlib.Core.Bool.{not, true}
 use mathlib.Core.Path.{_∙_, _≡_, ap, sym}
+use borrow.Author.Needs.{needs}
 use lib.ListN.{getD}
 use Rattle.finite.proofs.Search.{all-end, all-more, all-start, all-stop}
 use Rattle.finite.specs.Finite.{all, any}
-use Rattle.state.specs.Design.{noTable}
+use Rattle.state.specs.Design.{tableAt}
 use Rattle.cache.specs.Distinct.{distinct, linkedAt}
 use Rattle.cache.proofs.distinct.is_distinct.Statement.{statement}
 use Rattle.cache.proofs.distinct.is_distinct.Tie as tie
 
 abbrev Inv-loop : tie.InvT-loop
-Inv-loop tables next table r₀ r = (r ≤ 512) × (all r (λ s. not (any 8 (linkedAt (getD table (getD tables s 0) noTable .unique) next s))) ≡ true)
+Inv-loop d tables next r₀ r = (r ≤ 512) × (all r (λ s. not (any 8 (linkedAt (tableAt d (getD tables s 0) .unique) next s))) ≡ true)
 
 abbrev μ-loop : tie.MeasureT-loop
-μ-loop tables next table r₀ r = 512 - r
+μ-loop d tables next r₀ r = 512 - r
 
 loop-holds : tie.Need-loop-holds Inv-loop μ-loop
 loop-holds c = (omega arith, all-start _)
 
 shared-slice-read-t : tie.Need-shared-slice-read-t Inv-loop μ-loop
-shared-slice-read-t c = omega (arith, c .before .before .before .before .before .pre .0)
+shared-slice-read-t c = omega (arith, c .before .before .before .before .pre)
 
 cast-t : tie.Need-cast-t Inv-loop μ-loop
-cast-t c = omega (arith, c .before .before .before .before .before .pre .1 (c .before .before .loop .r) (c .before .loop-test .taken))
+cast-t c = omega (arith, c .shared-slice-known2 .given (c .before .before .loop .r))
 
-mul-x : tie.Need-mul-x Inv-loop μ-loop
-mul-x c = omega (arith, c .before .before .before .before .before .pre .1 (c .before .before .loop .r) (c .before .loop-test .taken))
-
-array-copy-out-x : tie.Need-array-copy-out-x Inv-loop μ-loop
-array-copy-out-x c = omega (arith, c .before .before .before .before .before .pre .1 (c .before .before .loop .r) (c .before .loop-test .taken))
+table-at-requires : tie.Need-table-at-requires Inv-loop μ-loop
+table-at-requires c κs = search needs
 
 row-links-requires : tie.Need-row-links-requires Inv-loop μ-loop
 row-links-requires c κs = c .before .before .loop-test .taken
 
 returns : tie.Need-returns Inv-loop μ-loop
 unfolding distinct
-returns c = all-stop _ _ _ (c .before .before .before .before .loop-test .taken) (ap not (sym (c .before .row-links .ensures) ∙ c .if1 .taken))
+returns c =
+    all-stop _ _ _ (c .before .before .before .before .loop-test .taken)
+    (ap not (sym (rw (c .before .before .table-at .ensures) at (c .before .row-links .ensures)) ∙ c .if1 .taken))
 
 add-r : tie.Need-add-r Inv-loop μ-loop
 add-r c = omega arith
@@ -46,7 +46,11 @@ loop-less : tie.Need-loop-less Inv-loop μ-loop
 loop-less c = omega arith
 
 loop-again : tie.Need-loop-again Inv-loop μ-loop
-loop-again c = (omega arith, all-more _ _ (c .before .before .before .before .before .loop .inv .1) (ap not (sym (c .before .row-links .ensures) ∙ c .if1 .left)))
+loop-again c = (
+  omega arith,
+  all-more _ _ (c .before .before .before .before .before .loop .inv .1)
+      (ap not (sym (rw (c .before .before .table-at .ensures) at (c .before .row-links .ensures)) ∙ c .if1 .left)),
+)
 
 returns-2 : tie.Need-returns-2 Inv-loop μ-loop
 unfolding distinct
@@ -61,8 +65,7 @@ is-distinct-spec =
     loop-holds
     shared-slice-read-t
     cast-t
-    mul-x
-    array-copy-out-x
+    table-at-requires
     row-links-requires
     returns
     add-r

@@ -5,7 +5,7 @@ use borrow.Author.Needs.{needs}
 use Rattle.state.proofs.Arrays.{sized, held-sized}
 use Rattle.lawful.proofs.Asked.{sound-range, sound-marks, sound-tidy}
 use Rattle.cache.proofs.HeldRecord.{held-there, held-nowhere, without-is}
-use Rattle.cache.proofs.Steps.{drop-5, drop-9, drop-10, left-count, left-filling, left-covers, drop-load}
+use Rattle.cache.proofs.Steps.{drop-5, drop-9, drop-10, left-bounded, left-covers, drop-load}
 use Rattle.cache.proofs.dropping.drop_lawful.Statement.{statement}
 use Rattle.cache.proofs.dropping.drop_lawful.Tie as tie
 
@@ -52,8 +52,7 @@ mark-held-requires c κs =
       (
         sound-range _ (s .pre .0) (sized (s .args .design) _ (s .good .0)),
         sound-marks _ (s .pre .0),
-        left-count _ (s .pre .0) long _ (b .before .if1 .left) full is _ fewer,
-        left-filling _ (s .pre .0) long _ (b .before .if1 .left) full is _ fewer,
+        left-bounded _ (s .pre .0) long _ (b .before .if1 .left) full is _ fewer,
       ),
       (s .pre .1, left-covers _ (s .pre .0) long _ (b .before .if1 .left) full is _ fewer),
     )

@@ -11,7 +11,7 @@ rows-marked-requires c κs = search needs
 load-held-requires : tie.Need-load-held-requires
 load-held-requires c κs =
     let p = c .before .before .before .before .before .before .before .pre in
-    ((p .0 .0, p .0 .2, p .0 .3), (p .1 .0, within-count (c .before .rows-marked .ensures) (p .1 .1)))
+    ((p .0 .0, p .0 .2), (p .1 .0, within-count (c .before .rows-marked .ensures) (p .1 .1)))
 
 settle-requires : tie.Need-settle-requires
 settle-requires c κs = (c .before .before .before .before .before .before .before .before .before .before .pre .0 .1, c .before .before .load-held .ensures .long)

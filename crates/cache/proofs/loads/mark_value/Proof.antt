@@ -5,7 +5,7 @@ use mathlib.Core.List.{List}
 use borrow.Author.Needs.{needs}
 use lib.ListN.{length-replicate}
 use Rattle.model.specs.Rounds.{reached}
-use Rattle.cache.proofs.LoadLaws.{loaded-is, settled-is, value-is, value-long}
+use Rattle.cache.proofs.LoadLaws.{load-long, loaded-is, settled-is, value-is}
 use Rattle.cache.proofs.loads.mark_value.Statement.{statement}
 use Rattle.cache.proofs.loads.mark_value.Tie as tie
 
@@ -15,7 +15,7 @@ load-value-requires c κs =
     ((p .0 .0, p .0 .2, p .0 .3, p .0 .1, length-replicate {A = ℕ} 512 0), p .1)
 
 settle-requires : tie.Need-settle-requires
-settle-requires c κs = let s = c .before .before .before .before .before .before .before .before .before in (s .pre .0 .1, value-long (s .args .design) _ _ _ _ _ _ (c .before .before .load-value .ensures .0))
+settle-requires c κs = let s = c .before .before .before .before .before .before .before .before .before in (s .pre .0 .1, load-long (s .args .design) _ _ _ _ _ (c .before .before .load-value .ensures .0))
 
 same-length : tie.Need-same-length
 same-length c = search needs

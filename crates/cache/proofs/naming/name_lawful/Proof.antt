@@ -12,8 +12,8 @@ returns c =
 
 returns-2 : tie.Need-returns-2
 returns-2 c =
-    let s = c .before .before in
-    λ d cells tables marks e. name-desk (lent d cells tables marks (s .args .held)) e (held-sized (s .args .held) _ (s .good .0)) _ (c .before .if1 .left)
+    let s = c .before .before .before in
+    λ d cells tables marks e. name-desk (lent d cells tables marks (s .args .held)) e (held-sized (s .args .held) _ (s .good .0)) _ (c .before .before .if1 .left)
 
 pub name-lawful-spec : {M : Type 1} → statement M
 name-lawful-spec = tie.close (tie.spec returns returns-2)

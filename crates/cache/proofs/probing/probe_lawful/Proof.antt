@@ -3,7 +3,7 @@ use mathlib.Core.Path.{sym, _∙_}
 use borrow.Author.Needs.{needs}
 use borrow.Author.Tests.{not-true, not-false}
 use Rattle.state.proofs.Arrays.{sized, held-sized}
-use Rattle.lawful.proofs.Asked.{sound-range, sound-marks, sound-tidy, sound-filling, sound-table, sound-column}
+use Rattle.lawful.proofs.Asked.{sound-range, sound-marks, sound-bounded, sound-table, sound-column}
 use Rattle.cache.proofs.ProbeSteps.{probe-5, probe-9, probe-sent, probe-ground}
 use Rattle.cache.proofs.probing.probe_lawful.Statement.{statement}
 use Rattle.cache.proofs.probing.probe_lawful.Tie as tie
@@ -28,10 +28,9 @@ search-requires c κs =
       (
         sound-range _ (s .pre .0) (sized (s .args .design) _ (s .good .0)),
         sound-marks _ (s .pre .0),
-        sound-tidy _ (s .pre .0) .few,
+        sound-bounded _ (s .pre .0) (held-sized (s .args .held) _ (s .good .1 .1 .1 .1 .1 .1 .1 .1 .1 .0)),
         sound-table _ (s .pre .0) _ k,
         sound-column _ (s .pre .0) _ k,
-        sound-filling _ (s .pre .0) (held-sized (s .args .held) _ (s .good .1 .1 .1 .1 .1 .1 .1 .1 .1 .0)),
       ),
       s .pre .1,
     )

@@ -7,8 +7,8 @@ use Rattle.finite.proofs.Bools.{clash, refute, and-go, and-stop}
 use Rattle.state.specs.Lent.{lawful}
 use Rattle.state.proofs.Arrays.{sized, held-sized}
 use Rattle.lawful.proofs.DesignLaws.{in-range}
-use Rattle.lawful.proofs.HeldLaws.{held-count, held-filling}
-use Rattle.lawful.proofs.RowsLaws.{lawful-stand, stand-table}
+use Rattle.lawful.proofs.HeldLaws.{held-bounded}
+use Rattle.lawful.proofs.RowsLaws.{lawful-stand}
 use Rattle.lawful.proofs.SoundState.{held-unlawful}
 use Rattle.cache.proofs.DistinctLaws.{distinct-is}
 use Rattle.load.proofs.EndedLaws.{within-all}
@@ -48,15 +48,7 @@ build-requires c κs =
     (in-range (s .args .design) (sized (s .args .design) _ (s .good .0)) (sym (p .before .lawful-design .ensures) ∙ not-false _ (p .if1 .left)), s .pre .0)
 
 is-distinct-requires : tie.Need-is-distinct-requires
-is-distinct-requires c κs =
-    let r = c .before .before .before .before .before .before .before .before .before in
-    let p = r .before .before in
-    let s = p .before .before .before .before .before .before in
-    let d = sym (p .before .lawful-design .ensures) ∙ not-false _ (p .if1 .left) in (
-      s .pre .0 .members,
-      stand-table (s .args .design) _ _ (sym (r .before .rows-stand .ensures) ∙ not-false _ (r .if2 .left))
-          (in-range (s .args .design) (sized (s .args .design) _ (s .good .0)) d .tables),
-    )
+is-distinct-requires c κs = search needs
 
 returns-4 : tie.Need-returns-4
 unfolding lawful
@@ -82,8 +74,7 @@ load-held-requires c κs =
     let l = held-sized (s .args .held) _ (s .good .1 .1 .1 .1 .1 .1 .1 .1 .1 .1 .0) in (
       (
         in-range (s .args .design) (sized (s .args .design) _ (s .good .0)) d,
-        held-count (s .args .design) (s .args .held) h,
-        held-filling (s .args .design) (s .args .held) d h l,
+        held-bounded (s .args .design) (s .args .held) d h l,
       ),
       (g .build .ensures, within-all _ _ _),
     )

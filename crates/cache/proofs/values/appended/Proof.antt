@@ -15,7 +15,7 @@ add-count : tie.Need-add-count
 add-count c = search needs
 
 returns : tie.Need-returns
-returns c = append-is (c .before .args .held) (c .before .pre .0) (c .before .pre .1) (held-sized (c .before .args .held) _ (c .before .good .0)) _
+returns c = let s = c .before .before in append-is (s .args .held) (s .pre .0) (s .pre .1) (held-sized (s .args .held) _ (s .good .0)) _
 
 pub appended-spec : {M : Type 1} → statement M
 appended-spec = tie.close (tie.spec mul-values array-set-from-values add-count returns)

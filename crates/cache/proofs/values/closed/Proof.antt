@@ -20,7 +20,7 @@ abbrev μ-loop : tie.MeasureT-loop
 loop-holds : tie.Need-loop-holds Inv-loop μ-loop
 loop-holds c =
     let s = c .before in
-    (omega arith, omega (arith, s .pre .1), shift-start (s .args .held) _ (held-sized (s .args .held) _ (s .good .0)))
+    (omega arith, omega (arith, s .pre .1), shift-start (s .args .held) _ (held-sized (s .args .held) _ (s .good .0) .values))
 
 add-v : tie.Need-add-v Inv-loop μ-loop
 add-v c = omega arith
@@ -64,10 +64,10 @@ sub-count c = omega (arith, c .before .before .before .before .pre .0)
 
 returns : tie.Need-returns Inv-loop μ-loop
 returns c =
-    let s = c .before .before .before .before in
-    let v = c .before .before .loop .inv in
-    closed-is _ _ _ (shift-end (s .args .held) _ _ _ (v .2) (v .0) (held-sized (s .args .held) _ (s .good .0)) _
-    (omega (arith, v .1, c .before .loop-test .left), omega (arith, v .1, c .before .loop-test .left)))
+    let s = c .before .before .before .before .before in
+    let v = c .before .before .before .loop .inv in
+    closed-is _ _ _ (shift-end (s .args .held) _ _ _ (v .2) (v .0) (held-sized (s .args .held) _ (s .good .0) .values) _
+    (omega (arith, v .1, c .before .before .loop-test .left), omega (arith, v .1, c .before .before .loop-test .left)))
 
 pub closed-spec : {M : Type 1} → statement M
 closed-spec =
