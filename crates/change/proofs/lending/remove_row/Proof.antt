@@ -1,0 +1,64 @@
+-- `change::lending::remove_row` meets its contract: causes 7 and 12, then the change of a sound state. Assumes nothing.
+use mathlib.Core.Path.{sym, _∙_}
+use borrow.Author.Needs.{needs}
+use Rattle.state.specs.Changes.{remove}
+use Rattle.lawful.proofs.SoundState.{cause-none}
+use Rattle.change.proofs.LendingLaws.{refused-changes}
+use Rattle.change.proofs.lending.remove_row.Statement.{statement}
+use Rattle.change.proofs.lending.remove_row.Tie as tie
+
+cause-requires : tie.Need-cause-requires
+cause-requires c κs = search needs
+
+same-length : tie.Need-same-length
+same-length c = search needs
+
+same-length-2 : tie.Need-same-length-2
+same-length-2 c = search needs
+
+same-length-3 : tie.Need-same-length-3
+same-length-3 c = search needs
+
+same-length-4 : tie.Need-same-length-4
+same-length-4 c = search needs
+
+returns : tie.Need-returns
+returns c = let s = c .before .before .before .before .before .before .before .before .before .before .before .before .before .before .before in refused-changes _ (remove (s .args .r)) _ (c .before .cause .ensures .0) (c .if1 .taken)
+
+remove-lawful-requires : tie.Need-remove-lawful-requires
+remove-lawful-requires c κs =
+    let z = c .before .before .before .before .before .before .before .before .before .if1 .left in
+    let e = c .before .before .before .before .before .before .before .before .before .before .cause .ensures in
+    (cause-none _ (sym (e .0) ∙ z), e .1 z)
+
+same-length-5 : tie.Need-same-length-5
+same-length-5 c = search needs
+
+same-length-6 : tie.Need-same-length-6
+same-length-6 c = search needs
+
+same-length-7 : tie.Need-same-length-7
+same-length-7 c = search needs
+
+same-length-8 : tie.Need-same-length-8
+same-length-8 c = search needs
+
+returns-2 : tie.Need-returns-2
+returns-2 c = search needs
+
+pub remove-row-spec : {M : Type 1} → statement M
+remove-row-spec =
+    tie.close
+    (tie.spec
+    cause-requires
+    same-length
+    same-length-2
+    same-length-3
+    same-length-4
+    returns
+    remove-lawful-requires
+    same-length-5
+    same-length-6
+    same-length-7
+    same-length-8
+    returns-2)

@@ -1,0 +1,2 @@
+-- Replacing: what storing a row and loading anew answers and leaves.
+pub mod Replacing

@@ -1,0 +1,24 @@
+-- What the steps of a change that isn't refused answer and leave: the marks of a load from nothing, and a row stored before it. Assumes nothing.
+use Prim.Native.Nat.{ℕ}
+use mathlib.Core.Path.{_≡_}
+use mathlib.Core.List.{List, _++_}
+use lib.ListN.{drop}
+use Rattle.model.specs.Scheme.{Scheme}
+use Rattle.model.specs.Database.{Database}
+use Rattle.model.specs.Runs.{marks, cachedFor}
+use Rattle.model.specs.Answers.{Answer}
+use Rattle.state.specs.declared.held.Held.{Held}
+use Rattle.state.specs.declared.rows.Row.{Row}
+use Rattle.state.specs.Meaning.{holdingOf, cacheOf}
+use Rattle.state.specs.Lent.{State, scheme, cache}
+use Rattle.state.specs.Changes.{rows, tablesOf, stored, changedAnswer, changedWith}
+
+-- D are the tables as they now are: the marks m become m′, those of the smallest set, and a tells how many rows came and went
+pub record Remarked (S : Scheme) (D : Database) (h : Held) (m : List ℕ) (a : Answer) (m′ : List ℕ) : Type 0 where
+  pub answer : a ≡ changedAnswer S D (cacheOf h m)
+  pub marks : m′ ≡ marks D (cachedFor S D (holdingOf h)) ++ drop 512 m
+
+-- the same of a state s in which x is stored as row r
+pub record Replaced (s : State) (r : ℕ) (x : Row) (a : Answer) (s′ : State) : Type 0 where
+  pub answer : a ≡ changedAnswer (scheme s) (tablesOf (stored (rows s) r x)) (cache s)
+  pub state : s′ ≡ changedWith s (stored (rows s) r x)

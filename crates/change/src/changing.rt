@@ -1,0 +1,209 @@
+// Putting a row in and removing one, over a sound state with the catalog of its rows. A change that is refused costs its tests; any other makes the catalog
+// anew and loads all that is held from nothing.
+ghost use mathlib.Core.Bool.{true};
+ghost use mathlib.Core.Path.{_≡_};
+ghost use Prim.Native.Nat.{_≤_, _<_};
+ghost use lib.ListN.{length};
+ghost use Rattle.state.specs.Cells.{cellsIn};
+ghost use Rattle.state.specs.Design.{Backed, InRange};
+ghost use Rattle.state.specs.Held.{Bounded};
+ghost use Rattle.state.specs.Meaning.{answerOf, databaseOf, schemeOf};
+ghost use Rattle.state.specs.Lent.{lent, sound};
+ghost use Rattle.state.specs.Changes.{put, remove, Changed};
+ghost use Rattle.catalog.specs.Catalog.{Catalogued};
+ghost use Rattle.change.specs.Replacing.{Remarked, Replaced};
+use crate::causes::put_cause;
+use crate::causes::remove_cause;
+use crate::counting::rows_came;
+use crate::counting::rows_went;
+use crate::storing::free_row;
+use crate::storing::store_row;
+use catalog::build;
+use load::load_held;
+use load::settle;
+use state::Answer;
+use state::Design;
+use state::Held;
+use state::Row;
+
+// Marks the smallest set for the tables as they now are, and counts the rows that come and go. A load of all that is held from nothing, and three passes over
+// the marks.
+fn remark(
+    design: Design,
+    cells: &[u32],
+    issues: &[u8],
+    tables: &[u8],
+    next: &[u16; 4096],
+    first: &[u16; 8192],
+    keys: &[u64; 4096],
+    heads: &[u16; 4096],
+    starts: &[u16; 65],
+    marks: &mut [u8],
+    held: Held,
+) -> Answer
+    requires { ⌜ InRange design × Bounded held × (512 ≤ length (now marks)) ⌝ }
+    requires { ⌜ Catalogued design (cellsIn (now cells) (now issues)) (now tables) (now next) (now first) (now keys) (now heads) (now starts) ⌝ }
+    ensures { λ a. ⌜ Remarked (schemeOf design) (databaseOf (cellsIn (now (cells .entry)) (now (issues .entry))) (now (tables .entry))) held (now (marks .entry))
+        (answerOf a) (now (marks .exit)) ⌝ }
+{
+    let mut levels = [0u16; 512];
+    load_held(
+        design,
+        cells,
+        issues,
+        tables,
+        next,
+        first,
+        keys,
+        heads,
+        starts,
+        held,
+        Design::ROWS,
+        &mut levels,
+    );
+    let came = rows_came(marks, &levels);
+    let went = rows_went(marks, &levels);
+    settle(marks, &levels);
+    Answer::Changed(came, went)
+}
+
+// Stores x as row r, makes the catalog anew, and marks the smallest set.
+fn replace(
+    design: Design,
+    cells: &mut [u32],
+    issues: &mut [u8],
+    tables: &mut [u8],
+    next: &mut [u16; 4096],
+    first: &mut [u16; 8192],
+    keys: &mut [u64; 4096],
+    heads: &mut [u16; 4096],
+    starts: &mut [u16; 65],
+    marks: &mut [u8],
+    held: Held,
+    r: usize,
+    x: Row,
+) -> Answer
+    requires { ⌜ (r < 512) × InRange design × Bounded held × Backed (cellsIn (now cells) (now issues)) (now tables) × (512 ≤ length (now marks)) ⌝ }
+    ensures { λ a. ⌜ Replaced (lent design (cellsIn (now (cells .entry)) (now (issues .entry))) (now (tables .entry)) (now (marks .entry)) held)
+        r x (answerOf a)
+        (lent design (cellsIn (now (cells .exit)) (now (issues .exit))) (now (tables .exit)) (now (marks .exit)) held) ⌝ }
+    ensures { λ _. ⌜ Catalogued design (cellsIn (now (cells .exit)) (now (issues .exit))) (now (tables .exit)) (now (next .exit)) (now (first .exit))
+        (now (keys .exit)) (now (heads .exit)) (now (starts .exit)) ⌝ }
+{
+    store_row(cells, issues, tables, r, x);
+    build(
+        design,
+        cells,
+        issues,
+        tables,
+        next,
+        first,
+        keys,
+        heads,
+        starts,
+    );
+    remark(
+        design,
+        cells,
+        issues,
+        tables,
+        next,
+        first,
+        keys,
+        heads,
+        starts,
+        marks,
+        held,
+    )
+}
+
+// Puts the row x in at number r.
+pub fn put_lawful(
+    design: Design,
+    cells: &mut [u32],
+    issues: &mut [u8],
+    tables: &mut [u8],
+    next: &mut [u16; 4096],
+    first: &mut [u16; 8192],
+    keys: &mut [u64; 4096],
+    heads: &mut [u16; 4096],
+    starts: &mut [u16; 65],
+    marks: &mut [u8],
+    held: Held,
+    r: u16,
+    x: Row,
+) -> Answer
+    requires { ⌜ (sound (lent design (cellsIn (now cells) (now issues)) (now tables) (now marks) held) ≡ true)
+        × Catalogued design (cellsIn (now cells) (now issues)) (now tables) (now next) (now first) (now keys) (now heads) (now starts) ⌝ }
+    ensures { λ a. ⌜ Changed (lent design (cellsIn (now (cells .entry)) (now (issues .entry))) (now (tables .entry)) (now (marks .entry)) held)
+        (put r x) (answerOf a)
+        (lent design (cellsIn (now (cells .exit)) (now (issues .exit))) (now (tables .exit)) (now (marks .exit)) held) ⌝ }
+    ensures { λ _. ⌜ Catalogued design (cellsIn (now (cells .exit)) (now (issues .exit))) (now (tables .exit)) (now (next .exit)) (now (first .exit))
+        (now (keys .exit)) (now (heads .exit)) (now (starts .exit)) ⌝ }
+{
+    let n = r as usize;
+    let why = put_cause(design, tables, keys, heads, starts, n, x);
+    if why != 0 {
+        return Answer::Refused(why);
+    }
+    replace(
+        design,
+        cells,
+        issues,
+        tables,
+        next,
+        first,
+        keys,
+        heads,
+        starts,
+        marks,
+        held,
+        n,
+        x,
+    )
+}
+
+// Removes the row at number r.
+pub fn remove_lawful(
+    design: Design,
+    cells: &mut [u32],
+    issues: &mut [u8],
+    tables: &mut [u8],
+    next: &mut [u16; 4096],
+    first: &mut [u16; 8192],
+    keys: &mut [u64; 4096],
+    heads: &mut [u16; 4096],
+    starts: &mut [u16; 65],
+    marks: &mut [u8],
+    held: Held,
+    r: u16,
+) -> Answer
+    requires { ⌜ (sound (lent design (cellsIn (now cells) (now issues)) (now tables) (now marks) held) ≡ true)
+        × Catalogued design (cellsIn (now cells) (now issues)) (now tables) (now next) (now first) (now keys) (now heads) (now starts) ⌝ }
+    ensures { λ a. ⌜ Changed (lent design (cellsIn (now (cells .entry)) (now (issues .entry))) (now (tables .entry)) (now (marks .entry)) held)
+        (remove r) (answerOf a)
+        (lent design (cellsIn (now (cells .exit)) (now (issues .exit))) (now (tables .exit)) (now (marks .exit)) held) ⌝ }
+    ensures { λ _. ⌜ Catalogued design (cellsIn (now (cells .exit)) (now (issues .exit))) (now (tables .exit)) (now (next .exit)) (now (first .exit))
+        (now (keys .exit)) (now (heads .exit)) (now (starts .exit)) ⌝ }
+{
+    let n = r as usize;
+    let why = remove_cause(design, tables, n);
+    if why != 0 {
+        return Answer::Refused(why);
+    }
+    replace(
+        design,
+        cells,
+        issues,
+        tables,
+        next,
+        first,
+        keys,
+        heads,
+        starts,
+        marks,
+        held,
+        n,
+        free_row(),
+    )
+}

@@ -1,0 +1,117 @@
+// Putting a row in and removing one, for whatever is lent: causes 7 and 12 first. The test for cause 12 (one look at the design, at each cell and at all that
+// is held, the catalog, and a reload), then the cost of the change.
+ghost use Rattle.state.specs.Cells.{cellsIn};
+ghost use Rattle.state.specs.Meaning.{answerOf};
+ghost use Rattle.state.specs.Lent.{lent};
+ghost use Rattle.state.specs.Changes.{put, remove, Changed};
+use crate::changing::put_lawful;
+use crate::changing::remove_lawful;
+use cache::cause;
+use state::Answer;
+use state::Design;
+use state::Held;
+use state::Row;
+
+// Puts the row x in at number r.
+pub fn put_row(
+    design: Design,
+    cells: &mut [u32],
+    issues: &mut [u8],
+    tables: &mut [u8],
+    marks: &mut [u8],
+    held: Held,
+    r: u16,
+    x: Row,
+) -> Answer
+    ensures { λ a. ⌜ Changed (lent design (cellsIn (now (cells .entry)) (now (issues .entry))) (now (tables .entry)) (now (marks .entry)) held)
+        (put r x) (answerOf a)
+        (lent design (cellsIn (now (cells .exit)) (now (issues .exit))) (now (tables .exit)) (now (marks .exit)) held) ⌝ }
+{
+    let mut next = [512u16; 4096];
+    let mut first = [512u16; 8192];
+    let mut keys = [0u64; 4096];
+    let mut heads = [512u16; 4096];
+    let mut starts = [0u16; 65];
+    let why = cause(
+        design,
+        cells,
+        issues,
+        tables,
+        &mut next,
+        &mut first,
+        &mut keys,
+        &mut heads,
+        &mut starts,
+        marks,
+        held,
+    );
+    if why != 0 {
+        return Answer::Refused(why);
+    }
+    put_lawful(
+        design,
+        cells,
+        issues,
+        tables,
+        &mut next,
+        &mut first,
+        &mut keys,
+        &mut heads,
+        &mut starts,
+        marks,
+        held,
+        r,
+        x,
+    )
+}
+
+// Removes the row at number r.
+pub fn remove_row(
+    design: Design,
+    cells: &mut [u32],
+    issues: &mut [u8],
+    tables: &mut [u8],
+    marks: &mut [u8],
+    held: Held,
+    r: u16,
+) -> Answer
+    ensures { λ a. ⌜ Changed (lent design (cellsIn (now (cells .entry)) (now (issues .entry))) (now (tables .entry)) (now (marks .entry)) held)
+        (remove r) (answerOf a)
+        (lent design (cellsIn (now (cells .exit)) (now (issues .exit))) (now (tables .exit)) (now (marks .exit)) held) ⌝ }
+{
+    let mut next = [512u16; 4096];
+    let mut first = [512u16; 8192];
+    let mut keys = [0u64; 4096];
+    let mut heads = [512u16; 4096];
+    let mut starts = [0u16; 65];
+    let why = cause(
+        design,
+        cells,
+        issues,
+        tables,
+        &mut next,
+        &mut first,
+        &mut keys,
+        &mut heads,
+        &mut starts,
+        marks,
+        held,
+    );
+    if why != 0 {
+        return Answer::Refused(why);
+    }
+    remove_lawful(
+        design,
+        cells,
+        issues,
+        tables,
+        &mut next,
+        &mut first,
+        &mut keys,
+        &mut heads,
+        &mut starts,
+        marks,
+        held,
+        r,
+    )
+}
