@@ -1,6 +1,6 @@
 -- The load of the design with its constraints turned round is the load of the scheme with them turned round. Assumes nothing.
 use Prim.Native.Nat.{ℕ}
-use mathlib.Core.Path.{_≡_, refl, sym, ap, ap₂, subst, _∙_}
+use mathlib.Core.Path.{_≡_, refl, sym, ap, subst, _∙_}
 use mathlib.Core.Bool.{Bool, false}
 use mathlib.Core.List.{List}
 use lib.ListN.{length, getD}
@@ -15,33 +15,19 @@ use Rattle.state.specs.Cells.{Cells}
 use Rattle.state.specs.declared.design.Design.{Design}
 use Rattle.state.specs.Design.{InRange}
 use Rattle.state.specs.Meaning.{databaseOf, schemeOf}
-use Rattle.catalog.specs.Catalog.{Directory, nexts}
 use Rattle.opener.specs.Turning.{turnedDesign}
 use Rattle.opener.proofs.TurningLaws.{turned-scheme, turned-range}
 
 module _ (d t : Design) (e : t ≡ turnedDesign d) where
-  -- its rows are the same
-  same-rows : t .rows ≡ d .rows
-  unfolding turnedDesign
-  same-rows = ap (λ (x : Design). x .rows) e
-
-  module _ (cells : Cells) (tables : List ℕ) where
-    -- so the catalog's links by value and its directory serve it too
-    pub same-directory : (keys heads starts : List ℕ) → Directory (databaseOf (d .rows) cells tables) keys heads starts → Directory (databaseOf (t .rows) cells tables) keys heads starts
-    same-directory keys heads starts p = subst (λ (n : ℕ). Directory (databaseOf n cells tables) keys heads starts) (sym same-rows) p
-
-    pub same-nexts : (next : List ℕ) → next ≡ nexts (databaseOf (d .rows) cells tables) → next ≡ nexts (databaseOf (t .rows) cells tables)
-    same-nexts next p = subst (λ (n : ℕ). next ≡ nexts (databaseOf n cells tables)) (sym same-rows) p
-
   module _ (l : length (d .constraint) ≡ 16) where
     pub lead-range : InRange d → InRange t
     lead-range r = subst InRange (sym e) (turned-range d l r)
 
-    pub lead-load : (cells : Cells) (tables : List ℕ) (k : Column) (v : Cell) (seed : List Bool) (L : List ℕ) → seed ≡ tab 512 (gives (schemeOf d) (databaseOf (d .rows) cells tables) k v) →
-        L ≡ load (schemeOf t) (databaseOf (t .rows) cells tables) (λ _. false) (λ r. getD seed r false) →
-        L ≡ load (turned (schemeOf d)) (databaseOf (d .rows) cells tables) (λ _. false) (gives (schemeOf d) (databaseOf (d .rows) cells tables) k v)
+    pub lead-load : (cells : Cells) (tables : List ℕ) (k : Column) (v : Cell) (seed : List Bool) (L : List ℕ) → seed ≡ tab 512 (gives (schemeOf d) (databaseOf cells tables) k v) →
+        L ≡ load (schemeOf t) (databaseOf cells tables) (λ _. false) (λ r. getD seed r false) →
+        L ≡ load (turned (schemeOf d)) (databaseOf cells tables) (λ _. false) (gives (schemeOf d) (databaseOf cells tables) k v)
     unfolding databaseOf
     lead-load cells tables k v seed L s h =
-        h ∙ ap₂ (λ (S : Scheme) (n : ℕ). load S (databaseOf n cells tables) (λ _. false) (λ r. getD seed r false)) (ap schemeOf e ∙ turned-scheme d l) same-rows ∙
-        load-same (turned (schemeOf d)) (databaseOf (d .rows) cells tables) (λ _. false) (λ _. false) (λ r. getD seed r false) (gives (schemeOf d) (databaseOf (d .rows) cells tables) k v)
-        (λ r m. refl) (λ r m. ap (λ (xs : List Bool). getD xs r false) s ∙ tab-at false 512 (gives (schemeOf d) (databaseOf (d .rows) cells tables) k v) r m)
+        h ∙ ap (λ (S : Scheme). load S (databaseOf cells tables) (λ _. false) (λ r. getD seed r false)) (ap schemeOf e ∙ turned-scheme d l) ∙
+        load-same (turned (schemeOf d)) (databaseOf cells tables) (λ _. false) (λ _. false) (λ r. getD seed r false) (gives (schemeOf d) (databaseOf cells tables) k v)
+        (λ r m. refl) (λ r m. ap (λ (xs : List Bool). getD xs r false) s ∙ tab-at false 512 (gives (schemeOf d) (databaseOf cells tables) k v) r m)

@@ -17,10 +17,10 @@ use Rattle.opener.specs.Turning.{turnedConstraint, turnedDesign}
 
 -- the design made of turned constraints
 pub turned-made : (d : Design) (cs : List Constraint) → cs ≡ tab 16 (λ i. turnedConstraint (constraintAt d i)) →
-    _≡_ {A = Design} (record { tables = d .tables; table = d .table; constraints = d .constraints; constraint = cs; fillings = d .fillings; filling = d .filling; rows = d .rows }) (turnedDesign d)
+    _≡_ {A = Design} (record { tables = d .tables; table = d .table; constraints = d .constraints; constraint = cs; fillings = d .fillings; filling = d .filling }) (turnedDesign d)
 unfolding turnedDesign
 turned-made d cs e =
-    ap (λ (xs : List Constraint). record { tables = d .tables; table = d .table; constraints = d .constraints; constraint = xs; fillings = d .fillings; filling = d .filling; rows = d .rows }) e
+    ap (λ (xs : List Constraint). record { tables = d .tables; table = d .table; constraints = d .constraints; constraint = xs; fillings = d .fillings; filling = d .filling }) e
 
 module _ (d : Design) (l : length (d .constraint) ≡ 16) where
   -- constraint i, turned round
@@ -54,7 +54,6 @@ module _ (d : Design) (l : length (d .constraint) ≡ 16) where
         tables = r .tables;
         constraints = r .constraints;
         fillings = r .fillings;
-        rows = r .rows;
         source = λ i. subst (λ (j : Constraint). j .source .place < 8) (sym (turned-at i)) (r .target i);
         target = λ i. subst (λ (j : Constraint). j .target .place < 8) (sym (turned-at i)) (r .source i);
         column = r .column;

@@ -56,23 +56,23 @@ module _ (k : Column) (v : Cell) (F : Filling) where
   unfolding ownValue
   own-there h u e = e ∙ sym (ap (λ (b : Bool). cond (b && candidate F v) v blank) h)
 
-module _ (rows : ℕ) (cells : Cells) (tables : List ℕ) (B : RowSet) (F : Filling) (r : ℕ) (l : F .column .place < 8) where
+module _ (cells : Cells) (tables : List ℕ) (B : RowSet) (F : Filling) (r : ℕ) (l : F .column .place < 8) where
   abbrev there : Cell
-  there = databaseOf rows cells tables .cell r (F .column .place)
+  there = databaseOf cells tables .cell r (F .column .place)
 
-  pub value-unled : B r ≡ false → issued 0 0 ≡ valueIn (databaseOf rows cells tables) B F r
+  pub value-unled : B r ≡ false → issued 0 0 ≡ valueIn (databaseOf cells tables) B F r
   unfolding valueIn
   value-unled h = none-chosen _ there (and-left _ _ h)
 
-  pub value-elsewhere : (getD tables r 0 ≡ F .column .table → ⊥) → issued 0 0 ≡ valueIn (databaseOf rows cells tables) B F r
+  pub value-elsewhere : (getD tables r 0 ≡ F .column .table → ⊥) → issued 0 0 ≡ valueIn (databaseOf cells tables) B F r
   unfolding valueIn databaseOf
   value-elsewhere h = none-chosen _ there (and-right (B r) _ (and-left _ _ (ne-eqb _ _ h)))
 
   pub value-there : B r ≡ true → getD tables r 0 ≡ F .column .table → (x : State.Cell) → x ≡ cellAt cells r (F .column .place) → (u : Cell) →
-      u ≡ cond (candidate F (cellOf x)) (cellOf x) blank → u ≡ valueIn (databaseOf rows cells tables) B F r
+      u ≡ cond (candidate F (cellOf x)) (cellOf x) blank → u ≡ valueIn (databaseOf cells tables) B F r
   unfolding valueIn databaseOf
   value-there b t x e u h =
-      h ∙ ap (λ (w : Cell). cond (candidate F w) w blank) (ap (λ (y : State.Cell). cellOf y) e ∙ sym (cell-at rows cells tables r (F .column .place) l)) ∙
+      h ∙ ap (λ (w : Cell). cond (candidate F w) w blank) (ap (λ (y : State.Cell). cellOf y) e ∙ sym (cell-at cells tables r (F .column .place) l)) ∙
       sym (ap₂ (λ (p q : Bool). cond (p && (q && candidate F there)) there blank) b (eq-eqb _ _ t))
 
 -- ---- the lowest of many, value by value
@@ -81,9 +81,9 @@ pub lowest-more : (a : Cell) (n : ℕ) (f : ℕ → Cell) (m u w : Cell) → m �
 unfolding lowestOf
 lowest-more a n f m u w p q h = h ∙ ap₂ lower p q ∙ ap (λ (x : ℕ). lowestOf a x f) (sym (add-one n))
 
-pub lowest-end : (rows : ℕ) (cells : Cells) (tables : List ℕ) (B : RowSet) (k : Column) (v : Cell) (F : Filling) (a : Cell) (n : ℕ) (w : Cell) → a ≡ ownValue k v F →
-    n ≤ 512 → 512 ≤ n → w ≡ lowestOf a n (valueIn (databaseOf rows cells tables) B F) → w ≡ lowestValue (databaseOf rows cells tables) B k v F
+pub lowest-end : (cells : Cells) (tables : List ℕ) (B : RowSet) (k : Column) (v : Cell) (F : Filling) (a : Cell) (n : ℕ) (w : Cell) → a ≡ ownValue k v F →
+    n ≤ 512 → 512 ≤ n → w ≡ lowestOf a n (valueIn (databaseOf cells tables) B F) → w ≡ lowestValue (databaseOf cells tables) B k v F
 unfolding lowestValue databaseOf
-lowest-end rows cells tables B k v F a n w o s t h =
+lowest-end cells tables B k v F a n w o s t h =
     let e : n ≡ 512 = omega arith in
-    h ∙ ap₂ (λ (x : Cell) (y : ℕ). lowestOf x y (valueIn (databaseOf rows cells tables) B F)) o e
+    h ∙ ap₂ (λ (x : Cell) (y : ℕ). lowestOf x y (valueIn (databaseOf cells tables) B F)) o e

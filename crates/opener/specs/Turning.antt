@@ -16,5 +16,4 @@ turnedDesign d =
       constraint = tab 16 (λ i. turnedConstraint (constraintAt d i));
       fillings = d .fillings;
       filling = d .filling;
-      rows = d .rows;
     }

@@ -34,8 +34,8 @@ pub fn opener_lawful(
     v: Cell,
 ) -> Answer
     requires { ⌜ sound (lent design (cellsIn (now cells) (now issues)) (now tables) (now marks) held) ≡ true ⌝ }
-    requires { ⌜ (now next ≡ nexts (databaseOf (design .rows) (cellsIn (now cells) (now issues)) (now tables)))
-        × Directory (databaseOf (design .rows) (cellsIn (now cells) (now issues)) (now tables)) (now keys) (now heads) (now starts) ⌝ }
+    requires { ⌜ (now next ≡ nexts (databaseOf (cellsIn (now cells) (now issues)) (now tables)))
+        × Directory (databaseOf (cellsIn (now cells) (now issues)) (now tables)) (now keys) (now heads) (now starts) ⌝ }
     ensures { λ a. ⌜ answerOf a ≡ answerAt (lent design (cellsIn (now (cells .entry)) (now (issues .entry))) (now (tables .entry)) (now (marks .entry)) held)
         (Runs.ask (Runs.opener (columnOf k) (cellOf v))) ⌝ }
 {

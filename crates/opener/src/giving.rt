@@ -19,7 +19,6 @@ use state::same_column;
 
 // Whether the constraint ends at the column and row r has the value in its source column. Constant time.
 fn is_source_of(
-    rows: usize,
     cells: &[u32],
     issues: &[u8],
     tables: &[u8],
@@ -30,14 +29,14 @@ fn is_source_of(
 ) -> bool
     requires { ⌜ (r < 512) × (j .source .place < 8) × Backed (cellsIn (now cells) (now issues)) (now tables) ⌝ }
     ensures { λ b. ⌜ b ≡ sameColumn (constraintOf j .target) (columnOf k)
-        && has (databaseOf rows (cellsIn (now (cells .entry)) (now (issues .entry))) (now (tables .entry))) (constraintOf j .source) (cellOf v) r ⌝ }
+        && has (databaseOf (cellsIn (now (cells .entry)) (now (issues .entry))) (now (tables .entry))) (constraintOf j .source) (cellOf v) r ⌝ }
 {
     let target = j.target;
     if !same_column(target, k) {
         return false;
     }
     let source = j.source;
-    row_has(rows, cells, issues, tables, source, v, r)
+    row_has(cells, issues, tables, source, v, r)
 }
 
 // Whether row r would be ground 2. One step for each constraint.
@@ -52,7 +51,7 @@ fn is_source(
 ) -> bool
     requires { ⌜ InRange d × (r < 512) × Backed (cellsIn (now cells) (now issues)) (now tables) ⌝ }
     ensures { λ b. ⌜ b ≡ any (d .constraints) (λ i. sameColumn (constraintOf (constraintAt d i) .target) (columnOf k)
-        && has (databaseOf (d .rows) (cellsIn (now (cells .entry)) (now (issues .entry))) (now (tables .entry)))
+        && has (databaseOf (cellsIn (now (cells .entry)) (now (issues .entry))) (now (tables .entry)))
         (constraintOf (constraintAt d i) .source) (cellOf v) r) ⌝ }
 {
     let n = d.constraints;
@@ -60,7 +59,7 @@ fn is_source(
     let constraint = d.constraint;
     for i in 0..n {
         let j = constraint[i];
-        if is_source_of(d.rows, cells, issues, tables, j, k, v, r) {
+        if is_source_of(cells, issues, tables, j, k, v, r) {
             return true;
         }
     }
@@ -78,7 +77,7 @@ fn gives(
     r: usize,
 ) -> bool
     requires { ⌜ InRange d × (r < 512) × (k .table < 8) × (k .place < 8) × Backed (cellsIn (now cells) (now issues)) (now tables) ⌝ }
-    ensures { λ b. ⌜ b ≡ Turned.gives (schemeOf d) (databaseOf (d .rows) (cellsIn (now (cells .entry)) (now (issues .entry))) (now (tables .entry)))
+    ensures { λ b. ⌜ b ≡ Turned.gives (schemeOf d) (databaseOf (cellsIn (now (cells .entry)) (now (issues .entry))) (now (tables .entry)))
         (columnOf k) (cellOf v) r ⌝ }
 {
     if is_source(d, cells, issues, tables, k, v, r) {
@@ -87,7 +86,7 @@ fn gives(
     if !is_unique(d, k) {
         return false;
     }
-    row_has(d.rows, cells, issues, tables, k, v, r)
+    row_has(cells, issues, tables, k, v, r)
 }
 
 // The rows that would, whatever stood in the array. One step for each row number and constraint.
@@ -102,7 +101,7 @@ pub(crate) fn giving_rows(
 )
     requires { ⌜ InRange d × (k .table < 8) × (k .place < 8) × Backed (cellsIn (now cells) (now issues)) (now tables) ⌝ }
     ensures { λ _. ⌜ now (seed .exit) ≡ tab 512 (Turned.gives (schemeOf d)
-        (databaseOf (d .rows) (cellsIn (now (cells .entry)) (now (issues .entry))) (now (tables .entry))) (columnOf k) (cellOf v)) ⌝ }
+        (databaseOf (cellsIn (now (cells .entry)) (now (issues .entry))) (now (tables .entry))) (columnOf k) (cellOf v)) ⌝ }
 {
     *seed = [false; 512];
     for r in 0..Design::ROWS {

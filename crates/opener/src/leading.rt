@@ -32,11 +32,11 @@ pub(crate) fn leading_rows(
     levels: &mut [u16; 512],
 )
     requires { ⌜ InRange d × (k .table < 8) × (k .place < 8) × Backed (cellsIn (now cells) (now issues)) (now tables) ⌝ }
-    requires { ⌜ (now next ≡ nexts (databaseOf (d .rows) (cellsIn (now cells) (now issues)) (now tables)))
-        × Directory (databaseOf (d .rows) (cellsIn (now cells) (now issues)) (now tables)) (now keys) (now heads) (now starts) ⌝ }
+    requires { ⌜ (now next ≡ nexts (databaseOf (cellsIn (now cells) (now issues)) (now tables)))
+        × Directory (databaseOf (cellsIn (now cells) (now issues)) (now tables)) (now keys) (now heads) (now starts) ⌝ }
     ensures { λ _. ⌜ now (levels .exit) ≡ Rounds.load (Turned.turned (schemeOf d))
-        (databaseOf (d .rows) (cellsIn (now (cells .entry)) (now (issues .entry))) (now (tables .entry))) (λ _. false)
-        (Turned.gives (schemeOf d) (databaseOf (d .rows) (cellsIn (now (cells .entry)) (now (issues .entry))) (now (tables .entry)))
+        (databaseOf (cellsIn (now (cells .entry)) (now (issues .entry))) (now (tables .entry))) (λ _. false)
+        (Turned.gives (schemeOf d) (databaseOf (cellsIn (now (cells .entry)) (now (issues .entry))) (now (tables .entry)))
         (columnOf k) (cellOf v)) ⌝ }
 {
     let t = turned(d);

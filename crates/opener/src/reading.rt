@@ -1,7 +1,7 @@
 // The lowest value that would open a query, read off the levels of the load along the constraints turned round.
 ghost use mathlib.Core.Path.{_≡_};
 ghost use mathlib.Core.Bool.{cond};
-ghost use Prim.Native.Nat.{ℕ, _<_};
+ghost use Prim.Native.Nat.{_<_};
 ghost use Rattle.model.specs.Cell.{blank};
 ghost use Rattle.model.specs.Rounds.{reached};
 ghost use Rattle.model.specs.Scheme.{candidate};
@@ -83,8 +83,8 @@ fn value_in(
     r: usize,
 ) -> Cell
     requires { ⌜ (r < 512) × (f .column .place < 8) × Backed (cellsIn (now cells) (now issues)) (now tables) ⌝ }
-    ensures { λ w. ⌜ ((rows : ℕ) → cellOf w ≡ Reading.valueIn (databaseOf rows (cellsIn (now (cells .entry)) (now (issues .entry))) (now (tables .entry)))
-        (reached (now (levels .entry))) (fillingOf f) r) ⌝ }
+    ensures { λ w. ⌜ cellOf w ≡ Reading.valueIn (databaseOf (cellsIn (now (cells .entry)) (now (issues .entry))) (now (tables .entry)))
+        (reached (now (levels .entry))) (fillingOf f) r ⌝ }
 {
     let none = Cell {
         number: 0,
@@ -112,8 +112,8 @@ fn lowest_value(
     v: Cell,
 ) -> Cell
     requires { ⌜ (f .column .place < 8) × Backed (cellsIn (now cells) (now issues)) (now tables) ⌝ }
-    ensures { λ w. ⌜ ((rows : ℕ) → cellOf w ≡ Reading.lowestValue (databaseOf rows (cellsIn (now (cells .entry)) (now (issues .entry)))
-        (now (tables .entry))) (reached (now (levels .entry))) (columnOf k) (cellOf v) (fillingOf f)) ⌝ }
+    ensures { λ w. ⌜ cellOf w ≡ Reading.lowestValue (databaseOf (cellsIn (now (cells .entry)) (now (issues .entry)))
+        (now (tables .entry))) (reached (now (levels .entry))) (columnOf k) (cellOf v) (fillingOf f) ⌝ }
 {
     let mut w = own_value(f, k, v);
     for r in 0..Design::ROWS {
@@ -134,7 +134,7 @@ pub(crate) fn lowest_opener(
     v: Cell,
 ) -> Answer
     requires { ⌜ InRange d × Backed (cellsIn (now cells) (now issues)) (now tables) ⌝ }
-    ensures { λ a. ⌜ answerOf a ≡ Reading.reading (schemeOf d) (databaseOf (d .rows) (cellsIn (now (cells .entry)) (now (issues .entry)))
+    ensures { λ a. ⌜ answerOf a ≡ Reading.reading (schemeOf d) (databaseOf (cellsIn (now (cells .entry)) (now (issues .entry)))
         (now (tables .entry))) (reached (now (levels .entry))) (columnOf k) (cellOf v) ⌝ }
 {
     let n = d.fillings;

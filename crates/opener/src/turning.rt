@@ -31,6 +31,5 @@ pub(crate) fn turned(d: Design) -> Design
         constraint,
         fillings: d.fillings,
         filling,
-        rows: d.rows,
     }
 }

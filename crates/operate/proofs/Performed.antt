@@ -1,18 +1,19 @@
--- From what the functions of the operations give to what any operation gives: those that ask change nothing, REFER, DROP and the naming of a desk write
--- no words, and a reason alone writes text. (QUERY: QueryCases.) Assumes nothing.
-use Prim.Native.Nat.{ℕ, _+_}
+-- From what the functions of the operations give to what any operation gives: those that ask change nothing, REFER, DROP, the naming of a desk, and holding
+-- and dropping a range write no words, and a reason alone writes text. (QUERY: QueryCases.) Assumes nothing.
+use Prim.Native.Nat.{ℕ}
 use mathlib.Core.Path.{_≡_, refl, sym, ap, _∙_}
 use mathlib.Core.Bool.{true}
 use mathlib.Core.List.{List, []}
-use lib.ListN.{length}
 use lib.Seq.{sets}
+use Rattle.model.specs.Ranges.{Range}
 use Rattle.model.specs.Holding.{Pair}
 use Rattle.model.specs.Query.{Query}
-use Rattle.model.specs.Runs.{Question, evenness, smallestKnot, Output, Operation, refer, drop, ask, query, name, cacheAfter}
+use Rattle.model.specs.Runs.{Question, evenness, smallestKnot, Output, Operation, refer, drop, ask, query, name, referRange, dropRange, cacheAfter}
 use Rattle.model.specs.Answers.{Answer, refused, evenAnswer, knotAnswer, questionAnswer, questionText, answer, written, textOf}
 use Rattle.state.specs.declared.operation.Operation as State-operation
 use Rattle.state.specs.Meaning.{operationOf}
 use Rattle.state.specs.Lent.{State, cache, scheme, database, sound, causeAt, answerAt, wordsAt, textAt, Answered, Worded, Performed}
+use Rattle.state.proofs.Arrays.{HeldSized}
 use Rattle.lawful.proofs.SoundState.{after, answer-at, unchanged, words-at, text-at, cause-answer, cause-state, cause-words, cause-text}
 
 -- ---- a state known sound
@@ -38,13 +39,21 @@ module _ (s : State) (e : sound s ≡ true) (w t : List ℕ) where
   unfolding written textOf
   name-performs d a s′ h = record { answered = h; words = wordless (name d) refl; text = textless s e t (name d) refl }
 
+  pub range-performs : (r : Range) (a : Answer) (s′ : State) → Answered s (referRange r) a s′ → Performed s w t (referRange r) a s′ w t
+  unfolding written textOf
+  range-performs r a s′ h = record { answered = h; words = wordless (referRange r) refl; text = textless s e t (referRange r) refl }
+
+  pub drop-range-performs : (r : Range) (a : Answer) (s′ : State) → Answered s (dropRange r) a s′ → Performed s w t (dropRange r) a s′ w t
+  unfolding written textOf
+  drop-range-performs r a s′ h = record { answered = h; words = wordless (dropRange r) refl; text = textless s e t (dropRange r) refl }
+
   pub query-performs : (q : Query) (out : Output) (a : Answer) (s′ : State) (w′ : List ℕ) → Worded s w (query q out) a s′ w′ →
       Performed s w t (query q out) a s′ w′ t
   unfolding textOf
   query-performs q out a s′ w′ h = record { answered = h .answered; words = h .words; text = textless s e t (query q out) refl }
 
-  -- a record of held values has 64 places, as its type says
-  module _ (places : length (s .held .values) ≡ 64) where
+  -- a held record has as many places as its type says
+  module _ (places : HeldSized (s .held)) where
     -- an operation that leaves the cache as it was, once its answer is given
     asked : (o : Operation) → after s o ≡ cache s → (a : Answer) → a ≡ answerAt s o → Answered s o a s
     asked o k a h = record { answer = h; state = sym (unchanged s e o places k) }

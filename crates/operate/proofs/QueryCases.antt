@@ -6,8 +6,7 @@ use mathlib.Core.Path.{_≡_, refl, sym, ap, _∙_}
 use mathlib.Core.Bool.{Bool, true, false, not, _||_}
 use mathlib.Core.List.{List, [], _++_}
 use borrow.Author.Tests.{eq-eqb, ne-eqb, not-true, not-false}
-use lib.Dec.{eqb}
-use lib.ListN.{length, drop as past}
+use lib.ListN.{drop as past}
 use lib.Seq.{sets}
 use Rattle.finite.proofs.Bools.{both}
 use Rattle.model.specs.Cell.{numberless}
@@ -20,7 +19,8 @@ use Rattle.model.proofs.Referring.{refused-keeps, ground-keeps, untaken-keeps, 
 use Rattle.state.specs.declared.held.Held.{Held}
 use Rattle.state.specs.Meaning.{heldOf}
 use Rattle.state.specs.Lent.{State, lent, scheme, database, cache, sound, answerAt, wordsAt, Worded}
-use Rattle.lawful.proofs.SoundState.{after, answer-at, held-after, marks-after, words-at, unchanged}
+use Rattle.state.proofs.Arrays.{HeldSized}
+use Rattle.lawful.proofs.SoundState.{answer-at, held-after, marks-after, words-at, unchanged}
 use Rattle.query.specs.Lists.{listedAnswer}
 use Rattle.operate.specs.Queries.{drawn, Drawn}
 
@@ -45,8 +45,8 @@ drawn-refused S D q out = ap isRefusal (drawn-full S D q out) ∙ go (withinLimi
     go true = full-unrefused S D q out
     go false = eq-eqb 7 7 refl
 
--- a record of held values has 64 places, as its type says
-module _ (s : State) (e : sound s ≡ true) (places : length (s .held .values) ≡ 64) (w : List ℕ) (q : Query) (out : Output) where
+-- a held record has as many places as its type says
+module _ (s : State) (e : sound s ≡ true) (places : HeldSized (s .held)) (w : List ℕ) (q : Query) (out : Output) where
   abbrev op : Operation
   op = query q out
 

@@ -2,9 +2,8 @@
 use Prim.Native.Nat.{ℕ, _≤_}
 use native.Mathlib.Omega.{arith}
 use mathlib.Core.Path.{_≡_, sym, ap, _∙_}
-use mathlib.Core.Bool.{Bool, true, false}
+use mathlib.Core.Bool.{true, false}
 use mathlib.Core.List.{List}
-use lib.ListN.{length}
 use Rattle.model.specs.Cell.{numberless}
 use Rattle.model.specs.Holding.{Pair}
 use Rattle.model.specs.Runs.{Output, query, taken, fillingFor, pairFor, outputFits}
@@ -14,6 +13,7 @@ use Rattle.model.proofs.Demand2.{fits-operands}
 use Rattle.state.specs.declared.operation.Query.{Query}
 use Rattle.state.specs.Meaning.{cellOf, columnOf, holdingOf, queryOf, schemeOf}
 use Rattle.state.specs.Lent.{State, scheme, database, cache, sound, Worded}
+use Rattle.state.proofs.Arrays.{HeldSized}
 use Rattle.lawful.proofs.RowsLaws.{Stored}
 use Rattle.lawful.proofs.Asked.{sound-fillings}
 use Rattle.query.proofs.MarkedRows.{markedLists}
@@ -32,7 +32,7 @@ module _ (s : State) (e : sound s ≡ true) (w : List ℕ) (q : Query) (out : Ou
   is-ground : g ≡ queryGround (scheme s) (database s) (cache s) (queryOf q)
   is-ground = found ∙ ground-of s q
 
-  pub step-drawn : length (s .held .values) ≡ 64 → Stored (s .cells) → (g ≡ 0 → ⊥) → (w′ : List ℕ) (a : Answer) →
+  pub step-drawn : HeldSized (s .held) → Stored (s .cells) → (g ≡ 0 → ⊥) → (w′ : List ℕ) (a : Answer) →
       Drawn (database s) (markedLists (s .design) (s .cells) (s .tables) (s .marks) q) out w w′ a → Worded s w (query (queryOf q) out) a s w′
   step-drawn places u n w′ a l =
       query-ground s e places w (queryOf q) out fit full (λ z. n (is-ground ∙ z)) w′ a (sound-lists s e q (fits-operands (scheme s) (queryOf q) out fit) u (λ z. n (is-ground ∙ z)) out w w′ a l)
@@ -45,7 +45,7 @@ module _ (s : State) (e : sound s ≡ true) (w : List ℕ) (q : Query) (out : Ou
     is-pair : pair ≡ pairFor (scheme s) (queryOf q)
     is-pair = ap (λ (n : ℕ). record { filling = n; value = cellOf (q .value) }) filling
 
-    pub step-sent : length (s .held .values) ≡ 64 → taken (scheme s) (holdingOf (s .held)) pair ≡ false → Worded s w (query (queryOf q) out) sent s w
+    pub step-sent : HeldSized (s .held) → taken (scheme s) (holdingOf (s .held)) pair ≡ false → Worded s w (query (queryOf q) out) sent s w
     step-sent places t =
         query-sent s e places w (queryOf q) out fit full (sym is-ground ∙ z) (ap (taken (scheme s) (holdingOf (s .held))) (sym is-pair) ∙ t)
 

@@ -1,8 +1,8 @@
 -- A query that is referred first: what the code does with its copy of the marks is what the query does. Assumes nothing.
-use Prim.Native.Nat.{ℕ, _≤_}
+use Prim.Native.Nat.{ℕ}
 use native.Mathlib.Omega.{arith}
 use mathlib.Core.Path.{_≡_, sym, ap, subst, _∙_}
-use mathlib.Core.Bool.{Bool, true, false}
+use mathlib.Core.Bool.{true, false}
 use mathlib.Core.List.{List, [], _++_}
 use lib.ListN.{length, take, drop as past}
 use Rattle.model.specs.Holding.{Pair}
@@ -16,6 +16,7 @@ use Rattle.state.specs.declared.held.Held.{Held}
 use Rattle.state.specs.declared.operation.Query.{Query}
 use Rattle.state.specs.Meaning.{databaseOf, pairOf, queryOf}
 use Rattle.state.specs.Lent.{State, lent, scheme, database, cache, sound, Answered, Worded}
+use Rattle.state.proofs.Arrays.{HeldSized}
 use Rattle.lawful.proofs.RowsLaws.{Stored}
 use Rattle.query.proofs.MarkedRows.{markedLists}
 use Rattle.operate.specs.Queries.{Drawn, Referring}
@@ -57,11 +58,11 @@ module _ (s : State) (e : sound s ≡ true) (x c : List ℕ) (none : x ≡ []) (
           (ap (λ (x : List ℕ). markedLists (s .design) (s .cells) (s .tables) x q) marks-are ∙ referred-lists s e u (queryOf q) (fits-operands (scheme s) (queryOf q) out (r .fit)) (r .full) takes)
           lists
 
-      -- a record of held values has 64 places, as its type says
-      pub left-alone : length (s .held .values) ≡ 64 → isRefusal a ≡ true → Worded s w (query (queryOf q) out) a s w′
+      -- a held record has as many places as its type says
+      pub left-alone : HeldSized (s .held) → isRefusal a ≡ true → Worded s w (query (queryOf q) out) a s w′
       left-alone places f = query-past-limit s e places w (queryOf q) out (r .fit) (r .full) (r .groundless) takes w′ a all-lists f
 
-      pub taken-over : length (s .held .values) ≡ 64 → isRefusal a ≡ false → (n : List ℕ) → n ≡ m ++ past 512 (s .marks) →
+      pub taken-over : HeldSized (s .held) → isRefusal a ≡ false → (n : List ℕ) → n ≡ m ++ past 512 (s .marks) →
           Worded s w (query (queryOf q) out) a (lent (s .design) (s .cells) (s .tables) n h) w′
       taken-over places f n k =
           query-referred s e places w (queryOf q) out (r .fit) (r .full) (r .groundless) takes w′ a all-lists f n h

@@ -62,8 +62,8 @@ pub(crate) fn draw(
     requires { ⌜ InRange d × (q .column .place < 8) × Backed (cellsIn (now cells) (now issues)) (now tables)
         × Catalogued d (cellsIn (now cells) (now issues)) (now tables) (now next) (now first) (now keys) (now heads) (now starts) × (512 ≤ length (now marks)) ⌝ }
     requires { ⌜ (lawfulDesign d ≡ true) × (outputFits (schemeOf d) (queryOf q) (outputOf output (length (now words))) ≡ true) ⌝ }
-    ensures { λ a. ⌜ Drawn (databaseOf (d .rows) (cellsIn (now (cells .entry)) (now (issues .entry))) (now (tables .entry)))
-        (fitting (schemeOf d) (databaseOf (d .rows) (cellsIn (now (cells .entry)) (now (issues .entry))) (now (tables .entry))) (marked (now (marks .entry)))
+    ensures { λ a. ⌜ Drawn (databaseOf (cellsIn (now (cells .entry)) (now (issues .entry))) (now (tables .entry)))
+        (fitting (schemeOf d) (databaseOf (cellsIn (now (cells .entry)) (now (issues .entry))) (now (tables .entry))) (marked (now (marks .entry)))
         (columnOf (q .column)) (cellOf (q .value)) (joinsOf (queryOf q)))
         (outputOf output (length (now (words .entry)))) (now (words .entry)) (now (words .exit)) (answerOf a) ⌝ }
 {

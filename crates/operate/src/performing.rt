@@ -11,9 +11,11 @@ use crate::querying::query_lawful;
 use cache::Outcome;
 use cache::cause;
 use cache::drop_lawful;
+use cache::drop_range_lawful;
 use cache::name_lawful;
 use cache::probe_lawful;
 use cache::refer_lawful;
+use cache::refer_range_lawful;
 use even::evenness;
 use even::smallest_knot;
 use opener::opener_lawful;
@@ -24,11 +26,11 @@ use state::Held;
 use state::Operation;
 
 // The operation on a state known sound, with the catalog of its rows: no test for causes 7 and 12. The last four arrays are working memory, whatever
-// stands in them. REFER costs one load, DROP one reload, PROBE a look for the value for each constraint that ends at the column, QUERY the probe of
-// its first position, a load if that has no ground and its value is taken, the counting of its lists and the writing of their words, and a total the same
-// with two sums by weights in place of the lists. Naming a desk costs a copy of the held values. The value that would open a query costs its probe and,
-// without a ground, a search of the directory for each constraint and row, one load, and a pass over the rows for each filling; a reason a reload and its
-// own links.
+// stands in them. REFER and the holding of a range cost one load, DROP and the dropping of a range one reload, PROBE a look for the value for each constraint that
+// ends at the column, QUERY the probe of its first position, a load if that has no ground and its value is taken, the counting of its lists and the writing of
+// their words, and a total the same with two sums by weights in place of the lists. Naming a desk costs a copy of what is held. The value that would open a
+// query costs its probe and, without a ground, a search of the directory for each constraint and row, one load, and a pass over the rows for each filling; a
+// reason a reload and its own links.
 pub fn perform_lawful(
     op: Operation,
     design: Design,
@@ -190,6 +192,34 @@ pub fn perform_lawful(
             );
             Outcome { held, answer }
         }
+        Operation::ReferRange(r) => refer_range_lawful(
+            design,
+            cells,
+            issues,
+            tables,
+            next,
+            first,
+            keys,
+            heads,
+            starts,
+            marks,
+            held,
+            r,
+        ),
+        Operation::DropRange(r) => drop_range_lawful(
+            design,
+            cells,
+            issues,
+            tables,
+            next,
+            first,
+            keys,
+            heads,
+            starts,
+            marks,
+            held,
+            r,
+        ),
     }
 }
 

@@ -1,4 +1,4 @@
--- LinkLaws: looking for a link. PassedLaws: values that have been walked. LowestLaws: the lowest held value. WordingLaws: how long links are, and a chain's text in
+-- LinkLaws: looking for a link. PassedLaws: values that have been walked. LowestLaws: the lowest of what is held. WordingLaws: how long links are, and a chain's text in
 -- parts. Composing: a sentence, link by link. Replying: the answer and the text.
 pub mod LinkLaws
 pub mod PassedLaws

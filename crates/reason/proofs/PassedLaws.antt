@@ -26,9 +26,9 @@ use Rattle.reason.specs.Walked.{Near, Passed, Searched}
 use Rattle.reason.proofs.LinkLaws.{source-near}
 
 -- there are 512 row numbers
-pub rows-numbered : (rows : ℕ) (cells : Cells) (tables : List ℕ) → databaseOf rows cells tables .size ≡ 512
+pub rows-numbered : (cells : Cells) (tables : List ℕ) → databaseOf cells tables .size ≡ 512
 unfolding databaseOf
-rows-numbered rows cells tables = refl
+rows-numbered cells tables = refl
 
 module _ (D : Database) (L : List ℕ) where
   pub passed-none : (l : ℕ) → Passed D L l (replicate 4096 false)

@@ -34,9 +34,9 @@ replied s e q w a t w′ h f =
     (sym (h .answer) ∙ sym (answer-at s e (ask q)), f ∙ ap (sets w 0) (sym (text-at s e (ask q) ∙ h .text)))
 
 -- a number past the rows names nothing
-past-dead : (rows : ℕ) (cells : Cells) (tables : List ℕ) (r : ℕ) → 512 ≤ r → databaseOf rows cells tables .live r ≡ false
+past-dead : (cells : Cells) (tables : List ℕ) (r : ℕ) → 512 ≤ r → databaseOf cells tables .live r ≡ false
 unfolding databaseOf
-past-dead rows cells tables r h = and-left _ _ (le-ltb r 512 h)
+past-dead cells tables r h = and-left _ _ (le-ltb r 512 h)
 
 module _ (s : State) (e : sound s ≡ true) (r : ℕ) where
   mark-at : r < 512 → getD (take 512 (s .marks)) r 0 ≡ getD (s .marks) r 0
@@ -55,7 +55,7 @@ module _ (s : State) (e : sound s ≡ true) (r : ℕ) where
 
   module _ (w : List ℕ) where
     pub reply-past : 512 ≤ r → Replied s (reason r (length w)) w (refused 5) w
-    reply-past h = replied s e _ w _ [] w (reason-unnamed (scheme s) (database s) (cache s) r (length w) (past-dead _ _ _ r h)) refl
+    reply-past h = replied s e _ w _ [] w (reason-unnamed (scheme s) (database s) (cache s) r (length w) (past-dead _ _ r h)) refl
 
     pub reply-unnamed : database s .live r ≡ false → Replied s (reason r (length w)) w (refused 5) w
     reply-unnamed h = replied s e _ w _ [] w (reason-unnamed (scheme s) (database s) (cache s) r (length w) h) refl

@@ -12,12 +12,14 @@ use Rattle.finite.specs.Decimal.{spaced}
 use Rattle.finite.specs.Writing.{Wrote}
 use Rattle.finite.proofs.Bools.{cond-true, cond-false, same-number}
 use Rattle.finite.proofs.Decimals.{decimal-short, decimal-within}
-use Rattle.finite.proofs.Writing.{reach}
+use Rattle.finite.proofs.Writing.{reach, wrote-as}
 use Rattle.model.specs.Scheme.{Scheme}
 use Rattle.model.specs.Database.{Database}
-use Rattle.model.specs.Reason.{Origin, lastConstraint, lastRow, chainBy}
+use Rattle.model.specs.Reason.{Origin, byValue, byRange, lastConstraint, lastRow, chainBy}
 use Rattle.model.specs.Sentence.{issue-word, issueText, cellText, linkText, originText, chainText}
+use Rattle.reason.specs.declared.lowest.Origin as Declared
 use Rattle.reason.specs.Links.{rootBy, linksText}
+use Rattle.reason.specs.Lowest.{originOf}
 
 -- ---- lengths
 
@@ -46,10 +48,17 @@ issue-short k = ⊎-elim
 pub issue-reach : (o o′ : List ℕ) (n z k : ℕ) → Wrote o o′ n z (issueText k) → z ≤ n + 27
 issue-reach o o′ n z k = reach o o′ n z (issueText k) 27 (issue-short k)
 
-pub origin-reach : (o o′ : List ℕ) (n z : ℕ) (q : Origin) → Wrote o o′ n z (originText q) → z ≤ n + 89
+origin-short : (q : Origin) → length (originText q) ≤ 89
 unfolding originText cellText
-origin-reach o o′ n z q = reach o o′ n z (originText q) 89
-    (simp length-append (omega (arith, decimal-short (q .value .number), issue-short (q .value .issue), decimal-short (q .filling))))
+origin-short (byValue p) = simp length-append (omega (arith, decimal-short (p .value .number), issue-short (p .value .issue), decimal-short (p .filling)))
+origin-short (byRange q) = simp length-append (omega (arith, decimal-short (q .low), decimal-short (q .high), decimal-short (q .filling)))
+
+pub origin-reach : (o o′ : List ℕ) (n z : ℕ) (q : Origin) → Wrote o o′ n z (originText q) → z ≤ n + 89
+origin-reach o o′ n z q = reach o o′ n z (originText q) 89 (origin-short q)
+
+-- of one that is told by its case
+pub origin-told : (o o′ : List ℕ) (n z : ℕ) (a b : Declared.Origin) → a ≡ b → Wrote o o′ n z (originText (originOf b)) → Wrote o o′ n z (originText (originOf a))
+origin-told o o′ n z a b e = wrote-as _ _ _ _ _ _ _ refl (ap (λ (x : Declared.Origin). originText (originOf x)) (sym e))
 
 -- a sentence of fewer than 512 links fits its memory: a word and a number to place y, links to place x, and what it ends with to place z
 pub sentence-within : (n w y x z : ℕ) → n < 512 → x ≤ y + 30 * n → y ≤ w + (2 + 2) → w ≤ 0 + 3 → z ≤ x + 89 → z ≤ 16384

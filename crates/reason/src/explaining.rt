@@ -1,7 +1,7 @@
-// The sentence of a row, link by link back to a held value, and the answer.
+// The sentence of a row, link by link back to a held value or range, and the answer.
 ghost use mathlib.Core.Bool.{true};
 ghost use mathlib.Core.Path.{_≡_};
-ghost use Prim.Native.Nat.{ℕ, _+_, _*_, _≤_, _<_};
+ghost use Prim.Native.Nat.{_+_, _*_, _≤_, _<_};
 ghost use lib.ListN.{length};
 ghost use lib.Seq.{sets};
 ghost use Rattle.finite.specs.Writing.{Wrote};
@@ -11,7 +11,7 @@ ghost use Rattle.model.specs.Runs.{cachedFor};
 ghost use Rattle.model.specs.Sentence.{reasonText};
 ghost use Rattle.state.specs.Cells.{cellsIn};
 ghost use Rattle.state.specs.Design.{Backed, InRange};
-ghost use Rattle.state.specs.Held.{heldAt};
+ghost use Rattle.state.specs.Held.{Bounded};
 ghost use Rattle.state.specs.Lent.{answerAt, lent, sound, textAt};
 ghost use Rattle.state.specs.Meaning.{answerOf, databaseOf, holdingOf, schemeOf};
 ghost use Rattle.catalog.specs.Catalog.{Catalogued, Directory, nexts};
@@ -19,8 +19,8 @@ ghost use Rattle.reason.specs.Links.{Graded, linksText, rootBy};
 ghost use Rattle.reason.specs.Walked.{Passed};
 use crate::linking::last_link;
 use crate::lowest::lowest_held;
-use crate::wording::put_held;
 use crate::wording::put_link;
+use crate::wording::put_origin;
 use load::load_held;
 use state::Answer;
 use state::Design;
@@ -56,15 +56,15 @@ fn put_links(
 ) -> Traced
     requires { ⌜ (r < 512) × (n < 512) × InRange d × Backed (cellsIn (now cells) (now issues)) (now tables)
         × (at + 30 * n + 47 ≤ length (now out)) ⌝ }
-    requires { ⌜ (now next ≡ nexts (databaseOf (d .rows) (cellsIn (now cells) (now issues)) (now tables)))
-        × Directory (databaseOf (d .rows) (cellsIn (now cells) (now issues)) (now tables)) (now keys) (now heads) (now starts) ⌝ }
-    requires { ⌜ Graded (schemeOf d) (databaseOf (d .rows) (cellsIn (now cells) (now issues)) (now tables)) (now levels)
+    requires { ⌜ (now next ≡ nexts (databaseOf (cellsIn (now cells) (now issues)) (now tables)))
+        × Directory (databaseOf (cellsIn (now cells) (now issues)) (now tables)) (now keys) (now heads) (now starts) ⌝ }
+    requires { ⌜ Graded (schemeOf d) (databaseOf (cellsIn (now cells) (now issues)) (now tables)) (now levels)
         × (level (now levels) r ≡ n + 2)
-        × Passed (databaseOf (d .rows) (cellsIn (now cells) (now issues)) (now tables)) (now levels) (n + 2) (now walked) ⌝ }
-    ensures { λ t. ⌜ (t .row ≡ rootBy (schemeOf d) (databaseOf (d .rows) (cellsIn (now (cells .entry)) (now (issues .entry))) (now (tables .entry)))
+        × Passed (databaseOf (cellsIn (now cells) (now issues)) (now tables)) (now levels) (n + 2) (now walked) ⌝ }
+    ensures { λ t. ⌜ (t .row ≡ rootBy (schemeOf d) (databaseOf (cellsIn (now (cells .entry)) (now (issues .entry))) (now (tables .entry)))
         (now (levels .entry)) n r)
         × (t .at ≤ at + 30 * n)
-        × Wrote (now (out .entry)) (now (out .exit)) at (t .at) (linksText (schemeOf d) (databaseOf (d .rows) (cellsIn (now (cells .entry))
+        × Wrote (now (out .entry)) (now (out .exit)) at (t .at) (linksText (schemeOf d) (databaseOf (cellsIn (now (cells .entry))
         (now (issues .entry))) (now (tables .entry))) (now (levels .entry)) n r) ⌝ }
 {
     if n == 0 {
@@ -103,7 +103,7 @@ fn put_links(
     )
 }
 
-// Writes the reason for row r, which is cached; how long it is. One reload, the search of the links, and one look at each held value.
+// Writes the reason for row r, which is cached; how long it is. One reload, the search of the links, and one look at each held value and range.
 fn put_reason(
     d: Design,
     cells: &[u32],
@@ -118,12 +118,12 @@ fn put_reason(
     r: usize,
     out: &mut [u8],
 ) -> usize
-    requires { ⌜ (r < 512) × InRange d × Backed (cellsIn (now cells) (now issues)) (now tables) × (held .count ≤ 64)
-        × ((i : ℕ) → heldAt held i .pair .filling < 8) × (length (now out) ≡ 16384) ⌝ }
+    requires { ⌜ (r < 512) × InRange d × Backed (cellsIn (now cells) (now issues)) (now tables) × Bounded held
+        × (length (now out) ≡ 16384) ⌝ }
     requires { ⌜ Catalogued d (cellsIn (now cells) (now issues)) (now tables) (now next) (now first) (now keys) (now heads) (now starts)
-        × (cachedFor (schemeOf d) (databaseOf (d .rows) (cellsIn (now cells) (now issues)) (now tables)) (holdingOf held) r ≡ true) ⌝ }
+        × (cachedFor (schemeOf d) (databaseOf (cellsIn (now cells) (now issues)) (now tables)) (holdingOf held) r ≡ true) ⌝ }
     ensures { λ z. ⌜ (z ≤ 16384)
-        × Wrote (now (out .entry)) (now (out .exit)) 0 z (reasonText (schemeOf d) (databaseOf (d .rows) (cellsIn (now (cells .entry))
+        × Wrote (now (out .entry)) (now (out .exit)) 0 z (reasonText (schemeOf d) (databaseOf (cellsIn (now (cells .entry))
         (now (issues .entry))) (now (tables .entry))) (holdingOf held) r) ⌝ }
 {
     let mut levels = [0u16; 512];
@@ -161,14 +161,14 @@ fn put_reason(
         out,
         y,
     );
-    let v = lowest_held(d, cells, issues, tables, held, t.row);
-    put_held(out, t.at, v)
+    let o = lowest_held(d, cells, issues, tables, held, t.row);
+    put_origin(out, t.at, o)
 }
 
 // Why row number `row` is cached, in words: the lent text is written from its first byte on, if it is long enough for the whole sentence. The sentence is
 // composed in memory of its own, so that cause 11 leaves the text as it was. Constant time for a number that names nothing and for a row that isn't
 // cached; else no more than a reload and the chain's own links: one reload, walks that pass each cell at the most once, a search of the directory for each
-// link and constraint, one look at each held value, and two steps for each byte of the sentence.
+// link and constraint, one look at each held value and range, and two steps for each byte of the sentence.
 pub fn reason_lawful(
     design: Design,
     cells: &[u32],
@@ -195,7 +195,7 @@ pub fn reason_lawful(
     if Design::ROWS <= r {
         return Answer::Refused(5);
     }
-    if !is_live(design.rows, r) {
+    if !is_live(tables, r) {
         return Answer::Refused(5);
     }
     if marks[r] != 1 {

@@ -28,7 +28,6 @@ pub(crate) struct Link {
 // The first row of this level among those that have the value v in column k, the first of which is `from`; 512 if there is none. One step for each of
 // them, up to the one that is found. Neither the rows nor v are read: they say what the links are.
 fn row_of_level(
-    rows: usize,
     cells: &[u32],
     issues: &[u8],
     tables: &[u8],
@@ -39,9 +38,9 @@ fn row_of_level(
     from: usize,
     l: u16,
 ) -> usize
-    requires { ⌜ (k .place < 8) × (now next ≡ nexts (databaseOf rows (cellsIn (now cells) (now issues)) (now tables)))
-        × (from ≡ firstFrom 512 (has (databaseOf rows (cellsIn (now cells) (now issues)) (now tables)) (columnOf k) (cellOf v)) 0) ⌝ }
-    ensures { λ s. ⌜ s ≡ rowOfLevel (databaseOf rows (cellsIn (now (cells .entry)) (now (issues .entry))) (now (tables .entry))) (now (levels .entry)) l
+    requires { ⌜ (k .place < 8) × (now next ≡ nexts (databaseOf (cellsIn (now cells) (now issues)) (now tables)))
+        × (from ≡ firstFrom 512 (has (databaseOf (cellsIn (now cells) (now issues)) (now tables)) (columnOf k) (cellOf v)) 0) ⌝ }
+    ensures { λ s. ⌜ s ≡ rowOfLevel (databaseOf (cellsIn (now (cells .entry)) (now (issues .entry))) (now (tables .entry))) (now (levels .entry)) l
         (columnOf k) (cellOf v) ⌝ }
 {
     let mut s = from;
@@ -57,7 +56,6 @@ fn row_of_level(
 // The lowest row of level l of which constraint j demands row r; 512 if there is none. A search of the directory and, for a value that has not been walked, the
 // walk of the rows that have it in the source column.
 fn source_row(
-    rows: usize,
     cells: &[u32],
     issues: &[u8],
     tables: &[u8],
@@ -73,14 +71,14 @@ fn source_row(
 ) -> usize
     requires { ⌜ (r < 512) × (0 < l) × Backed (cellsIn (now cells) (now issues)) (now tables)
         × (j .source .table < 8) × (j .source .place < 8) × (j .target .place < 8) ⌝ }
-    requires { ⌜ (now next ≡ nexts (databaseOf rows (cellsIn (now cells) (now issues)) (now tables)))
-        × Directory (databaseOf rows (cellsIn (now cells) (now issues)) (now tables)) (now keys) (now heads) (now starts) ⌝ }
-    requires { ⌜ (databaseOf rows (cellsIn (now cells) (now issues)) (now tables) .live r ≡ true)
-        × Near (databaseOf rows (cellsIn (now cells) (now issues)) (now tables)) (now levels) l (constraintOf j) r
-        × Passed (databaseOf rows (cellsIn (now cells) (now issues)) (now tables)) (now levels) (l + 1) (now walked) ⌝ }
-    ensures { λ s. ⌜ (s ≡ sourceRow (databaseOf rows (cellsIn (now (cells .entry)) (now (issues .entry))) (now (tables .entry))) (now (levels .entry)) l
+    requires { ⌜ (now next ≡ nexts (databaseOf (cellsIn (now cells) (now issues)) (now tables)))
+        × Directory (databaseOf (cellsIn (now cells) (now issues)) (now tables)) (now keys) (now heads) (now starts) ⌝ }
+    requires { ⌜ (databaseOf (cellsIn (now cells) (now issues)) (now tables) .live r ≡ true)
+        × Near (databaseOf (cellsIn (now cells) (now issues)) (now tables)) (now levels) l (constraintOf j) r
+        × Passed (databaseOf (cellsIn (now cells) (now issues)) (now tables)) (now levels) (l + 1) (now walked) ⌝ }
+    ensures { λ s. ⌜ (s ≡ sourceRow (databaseOf (cellsIn (now (cells .entry)) (now (issues .entry))) (now (tables .entry))) (now (levels .entry)) l
         (constraintOf j) r)
-        × Searched (databaseOf rows (cellsIn (now (cells .entry)) (now (issues .entry))) (now (tables .entry))) (now (levels .entry)) l
+        × Searched (databaseOf (cellsIn (now (cells .entry)) (now (issues .entry))) (now (tables .entry))) (now (levels .entry)) l
         (now (walked .exit)) s ⌝ }
 {
     let target = j.target;
@@ -98,18 +96,7 @@ fn source_row(
         return Design::ROWS;
     }
     walked[at] = true;
-    row_of_level(
-        rows,
-        cells,
-        issues,
-        tables,
-        next,
-        levels,
-        source,
-        v,
-        from,
-        l,
-    )
+    row_of_level(cells, issues, tables, next, levels, source, v, from, l)
 }
 
 // The last link of the chain of row r, which is n + 1 constraints away from what is held. For each constraint, up to the one that is found, a search of the
@@ -129,23 +116,22 @@ pub(crate) fn last_link(
     n: u16,
 ) -> Link
     requires { ⌜ (r < 512) × (n < 512) × InRange d × Backed (cellsIn (now cells) (now issues)) (now tables) ⌝ }
-    requires { ⌜ (now next ≡ nexts (databaseOf (d .rows) (cellsIn (now cells) (now issues)) (now tables)))
-        × Directory (databaseOf (d .rows) (cellsIn (now cells) (now issues)) (now tables)) (now keys) (now heads) (now starts) ⌝ }
-    requires { ⌜ Graded (schemeOf d) (databaseOf (d .rows) (cellsIn (now cells) (now issues)) (now tables)) (now levels)
+    requires { ⌜ (now next ≡ nexts (databaseOf (cellsIn (now cells) (now issues)) (now tables)))
+        × Directory (databaseOf (cellsIn (now cells) (now issues)) (now tables)) (now keys) (now heads) (now starts) ⌝ }
+    requires { ⌜ Graded (schemeOf d) (databaseOf (cellsIn (now cells) (now issues)) (now tables)) (now levels)
         × (level (now levels) r ≡ n + 3)
-        × Passed (databaseOf (d .rows) (cellsIn (now cells) (now issues)) (now tables)) (now levels) (n + 3) (now walked) ⌝ }
-    ensures { λ k. ⌜ (k .constraint ≡ lastConstraint (schemeOf d) (databaseOf (d .rows) (cellsIn (now (cells .entry)) (now (issues .entry)))
+        × Passed (databaseOf (cellsIn (now cells) (now issues)) (now tables)) (now levels) (n + 3) (now walked) ⌝ }
+    ensures { λ k. ⌜ (k .constraint ≡ lastConstraint (schemeOf d) (databaseOf (cellsIn (now (cells .entry)) (now (issues .entry)))
         (now (tables .entry))) (now (levels .entry)) n r)
-        × (k .row ≡ lastRow (schemeOf d) (databaseOf (d .rows) (cellsIn (now (cells .entry)) (now (issues .entry))) (now (tables .entry)))
+        × (k .row ≡ lastRow (schemeOf d) (databaseOf (cellsIn (now (cells .entry)) (now (issues .entry))) (now (tables .entry)))
         (now (levels .entry)) n r)
-        × Passed (databaseOf (d .rows) (cellsIn (now (cells .entry)) (now (issues .entry))) (now (tables .entry))) (now (levels .entry)) (n + 2)
+        × Passed (databaseOf (cellsIn (now (cells .entry)) (now (issues .entry))) (now (tables .entry))) (now (levels .entry)) (n + 2)
         (now (walked .exit)) ⌝ }
 {
     let constraint = d.constraint;
     for i in 0..d.constraints {
         let j = constraint[i];
         let s = source_row(
-            d.rows,
             cells,
             issues,
             tables,

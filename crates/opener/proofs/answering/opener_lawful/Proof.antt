@@ -3,7 +3,7 @@ use native.Mathlib.Omega.{arith}
 use mathlib.Core.Path.{sym, _∙_}
 use borrow.Author.Tests.{not-true, not-false}
 use Rattle.state.proofs.Arrays.{sized, held-sized}
-use Rattle.lawful.proofs.Asked.{sound-range, sound-backed, sound-marks, sound-tidy, sound-filling, sound-table, sound-column}
+use Rattle.lawful.proofs.Asked.{sound-range, sound-backed, sound-marks, sound-bounded, sound-table, sound-column}
 use Rattle.opener.proofs.AskedLaws.{cell-small, opener-5, opener-9, opener-open, opener-read}
 use borrow.Author.Needs.{needs}
 use Rattle.opener.proofs.answering.opener_lawful.Statement.{statement}
@@ -30,10 +30,9 @@ search-requires c κs =
       (
         sound-range _ (s .pre .0) (sized (s .args .design) _ (s .good .0)),
         sound-marks _ (s .pre .0),
-        sound-tidy _ (s .pre .0) .few,
+        sound-bounded _ (s .pre .0) (held-sized (s .args .held) _ (s .good .1 .1 .1 .1 .1 .1 .1 .1 .1 .0)),
         sound-table _ (s .pre .0) _ k,
         sound-column _ (s .pre .0) _ k,
-        sound-filling _ (s .pre .0) (held-sized (s .args .held) _ (s .good .1 .1 .1 .1 .1 .1 .1 .1 .1 .0)),
       ),
       s .pre .1,
     )

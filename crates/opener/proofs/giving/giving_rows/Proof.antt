@@ -13,7 +13,7 @@ use Rattle.opener.proofs.giving.giving_rows.Tie as tie
 abbrev Inv-loop : tie.InvT-loop
 Inv-loop d cells issues tables k v seed₀ r₀ seed r =
     (r ≤ 512) ×
-    Upto false 512 r (Turned.gives (schemeOf d) (databaseOf (d .rows) (cellsIn cells issues) tables) (columnOf k) (cellOf v)) (λ j. getD seed₀ j false) seed
+    Upto false 512 r (Turned.gives (schemeOf d) (databaseOf (cellsIn cells issues) tables) (columnOf k) (cellOf v)) (λ j. getD seed₀ j false) seed
 
 abbrev μ-loop : tie.MeasureT-loop
 μ-loop d cells issues tables k v seed₀ r₀ seed r = 512 - r

@@ -3,24 +3,25 @@ use Prim.Native.Nat.{_≤_, _-_}
 use native.Mathlib.Omega.{arith}
 use mathlib.Core.Path.{_≡_, sym, _∙_}
 use mathlib.Core.Bool.{false, _&&_}
+use lib.ListN.{getD}
 use Rattle.finite.specs.Finite.{any}
 use Rattle.finite.proofs.Search.{any-start, any-more, any-hit, any-end}
 use Rattle.model.specs.Database.{has}
 use Rattle.model.specs.Scheme.{sameColumn}
 use Rattle.state.specs.Cells.{cellsIn}
-use Rattle.state.specs.Design.{constraintAt}
+use Rattle.state.specs.Design.{noConstraint}
 use Rattle.state.specs.Meaning.{cellOf, columnOf, constraintOf, databaseOf}
 use Rattle.opener.proofs.giving.is_source.Statement.{statement}
 use Rattle.opener.proofs.giving.is_source.Tie as tie
 
 abbrev Inv-loop : tie.InvT-loop
-Inv-loop d cells issues tables k v r n constraint i₀ i =
+Inv-loop cells issues tables k v r n constraint i₀ i =
     (i ≤ n) ×
-    (any i (λ a. sameColumn (constraintOf (constraintAt d a) .target) (columnOf k) &&
-    has (databaseOf (d .rows) (cellsIn cells issues) tables) (constraintOf (constraintAt d a) .source) (cellOf v) r) ≡ false)
+    (any i (λ a. sameColumn (constraintOf (getD constraint a noConstraint) .target) (columnOf k) &&
+    has (databaseOf (cellsIn cells issues) tables) (constraintOf (getD constraint a noConstraint) .source) (cellOf v) r) ≡ false)
 
 abbrev μ-loop : tie.MeasureT-loop
-μ-loop d cells issues tables k v r n constraint i₀ i = n - i
+μ-loop cells issues tables k v r n constraint i₀ i = n - i
 
 loop-holds : tie.Need-loop-holds Inv-loop μ-loop
 loop-holds c = (omega arith, any-start _)

@@ -1,6 +1,6 @@
 -- `opener::leading::leading_rows` meets its contract: one load of the turned design. Assumes nothing.
 use Rattle.state.proofs.Arrays.{sized}
-use Rattle.opener.proofs.LeadLaws.{lead-range, lead-load, same-directory, same-nexts}
+use Rattle.opener.proofs.LeadLaws.{lead-range, lead-load}
 use borrow.Author.Needs.{needs}
 use Rattle.opener.proofs.leading.leading_rows.Statement.{statement}
 use Rattle.opener.proofs.leading.leading_rows.Tie as tie
@@ -12,7 +12,7 @@ make-firsts-requires : tie.Need-make-firsts-requires
 make-firsts-requires c κs =
     let s = c .before .before .before .before .before in
     let e = c .before .turned .ensures in
-    ((lead-range _ _ e (sized (s .args .d) _ (s .good .0) .constraint) (s .pre .0 .0), s .pre .0 .3), same-directory _ _ e _ _ _ _ _ (s .pre .1 .1))
+    ((lead-range _ _ e (sized (s .args .d) _ (s .good .0) .constraint) (s .pre .0 .0), s .pre .0 .3), s .pre .1 .1)
 
 giving-rows-requires : tie.Need-giving-rows-requires
 giving-rows-requires c κs = search needs
@@ -21,7 +21,7 @@ load-rows-requires : tie.Need-load-rows-requires
 load-rows-requires c κs =
     let s = c .before .before .before .before .before .before .before .before .before .before .before in
     let e = c .before .before .before .before .before .before .before .turned .ensures in
-    (lead-range _ _ e (sized (s .args .d) _ (s .good .0) .constraint) (s .pre .0 .0), (same-nexts _ _ e _ _ _ (s .pre .1 .0), c .before .before .before .before .before .make-firsts .ensures))
+    (lead-range _ _ e (sized (s .args .d) _ (s .good .0) .constraint) (s .pre .0 .0), (s .pre .1 .0, c .before .before .before .before .before .make-firsts .ensures))
 
 returns : tie.Need-returns
 returns c =

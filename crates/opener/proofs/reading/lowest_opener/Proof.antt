@@ -1,5 +1,5 @@
 -- `opener::reading::lowest_opener` meets its contract. The invariant: the search for the lowest filling may go on from here. Assumes nothing.
-use Prim.Native.Nat.{ℕ, _≤_, _-_}
+use Prim.Native.Nat.{_≤_, _-_}
 use native.Mathlib.Omega.{arith}
 use mathlib.Core.Path.{_≡_, refl, sym, _∙_}
 use borrow.Author.Needs.{needs}
@@ -15,14 +15,14 @@ use Rattle.opener.proofs.reading.lowest_opener.Tie as tie
 abbrev Inv-loop : tie.InvT-loop
 Inv-loop cells issues tables levels k v n filling i₀ i =
     (i ≤ n) ×
-    ((rows : ℕ) → let p = passes filling (databaseOf rows (cellsIn cells issues) tables) (reached levels) (columnOf k) (cellOf v) in
+    (let p = passes filling (databaseOf (cellsIn cells issues) tables) (reached levels) (columnOf k) (cellOf v) in
     firstFrom n p 0 ≡ firstFrom n p i)
 
 abbrev μ-loop : tie.MeasureT-loop
 μ-loop cells issues tables levels k v n filling i₀ i = n - i
 
 loop-holds : tie.Need-loop-holds Inv-loop μ-loop
-loop-holds c = (omega arith, λ rows. refl)
+loop-holds c = (omega arith, refl)
 
 mul-f : tie.Need-mul-f Inv-loop μ-loop
 mul-f c = omega (arith, c .before .before .before .before .before .before .pre .0 .fillings)
@@ -40,7 +40,7 @@ cast-t19 : tie.Need-cast-t19 Inv-loop μ-loop
 cast-t19 c = omega (arith, c .before .before .before .before .before .before .before .before .before .before .pre .0 .fillings, c .before .before .before .before .loop-test .taken)
 
 returns : tie.Need-returns Inv-loop μ-loop
-returns c = filling-here _ _ _ _ _ _ _ (c .before .before .lowest-value .ensures _) (c .before .before .before .before .before .loop .inv .1 _) (c .before .before .before .before .loop-test .taken) (sym (c .before .is-numberless .ensures) ∙ not-true _ (c .if1 .taken))
+returns c = filling-here _ _ _ _ _ _ _ (c .before .before .lowest-value .ensures) (c .before .before .before .before .before .loop .inv .1) (c .before .before .before .before .loop-test .taken) (sym (c .before .is-numberless .ensures) ∙ not-true _ (c .if1 .taken))
 
 add-i : tie.Need-add-i Inv-loop μ-loop
 add-i c = omega (arith, c .before .before .before .before .before .before .before .before .before .before .pre .0 .fillings, c .before .before .before .before .loop-test .taken)
@@ -49,10 +49,10 @@ loop-less : tie.Need-loop-less Inv-loop μ-loop
 loop-less c = omega arith
 
 loop-again : tie.Need-loop-again Inv-loop μ-loop
-loop-again c = (omega (arith, c .before .before .before .before .loop-test .taken), λ rows. c .before .before .before .before .before .loop .inv .1 rows ∙ filling-skip (c .before .before .before .before .before .before .before .before .before .before .args .d) _ _ _ _ (c .before .before .before .before .before .loop .i) _ (c .before .before .lowest-value .ensures rows) (sym (c .before .is-numberless .ensures) ∙ not-false _ (c .if1 .left)))
+loop-again c = (omega (arith, c .before .before .before .before .loop-test .taken), c .before .before .before .before .before .loop .inv .1 ∙ filling-skip (c .before .before .before .before .before .before .before .before .before .before .args .d) _ _ _ _ (c .before .before .before .before .before .loop .i) _ (c .before .before .lowest-value .ensures) (sym (c .before .is-numberless .ensures) ∙ not-false _ (c .if1 .left)))
 
 returns-2 : tie.Need-returns-2 Inv-loop μ-loop
-returns-2 c = filling-none _ _ _ _ _ _ (c .before .loop .inv .1 _) (c .loop-test .left)
+returns-2 c = filling-none _ _ _ _ _ _ (c .before .loop .inv .1) (c .loop-test .left)
 
 pub lowest-opener-spec : {M : Type 1} → statement M
 lowest-opener-spec =

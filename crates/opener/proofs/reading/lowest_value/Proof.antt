@@ -1,5 +1,5 @@
 -- `opener::reading::lowest_value` meets its contract: a loop that keeps the lowest so far. Assumes nothing.
-use Prim.Native.Nat.{ℕ, _≤_, _-_}
+use Prim.Native.Nat.{_≤_, _-_}
 use native.Mathlib.Omega.{arith}
 use mathlib.Core.Path.{_≡_, refl}
 use borrow.Author.Needs.{needs}
@@ -12,7 +12,7 @@ use Rattle.opener.proofs.reading.lowest_value.Statement.{statement}
 use Rattle.opener.proofs.reading.lowest_value.Tie as tie
 
 abbrev Inv-loop : tie.InvT-loop
-Inv-loop cells issues tables levels f w₀ r₀ w r = (r ≤ 512) × ((rows : ℕ) → cellOf w ≡ lowestOf (cellOf w₀) r (valueIn (databaseOf rows (cellsIn cells issues) tables) (reached levels) (fillingOf f)))
+Inv-loop cells issues tables levels f w₀ r₀ w r = (r ≤ 512) × (cellOf w ≡ lowestOf (cellOf w₀) r (valueIn (databaseOf (cellsIn cells issues) tables) (reached levels) (fillingOf f)))
 
 abbrev μ-loop : tie.MeasureT-loop
 μ-loop cells issues tables levels f w₀ r₀ w r = 512 - r
@@ -22,7 +22,7 @@ own-value-requires c κs = search needs
 
 loop-holds : tie.Need-loop-holds Inv-loop μ-loop
 unfolding lowestOf
-loop-holds c = (omega arith, λ rows. refl)
+loop-holds c = (omega arith, refl)
 
 value-in-requires : tie.Need-value-in-requires Inv-loop μ-loop
 value-in-requires c κs = (c .loop-test .taken, c .before .before .before .before .before .before .pre .0, c .before .before .before .before .before .before .pre .1)
@@ -37,10 +37,10 @@ loop-less : tie.Need-loop-less Inv-loop μ-loop
 loop-less c = omega arith
 
 loop-again : tie.Need-loop-again Inv-loop μ-loop
-loop-again c = (omega arith, λ rows. lowest-more _ _ _ _ _ _ (c .before .before .before .loop .inv .1 rows) (c .before .value-in .ensures rows) (c .lower .ensures))
+loop-again c = (omega arith, lowest-more _ _ _ _ _ _ (c .before .before .before .loop .inv .1) (c .before .value-in .ensures) (c .lower .ensures))
 
 returns : tie.Need-returns Inv-loop μ-loop
-returns c = λ rows. lowest-end rows _ _ _ _ _ _ _ _ _ (c .before .before .own-value .ensures) (c .before .loop .inv .0) (c .loop-test .left) (c .before .loop .inv .1 rows)
+returns c = lowest-end _ _ _ _ _ _ _ _ _ (c .before .before .own-value .ensures) (c .before .loop .inv .0) (c .loop-test .left) (c .before .loop .inv .1)
 
 pub lowest-value-spec : {M : Type 1} → statement M
 lowest-value-spec =

@@ -13,13 +13,13 @@ element-copy-out-if1 : tie.Need-element-copy-out-if1
 element-copy-out-if1 c = search needs
 
 returns : tie.Need-returns
-returns c = λ rows. value-unled rows _ _ _ _ _ (c .before .before .before .before .before .pre .1) (zero-unreached _ _ (c .if1 .taken))
+returns c = value-unled _ _ _ _ _ (c .before .before .before .before .before .pre .1) (zero-unreached _ _ (c .if1 .taken))
 
 shared-slice-read-if2 : tie.Need-shared-slice-read-if2
 shared-slice-read-if2 c = search needs
 
 returns-2 : tie.Need-returns-2
-returns-2 c = λ rows. value-elsewhere rows _ _ _ _ _ (c .before .before .before .before .before .before .before .before .before .pre .1) (c .if2 .taken)
+returns-2 c = value-elsewhere _ _ _ _ _ (c .before .before .before .before .before .before .before .before .before .pre .1) (c .if2 .taken)
 
 cast-cell-at : tie.Need-cast-cell-at
 cast-cell-at c = search needs
@@ -31,7 +31,7 @@ if-candidate-requires : tie.Need-if-candidate-requires
 if-candidate-requires c κs = search needs
 
 returns-3 : tie.Need-returns-3
-returns-3 c = λ rows. value-there rows _ _ _ _ _ (c .before .before .before .before .before .before .before .before .before .before .before .before .pre .1) (level-reached _ _ (pos-of-ne-zero (c .before .before .before .before .before .before .before .if1 .left))) (c .before .before .before .if2 .left) _ (c .before .cell-at .ensures) _ (c .if-candidate .ensures)
+returns-3 c = value-there _ _ _ _ _ (c .before .before .before .before .before .before .before .before .before .before .before .before .pre .1) (level-reached _ _ (pos-of-ne-zero (c .before .before .before .before .before .before .before .if1 .left))) (c .before .before .before .if2 .left) _ (c .before .cell-at .ensures) _ (c .if-candidate .ensures)
 
 pub value-in-spec : {M : Type 1} → statement M
 value-in-spec =

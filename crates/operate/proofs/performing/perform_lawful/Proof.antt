@@ -4,7 +4,7 @@ use borrow.Author.Needs.{needs}
 use Rattle.model.specs.Answers.{questionText}
 use Rattle.state.proofs.Arrays.{sized, held-sized}
 use Rattle.lawful.proofs.Asked.{sound-range}
-use Rattle.operate.proofs.Performed.{refer-performs, drop-performs, name-performs, query-performs, ask-performs, ask-writes, even-answers, knot-answers, in-case}
+use Rattle.operate.proofs.Performed.{refer-performs, drop-performs, name-performs, range-performs, drop-range-performs, query-performs, ask-performs, ask-writes, even-answers, knot-answers, in-case}
 use Rattle.operate.proofs.performing.perform_lawful.Statement.{statement}
 use Rattle.operate.proofs.performing.perform_lawful.Tie as tie
 
@@ -69,6 +69,18 @@ enum-known-op-8 c = search needs
 
 reason-lawful-requires : tie.Need-reason-lawful-requires
 reason-lawful-requires c κs = search needs
+
+enum-known-op-9 : tie.Need-enum-known-op-9
+enum-known-op-9 c = search needs
+
+refer-range-lawful-requires : tie.Need-refer-range-lawful-requires
+refer-range-lawful-requires c κs = search needs
+
+enum-known-op-10 : tie.Need-enum-known-op-10
+enum-known-op-10 c = search needs
+
+drop-range-lawful-requires : tie.Need-drop-range-lawful-requires
+drop-range-lawful-requires c κs = search needs
 
 same-length : tie.Need-same-length
 same-length c = search needs
@@ -158,6 +170,22 @@ returns-10 c =
     in-case _ _ _ _ _ _ _ _ _ _ _ (c .before .before .before .before .before .before .op8 .given .1)
     (ask-writes _ (b .pre .0) _ _ (held-sized (b .args .held) _ (b .good .1 .1 .1 .1 .1 .1 .1 .1 .1 .1 .1 .0)) _ _ _ (c .before .before .reason-lawful .ensures))
 
+same-length-11 : tie.Need-same-length-11
+same-length-11 c = search needs
+
+returns-11 : tie.Need-returns-11
+returns-11 c =
+    let b = c .before .before .before .before .before .before .before .before .before .before .before .before .before in
+    in-case _ _ _ _ _ _ _ _ _ _ _ (c .before .before .before .before .before .op9 .given .1) (range-performs _ (b .pre .0) _ _ _ _ _ (c .before .before .refer-range-lawful .ensures))
+
+same-length-12 : tie.Need-same-length-12
+same-length-12 c = search needs
+
+returns-12 : tie.Need-returns-12
+returns-12 c =
+    let b = c .before .before .before .before .before .before .before .before .before .before .before .before .before in
+    in-case _ _ _ _ _ _ _ _ _ _ _ (c .before .before .before .before .before .op10 .given .1) (drop-range-performs _ (b .pre .0) _ _ _ _ _ (c .before .before .drop-range-lawful .ensures))
+
 pub perform-lawful-spec : {M : Type 1} → statement M
 perform-lawful-spec =
     tie.close
@@ -182,6 +210,10 @@ perform-lawful-spec =
     opener-lawful-requires
     enum-known-op-8
     reason-lawful-requires
+    enum-known-op-9
+    refer-range-lawful-requires
+    enum-known-op-10
+    drop-range-lawful-requires
     same-length
     returns
     same-length-2
@@ -201,4 +233,8 @@ perform-lawful-spec =
     returns-9
     same-length-9
     same-length-10
-    returns-10)
+    returns-10
+    same-length-11
+    returns-11
+    same-length-12
+    returns-12)

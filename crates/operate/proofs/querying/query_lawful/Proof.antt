@@ -6,7 +6,7 @@ use borrow.Author.Needs.{needs}
 use borrow.Author.Tests.{not-true, not-false}
 use Rattle.model.proofs.Demand2.{fits-operands}
 use Rattle.state.proofs.Arrays.{sized, held-sized}
-use Rattle.lawful.proofs.Asked.{sound-range, sound-backed, sound-marks, sound-tidy, sound-filling, sound-fillings}
+use Rattle.lawful.proofs.Asked.{sound-range, sound-backed, sound-marks, sound-tidy, sound-bounded, sound-fillings}
 use Rattle.lawful.proofs.SoundState.{parts}
 use Rattle.query.proofs.PlanLaws.{column-fits}
 use Rattle.operate.proofs.QueryLists.{sound-place}
@@ -39,10 +39,9 @@ search-requires c κs =
       (
         r,
         sound-marks _ (s .pre .0),
-        sound-tidy _ (s .pre .0) .few,
+        sound-bounded _ (s .pre .0) (held-sized (s .args .held) _ (s .good .1 .1 .1 .1 .1 .1 .1 .1 .1 .1 .0)),
         column-fits _ (s .args .q) r f,
         sound-place _ (s .pre .0) (s .args .q) f,
-        sound-filling _ (s .pre .0) (held-sized (s .args .held) _ (s .good .1 .1 .1 .1 .1 .1 .1 .1 .1 .1 .0)),
       ),
       (s .pre .1 .next-is, s .pre .1 .directory),
     )

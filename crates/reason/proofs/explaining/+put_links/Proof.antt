@@ -76,7 +76,7 @@ put-links-put-link-requires t c κs =
     let u = c .before .last-link .ensures in
     let o = c .before .before .before .if1 .left in (
       omega (arith, constraint-below _ _ _ _ _ o _ _ (u .0) (u .1) (p .1 .1 .0) (p .1 .1 .1), p .0 .2 .constraints),
-      row-below _ _ _ _ _ o _ _ (u .0) (u .1) (p .1 .1 .0) (p .1 .1 .1) (rows-numbered _ _ _),
+      row-below _ _ _ _ _ o _ _ (u .0) (u .1) (p .1 .1 .0) (p .1 .1 .1) (rows-numbered _ _),
       omega arith,
     )
 
@@ -105,7 +105,7 @@ put-links-put-links-requires t c κs =
     let u = c .before .before .before .before .before .before .last-link .ensures in
     let o = c .before .before .before .before .before .before .before .before .if1 .left in
     let i = constraint-below _ _ _ _ _ o _ _ (u .0) (u .1) (p .1 .1 .0) (p .1 .1 .1) in
-    let s = row-below _ _ _ _ _ o _ _ (u .0) (u .1) (p .1 .1 .0) (p .1 .1 .1) (rows-numbered _ _ _) in
+    let s = row-below _ _ _ _ _ o _ _ (u .0) (u .1) (p .1 .1 .0) (p .1 .1 .1) (rows-numbered _ _) in
     let z = link-reach _ _ _ _ _ _ (omega (arith, i, p .0 .2 .constraints)) s (c .before .before .before .before .put-link .ensures) in (
       omega arith,
       (
@@ -139,7 +139,7 @@ put-links-returns-2 t c =
     let u = c .before .before .before .before .before .before .before .before .before .last-link .ensures in
     let o = c .before .before .before .before .before .before .before .before .before .before .before .if1 .left in
     let i = constraint-below _ _ _ _ _ o _ _ (u .0) (u .1) (p .1 .1 .0) (p .1 .1 .1) in
-    let s = row-below _ _ _ _ _ o _ _ (u .0) (u .1) (p .1 .1 .0) (p .1 .1 .1) (rows-numbered _ _ _) in
+    let s = row-below _ _ _ _ _ o _ _ (u .0) (u .1) (p .1 .1 .0) (p .1 .1 .1) (rows-numbered _ _) in
     let z = link-reach _ _ _ _ _ _ (omega (arith, i, p .0 .2 .constraints)) s (c .before .before .before .before .before .before .before .put-link .ensures) in
     let v = c .before .before .put-links .ensures in
     (root-more _ _ _ _ _ o _ _ (u .0) (u .1) _ (v .0), omega (arith, z, v .1), links-more _ _ _ _ _ o _ _ (u .0) (u .1) _ _ _ _ _ _ (c .before .before .before .before .before .before .before .put-link .ensures) (v .2))

@@ -1,4 +1,4 @@
--- `reason::explaining::put_reason` meets its contract: the row, its links, and the lowest held value of the row that they lead back to. Assumes nothing.
+-- `reason::explaining::put_reason` meets its contract: the row, its links, and the lowest held value or range of the row that they lead back to. Assumes nothing.
 use native.Mathlib.Omega.{arith}
 use mathlib.Core.Path.{refl, ap}
 use borrow.Author.Needs.{needs}
@@ -13,7 +13,7 @@ use Rattle.reason.proofs.explaining.put_reason.Statement.{statement}
 use Rattle.reason.proofs.explaining.put_reason.Tie as tie
 
 load-held-requires : tie.Need-load-held-requires
-load-held-requires c κs = let p = c .before .before .before .before .before .pre in ((p .0 .1, p .0 .3, p .0 .4), (p .1 .0, within-all _ _ _))
+load-held-requires c κs = let p = c .before .before .before .before .before .pre in ((p .0 .1, p .0 .3), (p .1 .0, within-all _ _ _))
 
 slice-aggregate-put-bytes : tie.Need-slice-aggregate-put-bytes
 slice-aggregate-put-bytes c = search needs
@@ -37,9 +37,9 @@ put-links-requires : tie.Need-put-links-requires
 put-links-requires c κs =
     let p = c .before .before .before .before .before .before .before .before .before .before .before .before .before .before .before .before .before .before .pre in
     let f = c .before .before .before .before .before .before .before .before .before .before .before .before .load-held .ensures .levels in
-    let n = few-links _ _ _ _ f _ (p .1 .1) (rows-numbered _ _ _) _ refl in (
+    let n = few-links _ _ _ _ f _ (p .1 .1) (rows-numbered _ _) _ refl in (
       (p .0 .0, n, p .0 .1, p .0 .2, omega (arith, n, spaced-reach-by _ _ _ _ 2 _ (omega arith) (c .before .before .before .before .before .put-spaced .ensures))),
-      ((p .1 .0 .next-is, p .1 .0 .directory), (graded-reload _ _ _ _ (rows-numbered _ _ _) f, away _ _ _ _ f _ (p .1 .1) _ refl, passed-none _ _ _)),
+      ((p .1 .0 .next-is, p .1 .0 .directory), (graded-reload _ _ _ _ (rows-numbered _ _) f, away _ _ _ _ f _ (p .1 .1) _ refl, passed-none _ _ _)),
     )
 
 lowest-held-requires : tie.Need-lowest-held-requires
@@ -47,13 +47,13 @@ lowest-held-requires c κs =
     let p = c .before .before .before .before .before .before .before .before .before .before .before .before .before .before .before .before .before .before .before .before .before .pre in
     let f = c .before .before .before .before .before .before .before .before .before .before .before .before .before .before .before .load-held .ensures .levels in
     let t = c .before .before .put-links .ensures .0 in
-    ((root-within _ _ _ _ f _ (p .1 .1) (rows-numbered _ _ _) _ _ refl t, p .0 .1, p .0 .2, p .0 .3, p .0 .4), root-has _ _ _ _ f _ (p .1 .1) (rows-numbered _ _ _) _ _ refl t)
+    ((root-within _ _ _ _ f _ (p .1 .1) (rows-numbered _ _) _ _ refl t, p .0 .1, p .0 .2, p .0 .3), root-has _ _ _ _ f _ (p .1 .1) (rows-numbered _ _) _ _ refl t)
 
-put-held-requires : tie.Need-put-held-requires
-put-held-requires c κs =
+put-origin-requires : tie.Need-put-origin-requires
+put-origin-requires c κs =
     let p = c .before .before .before .before .before .before .before .before .before .before .before .before .before .before .before .before .before .before .before .before .before .before .before .pre in
     let f = c .before .before .before .before .before .before .before .before .before .before .before .before .before .before .before .before .before .load-held .ensures .levels in
-    let n = few-links _ _ _ _ f _ (p .1 .1) (rows-numbered _ _ _) _ refl in
+    let n = few-links _ _ _ _ f _ (p .1 .1) (rows-numbered _ _) _ refl in
     omega (arith, n, c .before .before .before .before .put-links .ensures .1, spaced-reach-by _ _ _ _ 2 _ (omega arith) (c .before .before .before .before .before .before .before .before .before .before .put-spaced .ensures))
 
 same-length : tie.Need-same-length
@@ -64,11 +64,11 @@ returns c =
     let p = c .before .before .before .before .before .before .before .before .before .before .before .before .before .before .before .before .before .before .before .before .before .before .before .before .before .before .pre in
     let f = c .before .before .before .before .before .before .before .before .before .before .before .before .before .before .before .before .before .before .before .before .load-held .ensures .levels in
     let t = c .before .before .before .before .before .before .before .put-links .ensures in
-    let n = few-links _ _ _ _ f _ (p .1 .1) (rows-numbered _ _ _) _ refl in (
+    let n = few-links _ _ _ _ f _ (p .1 .1) (rows-numbered _ _) _ refl in (
       sentence-within _ _ _ _ _ n (t .1) (spaced-reach-by _ _ _ _ 2 _ (omega arith) (c .before .before .before .before .before .before .before .before .before .before .before .before .before .put-spaced .ensures)) (reach _ _ _ _ row-word 3 (omega arith) (c .before .before .before .before .before .before .before .before .before .before .before .before .before .before .before .before .before .put-bytes .ensures))
-          (origin-reach _ _ _ _ _ (c .before .before .put-held .ensures)),
+          (origin-reach _ _ _ _ _ (c .before .before .put-origin .ensures)),
       reason-written _ _ _ _ f _ (p .1 .1) _ _ _ _ _ _ _ _ _ _ _ _ refl (t .0) (ap originText (c .before .before .before .before .lowest-held .ensures)) (c .before .before .before .before .before .before .before .before .before .before .before .before .before .before .before .before .before .put-bytes .ensures)
-          (c .before .before .before .before .before .before .before .before .before .before .before .before .before .put-spaced .ensures) (t .2) (c .before .before .put-held .ensures),
+          (c .before .before .before .before .before .before .before .before .before .before .before .before .before .put-spaced .ensures) (t .2) (c .before .before .put-origin .ensures),
     )
 
 pub put-reason-spec : {M : Type 1} → statement M
@@ -84,6 +84,6 @@ put-reason-spec =
     sub-n
     put-links-requires
     lowest-held-requires
-    put-held-requires
+    put-origin-requires
     same-length
     returns)

@@ -6,7 +6,7 @@ use borrow.Author.Needs.{needs}
 use borrow.Author.Tests.{not-true, not-false}
 use lib.ListN.{length-replicate}
 use Rattle.state.proofs.Arrays.{sized, held-sized}
-use Rattle.lawful.proofs.Asked.{sound-range, sound-backed, sound-marks, sound-tidy, sound-filling}
+use Rattle.lawful.proofs.Asked.{sound-range, sound-backed, sound-marks, sound-bounded}
 use Rattle.reason.proofs.Replying.{marked-cached, reply-past, reply-unnamed, reply-absent, reply-long, reply-given}
 use Rattle.reason.proofs.explaining.reason_lawful.Statement.{statement}
 use Rattle.reason.proofs.explaining.reason_lawful.Tie as tie
@@ -15,17 +15,17 @@ returns : tie.Need-returns
 returns c = reply-past _ (c .before .before .before .before .before .before .pre .0) _ _ (c .if1 .taken)
 
 is-live-requires : tie.Need-is-live-requires
-is-live-requires c κs = search needs
+is-live-requires c κs = (c .if1 .left, sound-backed _ (c .before .before .before .before .before .before .pre .0) .members)
 
 returns-2 : tie.Need-returns-2
-returns-2 c = reply-unnamed _ (c .before .before .before .before .before .before .before .before .pre .0) _ _ (sym (c .before .is-live .ensures _ _) ∙ not-true _ (c .if2 .taken))
+returns-2 c = reply-unnamed _ (c .before .before .before .before .before .before .before .before .pre .0) _ _ (sym (c .before .is-live .ensures _) ∙ not-true _ (c .if2 .taken))
 
 shared-slice-read-if3 : tie.Need-shared-slice-read-if3
 shared-slice-read-if3 c = omega (arith, sound-marks _ (c .before .before .before .before .before .before .before .before .before .pre .0), c .before .before .before .if1 .left)
 
 returns-3 : tie.Need-returns-3
 returns-3 c =
-    reply-absent _ (c .before .before .before .before .before .before .before .before .before .before .pre .0) _ _ (c .before .before .before .before .if1 .left) (sym (c .before .before .before .is-live .ensures _ _) ∙ not-false _ (c .before .before .if2 .left)) (c .if3 .taken)
+    reply-absent _ (c .before .before .before .before .before .before .before .before .before .before .pre .0) _ _ (c .before .before .before .before .if1 .left) (sym (c .before .before .before .is-live .ensures _) ∙ not-false _ (c .before .before .if2 .left)) (c .if3 .taken)
 
 slice-aggregate-put-reason : tie.Need-slice-aggregate-put-reason
 slice-aggregate-put-reason c = search needs
@@ -38,8 +38,7 @@ put-reason-requires c κs =
         c .before .before .before .before .before .if1 .left,
         sound-range _ e (sized (s .args .design) _ (s .good .0)),
         sound-backed _ e,
-        sound-tidy _ e .few,
-        sound-filling _ e (held-sized (s .args .held) _ (s .good .1 .1 .1 .1 .1 .1 .1 .1 .1 .1 .0)),
+        sound-bounded _ e (held-sized (s .args .held) _ (s .good .1 .1 .1 .1 .1 .1 .1 .1 .1 .1 .0)),
         length-replicate {A = ℕ} 16384 0,
       ),
       (s .pre .1, marked-cached _ e _ (c .before .before .before .before .before .if1 .left) (c .before .if3 .left)),
@@ -47,7 +46,7 @@ put-reason-requires c κs =
 
 returns-4 : tie.Need-returns-4
 returns-4 c =
-    reply-long _ (c .before .before .before .before .before .before .before .before .before .before .before .before .before .before .pre .0) _ _ (c .before .before .before .before .before .before .before .before .if1 .left) (sym (c .before .before .before .before .before .before .before .is-live .ensures _ _) ∙ not-false _ (c .before .before .before .before .before .before .if2 .left)) (c .before .before .before .before .if3 .left) _ _ _ (c .before .before .put-reason .ensures .1) (c .if4 .taken)
+    reply-long _ (c .before .before .before .before .before .before .before .before .before .before .before .before .before .before .pre .0) _ _ (c .before .before .before .before .before .before .before .before .if1 .left) (sym (c .before .before .before .before .before .before .before .is-live .ensures _) ∙ not-false _ (c .before .before .before .before .before .before .if2 .left)) (c .before .before .before .before .if3 .left) _ _ _ (c .before .before .put-reason .ensures .1) (c .if4 .taken)
 
 slice-aggregate-put-bytes : tie.Need-slice-aggregate-put-bytes
 slice-aggregate-put-bytes c = search needs
@@ -61,7 +60,7 @@ same-length c = search needs
 returns-5 : tie.Need-returns-5
 returns-5 c =
     let u = c .before .before .before .before .before .before .before .put-reason .ensures in
-    reply-given _ (c .before .before .before .before .before .before .before .before .before .before .before .before .before .before .before .before .before .before .before .pre .0) _ _ (c .before .before .before .before .before .before .before .before .before .before .before .before .before .if1 .left) (sym (c .before .before .before .before .before .before .before .before .before .before .before .before .is-live .ensures _ _) ∙ not-false _ (c .before .before .before .before .before .before .before .before .before .before .before .if2 .left)) (c .before .before .before .before .before .before .before .before .before .if3 .left) _ _ _ (u .1) (c .before .before .before .before .before .if4 .left)
+    reply-given _ (c .before .before .before .before .before .before .before .before .before .before .before .before .before .before .before .before .before .before .before .pre .0) _ _ (c .before .before .before .before .before .before .before .before .before .before .before .before .before .if1 .left) (sym (c .before .before .before .before .before .before .before .before .before .before .before .before .is-live .ensures _) ∙ not-false _ (c .before .before .before .before .before .before .before .before .before .before .before .if2 .left)) (c .before .before .before .before .before .before .before .before .before .if3 .left) _ _ _ (u .1) (c .before .before .before .before .before .if4 .left)
     (omega (arith, u .0, length-replicate {A = ℕ} 16384 0)) _ (c .before .before .put-bytes .ensures .text)
 
 pub reason-lawful-spec : {M : Type 1} → statement M

@@ -17,12 +17,12 @@ use Rattle.reason.proofs.linking.row_of_level.Tie as tie
 
 -- v is not read in the loop: whatever value the rows have
 abbrev Inv-loop : tie.InvT-loop
-Inv-loop rows cells issues tables next levels k from l s₀ s =
-    (v : Cell) → from ≡ firstFrom 512 (has (databaseOf rows (cellsIn cells issues) tables) (columnOf k) v) 0 →
-    Looking (databaseOf rows (cellsIn cells issues) tables) levels l (columnOf k) v s
+Inv-loop cells issues tables next levels k from l s₀ s =
+    (v : Cell) → from ≡ firstFrom 512 (has (databaseOf (cellsIn cells issues) tables) (columnOf k) v) 0 →
+    Looking (databaseOf (cellsIn cells issues) tables) levels l (columnOf k) v s
 
 abbrev μ-loop : tie.MeasureT-loop
-μ-loop rows cells issues tables next levels k from l s₀ s = 512 - s
+μ-loop cells issues tables next levels k from l s₀ s = 512 - s
 
 loop-holds : tie.Need-loop-holds Inv-loop μ-loop
 loop-holds c = λ v e. look-start _ _ _ _ _ _ e

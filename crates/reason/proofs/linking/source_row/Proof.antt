@@ -17,7 +17,7 @@ shared-slice-read-if1 c = let p = c .before .before .before .before .before .pre
 returns : tie.Need-returns
 returns c =
     let p = c .before .before .before .before .before .before .before .pre in
-    (source-elsewhere _ _ _ _ _ (elsewhere-at _ _ _ _ _ (c .if1 .taken)), searched-none _ _ _ _ _ (p .1 .1 .2))
+    (source-elsewhere _ _ _ _ _ (elsewhere-at _ _ _ _ (c .if1 .taken)), searched-none _ _ _ _ _ (p .1 .1 .2))
 
 cast-cell-at : tie.Need-cast-cell-at
 cast-cell-at c = search needs
@@ -31,7 +31,7 @@ find-requires c κs = let p = c .before .before .before .before .before .before 
 returns-2 : tie.Need-returns-2
 returns-2 c =
     let p = c .before .before .before .before .before .before .before .before .before .before .before .before .pre in (
-      source-none _ _ _ _ _ (p .1 .1 .0) (table-at _ _ _ _ _ (c .before .before .before .before .before .if1 .left)) _ (cell-at _ _ _ _ _ (p .0 .5) ∙ sym (ap cellOf (c .before .before .before .cell-at .ensures)))
+      source-none _ _ _ _ _ (p .1 .1 .0) (table-at _ _ _ _ (c .before .before .before .before .before .if1 .left)) _ (cell-at _ _ _ _ (p .0 .5) ∙ sym (ap cellOf (c .before .before .before .cell-at .ensures)))
           _ (c .before .find .ensures _ (p .1 .0 .1)) (c .if2 .taken),
       searched-none _ _ _ _ _ (p .1 .1 .2),
     )
@@ -54,7 +54,7 @@ returns-3 c =
     let f = c .before .before .before .before .find .ensures _ (p .1 .0 .1) in
     let h = first-hit _ _ _ f .here (c .before .before .before .if2 .left) in (
       passed-again _ _ _ _ _ _ h (p .0 .4) (p .0 .1) _ (p .1 .1 .2) (c .if3 .taken) ∙
-          source-same _ _ _ _ _ (p .1 .1 .0) (table-at _ _ _ _ _ (c .before .before .before .before .before .before .before .before .if1 .left)) _ (cell-at _ _ _ _ _ (p .0 .5) ∙ sym (ap cellOf (c .before .before .before .before .before .before .cell-at .ensures))),
+          source-same _ _ _ _ _ (p .1 .1 .0) (table-at _ _ _ _ (c .before .before .before .before .before .before .before .before .if1 .left)) _ (cell-at _ _ _ _ (p .0 .5) ∙ sym (ap cellOf (c .before .before .before .before .before .before .cell-at .ensures))),
       searched-none _ _ _ _ _ (p .1 .1 .2),
     )
 
@@ -69,10 +69,10 @@ returns-4 c =
     let p = c .before .before .before .before .before .before .before .before .before .before .before .before .before .before .before .before .pre in
     let f = c .before .before .before .before .before .find .ensures _ (p .1 .0 .1) in
     let h = first-hit _ _ _ f .here (c .before .before .before .before .if2 .left) in
-    let t = table-at _ _ _ _ _ (c .before .before .before .before .before .before .before .before .before .if1 .left) in
-    let v = cell-at _ _ _ _ _ (p .0 .5) ∙ sym (ap cellOf (c .before .before .before .before .before .before .before .cell-at .ensures)) in (
+    let t = table-at _ _ _ _ (c .before .before .before .before .before .before .before .before .before .if1 .left) in
+    let v = cell-at _ _ _ _ (p .0 .5) ∙ sym (ap cellOf (c .before .before .before .before .before .before .before .cell-at .ensures)) in (
       c .row-of-level .ensures ∙ source-same _ _ _ _ _ (p .1 .1 .0) t _ v,
-      passed-source _ _ _ _ _ (p .1 .1 .0) t _ v (p .1 .1 .1) _ h (p .0 .4) (p .0 .1) _ (p .1 .1 .2) (rows-numbered _ _ _) _ (c .row-of-level .ensures),
+      passed-source _ _ _ _ _ (p .1 .1 .0) t _ v (p .1 .1 .1) _ h (p .0 .4) (p .0 .1) _ (p .1 .1 .2) (rows-numbered _ _) _ (c .row-of-level .ensures),
     )
 
 pub source-row-spec : {M : Type 1} → statement M

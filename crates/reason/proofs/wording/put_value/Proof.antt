@@ -1,12 +1,12 @@
--- `reason::wording::put_held` meets its contract: the parts one behind the other. Assumes nothing.
+-- `reason::wording::put_value` meets its contract: the parts one behind the other. Assumes nothing.
 use native.Mathlib.Omega.{arith}
 use borrow.Author.Needs.{needs}
 use Rattle.finite.proofs.Writing.{behind}
 use Rattle.model.specs.Sentence.{originText, cellText}
 use Rattle.text.proofs.Reach.{spaced-reach}
 use Rattle.reason.proofs.WordingLaws.{issue-reach}
-use Rattle.reason.proofs.wording.put_held.Statement.{statement}
-use Rattle.reason.proofs.wording.put_held.Tie as tie
+use Rattle.reason.proofs.wording.put_value.Statement.{statement}
+use Rattle.reason.proofs.wording.put_value.Tie as tie
 
 slice-aggregate-put-bytes : tie.Need-slice-aggregate-put-bytes
 slice-aggregate-put-bytes c = search needs
@@ -44,8 +44,8 @@ returns c =
     behind (c .before .before .before .before .before .before .before .before .before .before .before .before .before .before .before .before .before .before .before .before .before .put-bytes .ensures)
     (behind (behind (c .before .before .before .before .before .before .before .before .before .before .before .before .before .before .before .before .put-spaced .ensures) (c .before .before .before .before .before .before .before .before .before .before .before .before .put-issue .ensures)) (behind (c .before .before .before .before .before .before .before .put-bytes2 .ensures) (c .before .before .put-spaced2 .ensures)))
 
-pub put-held-spec : {M : Type 1} → statement M
-put-held-spec =
+pub put-value-spec : {M : Type 1} → statement M
+put-value-spec =
     tie.close
     (tie.spec
     slice-aggregate-put-bytes
