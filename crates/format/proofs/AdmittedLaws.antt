@@ -8,7 +8,7 @@ use lib.Dec.{leb}
 use Rattle.state.specs.Meaning.{schemeOf, databaseOf}
 use Rattle.state.specs.Lawful.{rowFits}
 use Rattle.format.specs.declared.command.Command.{Command}
-use Rattle.format.specs.declared.command.Command.the-variants.{Table, Constraint, Filling, Row, End, Operate, Unknown, Short}
+use Rattle.format.specs.declared.command.Command.the-variants.{Table, Constraint, Filling, Row, End, Operate, Put, Remove, Unknown, Short}
 use Rattle.format.specs.Commands.{commandAt}
 use Rattle.format.specs.Reading.{Draft, Advanced, refusedIf, needless, advanced, rowAdvanced, withRow}
 use Rattle.format.specs.Reading.Advanced.{on, refused}
@@ -26,6 +26,8 @@ no-row p s i (Constraint c) h = refl
 no-row p s i (Filling f) h = refl
 no-row p s i End h = refl
 no-row p s i (Operate o) h = refl
+no-row p s i (Put r t) h = refl
+no-row p s i (Remove r) h = refl
 no-row p s i Unknown h = refl
 no-row p s i Short h = refl
 
@@ -44,19 +46,19 @@ stopped false false false c q r never e = absurd (never q e)
 
 -- a row that is admitted, and q the draft with it: the definition goes on with q, or refuses the row with cause 6 because it repeats a value
 pub record Admitted (p : Draft) (s : List ℕ) (i t : ℕ) (q : Draft) : Type 0 where
-  pub room : p .design .rows < 512
+  pub room : p .rows < 512
   pub needed : needless s i ≡ false
   pub is : withRow p s i t ≡ q
-  pub once : again (q .design) (q .cells) (q .tables) (p .design .rows) ≡ false → advanced p s i (Row t) ≡ on q
-  pub twice : again (q .design) (q .cells) (q .tables) (p .design .rows) ≡ true → advanced p s i (Row t) ≡ refused 6
+  pub once : again (q .design) (q .cells) (q .tables) (p .rows) ≡ false → advanced p s i (Row t) ≡ on q
+  pub twice : again (q .design) (q .cells) (q .tables) (p .rows) ≡ true → advanced p s i (Row t) ≡ refused 6
 
 pub row-admitted : (p : Draft) (s : List ℕ) (i t : ℕ) (q : Draft) → admitted p s i (Row t) ≡ on q → Admitted p s i t q
 unfolding admitted advanced rowAdvanced
 row-admitted p s i t q e =
     let x = withRow p s i t in
-    let n = p .design .rows in
+    let n = p .rows in
     let a = leb 512 n in
-    let b = not (rowFits (schemeOf (x .design)) (databaseOf (x .design .rows) (x .cells) (x .tables)) n) in
+    let b = not (rowFits (schemeOf (x .design)) (databaseOf (x .cells) (x .tables)) n) in
     let c = again (x .design) (x .cells) (x .tables) n in
     let m = needless s i in
     let y = all-three a m b 4 5 5 x q e in
@@ -76,13 +78,15 @@ pub stops : (p : Draft) (s : List ℕ) (i : ℕ) (c : Command) (r : Advanced) �
 unfolding admitted advanced rowAdvanced
 stops p s i (Row t) r never e =
     let x = withRow p s i t in
-    let n = p .design .rows in
-    stopped (leb 512 n) (needless s i) (not (rowFits (schemeOf (x .design)) (databaseOf (x .design .rows) (x .cells) (x .tables)) n))
+    let n = p .rows in
+    stopped (leb 512 n) (needless s i) (not (rowFits (schemeOf (x .design)) (databaseOf (x .cells) (x .tables)) n))
     (again (x .design) (x .cells) (x .tables) n) x r never e
 stops p s i (Table t) r never e = e
 stops p s i (Constraint c) r never e = e
 stops p s i (Filling f) r never e = e
 stops p s i End r never e = e
 stops p s i (Operate o) r never e = e
+stops p s i (Put k t) r never e = e
+stops p s i (Remove k) r never e = e
 stops p s i Unknown r never e = e
 stops p s i Short r never e = e

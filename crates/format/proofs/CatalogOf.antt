@@ -2,8 +2,8 @@
 use Prim.Native.Nat.{ℕ, _+_, _*_, _/_, _%_, _≤_, _<_}
 use native.Mathlib.Decide.{decLt}
 use native.Mathlib.Omega.{arith}
-use mathlib.Core.Path.{_≡_, refl, sym, ap, ap₂, _∙_}
-use mathlib.Core.Bool.{Bool, true, false, cond, _&&_}
+use mathlib.Core.Path.{_≡_, sym, ap, ap₂, _∙_}
+use mathlib.Core.Bool.{Bool, true, false, not, cond, _&&_}
 use mathlib.Core.List.{List, _++_}
 use borrow.Author.Tests.{le-ltb}
 use lib.Dec.{eqb, ltb}
@@ -17,11 +17,11 @@ use Rattle.model.specs.Database.{Database, has}
 use Rattle.model.specs.Rounds.{leads}
 use Rattle.state.specs.Cells.{Cells, cellsIn}
 use Rattle.state.specs.declared.design.Design.{Design}
-use Rattle.state.specs.Meaning.{cellIn, schemeOf, databaseOf}
+use Rattle.state.specs.Meaning.{freeTable, cellIn, schemeOf, databaseOf}
 use Rattle.finite.specs.Finite.{firstFrom}
 use Rattle.catalog.specs.Catalog.{columnAt, nextOf, demandedFirst, keyOf, valueOf, Listed, Directory, Catalogued}
 use Rattle.format.proofs.CellsLaws.{same-cell}
-use Rattle.format.proofs.LawfulLaws.{SameRow, same-row}
+use Rattle.format.proofs.LawfulLaws.{SameRow, same-row, live-same}
 
 -- which rows have a value, as a test of any kind; and the rows that constraint j demands by it of a row that is live or not, with its table and cell
 abbrev Test : Type 0
@@ -102,25 +102,29 @@ pub catalogued-as : (d : Design) (cells : Cells) (tables : List ℕ) (cells′ :
 unfolding databaseOf
 catalogued-as d cells tables cells′ tables′ next first keys heads starts a b f =
     record {
-      next-is = f .next-is ∙ tab-same 4096 _ _ (λ x l. next-alike D E live dead same (x / 8) (x % 8) (omega arith));
-      first-is = f .first-is ∙ tab-same 8192 _ _ (λ x l. first-alike D E live dead same (schemeOf d) (x / 512) (x % 512) (omega arith));
-      directory = directory-alike D E live dead same keys heads starts (f .directory);
+      next-is = f .next-is ∙ tab-same 4096 _ _ (λ x l. next-alike D E live (dead tables) same (x / 8) (x % 8) (omega arith));
+      first-is = f .first-is ∙ tab-same 8192 _ _ (λ x l. first-alike D E live (dead tables) same (schemeOf d) (x / 512) (x % 512) (omega arith));
+      directory = directory-alike D E live (dead tables) same keys heads starts (f .directory);
     }
   where
     D : Database
-    D = databaseOf (d .rows) cells tables
+    D = databaseOf cells tables
 
     E : Database
-    E = databaseOf (d .rows) cells′ tables′
+    E = databaseOf cells′ tables′
+
+    dead : (xs : List ℕ) (r : ℕ) → 512 ≤ r → ltb r 512 && not (eqb (getD xs r 0) freeTable) ≡ false
+    dead xs r l = and-left (ltb r 512) _ (le-ltb r 512 l)
 
     live : (r : ℕ) → D .live r ≡ E .live r
-    live r = refl
-
-    dead : (r : ℕ) → 512 ≤ r → D .live r ≡ false
-    dead r l = and-left (ltb r 512) (ltb r (d .rows)) (le-ltb r 512 l)
+    live r = at (decLt r 512)
+      where
+        at : Dec (r < 512) → D .live r ≡ E .live r
+        at (yes l) = live-same cells cells′ tables tables′ r (sym (b r l))
+        at (no l) = dead tables r (omega arith) ∙ sym (dead tables′ r (omega arith))
 
     same : (r : ℕ) → r < 512 → SameRow D E r
-    same r l = same-row (d .rows) (d .rows) cells cells′ tables tables′ r (sym (b r l)) (λ c h. sym (a (8 * r + c) (omega arith)))
+    same r l = same-row cells cells′ tables tables′ r (sym (b r l)) (λ c h. sym (a (8 * r + c) (omega arith)))
 
 -- what is copied out
 pub catalogued-copied : (d : Design) (cells : Cells) (tables more others rest next first keys heads starts : List ℕ)

@@ -15,12 +15,13 @@ use Rattle.state.specs.declared.design.Constraint as State-constraint
 use Rattle.state.specs.declared.design.Filling as State-filling
 use Rattle.state.specs.declared.design.Column.{Column}
 use Rattle.state.specs.declared.held.HeldValue.{HeldValue}
+use Rattle.state.specs.declared.held.Range.{Range}
 use Rattle.state.specs.declared.operation.Query.{Query}
 use Rattle.state.specs.declared.operation.Total.{Total}
 use Rattle.state.specs.declared.operation.Operation.the-variants as O
-use Rattle.format.specs.declared.command.Command.the-variants.{Table, Constraint, Filling, Row, End, Operate, Unknown, Short}
+use Rattle.format.specs.declared.command.Command.the-variants.{Table, Constraint, Filling, Row, End, Operate, Put, Remove, Unknown, Short}
 use Rattle.format.specs.Bytes.{byteAt, u16At, u32At}
-use Rattle.format.specs.Commands.{designWidth, operationWidth, widthOf, columnAt, valueAt, heldValueAt, queryAt, totalAt, designCommandAt, issuedAt, operationAt, operandsAt, commandAt}
+use Rattle.format.specs.Commands.{designWidth, operationWidth, widthOf, columnAt, valueAt, heldValueAt, rangeAt, queryAt, totalAt, putRowAt, designCommandAt, issuedAt, operationAt, operandsAt, commandAt}
 
 -- ---- widths
 
@@ -38,26 +39,34 @@ module _ (b : ℕ) where
   unfolding widthOf
   width-design l = rw (lt-ltb b 16 l)
 
-  pub width-operation : 16 ≤ b → widthOf b ≡ operationWidth b
+  pub width-put : b ≡ 29 → widthOf b ≡ 44
   unfolding widthOf
-  width-operation l = rw (le-ltb b 16 l)
+  width-put e = ap widthOf e
+
+  pub width-remove : b ≡ 30 → widthOf b ≡ 3
+  unfolding widthOf
+  width-remove e = ap widthOf e
+
+  pub width-operation : 16 ≤ b → (b ≡ 29 → ⊥) → (b ≡ 30 → ⊥) → widthOf b ≡ operationWidth b
+  unfolding widthOf
+  width-operation l h k = rw (le-ltb b 16 l, ne-eqb b 29 h, ne-eqb b 30 k)
 
   -- a command that has its bytes
   module _ (i n : ℕ) (some : widthOf b ≡ 0 → ⊥) (room : i + widthOf b ≤ n) where
     pub design-room : b < 16 → (designWidth b ≡ 0 → ⊥) × (i + designWidth b ≤ n)
     design-room l = (λ e. some (width-design l ∙ e), omega (arith, width-design l))
 
-    pub operation-room : 16 ≤ b → (operationWidth b ≡ 0 → ⊥) × (i + operationWidth b ≤ n)
-    operation-room l = (λ e. some (width-operation l ∙ e), omega (arith, width-operation l))
+    pub operation-room : 16 ≤ b → (b ≡ 29 → ⊥) → (b ≡ 30 → ⊥) → (operationWidth b ≡ 0 → ⊥) × (i + operationWidth b ≤ n)
+    operation-room l h k = let e = width-operation l h k in (λ z. some (e ∙ z), omega arith)
 
   pub design-width-none : (b ≡ 1 → ⊥) → (b ≡ 2 → ⊥) → (b ≡ 3 → ⊥) → (b ≡ 4 → ⊥) → (b ≡ 5 → ⊥) → (b ≡ 7 → ⊥) → designWidth b ≡ 0
   unfolding designWidth
   design-width-none h₁ h₂ h₃ h₄ h₅ h₇ = rw (ne-eqb b 1 h₁, ne-eqb b 2 h₂, ne-eqb b 3 h₃, ne-eqb b 4 h₄, ne-eqb b 5 h₅, ne-eqb b 7 h₇)
 
-  pub operation-width-none : (b ≡ 16 → ⊥) → (b ≡ 17 → ⊥) → (b ≡ 18 → ⊥) → (b ≡ 19 → ⊥) → (b ≡ 20 → ⊥) → (b ≡ 21 → ⊥) → (b ≡ 23 → ⊥) → (b ≡ 24 → ⊥) → (b ≡ 25 → ⊥) → (b ≡ 28 → ⊥)
+  pub operation-width-none : (b ≡ 16 → ⊥) → (b ≡ 17 → ⊥) → (b ≡ 18 → ⊥) → (b ≡ 19 → ⊥) → (b ≡ 20 → ⊥) → (b ≡ 21 → ⊥) → (b ≡ 23 → ⊥) → (b ≡ 24 → ⊥) → (b ≡ 25 → ⊥) → (b ≡ 26 → ⊥) → (b ≡ 27 → ⊥) → (b ≡ 28 → ⊥)
       → (b ≡ 32 → ⊥) → (b ≡ 33 → ⊥) → (b ≡ 34 → ⊥) → (b ≡ 35 → ⊥) → (b ≡ 37 → ⊥) → operationWidth b ≡ 0
   unfolding operationWidth
-  operation-width-none h₁ h₂ h₃ h₄ h₅ h₆ h₈ h₁₀ h₉ h₇ k₁ k₂ k₃ k₄ k₆ =
+  operation-width-none h₁ h₂ h₃ h₄ h₅ h₆ h₈ h₁₀ h₉ h₁₁ h₁₂ h₇ k₁ k₂ k₃ k₄ k₆ =
       rw (
         ne-eqb b 16 h₁,
         ne-eqb b 17 h₂,
@@ -68,6 +77,8 @@ module _ (b : ℕ) where
         ne-eqb b 23 h₈,
         ne-eqb b 24 h₁₀,
         ne-eqb b 25 h₉,
+        ne-eqb b 26 h₁₁,
+        ne-eqb b 27 h₁₂,
         ne-eqb b 28 h₇,
         ne-eqb b 32 k₁,
         ne-eqb b 33 k₂,
@@ -84,10 +95,10 @@ module _ (b : ℕ) where
       (λ (n : b ≡ 4 → ⊥). ⊎-elim (λ (e : b ≡ 7). issued e (ap designWidth e)) (λ (m : b ≡ 7 → ⊥). absurd (w (design-width-none h₁ h₂ h₃ n h₅ m))) (same-number b 7))
       (same-number b 4)
 
-  pub is-query : (operationWidth b ≡ 0 → ⊥) → b < 32 → (b ≡ 16 → ⊥) → (b ≡ 17 → ⊥) → (b ≡ 18 → ⊥) → (b ≡ 20 → ⊥) → (b ≡ 21 → ⊥) → (b ≡ 23 → ⊥) → (b ≡ 24 → ⊥) → (b ≡ 25 → ⊥) → (b ≡ 28 → ⊥) → b ≡ 19
-  is-query w l h₁ h₂ h₃ h₅ h₆ h₈ h₁₀ h₉ h₇ =
+  pub is-query : (operationWidth b ≡ 0 → ⊥) → b < 32 → (b ≡ 16 → ⊥) → (b ≡ 17 → ⊥) → (b ≡ 18 → ⊥) → (b ≡ 20 → ⊥) → (b ≡ 21 → ⊥) → (b ≡ 23 → ⊥) → (b ≡ 24 → ⊥) → (b ≡ 25 → ⊥) → (b ≡ 26 → ⊥) → (b ≡ 27 → ⊥) → (b ≡ 28 → ⊥) → b ≡ 19
+  is-query w l h₁ h₂ h₃ h₅ h₆ h₈ h₁₀ h₉ h₁₁ h₁₂ h₇ =
       ⊎-elim (λ (e : b ≡ 19). e)
-      (λ (n : b ≡ 19 → ⊥). absurd (w (operation-width-none h₁ h₂ h₃ n h₅ h₆ h₈ h₁₀ h₉ h₇ (λ e. omega arith) (λ e. omega arith) (λ e. omega arith) (λ e. omega arith) (λ e. omega arith))))
+      (λ (n : b ≡ 19 → ⊥). absurd (w (operation-width-none h₁ h₂ h₃ n h₅ h₆ h₈ h₁₀ h₉ h₁₁ h₁₂ h₇ (λ e. omega arith) (λ e. omega arith) (λ e. omega arith) (λ e. omega arith) (λ e. omega arith))))
       (same-number b 19)
 
   -- an operation with an issue is one byte wider than the same without it
@@ -99,35 +110,35 @@ module _ (b : ℕ) where
       (λ (k₂ : b ≡ 33 → ⊥). ⊎-elim (λ (e : b ≡ 34). wider 34 e (omega arith, omega arith, refl))
       (λ (k₃ : b ≡ 34 → ⊥). ⊎-elim (λ (e : b ≡ 35). wider 35 e (omega arith, omega arith, refl))
       (λ (k₄ : b ≡ 35 → ⊥). ⊎-elim (λ (e : b ≡ 37). wider 37 e (omega arith, omega arith, refl))
-      (λ (k₆ : b ≡ 37 → ⊥). absurd (w (operation-width-none (λ e. omega arith) (λ e. omega arith) (λ e. omega arith) (λ e. omega arith) (λ e. omega arith) (λ e. omega arith) (λ e. omega arith) (λ e. omega arith) (λ e. omega arith) (λ e. omega arith) k₁ k₂ k₃ k₄ k₆)))
+      (λ (k₆ : b ≡ 37 → ⊥). absurd (w (operation-width-none (λ e. omega arith) (λ e. omega arith) (λ e. omega arith) (λ e. omega arith) (λ e. omega arith) (λ e. omega arith) (λ e. omega arith) (λ e. omega arith) (λ e. omega arith) (λ e. omega arith) (λ e. omega arith) (λ e. omega arith) k₁ k₂ k₃ k₄ k₆)))
       (same-number b 37)) (same-number b 35)) (same-number b 34)) (same-number b 33)) (same-number b 32)
     where
       wider : (n : ℕ) → b ≡ n → (n - 16 < 32) × (0 < operationWidth (n - 16)) × (operationWidth (n - 16) + 1 ≡ operationWidth n)
           → (b - 16 < 32) × (0 < operationWidth (b - 16)) × (operationWidth (b - 16) + 1 ≡ operationWidth b)
       wider n e h = subst (λ (k : ℕ). (k - 16 < 32) × (0 < operationWidth (k - 16)) × (operationWidth (k - 16) + 1 ≡ operationWidth k)) (sym e) h
 
--- a command takes at most 42 bytes
-pick : (x : Bool) (m n : ℕ) → m ≤ 42 → n ≤ 42 → cond x m n ≤ 42
+-- a command takes at most 44 bytes
+pick : (x : Bool) (m n : ℕ) → m ≤ 44 → n ≤ 44 → cond x m n ≤ 44
 pick true m n k l = k
 pick false m n k l = l
 
-design-most : (b : ℕ) → designWidth b ≤ 42
+design-most : (b : ℕ) → designWidth b ≤ 44
 unfolding designWidth
 design-most b =
     pick (eqb b 1) 3 _ (omega arith) (pick (eqb b 2) 5 _ (omega arith) (pick (eqb b 3) 11 _ (omega arith) (pick (eqb b 4) 34 _ (omega arith)
     (pick (eqb b 5) 1 _ (omega arith) (pick (eqb b 7) 42 0 (omega arith) (omega arith))))))
 
-operation-most : (b : ℕ) → operationWidth b ≤ 42
+operation-most : (b : ℕ) → operationWidth b ≤ 44
 unfolding operationWidth
 operation-most b =
     pick (eqb b 16) 6 _ (omega arith) (pick (eqb b 17) 6 _ (omega arith) (pick (eqb b 18) 7 _ (omega arith)
-    (pick (eqb b 19) 16 _ (omega arith) (pick (eqb b 20) 1 _ (omega arith) (pick (eqb b 21) 18 _ (omega arith) (pick (eqb b 23) 2 _ (omega arith) (pick (eqb b 24) 3 _ (omega arith) (pick (eqb b 25) 8 _ (omega arith) (pick (eqb b 28) 1 _ (omega arith)
+    (pick (eqb b 19) 16 _ (omega arith) (pick (eqb b 20) 1 _ (omega arith) (pick (eqb b 21) 18 _ (omega arith) (pick (eqb b 23) 2 _ (omega arith) (pick (eqb b 24) 3 _ (omega arith) (pick (eqb b 25) 8 _ (omega arith) (pick (eqb b 26) 10 _ (omega arith) (pick (eqb b 27) 10 _ (omega arith) (pick (eqb b 28) 1 _ (omega arith)
     (pick (eqb b 32) 7 _ (omega arith) (pick (eqb b 33) 7 _ (omega arith) (pick (eqb b 34) 8 _ (omega arith)
-    (pick (eqb b 35) 17 _ (omega arith) (pick (eqb b 37) 19 0 (omega arith) (omega arith)))))))))))))))
+    (pick (eqb b 35) 17 _ (omega arith) (pick (eqb b 37) 19 0 (omega arith) (omega arith)))))))))))))))))
 
-pub width-most : (b : ℕ) → widthOf b ≤ 42
+pub width-most : (b : ℕ) → widthOf b ≤ 44
 unfolding widthOf
-width-most b = pick (ltb b 16) _ _ (design-most b) (operation-most b)
+width-most b = pick (ltb b 16) _ _ (design-most b) (pick (eqb b 29) 44 _ (omega arith) (pick (eqb b 30) 3 _ (omega arith) (operation-most b)))
 
 -- past the end there is nothing to move over
 pub width-past : (s : List ℕ) (i : ℕ) → length s ≤ i → widthOf (byteAt s i) ≡ 0
@@ -141,9 +152,17 @@ module _ (b : ℕ) (s : List ℕ) (i : ℕ) where
   unfolding operandsAt
   operands-design l = sym (rw (lt-ltb b 16 l))
 
-  pub operands-operation : 16 ≤ b → Operate (operationAt b s i) ≡ operandsAt b s i
+  pub operands-put : (r t : ℕ) → r ≡ u16At s (i + 1) → t ≡ byteAt s (i + 3) → b ≡ 29 → Put r t ≡ operandsAt b s i
   unfolding operandsAt
-  operands-operation l = sym (rw (le-ltb b 16 l))
+  operands-put r t p q e = ap₂ Put p q ∙ ap (λ (k : ℕ). operandsAt k s i) (sym e)
+
+  pub operands-remove : (r : ℕ) → r ≡ u16At s (i + 1) → b ≡ 30 → Remove r ≡ operandsAt b s i
+  unfolding operandsAt
+  operands-remove r p e = ap Remove p ∙ ap (λ (k : ℕ). operandsAt k s i) (sym e)
+
+  pub operands-operation : 16 ≤ b → (b ≡ 29 → ⊥) → (b ≡ 30 → ⊥) → Operate (operationAt b s i) ≡ operandsAt b s i
+  unfolding operandsAt
+  operands-operation l h k = sym (rw (le-ltb b 16 l, ne-eqb b 29 h, ne-eqb b 30 k))
 
   pub command-table : (t : State-table.Table) → t ≡ record { columns = byteAt s (i + 1); unique = byteAt s (i + 2) } → b ≡ 1 → Table t ≡ designCommandAt b s i
   unfolding designCommandAt
@@ -213,6 +232,14 @@ module _ (b : ℕ) (s : List ℕ) (i : ℕ) where
     unfolding issuedAt
     operation-opener k v p q e = ap₂ O.Opener p q ∙ at 25 e
 
+    pub operation-refer-range : (q : Range) → q ≡ rangeAt s i → b ≡ 26 → O.ReferRange q ≡ issuedAt b s w i
+    unfolding issuedAt
+    operation-refer-range q p e = ap O.ReferRange p ∙ at 26 e
+
+    pub operation-drop-range : (q : Range) → q ≡ rangeAt s i → b ≡ 27 → O.DropRange q ≡ issuedAt b s w i
+    unfolding issuedAt
+    operation-drop-range q p e = ap O.DropRange p ∙ at 27 e
+
     pub operation-smallest-knot : b ≡ 28 → O.SmallestKnot ≡ issuedAt b s w i
     unfolding issuedAt
     operation-smallest-knot e = at 28 e
@@ -220,6 +247,12 @@ module _ (b : ℕ) (s : List ℕ) (i : ℕ) where
     pub operation-query : (q : Query) → q ≡ queryAt s w i → b ≡ 19 → O.Query q ≡ issuedAt b s w i
     unfolding issuedAt
     operation-query q p e = ap O.Query p ∙ at 19 e
+
+-- the row that is put in, part by part
+pub put-row : (s : List ℕ) (i : ℕ) (x y : List ℕ) → x ≡ putRowAt s i .numbers → y ≡ putRowAt s i .issues
+    → record { table = byteAt s (i + 3); numbers = x; issues = y } ≡ putRowAt s i
+unfolding putRowAt
+put-row s i x y p q = λ j. record { table = byteAt s (i + 3); numbers = p j; issues = q j }
 
 -- ---- the command at a place, test by test
 

@@ -1,7 +1,7 @@
 -- A lawful design stays lawful when an item that passes its test is added. Assumes nothing.
 use Prim.Native.Nat.{ℕ, _+_, _≤_, _<_}
 use native.Mathlib.Omega.{arith}
-use mathlib.Core.Path.{_≡_, refl, sym, ap, _∙_}
+use mathlib.Core.Path.{_≡_, refl, ap, _∙_}
 use mathlib.Core.Bool.{Bool, true}
 use mathlib.Core.List.{List}
 use lib.ListN.{length, getD, set}
@@ -15,11 +15,11 @@ use Rattle.state.specs.declared.design.Filling.{Filling}
 use Rattle.state.specs.declared.design.Design.{Design}
 use Rattle.state.specs.Design.{noTable, noConstraint, noFilling, tableAt, constraintAt, fillingAt}
 use Rattle.state.specs.Meaning.{schemeOf, databaseOf}
-use Rattle.state.specs.Lawful.{usedOr, tableFits, zeroTable, constraintFits, zeroConstraint, fillingFits, zeroFilling, zeroRow}
-use Rattle.state.proofs.Places.{one-more, none-used, unused-is}
-use Rattle.format.specs.Reading.{withTable, withConstraint, withFilling, withRows}
+use Rattle.state.specs.Lawful.{usedOr, tableFits, zeroTable, constraintFits, zeroConstraint, fillingFits, zeroFilling}
+use Rattle.state.proofs.Places.{one-more, none-used}
+use Rattle.format.specs.Reading.{withTable, withConstraint, withFilling}
 use Rattle.format.proofs.CellsLaws.{putRow, put-other}
-use Rattle.format.proofs.LawfulLaws.{Parts, RowParts, SameRow, rowTest, constraint-fits-same, filling-fits-same, same-row, live-same, zero-row-same, row-test-same}
+use Rattle.format.proofs.LawfulLaws.{Parts, RowParts, SameRow, rowTest, noRow, constraint-fits-same, filling-fits-same, same-row, live-same, no-row-same, row-test-same}
 
 -- ---- one more table, before any constraint and filling
 
@@ -31,7 +31,6 @@ module _ (d : Design) (t : Table) (long : length (d .table) ≡ 8) (p : Parts d)
         tables = omega arith;
         constraints = p .constraints;
         fillings = p .fillings;
-        rows = p .rows;
         table =
             one-more 8 (d .tables) (λ i. tableFits (tableAt d i)) (λ i. tableFits (getD (set (d .table) (d .tables) t) i noTable))
             (λ i. zeroTable (tableAt d i)) (λ i. zeroTable (getD (set (d .table) (d .tables) t) i noTable)) (p .table)
@@ -64,7 +63,6 @@ module _ (d : Design) (c : Constraint) (long : length (d .constraint) ≡ 16) (p
         tables = p .tables;
         constraints = omega arith;
         fillings = p .fillings;
-        rows = p .rows;
         table = p .table;
         constraint =
             one-more 16 (d .constraints) (λ i. constraintFits d i (constraintAt d i)) (λ i. constraintFits (withConstraint d c) i (constraintAt (withConstraint d c) i))
@@ -97,7 +95,6 @@ module _ (d : Design) (f : Filling) (long : length (d .filling) ≡ 8) (p : Part
         tables = p .tables;
         constraints = p .constraints;
         fillings = omega arith;
-        rows = p .rows;
         table = p .table;
         constraint = λ i h. ap (λ (b : Bool). usedOr i (d .constraints) b (zeroConstraint (constraintAt d i))) (constraint-fits-same (withFilling d f) d refl (λ t. refl) i (constraintAt d i) (λ j k. refl)) ∙ p .constraint i h;
         filling =
@@ -110,54 +107,32 @@ module _ (d : Design) (f : Filling) (long : length (d .filling) ≡ 8) (p : Part
 
 -- ---- one more row
 
--- the number of rows is tested by the counts alone
-pub count-rows : (d : Design) (n : ℕ) → n ≤ 512 → Parts d → Parts (withRows d n)
-unfolding withRows
-count-rows d n l p =
-    record {
-      tables = p .tables;
-      constraints = p .constraints;
-      fillings = p .fillings;
-      rows = l;
-      table = p .table;
-      constraint = λ i h. ap (λ (b : Bool). usedOr i (d .constraints) b (zeroConstraint (constraintAt d i))) (constraint-fits-same (withRows d n) d refl (λ t. refl) i (constraintAt d i) (λ j k. refl)) ∙ p .constraint i h;
-      filling = λ i h. ap (λ (b : Bool). usedOr i (d .fillings) b (zeroFilling (fillingAt d i))) (filling-fits-same (withRows d n) d refl (λ t. refl) i (fillingAt d i) (λ j k. refl)) ∙ p .filling i h;
-    }
-
 -- row n is stored: the others are as they were
-module _ (m k n t : ℕ) (cells : Cells) (tables xs ys : List ℕ) (a : length xs ≡ 8) (b : length ys ≡ 8) where
-  pub other-rows : (r : ℕ) → (r ≡ n → ⊥) → SameRow (databaseOf m (putRow cells n xs ys) (set tables n t)) (databaseOf k cells tables) r
+module _ (n t : ℕ) (cells : Cells) (tables xs ys : List ℕ) (a : length xs ≡ 8) (b : length ys ≡ 8) where
+  other-rows : (r : ℕ) → (r ≡ n → ⊥) → SameRow (databaseOf (putRow cells n xs ys) (set tables n t)) (databaseOf cells tables) r
   other-rows r ne =
-      same-row m k (putRow cells n xs ys) cells (set tables n t) tables r (getD-set-other tables n r t 0 ne) (put-other cells n xs ys a b r ne)
+      same-row (putRow cells n xs ys) cells (set tables n t) tables r (getD-set-other tables n r t 0 ne) (put-other cells n xs ys a b r ne)
 
-module _ (d : Design) (t : ℕ) (cells : Cells) (tables xs ys : List ℕ) (a : length xs ≡ 8) (b : length ys ≡ 8) where
-  pub grow-row : RowParts d cells tables
-      → rowTest (schemeOf d) (databaseOf (d .rows + 1) (putRow cells (d .rows) xs ys) (set tables (d .rows) t)) (d .rows) ≡ true
-      → RowParts (withRows d (d .rows + 1)) (putRow cells (d .rows) xs ys) (set tables (d .rows) t)
-  unfolding withRows schemeOf
-  grow-row p fits =
-      let n = d .rows in
+  pub grow-row : (d : Design) → RowParts d n cells tables → rowTest (schemeOf d) (databaseOf (putRow cells n xs ys) (set tables n t)) n ≡ true
+      → RowParts d (n + 1) (putRow cells n xs ys) (set tables n t)
+  grow-row d p fits =
       let S : Scheme = schemeOf d in
-      let D : Database = databaseOf n cells tables in
-      let E : Database = databaseOf (n + 1) (putRow cells n xs ys) (set tables n t) in
-      let kept : (r : ℕ) → (r ≡ n → ⊥) → SameRow E D r = other-rows (n + 1) n n t cells tables xs ys a b in
+      let D : Database = databaseOf cells tables in
+      let E : Database = databaseOf (putRow cells n xs ys) (set tables n t) in
       record {
         row =
-            one-more 512 n (rowTest S D) (rowTest S E) (zeroRow D) (zeroRow E) (p .row)
-            (λ r h. row-test-same S E D r (kept r (λ (e : r ≡ n). omega arith)) (λ q k. kept q (λ (e : q ≡ n). omega arith))
-            (λ q k. live-same (n + 1) n (putRow cells n xs ys) cells (set tables n t) tables q (omega arith) (omega arith)))
+            one-more 512 n (rowTest S D) (rowTest S E) (noRow D) (noRow E) (p .row)
+            (λ r h. row-test-same S E D r (other-rows r (λ (e : r ≡ n). omega arith)) (λ q k. other-rows q (λ (e : q ≡ n). omega arith))
+            (λ q k. live-same (putRow cells n xs ys) cells (set tables n t) tables q (getD-set-other tables n q t 0 (λ (e : q ≡ n). omega arith))))
             fits
-            (λ r h k. zero-row-same S E D r (kept r (λ (e : r ≡ n). omega arith)));
+            (λ r h k. no-row-same S E D r (other-rows r (λ (e : r ≡ n). omega arith)));
       }
 
 -- no row has been read: the tables, constraints and fillings do not matter
-pub no-rows : (d e : Design) (cells : Cells) (tables : List ℕ) → d .rows ≡ 0 → e .rows ≡ 0 → RowParts d cells tables → RowParts e cells tables
-no-rows d e cells tables z y p =
+pub no-rows : (d e : Design) (n : ℕ) (cells : Cells) (tables : List ℕ) → n ≡ 0 → RowParts d n cells tables → RowParts e n cells tables
+no-rows d e n cells tables z p =
     record {
       row = λ r h.
-          let D : Database = databaseOf (d .rows) cells tables in
-          let E : Database = databaseOf (e .rows) cells tables in
-          unused-is r (e .rows) (rowTest (schemeOf e) E r) (zeroRow E r) (omega arith) ∙
-          zero-row-same (schemeOf d) E D r (same-row (e .rows) (d .rows) cells cells tables tables r refl (λ c l. refl)) ∙
-          sym (unused-is r (d .rows) (rowTest (schemeOf d) D r) (zeroRow D r) (omega arith)) ∙ p .row r h;
+          let D : Database = databaseOf cells tables in
+          none-used r n (rowTest (schemeOf d) D r) (rowTest (schemeOf e) D r) (noRow D r) z (p .row r h);
     }

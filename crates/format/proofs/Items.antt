@@ -21,11 +21,12 @@ use Rattle.state.specs.Design.{noTable, noConstraint, noFilling, tableAt, const
 use Rattle.state.specs.Meaning.{cellAt}
 use Rattle.format.specs.Bytes.{byteAt, u32At, u32Bytes}
 use Rattle.format.specs.Commands.{columnAt, rowCellAt, rowIssueAt}
-use Rattle.format.specs.Reading.{Draft, withTable, withConstraint, withFilling, withRows, withRow, needless}
-use Rattle.format.specs.Writing.{tableBytes, constraintBytes, fillingBytes, isIssued, rowBytes, designBytes}
+use Rattle.format.specs.Reading.{Draft, withTable, withConstraint, withFilling, withRow, needless}
+use Rattle.format.specs.Writing.{tableBytes, constraintBytes, fillingBytes, isIssued, rowBytes, designBytes, Dense}
 use Rattle.format.proofs.CommandLaws.{RowByte, plain, issued}
 use Rattle.format.proofs.BytesLaws.{part-add, part-tab, u32-part, parts-collected}
 use Rattle.format.proofs.CellsLaws.{putRow, put-below, put-at}
+use Rattle.format.proofs.WritingLaws.{bytes-dense}
 use Rattle.format.proofs.RowText.{anyIssue, numbersText, rowText, text-issued, text-plain, text-same, row-text, row-issued, issue-read, none-plain, some-issued}
 
 abbrev pub tablesBytes : Design → List ℕ
@@ -37,16 +38,18 @@ constraintsBytes d = collect (d .constraints) (λ _. true) (λ i. constraintByte
 abbrev pub fillingsBytes : Design → List ℕ
 fillingsBytes d = collect (d .fillings) (λ _. true) (λ i. fillingBytes (fillingAt d i))
 
-abbrev pub rowsBytes : Design → Cells → List ℕ → List ℕ
-rowsBytes d cells tables = collect (d .rows) (λ _. true) (rowBytes cells tables)
+-- n rows without gaps
+abbrev pub rowsBytes : ℕ → Cells → List ℕ → List ℕ
+rowsBytes n cells tables = collect n (λ _. true) (rowBytes cells tables)
 
 -- all but the END
-unfoldable pub itemsBytes : Design → Cells → List ℕ → List ℕ
-itemsBytes d cells tables = tablesBytes d ++ (constraintsBytes d ++ (fillingsBytes d ++ rowsBytes d cells tables))
+unfoldable pub itemsBytes : Design → ℕ → Cells → List ℕ → List ℕ
+itemsBytes d n cells tables = tablesBytes d ++ (constraintsBytes d ++ (fillingsBytes d ++ rowsBytes n cells tables))
 
-pub design-items : (d : Design) (cells : Cells) (tables : List ℕ) → designBytes d cells tables ≡ itemsBytes d cells tables ++ (5 ∷ [])
-unfolding designBytes itemsBytes
-design-items d cells tables = five (tablesBytes d) (constraintsBytes d) (fillingsBytes d) (rowsBytes d cells tables) (5 ∷ [])
+pub design-items : (d : Design) (n : ℕ) (cells : Cells) (tables : List ℕ) → Dense n cells tables → designBytes d cells tables ≡ itemsBytes d n cells tables ++ (5 ∷ [])
+unfolding itemsBytes
+design-items d n cells tables h =
+    bytes-dense d n cells tables h ∙ five (tablesBytes d) (constraintsBytes d) (fillingsBytes d) (rowsBytes n cells tables) (5 ∷ [])
   where
     five : (a b c e f : List ℕ) → a ++ (b ++ (c ++ (e ++ f))) ≡ (a ++ (b ++ (c ++ e))) ++ f
     five a b c e f = sym (append-assoc a (b ++ (c ++ e)) f ∙ ap (λ (l : List ℕ). a ++ l) (append-assoc b (c ++ e) f ∙ ap (λ (l : List ℕ). b ++ l) (append-assoc c e f)))
@@ -69,38 +72,38 @@ behind a x r e =
 both-empty : (a b : List ℕ) → a ≡ [] → b ≡ [] → a ++ b ≡ []
 both-empty a b p q = ap₂ _++_ p q
 
-module _ (d : Design) (cells : Cells) (tables : List ℕ) where
-  pub more-table : (t : Table) → d .tables < length (d .table) → d .constraints ≡ 0 → d .fillings ≡ 0 → d .rows ≡ 0
-      → itemsBytes (withTable d t) cells tables ≡ itemsBytes d cells tables ++ tableBytes t
+module _ (d : Design) (n : ℕ) (cells : Cells) (tables : List ℕ) where
+  pub more-table : (t : Table) → d .tables < length (d .table) → d .constraints ≡ 0 → d .fillings ≡ 0 → n ≡ 0
+      → itemsBytes (withTable d t) n cells tables ≡ itemsBytes d n cells tables ++ tableBytes t
   unfolding itemsBytes withTable
   more-table t l c f r =
-      let rest = constraintsBytes d ++ (fillingsBytes d ++ rowsBytes d cells tables) in
+      let rest = constraintsBytes d ++ (fillingsBytes d ++ rowsBytes n cells tables) in
       ap (λ (x : List ℕ). x ++ rest)
       (grown (d .tables) (λ i. tableBytes (tableAt d i)) (λ i. tableBytes (getD (set (d .table) (d .tables) t) i noTable)) (tableBytes t)
       (λ i h. ap tableBytes (getD-set-other (d .table) (d .tables) i t noTable (λ (e : i ≡ d .tables). omega arith)))
       (ap tableBytes (getD-set-same (d .table) (d .tables) t noTable l))) ∙
       behind (tablesBytes d) (tableBytes t) rest
-      (both-empty (constraintsBytes d) (fillingsBytes d ++ rowsBytes d cells tables) (nothing _ _ c)
-      (both-empty (fillingsBytes d) (rowsBytes d cells tables) (nothing _ _ f) (nothing _ _ r)))
+      (both-empty (constraintsBytes d) (fillingsBytes d ++ rowsBytes n cells tables) (nothing _ _ c)
+      (both-empty (fillingsBytes d) (rowsBytes n cells tables) (nothing _ _ f) (nothing _ _ r)))
 
-  pub more-constraint : (c : Constraint) → d .constraints < length (d .constraint) → d .fillings ≡ 0 → d .rows ≡ 0
-      → itemsBytes (withConstraint d c) cells tables ≡ itemsBytes d cells tables ++ constraintBytes c
+  pub more-constraint : (c : Constraint) → d .constraints < length (d .constraint) → d .fillings ≡ 0 → n ≡ 0
+      → itemsBytes (withConstraint d c) n cells tables ≡ itemsBytes d n cells tables ++ constraintBytes c
   unfolding itemsBytes withConstraint
   more-constraint c l f r =
-      let rest = fillingsBytes d ++ rowsBytes d cells tables in
+      let rest = fillingsBytes d ++ rowsBytes n cells tables in
       ap (λ (x : List ℕ). tablesBytes d ++ x)
       (ap (λ (x : List ℕ). x ++ rest)
       (grown (d .constraints) (λ i. constraintBytes (constraintAt d i)) (λ i. constraintBytes (getD (set (d .constraint) (d .constraints) c) i noConstraint)) (constraintBytes c)
       (λ i h. ap constraintBytes (getD-set-other (d .constraint) (d .constraints) i c noConstraint (λ (e : i ≡ d .constraints). omega arith)))
       (ap constraintBytes (getD-set-same (d .constraint) (d .constraints) c noConstraint l))) ∙
-      behind (constraintsBytes d) (constraintBytes c) rest (both-empty (fillingsBytes d) (rowsBytes d cells tables) (nothing _ _ f) (nothing _ _ r))) ∙
+      behind (constraintsBytes d) (constraintBytes c) rest (both-empty (fillingsBytes d) (rowsBytes n cells tables) (nothing _ _ f) (nothing _ _ r))) ∙
       sym (append-assoc (tablesBytes d) (constraintsBytes d ++ rest) (constraintBytes c))
 
-  pub more-filling : (f : Filling) → d .fillings < length (d .filling) → d .rows ≡ 0
-      → itemsBytes (withFilling d f) cells tables ≡ itemsBytes d cells tables ++ fillingBytes f
+  pub more-filling : (f : Filling) → d .fillings < length (d .filling) → n ≡ 0
+      → itemsBytes (withFilling d f) n cells tables ≡ itemsBytes d n cells tables ++ fillingBytes f
   unfolding itemsBytes withFilling
   more-filling f l r =
-      let rest = rowsBytes d cells tables in
+      let rest = rowsBytes n cells tables in
       ap (λ (x : List ℕ). tablesBytes d ++ (constraintsBytes d ++ x))
       (ap (λ (x : List ℕ). x ++ rest)
       (grown (d .fillings) (λ i. fillingBytes (fillingAt d i)) (λ i. fillingBytes (getD (set (d .filling) (d .fillings) f) i noFilling)) (fillingBytes f)
@@ -111,50 +114,50 @@ module _ (d : Design) (cells : Cells) (tables : List ℕ) where
       sym (append-assoc (tablesBytes d) (constraintsBytes d ++ (fillingsBytes d ++ rest)) (fillingBytes f))
 
 -- the row whose command stands at place i
-module _ (p : Draft) (s : List ℕ) (i t : ℕ) (long : 8 * p .design .rows + 8 ≤ length (p .cells .numbers)) (wide : 8 * p .design .rows + 8 ≤ length (p .cells .issues))
-    (room : p .design .rows < length (p .tables)) where
+module _ (p : Draft) (s : List ℕ) (i t : ℕ) (long : 8 * p .rows + 8 ≤ length (p .cells .numbers)) (wide : 8 * p .rows + 8 ≤ length (p .cells .issues))
+    (room : p .rows < length (p .tables)) where
   new-cells : Cells
-  new-cells = putRow (p .cells) (p .design .rows) (tab 8 (rowCellAt s i)) (tab 8 (rowIssueAt s i))
+  new-cells = putRow (p .cells) (p .rows) (tab 8 (rowCellAt s i)) (tab 8 (rowIssueAt s i))
 
   new-tables : List ℕ
-  new-tables = set (p .tables) (p .design .rows) t
+  new-tables = set (p .tables) (p .rows) t
 
-  old-row : (r : ℕ) → r < p .design .rows → rowBytes new-cells new-tables r ≡ rowBytes (p .cells) (p .tables) r
+  old-row : (r : ℕ) → r < p .rows → rowBytes new-cells new-tables r ≡ rowBytes (p .cells) (p .tables) r
   unfolding new-cells new-tables
   old-row r h =
       row-text new-cells new-tables r ∙
-      text-same _ _ _ _ _ _ (getD-set-other (p .tables) (p .design .rows) r t 0 (λ (e : r ≡ p .design .rows). omega arith))
+      text-same _ _ _ _ _ _ (getD-set-other (p .tables) (p .rows) r t 0 (λ (e : r ≡ p .rows). omega arith))
       (λ c l. ap (λ (v : Cell). v .number) (old c l)) (λ c l. ap (λ (v : Cell). v .issue) (old c l)) ∙ sym (row-text (p .cells) (p .tables) r)
     where
       old : (c : ℕ) → c < 8 → cellAt new-cells r c ≡ cellAt (p .cells) r c
-      old c l = put-below (p .cells) (p .design .rows) (tab 8 (rowCellAt s i)) (tab 8 (rowIssueAt s i)) (8 * r + c) (omega arith)
+      old c l = put-below (p .cells) (p .rows) (tab 8 (rowCellAt s i)) (tab 8 (rowIssueAt s i)) (8 * r + c) (omega arith)
 
   -- its cells are those of the command
-  new : (c : ℕ) → c < 8 → cellAt new-cells (p .design .rows) c ≡ record { number = rowCellAt s i c; issue = rowIssueAt s i c }
+  new : (c : ℕ) → c < 8 → cellAt new-cells (p .rows) c ≡ record { number = rowCellAt s i c; issue = rowIssueAt s i c }
   unfolding new-cells
   new c l =
-      put-at (p .cells) (p .design .rows) (tab 8 (rowCellAt s i)) (tab 8 (rowIssueAt s i)) (length-tab 8 (rowCellAt s i)) (length-tab 8 (rowIssueAt s i)) long wide c l ∙
+      put-at (p .cells) (p .rows) (tab 8 (rowCellAt s i)) (tab 8 (rowIssueAt s i)) (length-tab 8 (rowCellAt s i)) (length-tab 8 (rowIssueAt s i)) long wide c l ∙
       (λ j. record { number = tab-at 0 8 (rowCellAt s i) c l j; issue = tab-at 0 8 (rowIssueAt s i) c l j })
 
-  new-row : rowBytes new-cells new-tables (p .design .rows) ≡ rowText t (rowCellAt s i) (rowIssueAt s i)
+  new-row : rowBytes new-cells new-tables (p .rows) ≡ rowText t (rowCellAt s i) (rowIssueAt s i)
   unfolding new-tables
   new-row =
-      row-text new-cells new-tables (p .design .rows) ∙
-      text-same _ _ _ _ _ _ (getD-set-same (p .tables) (p .design .rows) t 0 room)
+      row-text new-cells new-tables (p .rows) ∙
+      text-same _ _ _ _ _ _ (getD-set-same (p .tables) (p .rows) t 0 room)
       (λ c l. ap (λ (v : Cell). v .number) (new c l)) (λ c l. ap (λ (v : Cell). v .issue) (new c l))
 
-  pub new-issued : isIssued (withRow p s i t .cells) (p .design .rows) ≡ anyIssue (rowIssueAt s i)
+  pub new-issued : isIssued (withRow p s i t .cells) (p .rows) ≡ anyIssue (rowIssueAt s i)
   unfolding new-cells withRow
-  new-issued = row-issued new-cells (p .design .rows) ∙ any-same 8 _ _ (λ c l. ap (λ (v : Cell). not (eqb (v .issue) 0)) (new c l))
+  new-issued = row-issued new-cells (p .rows) ∙ any-same 8 _ _ (λ c l. ap (λ (v : Cell). not (eqb (v .issue) 0)) (new c l))
 
-  pub more-row : itemsBytes (withRow p s i t .design) (withRow p s i t .cells) (withRow p s i t .tables)
-      ≡ itemsBytes (p .design) (p .cells) (p .tables) ++ rowText t (rowCellAt s i) (rowIssueAt s i)
-  unfolding itemsBytes withRow withRows new-cells new-tables
+  pub more-row : itemsBytes (withRow p s i t .design) (withRow p s i t .rows) (withRow p s i t .cells) (withRow p s i t .tables)
+      ≡ itemsBytes (p .design) (p .rows) (p .cells) (p .tables) ++ rowText t (rowCellAt s i) (rowIssueAt s i)
+  unfolding itemsBytes withRow new-cells new-tables
   more-row =
       let d = p .design in
       let x : List ℕ = rowText t (rowCellAt s i) (rowIssueAt s i) in
-      let ts = tablesBytes d in let cs = constraintsBytes d in let fs = fillingsBytes d in let rs = rowsBytes d (p .cells) (p .tables) in
-      ap (λ (l : List ℕ). ts ++ (cs ++ (fs ++ l))) (grown (d .rows) (rowBytes (p .cells) (p .tables)) (rowBytes new-cells new-tables) x old-row new-row) ∙
+      let ts = tablesBytes d in let cs = constraintsBytes d in let fs = fillingsBytes d in let rs = rowsBytes (p .rows) (p .cells) (p .tables) in
+      ap (λ (l : List ℕ). ts ++ (cs ++ (fs ++ l))) (grown (p .rows) (rowBytes (p .cells) (p .tables)) (rowBytes new-cells new-tables) x old-row new-row) ∙
       ap (λ (l : List ℕ). ts ++ (cs ++ l)) (sym (append-assoc fs rs x)) ∙ ap (λ (l : List ℕ). ts ++ l) (sym (append-assoc cs (fs ++ rs) x)) ∙
       sym (append-assoc ts (cs ++ (fs ++ rs)) x)
 

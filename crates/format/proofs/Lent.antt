@@ -12,19 +12,20 @@ use Rattle.finite.proofs.Tables.{replicate-tab}
 use Rattle.state.specs.Cells.{Cells, cellsIn}
 use Rattle.state.specs.Design.{emptyDesign}
 use Rattle.state.specs.Held.{noneHeld}
+use Rattle.state.specs.Meaning.{freeTable}
 use Rattle.state.specs.Lent.{lent, longEnough}
 use Rattle.format.specs.declared.verdict.DesignReading.{DesignReading}
 use Rattle.format.specs.declared.verdict.Verdict.the-variants.{Accepted, Refused}
-use Rattle.format.specs.Reading.{Draft, draft, emptyDraft, DesignRead, Read, Leaves, verdictOf, designOf, cellsAfter, tablesAfter, marksAfter, mostBytes, readFrom, readDesign, readInto}
+use Rattle.format.specs.Reading.{Draft, draft, emptyDraft, DesignRead, Read, Leaves, verdictOf, designOf, rowsRead, cellsAfter, tablesAfter, marksAfter, mostBytes, readFrom, readDesign, readInto}
 use Rattle.format.specs.Reading.DesignRead.{accepted, refusedAt}
 
 -- ---- the arrays that the reading starts from
 
-pub from-zeros : (n : ℕ) (s : List ℕ)
-    → readFrom n s (draft emptyDesign (cellsIn (replicate 4096 0) (replicate 4096 0)) (replicate 512 0)) 0 ≡ readFrom n s emptyDraft 0
+pub from-none : (n : ℕ) (s : List ℕ)
+    → readFrom n s (draft emptyDesign 0 (cellsIn (replicate 4096 0) (replicate 4096 0)) (replicate 512 freeTable)) 0 ≡ readFrom n s emptyDraft 0
 unfolding emptyDraft
-from-zeros n s =
-    ap₂ (λ (x y : List ℕ). readFrom n s (draft emptyDesign (cellsIn x x) y) 0) (replicate-tab 4096 0) (replicate-tab 512 0)
+from-none n s =
+    ap₂ (λ (x y : List ℕ). readFrom n s (draft emptyDesign 0 (cellsIn x x) y) 0) (replicate-tab 4096 0) (replicate-tab 512 freeTable)
 
 -- ---- a refusal leaves everything
 
@@ -36,11 +37,12 @@ accepted-is : (w : DesignRead) (j : ℕ) → verdictOf w ≡ Accepted j → (p :
 accepted-is (accepted p k) j e = let a : k ≡ j = cc in (p, ap (accepted p) a)
 accepted-is (refusedAt m k) j e = absurd (let z : _≡_ {A = ℕ} 0 1 = cc in omega arith)
 
-leaves-all : (w : DesignRead) (r : DesignReading) (cs : Cells) (ts ms : List ℕ) (n i : ℕ) → w ≡ refusedAt n i → r ≡ record { verdict = Refused n i; design = emptyDesign } → Leaves w r cs cs ts ts ms ms
+leaves-all : (w : DesignRead) (r : DesignReading) (cs : Cells) (ts ms : List ℕ) (n i : ℕ) → w ≡ refusedAt n i → r ≡ record { verdict = Refused n i; design = emptyDesign; rows = 0 } → Leaves w r cs cs ts ts ms ms
 leaves-all w r cs ts ms n i e f =
     record {
       verdict = ap (λ x. x .verdict) f ∙ sym (ap verdictOf e);
       design = ap (λ x. x .design) f ∙ sym (ap designOf e);
+      count = ap (λ x. x .rows) f ∙ sym (ap rowsRead e);
       cells = sym (ap (λ (x : DesignRead). cellsAfter x cs) e);
       tables = sym (ap (λ (x : DesignRead). tablesAfter x ts) e);
       marks = sym (ap (λ (x : DesignRead). marksAfter x ms) e);
@@ -51,7 +53,8 @@ module _ (v w : DesignRead) (same : v ≡ w) (r : DesignReading) (x : Cells) (y 
   leaves-refused n i e =
       let k : v ≡ refusedAt n i = refused-is v n i (sym (h .verdict) ∙ e) in
       leaves-all w r cs ts ms n i (sym same ∙ k)
-      (ap₂ (λ a d. let z : DesignReading = record { verdict = a; design = d } in z) e (h .design ∙ ap designOf k))
+      (ap₂ (λ a d. let z : DesignReading = record { verdict = a; design = d; rows = r .rows } in z) e (h .design ∙ ap designOf k) ∙
+      ap (λ (m : ℕ). let z : DesignReading = record { verdict = Refused n i; design = emptyDesign; rows = m } in z) (h .count ∙ ap rowsRead k))
 
   pub leaves-accepted : (j : ℕ) → r .verdict ≡ Accepted j → (ns is ts′ ms′ : List ℕ) → ns ≡ x .numbers ++ drop 4096 (cs .numbers) → is ≡ x .issues ++ drop 4096 (cs .issues)
       → ts′ ≡ y ++ drop 512 ts → ms′ ≡ replicate 512 0 ++ drop 512 ms → Leaves w r cs (cellsIn ns is) ts ts′ ms ms′
@@ -62,6 +65,7 @@ module _ (v w : DesignRead) (same : v ≡ w) (r : DesignReading) (x : Cells) (y 
       record {
         verdict = h .verdict ∙ ap verdictOf same;
         design = h .design ∙ ap designOf same;
+        count = h .count ∙ ap rowsRead same;
         cells =
             ap₂ cellsIn a z ∙ ap (λ (l : Cells). cellsIn (l .numbers ++ drop 4096 (cs .numbers)) (l .issues ++ drop 4096 (cs .issues))) (q .0) ∙
             sym (ap (λ (u : DesignRead). cellsAfter u cs) g);
@@ -85,23 +89,23 @@ module _ (s : List ℕ) (cs : Cells) (ts ms : List ℕ) where
   abbrev marksLong : Bool
   marksLong = leb 512 (length ms)
 
-  too-short : numbersLong && (issuesLong && (tablesLong && marksLong)) ≡ false → (r : DesignReading) → r ≡ record { verdict = Refused 7 0; design = emptyDesign }
+  too-short : numbersLong && (issuesLong && (tablesLong && marksLong)) ≡ false → (r : DesignReading) → r ≡ record { verdict = Refused 7 0; design = emptyDesign; rows = 0 }
       → Leaves (readInto s cs ts ms) r cs cs ts ts ms ms
   unfolding readInto longEnough
   too-short e r f =
       leaves-all (readInto s cs ts ms) r cs ts ms 7 0 (cond-false (longEnough (lent emptyDesign cs ts ms noneHeld)) (readDesign s) (refusedAt 7 0) e) f
 
   module _ (r : DesignReading) where
-    pub short-cells : length (cs .numbers) < 4096 → r ≡ record { verdict = Refused 7 0; design = emptyDesign } → Leaves (readInto s cs ts ms) r cs cs ts ts ms ms
+    pub short-cells : length (cs .numbers) < 4096 → r ≡ record { verdict = Refused 7 0; design = emptyDesign; rows = 0 } → Leaves (readInto s cs ts ms) r cs cs ts ts ms ms
     short-cells l = too-short (and-left numbersLong _ (lt-leb 4096 (length (cs .numbers)) l)) r
 
-    pub short-issues : length (cs .issues) < 4096 → r ≡ record { verdict = Refused 7 0; design = emptyDesign } → Leaves (readInto s cs ts ms) r cs cs ts ts ms ms
+    pub short-issues : length (cs .issues) < 4096 → r ≡ record { verdict = Refused 7 0; design = emptyDesign; rows = 0 } → Leaves (readInto s cs ts ms) r cs cs ts ts ms ms
     short-issues l = too-short (and-right numbersLong _ (and-left issuesLong _ (lt-leb 4096 (length (cs .issues)) l))) r
 
-    pub short-tables : length ts < 512 → r ≡ record { verdict = Refused 7 0; design = emptyDesign } → Leaves (readInto s cs ts ms) r cs cs ts ts ms ms
+    pub short-tables : length ts < 512 → r ≡ record { verdict = Refused 7 0; design = emptyDesign; rows = 0 } → Leaves (readInto s cs ts ms) r cs cs ts ts ms ms
     short-tables l = too-short (and-right numbersLong _ (and-right issuesLong _ (and-left tablesLong _ (lt-leb 512 (length ts) l)))) r
 
-    pub short-marks : length ms < 512 → r ≡ record { verdict = Refused 7 0; design = emptyDesign } → Leaves (readInto s cs ts ms) r cs cs ts ts ms ms
+    pub short-marks : length ms < 512 → r ≡ record { verdict = Refused 7 0; design = emptyDesign; rows = 0 } → Leaves (readInto s cs ts ms) r cs cs ts ts ms ms
     short-marks l = too-short (and-right numbersLong _ (and-right issuesLong _ (and-right tablesLong _ (lt-leb 512 (length ms) l)))) r
 
   module _ (a : 4096 ≤ length (cs .numbers)) (z : 4096 ≤ length (cs .issues)) (b : 512 ≤ length ts) (c : 512 ≤ length ms) where
@@ -111,7 +115,7 @@ module _ (s : List ℕ) (cs : Cells) (ts ms : List ℕ) where
         cond-true (longEnough (lent emptyDesign cs ts ms noneHeld)) (readDesign s) (refusedAt 7 0)
         (both (le-leb 4096 (length (cs .numbers)) a) (both (le-leb 4096 (length (cs .issues)) z) (both (le-leb 512 (length ts) b) (le-leb 512 (length ms) c))))
 
-    pub long-script : 65536 < length s → (r : DesignReading) → r ≡ record { verdict = Refused 4 0; design = emptyDesign } → Leaves (readInto s cs ts ms) r cs cs ts ts ms ms
+    pub long-script : 65536 < length s → (r : DesignReading) → r ≡ record { verdict = Refused 4 0; design = emptyDesign; rows = 0 } → Leaves (readInto s cs ts ms) r cs cs ts ts ms ms
     unfolding readDesign
     long-script l r f =
         leaves-all (readInto s cs ts ms) r cs ts ms 4 0

@@ -3,8 +3,8 @@
 -- each row begins. LawfulLaws and Growing: a lawful design place by place, and one item more. KindLaws: causes 3 to
 -- 5 of one more command of a kind. AdvancedLaws, ReadingLaws: one command and all of them. AdmittedLaws, FirstPass: the same with cause 6 left aside,
 -- beside the definition. RepeatLaws: the first repeated value by the catalog; CatalogOf: the catalog of the rows read is that of the lent buffers.
--- AdvancesLaws, Verdicts, Lent: what the code answers and leaves. Items, Cut, Reached, Drafts, Standing, Small, ReadBack, RoundTrip: reading and writing
--- undo each other.
+-- AdvancesLaws, Verdicts, Lent: what the code answers and leaves. Items, Cut, Reached, Drafts, Standing, Small, ReadBack, Compact, RoundTrip: reading and
+-- writing undo each other.
 pub mod CommandLaws
 pub mod BytesLaws
 pub mod CellsLaws
@@ -30,4 +30,5 @@ pub mod Drafts
 pub mod Standing
 pub mod Small
 pub mod ReadBack
+pub mod Compact
 pub mod RoundTrip

@@ -1,5 +1,5 @@
--- A lawful design that is written at the beginning of a script is read as itself: kind by kind, item by item. Assumes nothing.
-use Prim.Native.Nat.{ℕ, zero, suc, _+_, _*_, _<_, _^_}
+-- A lawful design whose rows have no gaps, written at the beginning of a script, is read as itself: kind by kind, item by item. Assumes nothing.
+use Prim.Native.Nat.{ℕ, zero, suc, _+_, _*_, _≤_, _<_, _^_}
 use native.Mathlib.Numerals.{add-one}
 use native.Mathlib.Omega.{arith}
 use mathlib.Core.Path.{_≡_, refl, sym, ap, ap₂, subst, _∙_}
@@ -13,11 +13,11 @@ use Rattle.state.specs.declared.design.Design.{Design}
 use Rattle.state.specs.Design.{tableAt, constraintAt, fillingAt}
 use Rattle.format.specs.Bytes.{byteAt}
 use Rattle.format.specs.Commands.{widthOf, commandAt}
-use Rattle.format.specs.Reading.{Draft, emptyDraft, advanced}
+use Rattle.format.specs.Reading.{Draft, draft, emptyDraft, advanced}
 use Rattle.format.specs.Reading.Advanced.{on}
 use Rattle.format.specs.Reading.DesignRead.{accepted}
-use Rattle.format.specs.Writing.{tableBytes, constraintBytes, fillingBytes, rowBytes, designBytes, rowPlace}
-use Rattle.format.proofs.WritingLaws.{length-table, length-constraint, length-filling, length-rows, place-first, place-more}
+use Rattle.format.specs.Writing.{tableBytes, constraintBytes, fillingBytes, rowBytes, rowPlace}
+use Rattle.format.proofs.WritingLaws.{framed, length-table, length-constraint, length-filling, length-rows, place-first, place-more}
 use Rattle.format.proofs.LawfulLaws.{Parts, RowParts}
 use Rattle.format.proofs.Items.{tablesBytes, constraintsBytes, fillingsBytes, rowsBytes}
 use Rattle.format.proofs.AdvancedLaws.{adds-table, adds-constraint, adds-filling, adds-row, end-completes}
@@ -62,8 +62,8 @@ fillingsFrom d = 0 + 3 * d .tables + 5 * d .constraints
 abbrev rowsFrom : Design → ℕ
 rowsFrom d = 0 + 3 * d .tables + 5 * d .constraints + 11 * d .fillings
 
-abbrev endFrom : Design → Cells → ℕ
-endFrom d cells = rowPlace d cells (d .rows)
+abbrev endFrom : Design → ℕ → Cells → ℕ
+endFrom d k cells = rowPlace d cells k
 
 -- the numbers that are written as u32 are u32 numbers, and the issues bytes
 pub record Numbers (d : Design) (cells : Cells) : Type 0 where
@@ -72,8 +72,8 @@ pub record Numbers (d : Design) (cells : Cells) : Type 0 where
   pub cell : (i : ℕ) → getD (cells .numbers) i 0 < 2 ^ 32
   pub issue : (i : ℕ) → getD (cells .issues) i 0 < 2 ^ 8
 
-module _ (d : Design) (cells : Cells) (tables : List ℕ) (p : Parts d) (r : RowParts d cells tables) (z : Sizes (record { design = d; cells = cells; tables = tables })) (n : Numbers d cells)
-    (s : List ℕ) (h : Stands s 0 (designBytes d cells tables)) where
+module _ (d : Design) (m : ℕ) (cells : Cells) (tables : List ℕ) (p : Parts d) (most : m ≤ 512) (r : RowParts d m cells tables) (z : Sizes (draft d m cells tables)) (n : Numbers d cells)
+    (s : List ℕ) (h : Stands s 0 (framed d (rowsBytes m cells tables))) where
   long-tables : length (tablesBytes d) ≡ 3 * d .tables
   long-tables = length-pieces 3 (λ i. tableBytes (tableAt d i)) (λ i. length-table _) (d .tables)
 
@@ -89,35 +89,30 @@ module _ (d : Design) (cells : Cells) (tables : List ℕ) (p : Parts d) (r : Row
   rows-to k = let e = length-rows cells tables k in omega arith
 
   stand-tables : Stands s 0 (tablesBytes d)
-  unfolding designBytes
   stand-tables = stands-part s _ [] (tablesBytes d) _ 0 0 h refl refl
 
   stand-constraints : Stands s (constraintsFrom d) (constraintsBytes d)
-  unfolding designBytes
   stand-constraints = stands-part s _ (tablesBytes d) (constraintsBytes d) _ 0 _ h refl (let e = long-tables in omega arith)
 
   stand-fillings : Stands s (fillingsFrom d) (fillingsBytes d)
-  unfolding designBytes
   stand-fillings =
       stands-part s _ (tablesBytes d ++ constraintsBytes d) (fillingsBytes d) _ 0 _ h (sym (append-assoc (tablesBytes d) (constraintsBytes d) _))
       (let e = long-tables in let f = long-constraints in let g = length-append (tablesBytes d) (constraintsBytes d) in omega arith)
 
-  stand-rows : Stands s (rowsFrom d) (rowsBytes d cells tables)
-  unfolding designBytes
+  stand-rows : Stands s (rowsFrom d) (rowsBytes m cells tables)
   stand-rows =
-      stands-part s _ (tablesBytes d ++ (constraintsBytes d ++ fillingsBytes d)) (rowsBytes d cells tables) (5 ∷ []) 0 _ h
+      stands-part s _ (tablesBytes d ++ (constraintsBytes d ++ fillingsBytes d)) (rowsBytes m cells tables) (5 ∷ []) 0 _ h
       (sym (append-assoc (tablesBytes d) (constraintsBytes d ++ fillingsBytes d) _ ∙ ap (λ (l : List ℕ). tablesBytes d ++ l) (append-assoc (constraintsBytes d) (fillingsBytes d) _)))
       (let e = long-tables in let f = long-constraints in let g = long-fillings in
-      let k = length-append (tablesBytes d) (constraintsBytes d ++ fillingsBytes d) in let m = length-append (constraintsBytes d) (fillingsBytes d) in omega arith)
+      let k = length-append (tablesBytes d) (constraintsBytes d ++ fillingsBytes d) in let o = length-append (constraintsBytes d) (fillingsBytes d) in omega arith)
 
-  stand-end : Stands s (endFrom d cells) (5 ∷ [])
-  unfolding designBytes
+  stand-end : Stands s (endFrom d m cells) (5 ∷ [])
   stand-end =
-      let a = tablesBytes d in let b = constraintsBytes d in let c = fillingsBytes d in let e = rowsBytes d cells tables in
+      let a = tablesBytes d in let b = constraintsBytes d in let c = fillingsBytes d in let e = rowsBytes m cells tables in
       stands-part s _ (a ++ (b ++ (c ++ e))) (5 ∷ []) [] 0 _ h
       (sym (append-assoc a (b ++ (c ++ e)) (5 ∷ []) ∙ ap (λ (l : List ℕ). a ++ l) (append-assoc b (c ++ e) (5 ∷ []) ∙ ap (λ (l : List ℕ). b ++ l) (append-assoc c e (5 ∷ [])))))
-      (let lt = long-tables in let lc = long-constraints in let lf = long-fillings in let lr = rows-to (d .rows) in
-      let k = length-append a (b ++ (c ++ e)) in let m = length-append b (c ++ e) in let q = length-append c e in omega arith)
+      (let lt = long-tables in let lc = long-constraints in let lf = long-fillings in let lr = rows-to m in
+      let k = length-append a (b ++ (c ++ e)) in let o = length-append b (c ++ e) in let q = length-append c e in omega arith)
 
   turn-table : (k : ℕ) → k < d .tables → Turn s (withTables d) (even 0 3) k
   turn-table k l =
@@ -134,30 +129,30 @@ module _ (d : Design) (cells : Cells) (tables : List ℕ) (p : Parts d) (r : Row
       let x = reads-filling s (fillingsFrom d + 11 * k) (fillingAt d k) (n .low k) (n .high k) (stands-piece s (fillingsFrom d) 11 (λ i. fillingBytes (fillingAt d i)) (λ i. length-filling _) (d .fillings) stand-fillings k l) in
       record { advanced = ap (advanced (withFillings d k) s (fillingsFrom d + 11 * k)) (x .command) ∙ adds-filling _ _ s (fillingsFrom d + 11 * k) (fillingAt d k) (next-filling d p k l); next = even-next (fillingsFrom d) 11 k _ (x .width) }
 
-  turn-row : (k : ℕ) → k < d .rows → Turn s (withAllRows d cells tables) (rowPlace d cells) k
+  turn-row : (k : ℕ) → k < m → Turn s (withAllRows d cells tables) (rowPlace d cells) k
   turn-row k l =
       let i = rowPlace d cells k in
       let y : Stands s i (rowBytes cells tables k) =
-      subst (λ (j : ℕ). Stands s j (rowBytes cells tables k)) (rows-to k) (piece-at s (rowsFrom d) (rowBytes cells tables) (d .rows) stand-rows k l _ refl) in
+      subst (λ (j : ℕ). Stands s j (rowBytes cells tables k)) (rows-to k) (piece-at s (rowsFrom d) (rowBytes cells tables) m stand-rows k l _ refl) in
       let x = reads-row s i cells tables k y in
       record {
         advanced =
             ap (advanced (withAllRows d cells tables k) s i) (x .command) ∙
             adds-row _ _ s i (byteAt s (i + 1)) (row-needed s i cells tables k y)
-            (next-row d cells tables r (p .rows) k l s i (byteAt s (i + 1)) (row-table s i cells tables k y) (row-cells s i cells tables k y (n .cell)) (row-issues s i cells tables k y));
+            (next-row d m cells tables r most k l s i (byteAt s (i + 1)) (row-table s i cells tables k y) (row-cells s i cells tables k y (n .cell)) (row-issues s i cells tables k y));
         next = place-more d cells k i _ refl (x .width);
       }
 
-  pub reading : readAll s emptyDraft 0 ≡ accepted (record { design = d; cells = cells; tables = tables }) (rowPlace d cells (d .rows) + 1)
+  pub reading : readAll s emptyDraft 0 ≡ accepted (draft d m cells tables) (rowPlace d cells m + 1)
   reading =
-      let x = reads-end s (endFrom d cells) stand-end in
-      let q : Draft = record { design = d; cells = cells; tables = tables } in
+      let x = reads-end s (endFrom d m cells) stand-end in
+      let q = draft d m cells tables in
       ap (λ (a : Draft). readAll s a 0) (draft-start d) ∙ turns-even s (withTables d) 0 3 (d .tables) turn-table ∙
       ap (λ (a : Draft). readAll s a (constraintsFrom d)) (all-tables d p (z .table) (z .constraint) (z .filling)) ∙ turns-even s (withConstraints d) (constraintsFrom d) 5 (d .constraints) turn-constraint ∙
       ap (λ (a : Draft). readAll s a (fillingsFrom d)) (all-constraints d p (z .table) (z .constraint) (z .filling)) ∙ turns-even s (withFillings d) (fillingsFrom d) 11 (d .fillings) turn-filling ∙
-      ap₂ (λ (a : Draft) (i : ℕ). readAll s a i) (all-fillings d p (z .table) (z .constraint) (z .filling) cells tables) first ∙ turns s (withAllRows d cells tables) (rowPlace d cells) (d .rows) turn-row ∙
-      ap (λ (a : Draft). readAll s a (endFrom d cells)) (all-rows d cells tables r (z .cells) (z .issues) (z .tables)) ∙
-      all-complete s q (endFrom d cells) (ap (advanced q s (endFrom d cells)) (x .command) ∙ end-completes q s (endFrom d cells)) ∙ ap (λ (m : ℕ). accepted q (endFrom d cells + m)) (x .width)
+      ap₂ (λ (a : Draft) (i : ℕ). readAll s a i) (all-fillings d p (z .table) (z .constraint) (z .filling) cells tables) first ∙ turns s (withAllRows d cells tables) (rowPlace d cells) m turn-row ∙
+      ap (λ (a : Draft). readAll s a (endFrom d m cells)) (all-rows d m cells tables r (z .cells) (z .issues) (z .tables)) ∙
+      all-complete s q (endFrom d m cells) (ap (advanced q s (endFrom d m cells)) (x .command) ∙ end-completes q s (endFrom d m cells)) ∙ ap (λ (w : ℕ). accepted q (endFrom d m cells + w)) (x .width)
     where
       first : rowsFrom d ≡ rowPlace d cells 0
       first = let e = place-first d cells in omega arith

@@ -4,11 +4,11 @@ use native.Mathlib.Decide.{decLt}
 use native.Mathlib.Numerals.{add-one}
 use native.Mathlib.Omega.{arith}
 use mathlib.Core.Path.{_≡_, refl, sym, ap, ap₂, _∙_}
-use mathlib.Core.Bool.{Bool, true, false, _&&_, and-eq-true-iff}
+use mathlib.Core.Bool.{Bool, true, false, not, _&&_, and-eq-true-iff}
 use mathlib.Core.Logic.{_⊎_, inl, inr, ⊎-elim}
 use mathlib.Core.List.{List}
 use borrow.Author.Tests.{ltb-true, ltb-false, lt-ltb}
-use lib.Dec.{ltb}
+use lib.Dec.{eqb, ltb}
 use lib.ListN.{getD}
 use Rattle.finite.specs.Finite.{any}
 use Rattle.finite.proofs.Bools.{dec, clash, refute, both, cond-true, cond-false, cond-case}
@@ -22,7 +22,7 @@ use Rattle.model.proofs.CellLaws.{equal-self}
 use Rattle.model.proofs.DatabaseLaws.{has-Has, Has-has, has-full}
 use Rattle.state.specs.Cells.{Cells}
 use Rattle.state.specs.declared.design.Design.{Design}
-use Rattle.state.specs.Meaning.{schemeOf, databaseOf}
+use Rattle.state.specs.Meaning.{freeTable, schemeOf, databaseOf}
 use Rattle.state.specs.Lawful.{repeatsAt, repeats}
 use Rattle.finite.specs.Finite.{firstFrom}
 use Rattle.catalog.specs.Catalog.{columnAt, nextOf, nexts}
@@ -118,21 +118,21 @@ next-says D q c r a b e = go (dec (has D (columnAt D q c) (D .cell q c) q))
         let f = first-from 512 p (q + 1) (omega arith) in
         (h, ap p (sym z) ∙ f .here (omega arith), (let g = f .start in omega arith))
 
-module _ (d : Design) (cells : Cells) (tables next : List ℕ) (few : d .rows ≤ 512) (e : next ≡ nexts (databaseOf (d .rows) cells tables)) where
+module _ (d : Design) (n : ℕ) (cells : Cells) (tables next : List ℕ) (few : n ≤ 512) (e : next ≡ nexts (databaseOf cells tables)) where
   abbrev D : Database
-  D = databaseOf (d .rows) cells tables
+  D = databaseOf cells tables
 
   abbrev S : Scheme
   S = schemeOf d
 
   abbrev found : ℕ
-  found = lowest (8 * d .rows) (uniqueNext d tables next)
+  found = lowest (8 * n) (uniqueNext d tables next)
 
   found-repeats : found < 512 → again d cells tables found ≡ true
   unfolding uniqueNext databaseOf
-  found-repeats l = go (lowest-found (8 * d .rows) (uniqueNext d tables next) l)
+  found-repeats l = go (lowest-found (8 * n) (uniqueNext d tables next) l)
     where
-      go : (x : ℕ) × (x < 8 * d .rows) × (uniqueNext d tables next x ≡ found) → again d cells tables found ≡ true
+      go : (x : ℕ) × (x < 8 * n) × (uniqueNext d tables next x ≡ found) → again d cells tables found ≡ true
       go h = at (dec (S .unique (columnAt D (x / 8) (x % 8))))
         where
           x : ℕ
@@ -150,12 +150,12 @@ module _ (d : Design) (cells : Cells) (tables next : List ℕ) (few : d .rows �
               let s = next-says D (x / 8) (x % 8) found (omega arith) l z in
               repeats-known S D found (x % 8) (omega arith) k v (x / 8) refl (has-table D k v found (s .1)) (has-cell D k v found (s .1)) u (s .2) (s .0)
 
-  none-before : (q : ℕ) → q < d .rows → q < found → again d cells tables q ≡ false
+  none-before : (q : ℕ) → q < n → q < found → again d cells tables q ≡ false
   unfolding repeats databaseOf
   none-before q b l = refute (again d cells tables q) (λ h. go (any-found 8 (repeatsAt S D q) h))
     where
       go : (c : ℕ) × (c < 8) × (repeatsAt S D q c ≡ true) → ⊥
-      go h = absurd (omega (arith, lowest-under (8 * d .rows) (uniqueNext d tables next) (8 * j + c) (omega (arith, below, ab)), not-later, link))
+      go h = absurd (omega (arith, lowest-under (8 * n) (uniqueNext d tables next) (8 * j + c) (omega (arith, below, ab)), not-later, link))
         where
           c : ℕ
           c = h .0
@@ -175,11 +175,18 @@ module _ (d : Design) (cells : Cells) (tables next : List ℕ) (few : d .rows �
           has-j : has D (columnAt D q c) (D .cell q c) j ≡ true
           has-j = a .3
 
+          -- row j's table is row q's, so that number q has a row too
+          t : D .table j ≡ D .table q
+          t = has-table D (columnAt D q c) (D .cell q c) j has-j
+
+          taken : not (eqb (getD tables j 0) freeTable) ≡ true
+          taken = and-eq-true-iff (ltb j 512) _ .0 (has-Has D (columnAt D q c) (D .cell q c) j has-j .live) .1
+
           has-q : has D (columnAt D q c) (D .cell q c) q ≡ true
           has-q =
               Has-has
               (record {
-                live = both (lt-ltb q 512 (omega arith)) (lt-ltb q (d .rows) b);
+                live = both (lt-ltb q 512 (omega arith)) (ap (λ (t : ℕ). not (eqb t freeTable)) (sym t) ∙ taken);
                 table = refl;
                 value = equal-self (D .cell q c) (has-full (has-Has D (columnAt D q c) (D .cell q c) j has-j));
               })
@@ -199,15 +206,14 @@ module _ (d : Design) (cells : Cells) (tables next : List ℕ) (few : d .rows �
           link =
               let y : (8 * j + c) / 8 ≡ j = omega (arith, ab) in
               let z : (8 * j + c) % 8 ≡ c = omega (arith, ab) in
-              let t : D .table j ≡ D .table q = has-table D (columnAt D q c) (D .cell q c) j has-j in
               sym (next-unique d tables next (8 * j + c)
               (ap₂ (λ (m n : ℕ). S .unique (record { table = getD tables m 0; place = n })) y z ∙
               ap (λ (m : ℕ). S .unique (record { table = m; place = c })) t ∙ a .0)) ∙
               next-from D (columnAt D q c) (D .cell q c) j has-j next e (omega (arith, below)) ab
 
-  pub found-none : (r : ℕ) → r ≡ found → d .rows ≤ r → None (d .rows) (again d cells tables)
+  pub found-none : (r : ℕ) → r ≡ found → n ≤ r → None n (again d cells tables)
   found-none r f h q l = none-before q l (omega arith)
 
-  pub found-first : (r : ℕ) → r ≡ found → r < d .rows → Earliest (d .rows) (again d cells tables) r
+  pub found-first : (r : ℕ) → r ≡ found → r < n → Earliest n (again d cells tables) r
   found-first r f h =
       record { below = h; here = ap (again d cells tables) f ∙ found-repeats (omega arith); before = λ q l. none-before q (omega arith) (omega arith) }

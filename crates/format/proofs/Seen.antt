@@ -14,12 +14,12 @@ use Rattle.state.specs.declared.design.Constraint as State-constraint
 use Rattle.state.specs.declared.design.Filling as State-filling
 use Rattle.state.specs.declared.operation.Operation.{Operation}
 use Rattle.format.specs.declared.command.Command.{Command}
-use Rattle.format.specs.declared.command.Command.the-variants.{Table, Constraint, Filling, Row, End, Operate, Unknown, Short}
-use Rattle.format.specs.Bytes.{byteAt, u32At}
+use Rattle.format.specs.declared.command.Command.the-variants.{Table, Constraint, Filling, Row, End, Operate, Put, Remove, Unknown, Short}
+use Rattle.format.specs.Bytes.{byteAt, u16At, u32At}
 use Rattle.format.specs.Commands.{designWidth, widthOf, columnAt, designCommandAt, operationAt, operandsAt, commandAt}
 use Rattle.format.specs.Reading.{Draft, advanced}
 use Rattle.format.specs.Reading.Advanced.{refused}
-use Rattle.format.proofs.CommandLaws.{RowByte, plain, issued, at-end, at-unknown, at-short, at-whole, width-design, is-row, operands-design, operands-operation, command-table, command-constraint, command-filling, command-row, command-end}
+use Rattle.format.proofs.CommandLaws.{RowByte, plain, issued, at-end, at-unknown, at-short, at-whole, width-design, is-row, operands-design, operands-put, operands-remove, operands-operation, command-table, command-constraint, command-filling, command-row, command-end}
 
 -- what the command c of width w, at place i, is
 pub data Seen (s : List ℕ) (i : ℕ) (c : Command) (w : ℕ) : Type 0 where
@@ -34,6 +34,12 @@ pub data Seen (s : List ℕ) (i : ℕ) (c : Command) (w : ℕ) : Type 0 where
 
 operate-no-row : (o : Operation) (t : ℕ) → Operate o ≡ Row t → ⊥
 operate-no-row o t e = let q : _≡_ {A = ℕ} 0 1 = cc in omega arith
+
+put-no-row : (r u t : ℕ) → Put r u ≡ Row t → ⊥
+put-no-row r u t e = let q : _≡_ {A = ℕ} 0 1 = cc in omega arith
+
+remove-no-row : (r t : ℕ) → Remove r ≡ Row t → ⊥
+remove-no-row r t e = let q : _≡_ {A = ℕ} 0 1 = cc in omega arith
 
 pub table-no-row : (x : State-table.Table) (t : ℕ) → Table x ≡ Row t → ⊥
 table-no-row x t e = let q : _≡_ {A = ℕ} 0 1 = cc in omega arith
@@ -67,14 +73,23 @@ module _ (s : List ℕ) (i : ℕ) (some : widthOf (byteAt s i) ≡ 0 → ⊥) (e
       seen-row h room (sym c ∙ sym (command-row b s i (widthOf b) h)))
       (same-number b 5)) (same-number b 3)) (same-number b 2)) (same-number b 1)
 
-  whole : Seen s i (commandAt s i) (widthOf (byteAt s i))
+  -- one that changes the rows, or an operation: no design has it
+  of-run : 16 ≤ byteAt s i → Seen s i (commandAt s i) (widthOf (byteAt s i))
   unfolding advanced
+  of-run l =
+      let b = byteAt s i in
+      ⊎-elim (λ (h : b ≡ 29). let c = operands-put b s i _ _ refl refl h ∙ e in
+      seen-refused 3 (λ p. ap (advanced p s i) (sym c)) (λ t k. put-no-row (u16At s (i + 1)) (byteAt s (i + 3)) t (c ∙ k)))
+      (λ (n : b ≡ 29 → ⊥). ⊎-elim (λ (h : b ≡ 30). let c = operands-remove b s i _ refl h ∙ e in
+      seen-refused 3 (λ p. ap (advanced p s i) (sym c)) (λ t k. remove-no-row (u16At s (i + 1)) t (c ∙ k)))
+      (λ (m : b ≡ 30 → ⊥). let c = operands-operation b s i l n m ∙ e in
+      seen-refused 3 (λ p. ap (advanced p s i) (sym c)) (λ t k. operate-no-row (operationAt b s i) t (c ∙ k)))
+      (same-number b 30)) (same-number b 29)
+
+  whole : Seen s i (commandAt s i) (widthOf (byteAt s i))
   whole =
       let b = byteAt s i in
-      ⊎-elim (λ (h : ltb b 16 ≡ true). of-design (ltb-true b 16 h))
-      (λ (h : ltb b 16 ≡ false). let c = operands-operation b s i (ltb-false b 16 h) ∙ e in
-      seen-refused 3 (λ p. ap (advanced p s i) (sym c)) (λ t k. operate-no-row (operationAt b s i) t (c ∙ k)))
-      (dec (ltb b 16))
+      ⊎-elim (λ (h : ltb b 16 ≡ true). of-design (ltb-true b 16 h)) (λ (h : ltb b 16 ≡ false). of-run (ltb-false b 16 h)) (dec (ltb b 16))
 
 pub seen : (s : List ℕ) (i : ℕ) → Seen s i (commandAt s i) (widthOf (byteAt s i))
 unfolding advanced

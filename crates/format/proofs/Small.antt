@@ -2,7 +2,7 @@
 use Prim.Native.Nat.{ℕ, zero, suc, _+_, _*_, _^_, _≤_, _<_}
 use native.Mathlib.Nat.{lt-of-lt-of-le}
 use native.Mathlib.Omega.{arith}
-use mathlib.Core.Path.{_≡_, sym, subst, _∙_}
+use mathlib.Core.Path.{_≡_, refl, sym, subst, _∙_}
 use mathlib.Core.Bool.{Bool, true, false, not, cond, _&&_, and-eq-true-iff}
 use mathlib.Core.List.{List, [], _∷_, _++_}
 use borrow.Author.Tests.{ltb-true, leb-true}
@@ -16,12 +16,12 @@ use Rattle.state.specs.declared.design.Column.{Column}
 use Rattle.state.specs.declared.design.Design.{Design}
 use Rattle.state.specs.Design.{tableAt, constraintAt, fillingAt}
 use Rattle.state.specs.Meaning.{columnOf, schemeOf, databaseOf}
-use Rattle.state.specs.Lawful.{tableFits, zeroTable, sameConstraint, constraintFits, zeroConstraint, fillingFits, zeroFilling, rowFits, repeats, zeroRow, lawfulDesign, lawfulRows}
-use Rattle.state.proofs.Places.{used-is}
+use Rattle.state.specs.Lawful.{tableFits, zeroTable, sameConstraint, constraintFits, zeroConstraint, fillingFits, zeroFilling, rowFits, repeats, blankRow, lawfulDesign, lawfulRows}
+use Rattle.state.proofs.Places.{used-is, where-used}
 use Rattle.format.specs.Bytes.{u32Bytes}
 use Rattle.format.specs.Writing.{tableBytes, constraintBytes, fillingBytes, rowBytes, designBytes}
 use Rattle.format.proofs.RowText.{anyIssue, numbersText, rowText, row-text}
-use Rattle.format.proofs.LawfulLaws.{Parts, RowParts, parts, row-parts, rowTest}
+use Rattle.format.proofs.LawfulLaws.{Parts, parts, rowTest}
 
 -- every element is a byte
 pub record Small (xs : List ℕ) : Type 0 where
@@ -41,10 +41,14 @@ small-append : (xs ys : List ℕ) → Small xs → Small ys → Small (xs ++ ys)
 small-append [] ys a b = b
 small-append (x ∷ xs) ys a b = small-one x (xs ++ ys) (a .at 0) (small-append xs ys (record { at = λ j. a .at (suc j) }) b)
 
-small-collect : (n : ℕ) (f : ℕ → List ℕ) → ((i : ℕ) → i < n → Small (f i)) → Small (collect n (λ _. true) f)
+small-collect : (n : ℕ) (p : ℕ → Bool) (f : ℕ → List ℕ) → ((i : ℕ) → i < n → p i ≡ true → Small (f i)) → Small (collect n p f)
 unfolding collect
-small-collect zero f h = small-none
-small-collect (suc n) f h = small-append (collect n (λ _. true) f) (f n) (small-collect n f (λ i l. h i (omega arith))) (h n (omega arith))
+small-collect zero p f h = small-none
+small-collect (suc n) p f h = small-append (collect n p f) (cond (p n) (f n) []) (small-collect n p f (λ i l. h i (omega arith))) (go (p n) (h n (omega arith)))
+  where
+    go : (b : Bool) → (b ≡ true → Small (f n)) → Small (cond b (f n) [])
+    go true g = g refl
+    go false g = small-none
 
 small-tab : (n : ℕ) (g : ℕ → ℕ) → ((i : ℕ) → g i < 256) → Small (tab n g)
 unfolding tab
@@ -60,7 +64,7 @@ unfolding rowText
 small-text t f g l h = go (anyIssue g)
   where
     numbers : Small (numbersText f)
-    numbers = small-collect 8 _ (λ c k. small-u32 _)
+    numbers = small-collect 8 _ _ (λ c k e. small-u32 _)
 
     go : (b : Bool) → Small (cond b (7 ∷ t ∷ (numbersText f ++ tab 8 g)) (4 ∷ t ∷ numbersText f))
     go true = small-one _ _ (omega arith) (small-one _ _ l (small-append (numbersText f) (tab 8 g) numbers (small-tab 8 g h)))
@@ -110,15 +114,15 @@ module _ (d : Design) (p : Parts d) where
       let a = naming (f .column) (and-eq-true-iff (isColumn (schemeOf d) (columnOf (f .column))) rest .0 h .0) in
       small-one _ _ (omega arith) (small-one _ _ (omega arith) (small-one _ _ (omega arith) (small-append (u32Bytes (f .low)) (u32Bytes (f .high)) (small-u32 _) (small-u32 _))))
 
-  small-row : (cells : Cells) (tables : List ℕ) → ((x : ℕ) → getD (cells .issues) x 0 < 256) → RowParts d cells tables → (r : ℕ) → r < d .rows
-      → Small (rowBytes cells tables r)
-  unfolding rowFits schemeOf databaseOf
-  small-row cells tables small q r l =
-      let S = schemeOf d in let D = databaseOf (d .rows) cells tables in
-      let t : rowTest S D r ≡ true = sym (used-is r (d .rows) (rowTest S D r) (zeroRow D r) l) ∙ q .row r (let h = p .rows in omega arith) in
+  small-row : (cells : Cells) (tables : List ℕ) → ((x : ℕ) → getD (cells .issues) x 0 < 256) → lawfulRows d cells tables ≡ true → (r : ℕ) → r < 512
+      → databaseOf cells tables .live r ≡ true → Small (rowBytes cells tables r)
+  unfolding lawfulRows rowFits schemeOf databaseOf
+  small-row cells tables small q r l e =
+      let S = schemeOf d in let D = databaseOf cells tables in
+      let t : rowTest S D r ≡ true = where-used 512 (D .live) (rowTest S D) (blankRow D) q r l e in
       let f : rowFits S D r ≡ true = and-eq-true-iff (rowFits S D r) (not (repeats S D r)) .0 t .0 in
       let a = ltb-true (getD tables r 0) (d .tables) (and-eq-true-iff (ltb (getD tables r 0) (d .tables)) _ .0 f .0) in
-      let e = p .tables in
+      let h = p .tables in
       subst Small (sym (row-text cells tables r)) (small-text (getD tables r 0) _ _ (omega arith) (λ c. small (8 * r + c)))
 
 pub small-design : (d : Design) (cells : Cells) (tables : List ℕ) → ((x : ℕ) → getD (cells .issues) x 0 < 256) → lawfulDesign d ≡ true → lawfulRows d cells tables ≡ true
@@ -126,7 +130,7 @@ pub small-design : (d : Design) (cells : Cells) (tables : List ℕ) → ((x : �
 unfolding designBytes
 small-design d cells tables small h g =
     let p = parts d h in
-    small-append _ _ (small-collect (d .tables) _ (small-table d p))
-    (small-append _ _ (small-collect (d .constraints) _ (small-constraint d p))
-    (small-append _ _ (small-collect (d .fillings) _ (small-filling d p))
-    (small-append _ _ (small-collect (d .rows) _ (small-row d p cells tables small (row-parts d cells tables g))) (small-one 5 [] (omega arith) small-none))))
+    small-append _ _ (small-collect (d .tables) _ _ (λ i l e. small-table d p i l))
+    (small-append _ _ (small-collect (d .constraints) _ _ (λ i l e. small-constraint d p i l))
+    (small-append _ _ (small-collect (d .fillings) _ _ (λ i l e. small-filling d p i l))
+    (small-append _ _ (small-collect 512 _ _ (small-row d p cells tables small g)) (small-one 5 [] (omega arith) small-none))))

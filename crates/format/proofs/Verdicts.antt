@@ -12,7 +12,7 @@ use Rattle.format.specs.declared.verdict.DesignReading.{DesignReading}
 use Rattle.format.specs.declared.verdict.Verdict.{Verdict}
 use Rattle.format.specs.declared.verdict.Verdict.the-variants.{Accepted, Refused}
 use Rattle.format.specs.declared.reading.Stop.{Stop}
-use Rattle.format.specs.Reading.{Draft, draft, DesignRead, Read, verdictOf, designOf}
+use Rattle.format.specs.Reading.{Draft, draft, DesignRead, Read, verdictOf, designOf, rowsRead}
 use Rattle.format.specs.Reading.DesignRead.{accepted, refusedAt}
 use Rattle.format.specs.Admitting.{again, Earliest, readAs, Stopped, uniqueNext, lowest, Opens, Keeps}
 use Rattle.format.specs.Writing.{rowPlace}
@@ -25,9 +25,9 @@ use Rattle.format.proofs.RepeatLaws.{found-none, found-first}
 not-both : (n i j : ℕ) → Refused n i ≡ Accepted j → ⊥
 not-both n i j e = let z : _≡_ {A = ℕ} 0 1 = cc in omega arith
 
-pub opens-refused : (x : DesignReading) (n i : ℕ) → x .verdict ≡ Refused n i → (cells : Cells) (tables next first keys heads starts : List ℕ)
-    → Opens x cells tables next first keys heads starts
-opens-refused x n i e cells tables next first keys heads starts j f = absurd (not-both n i j (sym e ∙ f))
+pub opens-refused : (v : Verdict) (d : Design) (n i : ℕ) → v ≡ Refused n i → (cells : Cells) (tables next first keys heads starts : List ℕ)
+    → Opens (record { verdict = v; design = d; rows = 0 }) cells tables next first keys heads starts
+opens-refused v d n i e cells tables next first keys heads starts j f = absurd (not-both n i j (sym e ∙ f))
 
 pub keeps-accepted : (x : DesignReading) (j : ℕ) → x .verdict ≡ Accepted j → (n n′ f f′ k k′ h h′ s s′ : List ℕ) → Keeps x n n′ f f′ k k′ h h′ s s′
 keeps-accepted x j e n n′ f f′ k k′ h h′ s s′ =
@@ -40,37 +40,41 @@ keeps-accepted x j e n n′ f f′ k k′ h h′ s s′ =
     }
 
 -- what is copied out is catalogued
-pub opens-copied : (x : DesignReading) (cells : Cells) (tables next first keys heads starts : List ℕ) → Opens x cells tables next first keys heads starts
+pub opens-copied : (v : Verdict) (d : Design) (cells : Cells) (tables next first keys heads starts : List ℕ)
+    → Opens (record { verdict = v; design = d; rows = 0 }) cells tables next first keys heads starts
     → length (cells .numbers) ≡ 4096 → length (cells .issues) ≡ 4096 → length tables ≡ 512 → (cs is ts more others rest : List ℕ)
-    → cs ≡ cells .numbers ++ more → is ≡ cells .issues ++ others → ts ≡ tables ++ rest → Opens x (cellsIn cs is) ts next first keys heads starts
-opens-copied x cells tables next first keys heads starts o a c b cs is ts more others rest e g f i v =
-    subst (λ (ys : List ℕ). Catalogued (x .design) (cellsIn cs is) ys next first keys heads starts) (sym f)
-    (subst (λ (xs : Cells). Catalogued (x .design) xs (tables ++ rest) next first keys heads starts) (sym (ap₂ cellsIn e g))
-    (catalogued-copied (x .design) cells tables more others rest next first keys heads starts a c b (o i v)))
+    → cs ≡ cells .numbers ++ more → is ≡ cells .issues ++ others → ts ≡ tables ++ rest
+    → Opens (record { verdict = v; design = d; rows = 0 }) (cellsIn cs is) ts next first keys heads starts
+opens-copied v d cells tables next first keys heads starts o a c b cs is ts more others rest e g f i y =
+    subst (λ (ys : List ℕ). Catalogued d (cellsIn cs is) ys next first keys heads starts) (sym f)
+    (subst (λ (xs : Cells). Catalogued d xs (tables ++ rest) next first keys heads starts) (sym (ap₂ cellsIn e g))
+    (catalogued-copied d cells tables more others rest next first keys heads starts a c b (o i y)))
 
 -- a refusal with the place where row r's command begins
-pub refusal-at : (x : DesignReading) (i j : ℕ) → x ≡ record { verdict = Refused 6 i; design = emptyDesign } → i ≡ j → x ≡ record { verdict = Refused 6 j; design = emptyDesign }
-refusal-at x i j e f = e ∙ ap (λ (k : ℕ). let z : DesignReading = record { verdict = Refused 6 k; design = emptyDesign } in z) f
+pub refusal-at : (x : DesignReading) (i j : ℕ) → x ≡ record { verdict = Refused 6 i; design = emptyDesign; rows = 0 } → i ≡ j → x ≡ record { verdict = Refused 6 j; design = emptyDesign; rows = 0 }
+refusal-at x i j e f = e ∙ ap (λ (k : ℕ). let z : DesignReading = record { verdict = Refused 6 k; design = emptyDesign; rows = 0 } in z) f
 
 pub read-refused : (w : DesignRead) (x : DesignReading) (cells : Cells) (tables : List ℕ) (n i : ℕ) → w ≡ refusedAt n i
-    → x ≡ record { verdict = Refused n i; design = emptyDesign } → Read w x cells tables
+    → x ≡ record { verdict = Refused n i; design = emptyDesign; rows = 0 } → Read w x cells tables
 read-refused w x cells tables n i h g =
     record {
       verdict = ap (λ y. y .verdict) g ∙ sym (ap verdictOf h);
       design = ap (λ y. y .design) g ∙ sym (ap designOf h);
+      count = ap (λ y. y .rows) g ∙ sym (ap rowsRead h);
       rows = λ q j k. absurd (never n i q j (sym h ∙ k));
     }
   where
     never : (m k : ℕ) (q : Draft) (j : ℕ) → refusedAt m k ≡ accepted q j → ⊥
     never m k q j e = let z : _≡_ {A = ℕ} 0 1 = cc in omega arith
 
-pub read-accepted : (w : DesignRead) (v : Verdict) (d : Design) (cells : Cells) (tables : List ℕ) (j : ℕ) → v ≡ Accepted j → w ≡ accepted (draft d cells tables) j
-    → Read w (record { verdict = v; design = d }) cells tables
-read-accepted w v d cells tables j g e =
+pub read-accepted : (w : DesignRead) (v : Verdict) (d : Design) (n : ℕ) (cells : Cells) (tables : List ℕ) (j : ℕ) → v ≡ Accepted j
+    → w ≡ accepted (draft d n cells tables) j → Read w (record { verdict = v; design = d; rows = n }) cells tables
+read-accepted w v d n cells tables j g e =
     record {
       verdict = g ∙ sym (ap verdictOf e);
       design = sym (ap designOf e);
-      rows = λ q k f. let z = same (draft d cells tables) q j k (sym e ∙ f) in (ap (λ (x : Draft). x .cells) z, ap (λ (x : Draft). x .tables) z);
+      count = sym (ap rowsRead e);
+      rows = λ q k f. let z = same (draft d n cells tables) q j k (sym e ∙ f) in (ap (λ (x : Draft). x .cells) z, ap (λ (x : Draft). x .tables) z);
     }
   where
     same : (a b : Draft) (j k : ℕ) → accepted a j ≡ accepted b k → a ≡ b
@@ -80,31 +84,31 @@ read-accepted w v d cells tables j g e =
 
 module _ (w : DesignRead) (p : Stop) (cells : Cells) (tables next first keys heads starts : List ℕ) (h : Stopped w p cells tables)
     (k : Catalogued (p .design) cells tables next first keys heads starts) (r : ℕ)
-    (f : r ≡ lowest (8 * p .design .rows) (uniqueNext (p .design) tables next)) where
-  earliest : r < p .design .rows → Earliest (p .design .rows) (again (p .design) cells tables) r
-  earliest l = found-first (p .design) cells tables next (h .range .rows) (k .next-is) r f l
+    (f : r ≡ lowest (8 * p .rows) (uniqueNext (p .design) tables next)) where
+  earliest : r < p .rows → Earliest (p .rows) (again (p .design) cells tables) r
+  earliest l = found-first (p .design) (p .rows) cells tables next (h .most) (k .next-is) r f l
 
   -- row r repeats a value
-  pub rows-twice : r < p .design .rows → (x : DesignReading) → x ≡ record { verdict = Refused 6 (rowPlace (p .design) cells r); design = emptyDesign }
+  pub rows-twice : r < p .rows → (x : DesignReading) → x ≡ record { verdict = Refused 6 (rowPlace (p .design) cells r); design = emptyDesign; rows = 0 }
       → Read w x cells tables × Opens x cells tables next first keys heads starts
   rows-twice l x e = (
     read-refused w x cells tables 6 _ (h .twice r (earliest l)) e,
-    opens-refused x 6 _ (ap (λ y. y .verdict) e) cells tables next first keys heads starts,
+    opens-refused (x .verdict) (x .design) 6 _ (ap (λ y. y .verdict) e) cells tables next first keys heads starts,
   )
 
   -- no row does: the verdict stands
-  module _ (l : p .design .rows ≤ r) where
-    once : (v : Verdict) → p .verdict ≡ v → w ≡ readAs v (draft (p .design) cells tables)
-    once v e = h .once (found-none (p .design) cells tables next (h .range .rows) (k .next-is) r f l) ∙
-        ap (λ (y : Verdict). readAs y (draft (p .design) cells tables)) e
+  module _ (l : p .rows ≤ r) where
+    once : (v : Verdict) → p .verdict ≡ v → w ≡ readAs v (draft (p .design) (p .rows) cells tables)
+    once v e = h .once (found-none (p .design) (p .rows) cells tables next (h .most) (k .next-is) r f l) ∙
+        ap (λ (y : Verdict). readAs y (draft (p .design) (p .rows) cells tables)) e
 
-    pub rows-refused : (n i : ℕ) → p .verdict ≡ Refused n i → (d : Design) → d ≡ emptyDesign → let x : DesignReading = record { verdict = p .verdict; design = d } in
+    pub rows-refused : (n i : ℕ) → p .verdict ≡ Refused n i → (d : Design) → d ≡ emptyDesign → let x : DesignReading = record { verdict = p .verdict; design = d; rows = 0 } in
         Read w x cells tables × Opens x cells tables next first keys heads starts
     rows-refused n i e d g = (
-      read-refused w _ cells tables n i (once (Refused n i) e) (ap₂ (λ a b. let z : DesignReading = record { verdict = a; design = b } in z) e g),
-      opens-refused _ n i e cells tables next first keys heads starts,
+      read-refused w (record { verdict = p .verdict; design = d; rows = 0 }) cells tables n i (once (Refused n i) e) (ap₂ (λ a b. let z : DesignReading = record { verdict = a; design = b; rows = 0 } in z) e g),
+      opens-refused (p .verdict) d n i e cells tables next first keys heads starts,
     )
 
-    pub rows-accepted : (j : ℕ) → p .verdict ≡ Accepted j → let x : DesignReading = record { verdict = p .verdict; design = p .design } in
+    pub rows-accepted : (j : ℕ) → p .verdict ≡ Accepted j → let x : DesignReading = record { verdict = p .verdict; design = p .design; rows = p .rows } in
         Read w x cells tables × Opens x cells tables next first keys heads starts
-    rows-accepted j e = (read-accepted w (p .verdict) (p .design) cells tables j e (once (Accepted j) e), λ i _. k)
+    rows-accepted j e = (read-accepted w (p .verdict) (p .design) (p .rows) cells tables j e (once (Accepted j) e), λ i _. k)

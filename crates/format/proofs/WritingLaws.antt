@@ -2,20 +2,21 @@
 use Prim.Native.Nat.{ℕ, zero, suc, _+_, _*_, _≤_, _<_}
 use native.Mathlib.Numerals.{add-one, add-two}
 use native.Mathlib.Omega.{arith}
-use mathlib.Core.Path.{_≡_, refl, sym, ap, _∙_}
+use mathlib.Core.Path.{_≡_, refl, sym, ap, ap₂, subst, _∙_}
 use mathlib.Core.Logic.{⊎-elim}
-use mathlib.Core.Bool.{Bool, true, false}
-use mathlib.Core.List.{List, [], _∷_, _++_}
-use borrow.Author.Tests.{ne-eqb}
+use mathlib.Core.Bool.{Bool, true, false, cond, _&&_}
+use mathlib.Core.List.{List, [], _∷_, _++_, append-nil}
+use borrow.Author.Tests.{ne-eqb, lt-ltb, ltb-true, ltb-false}
+use lib.Dec.{ltb}
 use lib.ListN.{length, getD, set, length-append}
 use lib.Seq.{sets}
 use Rattle.finite.specs.Finite.{count, collect}
 use Rattle.finite.proofs.Search.{below-suc}
-use Rattle.finite.proofs.Bools.{cond-true, cond-false}
+use Rattle.finite.proofs.Bools.{dec, cond-true, cond-false}
 use Rattle.finite.proofs.Counting.{count-le, count-start, count-suc}
-use Rattle.finite.proofs.Collecting.{length-pieces}
+use Rattle.finite.proofs.Collecting.{collect-same, collect-blocks, length-pieces}
 use Rattle.finite.specs.Writing.{Wrote}
-use Rattle.finite.proofs.Writing.{wrote-as, wrote-long}
+use Rattle.finite.proofs.Writing.{wrote-none, wrote-as, wrote-long}
 use Rattle.finite.proofs.Stores.{sets-then, stored-three, stored-five}
 use Rattle.state.specs.Cells.{Cells}
 use Rattle.state.specs.declared.cell.Cell.{Cell}
@@ -23,11 +24,11 @@ use Rattle.state.specs.declared.design.Table.{Table}
 use Rattle.state.specs.declared.design.Constraint.{Constraint}
 use Rattle.state.specs.declared.design.Filling.{Filling}
 use Rattle.state.specs.declared.design.Design.{Design}
-use Rattle.state.specs.Design.{InRange, tableAt, constraintAt, fillingAt}
-use Rattle.state.specs.Meaning.{cellAt}
+use Rattle.state.specs.Design.{tableAt, constraintAt, fillingAt}
+use Rattle.state.specs.Meaning.{cellAt, databaseOf}
 use Rattle.format.specs.Bytes.{u32Bytes}
 use Rattle.format.specs.Kinds.{countOf}
-use Rattle.format.specs.Writing.{tableBytes, constraintBytes, fillingBytes, numberBytes, cellsBytes, issuesBytes, isIssued, rowBytes, designBytes, itemBytes, kindBytes, rowPlace}
+use Rattle.format.specs.Writing.{tableBytes, constraintBytes, fillingBytes, numberBytes, cellsBytes, issuesBytes, isIssued, rowBytes, designBytes, rowAt, itemBytes, kindBytes, placeAfter, rowPlace, endPlace, Dense}
 use Rattle.format.proofs.RowText.{rowWidth, length-numbers, row-text, row-issued, length-text}
 
 pub length-u32 : (v : ℕ) → length (u32Bytes v) ≡ 4
@@ -62,13 +63,32 @@ length-rows cells tables (suc n) =
     let e = length-row cells tables n in
     omega arith
 
-pub length-design : (d : Design) (cells : Cells) (tables : List ℕ) → length (designBytes d cells tables) ≡ rowPlace d cells (d .rows) + 1
-unfolding designBytes rowPlace
-length-design d cells tables =
+-- of those that pass a test
+pub length-left : (cells : Cells) (tables : List ℕ) (p : ℕ → Bool) (n : ℕ)
+    → length (collect n p (rowBytes cells tables)) ≡ 34 * count n p + 8 * count n (λ r. p r && isIssued cells r)
+unfolding collect count
+length-left cells tables p zero = omega arith
+length-left cells tables p (suc n) = go (p n) (length-left cells tables p n)
+  where
+    go : (b : Bool) → length (collect n p (rowBytes cells tables)) ≡ 34 * count n p + 8 * count n (λ r. p r && isIssued cells r)
+        → length (collect n p (rowBytes cells tables) ++ cond b (rowBytes cells tables n) [])
+        ≡ 34 * (count n p + cond b 1 0) + 8 * (count n (λ r. p r && isIssued cells r) + cond (b && isIssued cells n) 1 0)
+    go true h = omega (arith, h, length-append (collect n p (rowBytes cells tables)) (rowBytes cells tables n), length-row cells tables n)
+    go false h = omega (arith, h, ap length (append-nil (collect n p (rowBytes cells tables))))
+
+-- the design with the bytes rs of its rows
+abbrev pub framed : Design → List ℕ → List ℕ
+framed d rs =
+    collect (d .tables) (λ _. true) (λ i. tableBytes (tableAt d i)) ++
+    (collect (d .constraints) (λ _. true) (λ i. constraintBytes (constraintAt d i)) ++
+    (collect (d .fillings) (λ _. true) (λ i. fillingBytes (fillingAt d i)) ++
+    (rs ++ (5 ∷ []))))
+
+length-framed : (d : Design) (rs : List ℕ) → length (framed d rs) ≡ 3 * d .tables + 5 * d .constraints + 11 * d .fillings + length rs + 1
+length-framed d rs =
     let ts = collect (d .tables) (λ _. true) (λ i. tableBytes (tableAt d i)) in
     let cs = collect (d .constraints) (λ _. true) (λ i. constraintBytes (constraintAt d i)) in
     let fs = collect (d .fillings) (λ _. true) (λ i. fillingBytes (fillingAt d i)) in
-    let rs = collect (d .rows) (λ _. true) (rowBytes cells tables) in
     omega (
       arith,
       length-append ts (cs ++ (fs ++ (rs ++ (5 ∷ [])))),
@@ -78,14 +98,51 @@ length-design d cells tables =
       length-pieces 3 (λ i. tableBytes (tableAt d i)) (λ i. length-table _) (d .tables),
       length-pieces 5 (λ i. constraintBytes (constraintAt d i)) (λ i. length-constraint _) (d .constraints),
       length-pieces 11 (λ i. fillingBytes (fillingAt d i)) (λ i. length-filling _) (d .fillings),
-      length-rows cells tables (d .rows),
     )
 
+pub length-design : (d : Design) (cells : Cells) (tables : List ℕ) → length (designBytes d cells tables) ≡ endPlace d cells tables + 1
+unfolding designBytes endPlace
+length-design d cells tables =
+    let live = databaseOf cells tables .live in
+    omega (arith, length-framed d (collect 512 live (rowBytes cells tables)), length-left cells tables live 512)
+
+-- ---- rows without gaps
+
+-- just the numbers below n pass
+collect-below : (f : ℕ → List ℕ) (m n : ℕ) → n ≤ m → collect m (λ r. ltb r n) f ≡ collect n (λ _. true) f
+unfolding collect
+collect-below f zero n l = let e : 0 ≡ n = omega arith in ap (λ (k : ℕ). collect k (λ _. true) f) e
+collect-below f (suc m) n l =
+    ⊎-elim
+    (λ (e : ltb m n ≡ true). let h : n ≡ suc m = let b = ltb-true m n e in omega arith in
+    collect-same (suc m) (λ r. ltb r n) (λ _. true) f f (λ r k. lt-ltb r n (omega arith)) (λ r k z. refl) ∙ ap (λ (k : ℕ). collect k (λ _. true) f) (sym h))
+    (λ (e : ltb m n ≡ false). ap (λ (b : Bool). collect m (λ r. ltb r n) f ++ cond b (f m) []) e ∙ append-nil (collect m (λ r. ltb r n) f) ∙
+    collect-below f m n (ltb-false m n e)) (dec (ltb m n))
+
+module _ (d : Design) (n : ℕ) (cells : Cells) (tables : List ℕ) (h : Dense n cells tables) where
+  pub bytes-dense : designBytes d cells tables ≡ framed d (collect n (λ _. true) (rowBytes cells tables))
+  unfolding designBytes
+  bytes-dense =
+      ap (framed d)
+      (collect-same 512 (databaseOf cells tables .live) (λ r. ltb r n) (rowBytes cells tables) (rowBytes cells tables) (h .live) (λ r l e. refl) ∙
+      collect-below (rowBytes cells tables) 512 n (h .most))
+
+  pub length-dense : length (designBytes d cells tables) ≡ rowPlace d cells n + 1
+  unfolding rowPlace
+  length-dense = omega (arith, ap length bytes-dense, length-framed d (collect n (λ _. true) (rowBytes cells tables)), length-rows cells tables n)
+
+-- ---- where a row's command begins
+
 -- m of the first r rows are issued
-pub place-of : (d : Design) (cells : Cells) (r m : ℕ) → m ≡ count r (isIssued cells)
-    → 3 * d .tables + 5 * d .constraints + 11 * d .fillings + 34 * r + 8 * m ≡ rowPlace d cells r
+pub place-of : (d : Design) (cells : Cells) (r m : ℕ) → m ≡ count r (isIssued cells) → placeAfter d r m ≡ rowPlace d cells r
 unfolding rowPlace
-place-of d cells r m e = ap (λ (k : ℕ). 3 * d .tables + 5 * d .constraints + 11 * d .fillings + 34 * r + 8 * k) e
+place-of d cells r m e = ap (placeAfter d r) e
+
+-- and of all numbers m have a row, k of these an issue
+pub place-end : (d : Design) (cells : Cells) (tables : List ℕ) (m k : ℕ) → m ≡ count 512 (databaseOf cells tables .live)
+    → k ≡ count 512 (λ r. databaseOf cells tables .live r && isIssued cells r) → placeAfter d m k ≡ endPlace d cells tables
+unfolding endPlace
+place-end d cells tables m k e f = ap₂ (placeAfter d) e f
 
 -- before the first row there are tables, constraints and fillings alone; behind a row's command the next begins
 pub place-first : (d : Design) (cells : Cells) → 3 * d .tables + 5 * d .constraints + 11 * d .fillings ≡ rowPlace d cells 0
@@ -96,18 +153,19 @@ pub place-more : (d : Design) (cells : Cells) (r i w : ℕ) → i ≡ rowPlace d
 unfolding rowPlace
 place-more d cells r i w e f = let k = count-suc r (isIssued cells) in omega arith
 
--- where a row's command begins, at the most
-pub place-most : (d : Design) (cells : Cells) (r : ℕ) → d .tables ≤ 8 → d .constraints ≤ 16 → d .fillings ≤ 8 → r ≤ 512 → rowPlace d cells r ≤ 21696
-unfolding rowPlace
-place-most d cells r a b c l = omega (arith, count-le r (isIssued cells))
+-- where the END stands, at the most
+pub place-most : (d : Design) (m k : ℕ) → d .tables ≤ 8 → d .constraints ≤ 16 → d .fillings ≤ 8 → m ≤ 512 → k ≤ 512 → placeAfter d m k ≤ 21696
+place-most d m k a b c l g = omega arith
 
 -- n rows of which m are issued, where the code says so
 pub issued-most : (m n : ℕ) (p : ℕ → Bool) → m ≡ count n p → m ≤ n
 issued-most m n p e = let k = count-le n p in omega arith
 
-pub length-most : (d : Design) (cells : Cells) (tables : List ℕ) → InRange d → length (designBytes d cells tables) ≤ 21697
-length-most d cells tables h =
-    let e = length-design d cells tables in let k = place-most d cells (d .rows) (h .tables) (h .constraints) (h .fillings) (h .rows) in omega arith
+pub length-most : (d : Design) (cells : Cells) (tables : List ℕ) → d .tables ≤ 8 → d .constraints ≤ 16 → d .fillings ≤ 8 → length (designBytes d cells tables) ≤ 21697
+unfolding endPlace
+length-most d cells tables a b c =
+    let live = databaseOf cells tables .live in
+    omega (arith, length-design d cells tables, place-most d _ _ a b c (count-le 512 live) (count-le 512 (λ r. live r && isIssued cells r)))
 
 -- ---- a value and each command, as they are stored
 
@@ -172,6 +230,13 @@ module _ (l : List ℕ) (cells : Cells) (tables : List ℕ) (i r : ℕ) where
             ap (sets l i) (sym (cond-true (isIssued cells r) _ _ e));
       }
 
+-- the row at number r, if there is one
+pub wrote-absent : (o : List ℕ) (cells : Cells) (tables : List ℕ) (i r : ℕ) → databaseOf cells tables .live r ≡ false → Wrote o o i i (rowAt cells tables r)
+wrote-absent o cells tables i r e = subst (Wrote o o i i) (sym (cond-false (databaseOf cells tables .live r) (rowBytes cells tables r) [] e)) (wrote-none o i)
+
+pub row-there : (cells : Cells) (tables : List ℕ) (r : ℕ) → databaseOf cells tables .live r ≡ true → rowBytes cells tables r ≡ rowAt cells tables r
+row-there cells tables r e = sym (cond-true (databaseOf cells tables .live r) (rowBytes cells tables r) [] e)
+
 -- ---- a command of kind b
 
 module _ (d : Design) (cells : Cells) (tables : List ℕ) (b i : ℕ) where
@@ -187,7 +252,7 @@ module _ (d : Design) (cells : Cells) (tables : List ℕ) (b i : ℕ) where
   unfolding itemBytes
   filling-is e = ap (λ (k : ℕ). itemBytes d cells tables k i) (sym e)
 
-  pub row-is : (b ≡ 1 → ⊥) → (b ≡ 2 → ⊥) → (b ≡ 3 → ⊥) → rowBytes cells tables i ≡ itemBytes d cells tables b i
+  pub row-is : (b ≡ 1 → ⊥) → (b ≡ 2 → ⊥) → (b ≡ 3 → ⊥) → rowAt cells tables i ≡ itemBytes d cells tables b i
   unfolding itemBytes
   row-is h₁ h₂ h₃ = sym (rw (ne-eqb b 1 h₁, ne-eqb b 2 h₂, ne-eqb b 3 h₃))
 
@@ -240,7 +305,9 @@ module _ (d : Design) (cells : Cells) (tables : List ℕ) where
   -- the four kinds one behind the other, then END
   by-kinds : kind 1 ++ (kind 2 ++ (kind 3 ++ (kind 4 ++ (5 ∷ [])))) ≡ designBytes d cells tables
   unfolding designBytes itemBytes countOf
-  by-kinds = refl
+  by-kinds =
+      ap (λ (l : List ℕ). kind 1 ++ (kind 2 ++ (kind 3 ++ (l ++ (5 ∷ [])))))
+      (collect-blocks 512 (λ _. true) (databaseOf cells tables .live) (rowAt cells tables) (rowBytes cells tables) (λ r l. refl))
 
   pub room-start : (o : List ℕ) → length (designBytes d cells tables) ≤ length o → Room o 0 (kind 1 ∷ kind 2 ∷ kind 3 ∷ kind 4 ∷ (5 ∷ []) ∷ [])
   unfolding total

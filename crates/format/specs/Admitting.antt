@@ -1,6 +1,6 @@
 -- How the code reads a design: a first pass leaves cause 6 aside, so that each command is looked at once; the catalog of the rows read then tells
 -- the first row that repeats a value. Assumes nothing.
-use Prim.Native.Nat.{ℕ, zero, suc, _*_, _/_, _%_, _<_}
+use Prim.Native.Nat.{ℕ, zero, suc, _*_, _/_, _%_, _≤_, _<_}
 use mathlib.Core.Path.{_≡_}
 use mathlib.Core.Bool.{Bool, true, false, not, cond}
 use mathlib.Core.List.{List}
@@ -13,7 +13,7 @@ use Rattle.state.specs.Meaning.{cellIn, schemeOf, databaseOf}
 use Rattle.state.specs.Lawful.{rowFits, repeats}
 use Rattle.catalog.specs.Catalog.{Catalogued}
 use Rattle.format.specs.declared.command.Command.{Command}
-use Rattle.format.specs.declared.command.Command.the-variants.{Table, Constraint, Filling, Row, End, Operate, Unknown, Short}
+use Rattle.format.specs.declared.command.Command.the-variants.{Table, Constraint, Filling, Row, End, Operate, Put, Remove, Unknown, Short}
 use Rattle.format.specs.declared.verdict.Verdict.{Verdict}
 use Rattle.format.specs.declared.verdict.Verdict.the-variants.{Accepted, Refused}
 use Rattle.format.specs.declared.verdict.DesignReading.{DesignReading}
@@ -32,19 +32,21 @@ use Rattle.format.specs.Writing.{rowPlace}
 unfoldable pub admitted : Draft → List ℕ → ℕ → Command → Advanced
 admitted p s i (Row t) =
     let q = withRow p s i t in
-    refusedIf (leb 512 (p .design .rows)) 4
+    refusedIf (leb 512 (p .rows)) 4
     (refusedIf (needless s i) 5
-    (refusedIf (not (rowFits (schemeOf (q .design)) (databaseOf (q .design .rows) (q .cells) (q .tables)) (p .design .rows))) 5
+    (refusedIf (not (rowFits (schemeOf (q .design)) (databaseOf (q .cells) (q .tables)) (p .rows))) 5
     (on q)))
 admitted p s i (Table t) = advanced p s i (Table t)
 admitted p s i (Constraint c) = advanced p s i (Constraint c)
 admitted p s i (Filling f) = advanced p s i (Filling f)
 admitted p s i End = advanced p s i End
 admitted p s i (Operate o) = advanced p s i (Operate o)
+admitted p s i (Put r t) = advanced p s i (Put r t)
+admitted p s i (Remove r) = advanced p s i (Remove r)
 admitted p s i Unknown = advanced p s i Unknown
 admitted p s i Short = advanced p s i Short
 
--- what the code answers for a command, and the draft that it leaves: the design beside the answer (an enum holds no array), and the arrays
+-- what the code answers for a command, and the draft that it leaves: the design and the number of rows beside the answer (an enum holds no array), and the arrays
 abbrev pub outcomeOf : Advanced → Outcome
 outcomeOf (on p) = On
 outcomeOf complete = Complete
@@ -63,15 +65,15 @@ pub record Kept (n : ℕ) (cells : Cells) (tables : List ℕ) (cells′ : Cells)
 -- the command c at place i, read into the draft p: the code has answered r and left the arrays
 pub record Advances (p : Draft) (s : List ℕ) (i : ℕ) (c : Command) (r : Advance) (cells : Cells) (tables : List ℕ) : Type 0 where
   pub outcome : r .outcome ≡ outcomeOf (admitted p s i c)
-  pub goes : (q : Draft) → admitted p s i c ≡ on q → q ≡ draft (r .design) cells tables
-  pub whole : admitted p s i c ≡ complete → p ≡ draft (r .design) cells tables
-  pub kept : Kept (p .design .rows) (p .cells) (p .tables) cells tables
+  pub goes : (q : Draft) → admitted p s i c ≡ on q → q ≡ draft (r .design) (r .rows) cells tables
+  pub whole : admitted p s i c ≡ complete → p ≡ draft (r .design) (r .rows) cells tables
+  pub kept : Kept (p .rows) (p .cells) (p .tables) cells tables
 
 -- ---- the first pass
 
 -- row r repeats a value of an earlier row in a unique column
 abbrev pub again : Design → Cells → List ℕ → ℕ → Bool
-again d cells tables r = repeats (schemeOf d) (databaseOf (d .rows) cells tables) r
+again d cells tables r = repeats (schemeOf d) (databaseOf cells tables) r
 
 -- none of the first n numbers passes, and r is the first of them that does
 abbrev pub None : ℕ → (ℕ → Bool) → Type 0
@@ -90,8 +92,9 @@ readAs (Refused n i) p = refusedAt n i
 -- a script that reads as w has been read up to the END or to the first command that is refused, with cause 6 left aside: the code has answered r
 pub record Stopped (w : DesignRead) (r : Stop) (cells : Cells) (tables : List ℕ) : Type 0 where
   pub range : InRange (r .design)
-  pub once : None (r .design .rows) (again (r .design) cells tables) → w ≡ readAs (r .verdict) (draft (r .design) cells tables)
-  pub twice : (q : ℕ) → Earliest (r .design .rows) (again (r .design) cells tables) q
+  pub most : r .rows ≤ 512
+  pub once : None (r .rows) (again (r .design) cells tables) → w ≡ readAs (r .verdict) (draft (r .design) (r .rows) cells tables)
+  pub twice : (q : ℕ) → Earliest (r .rows) (again (r .design) cells tables) q
       → w ≡ refusedAt 6 (rowPlace (r .design) cells q)
 
 -- ---- the first repeated value, by the next rows of a catalog

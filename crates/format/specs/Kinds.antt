@@ -6,13 +6,13 @@ use lib.Dec.{eqb, leb}
 use Rattle.state.specs.declared.design.Design.{Design}
 use Rattle.format.specs.Reading.{afterTables, afterConstraints, afterFillings}
 
--- how many of a kind the design has, and how many it can have
-unfoldable pub countOf : Design → ℕ → ℕ
-countOf d b =
+-- how many of a kind a design with n rows has, and how many it can have
+unfoldable pub countOf : Design → ℕ → ℕ → ℕ
+countOf d n b =
     cond (eqb b 0x01) (d .tables)
     (cond (eqb b 0x02) (d .constraints)
     (cond (eqb b 0x03) (d .fillings)
-    (d .rows)))
+    n))
 
 unfoldable pub mostOf : ℕ → ℕ
 mostOf b =
@@ -22,13 +22,13 @@ mostOf b =
     512))
 
 -- something of a later kind has been read
-unfoldable pub isLate : Design → ℕ → Bool
-isLate d b =
-    cond (eqb b 0x01) (afterTables d)
-    (cond (eqb b 0x02) (afterConstraints d)
-    (cond (eqb b 0x03) (afterFillings d)
+unfoldable pub isLate : Design → ℕ → ℕ → Bool
+isLate d n b =
+    cond (eqb b 0x01) (afterTables d n)
+    (cond (eqb b 0x02) (afterConstraints d n)
+    (cond (eqb b 0x03) (afterFillings n)
     false))
 
 -- cause 3 or 4 of one more command of a kind, 0 if neither applies
-unfoldable pub orderCause : Design → ℕ → ℕ
-orderCause d b = cond (isLate d b) 3 (cond (leb (mostOf b) (countOf d b)) 4 0)
+unfoldable pub orderCause : Design → ℕ → ℕ → ℕ
+orderCause d n b = cond (isLate d n b) 3 (cond (leb (mostOf b) (countOf d n b)) 4 0)

@@ -16,48 +16,46 @@ use Rattle.state.specs.declared.design.Filling as State-filling
 use Rattle.state.specs.Design.{emptyDesign}
 use Rattle.state.specs.Held.{noneHeld}
 use Rattle.state.specs.Lent.{lent, longEnough}
-use Rattle.state.specs.Meaning.{schemeOf, databaseOf}
+use Rattle.state.specs.Meaning.{freeTable, schemeOf, databaseOf}
 use Rattle.state.specs.Lawful.{tableFits, constraintFits, fillingFits, rowFits, repeats}
 use Rattle.format.specs.declared.command.Command.{Command}
-use Rattle.format.specs.declared.command.Command.the-variants.{Table, Constraint, Filling, Row, End, Operate, Unknown, Short}
+use Rattle.format.specs.declared.command.Command.the-variants.{Table, Constraint, Filling, Row, End, Operate, Put, Remove, Unknown, Short}
 use Rattle.format.specs.declared.verdict.Verdict.{Verdict}
 use Rattle.format.specs.declared.verdict.Verdict.the-variants.{Accepted, Refused}
 use Rattle.format.specs.declared.verdict.DesignReading.{DesignReading}
 use Rattle.format.specs.Bytes.{byteAt}
 use Rattle.format.specs.Commands.{commandAt, widthOf, rowCellAt, rowIssueAt}
 
--- a design with its rows, as far as it has been read: 4,096 cells with their issues and 512 row tables, 0 where no row has been read
+-- a design with its rows, as far as it has been read: how many rows, and 4,096 cells with their issues and 512 row tables. Where no row has been read,
+-- "a free number has row table 255 and all else 0, after reading a design too" (02, Req 12)
 pub record Draft : Type 0 where
   pub design : Design
+  pub rows : ℕ
   pub cells : Cells
   pub tables : List ℕ
 
 unfoldable pub emptyDraft : Draft
-emptyDraft = record { design = emptyDesign; cells = cellsIn (tab 4096 (λ _. 0)) (tab 4096 (λ _. 0)); tables = tab 512 (λ _. 0) }
+emptyDraft = record { design = emptyDesign; rows = 0; cells = cellsIn (tab 4096 (λ _. 0)) (tab 4096 (λ _. 0)); tables = tab 512 (λ _. freeTable) }
 
 -- ---- one more table, constraint, filling or row
 
 unfoldable pub withTable : Design → State-table.Table → Design
-withTable d t = record { tables = d .tables + 1; table = set (d .table) (d .tables) t; constraints = d .constraints; constraint = d .constraint; fillings = d .fillings; filling = d .filling; rows = d .rows }
+withTable d t = record { tables = d .tables + 1; table = set (d .table) (d .tables) t; constraints = d .constraints; constraint = d .constraint; fillings = d .fillings; filling = d .filling }
 
 unfoldable pub withConstraint : Design → State-constraint.Constraint → Design
-withConstraint d c = record { tables = d .tables; table = d .table; constraints = d .constraints + 1; constraint = set (d .constraint) (d .constraints) c; fillings = d .fillings; filling = d .filling; rows = d .rows }
+withConstraint d c = record { tables = d .tables; table = d .table; constraints = d .constraints + 1; constraint = set (d .constraint) (d .constraints) c; fillings = d .fillings; filling = d .filling }
 
 unfoldable pub withFilling : Design → State-filling.Filling → Design
-withFilling d f = record { tables = d .tables; table = d .table; constraints = d .constraints; constraint = d .constraint; fillings = d .fillings + 1; filling = set (d .filling) (d .fillings) f; rows = d .rows }
-
-unfoldable pub withRows : Design → ℕ → Design
-withRows d n = record { tables = d .tables; table = d .table; constraints = d .constraints; constraint = d .constraint; fillings = d .fillings; filling = d .filling; rows = n }
+withFilling d f = record { tables = d .tables; table = d .table; constraints = d .constraints; constraint = d .constraint; fillings = d .fillings + 1; filling = set (d .filling) (d .fillings) f }
 
 -- the row whose command stands at place i: "row r's cells begin at cell 8 times r"
 unfoldable pub withRow : Draft → List ℕ → ℕ → ℕ → Draft
 withRow p s i t =
     record {
-      design = withRows (p .design) (p .design .rows + 1);
-      cells =
-          cellsIn (sets (p .cells .numbers) (8 * p .design .rows) (tab 8 (rowCellAt s i)))
-          (sets (p .cells .issues) (8 * p .design .rows) (tab 8 (rowIssueAt s i)));
-      tables = set (p .tables) (p .design .rows) t;
+      design = p .design;
+      rows = p .rows + 1;
+      cells = cellsIn (sets (p .cells .numbers) (8 * p .rows) (tab 8 (rowCellAt s i))) (sets (p .cells .issues) (8 * p .rows) (tab 8 (rowIssueAt s i)));
+      tables = set (p .tables) (p .rows) t;
     }
 
 -- ---- one command of a design
@@ -73,18 +71,18 @@ abbrev pub refusedIf : Bool → ℕ → Advanced → Advanced
 refusedIf true n t = refused n
 refusedIf false n t = t
 
--- "all TABLEs, then CONSTRAINTs, FILLINGs, ROWs, then END": something of a later kind has been read
-abbrev pub afterTables : Design → Bool
-afterTables d = ltb 0 (d .constraints) || (ltb 0 (d .fillings) || ltb 0 (d .rows))
+-- "all TABLEs, then CONSTRAINTs, FILLINGs, ROWs, then END": something of a later kind has been read, with n the number of rows read
+abbrev pub afterTables : Design → ℕ → Bool
+afterTables d n = ltb 0 (d .constraints) || (ltb 0 (d .fillings) || ltb 0 n)
 
-abbrev pub afterConstraints : Design → Bool
-afterConstraints d = ltb 0 (d .fillings) || ltb 0 (d .rows)
+abbrev pub afterConstraints : Design → ℕ → Bool
+afterConstraints d n = ltb 0 (d .fillings) || ltb 0 n
 
-abbrev pub afterFillings : Design → Bool
-afterFillings d = ltb 0 (d .rows)
+abbrev pub afterFillings : ℕ → Bool
+afterFillings n = ltb 0 n
 
 abbrev pub redesigned : Draft → Design → Draft
-redesigned p d = record { design = d; cells = p .cells; tables = p .tables }
+redesigned p d = record { design = d; rows = p .rows; cells = p .cells; tables = p .tables }
 
 -- the command at place i is "a 0x07 with all issues 0" (02, Req 06)
 unfoldable pub needless : List ℕ → ℕ → Bool
@@ -93,39 +91,41 @@ needless s i = eqb (byteAt s i) 0x07 && all 8 (λ c. eqb (rowIssueAt s i c) 0)
 -- q is the draft with row r put in: causes 5 and 6 of that row
 unfoldable pub rowAdvanced : Draft → ℕ → Advanced
 rowAdvanced q r =
-    refusedIf (not (rowFits (schemeOf (q .design)) (databaseOf (q .design .rows) (q .cells) (q .tables)) r)) 5
-    (refusedIf (repeats (schemeOf (q .design)) (databaseOf (q .design .rows) (q .cells) (q .tables)) r) 6
+    refusedIf (not (rowFits (schemeOf (q .design)) (databaseOf (q .cells) (q .tables)) r)) 5
+    (refusedIf (repeats (schemeOf (q .design)) (databaseOf (q .cells) (q .tables)) r) 6
     (on q))
 
 -- the command c, which stands at place i, read into the draft p
 unfoldable pub advanced : Draft → List ℕ → ℕ → Command → Advanced
 advanced p s i (Table t) =
-    refusedIf (afterTables (p .design)) 3
+    refusedIf (afterTables (p .design) (p .rows)) 3
     (refusedIf (leb 8 (p .design .tables)) 4
     (refusedIf (not (tableFits t)) 5
     (on (redesigned p (withTable (p .design) t)))))
 advanced p s i (Constraint c) =
-    refusedIf (afterConstraints (p .design)) 3
+    refusedIf (afterConstraints (p .design) (p .rows)) 3
     (refusedIf (leb 16 (p .design .constraints)) 4
     (refusedIf (not (constraintFits (p .design) (p .design .constraints) c)) 5
     (on (redesigned p (withConstraint (p .design) c)))))
 advanced p s i (Filling f) =
-    refusedIf (afterFillings (p .design)) 3
+    refusedIf (afterFillings (p .rows)) 3
     (refusedIf (leb 8 (p .design .fillings)) 4
     (refusedIf (not (fillingFits (p .design) (p .design .fillings) f)) 5
     (on (redesigned p (withFilling (p .design) f)))))
 advanced p s i (Row t) =
-    refusedIf (leb 512 (p .design .rows)) 4
+    refusedIf (leb 512 (p .rows)) 4
     (refusedIf (needless s i) 5
-    (rowAdvanced (withRow p s i t) (p .design .rows)))
+    (rowAdvanced (withRow p s i t) (p .rows)))
 advanced p s i End = complete
 advanced p s i (Operate o) = refused 3
+advanced p s i (Put r t) = refused 3
+advanced p s i (Remove r) = refused 3
 advanced p s i Unknown = refused 2
 advanced p s i Short = refused 1
 
--- a draft as the code has it: the design, and the arrays
-abbrev pub draft : Design → Cells → List ℕ → Draft
-draft d cells tables = record { design = d; cells = cells; tables = tables }
+-- a draft as the code has it: the design, how many rows, and the arrays
+abbrev pub draft : Design → ℕ → Cells → List ℕ → Draft
+draft d n cells tables = record { design = d; rows = n; cells = cells; tables = tables }
 
 -- ---- the whole design
 
@@ -162,10 +162,16 @@ abbrev pub designOf : DesignRead → Design
 designOf (accepted p i) = p .design
 designOf (refusedAt c i) = emptyDesign
 
+-- how many rows it has read
+abbrev pub rowsRead : DesignRead → ℕ
+rowsRead (accepted p i) = p .rows
+rowsRead (refusedAt c i) = 0
+
 -- what the code answers for a whole design, and the arrays that it leaves where it is accepted
 pub record Read (w : DesignRead) (r : DesignReading) (cells : Cells) (tables : List ℕ) : Type 0 where
   pub verdict : r .verdict ≡ verdictOf w
   pub design : r .design ≡ designOf w
+  pub count : r .rows ≡ rowsRead w
   pub rows : (p : Draft) (i : ℕ) → w ≡ accepted p i → (cells ≡ p .cells) × (tables ≡ p .tables)
 
 -- ---- reading into lent buffers
@@ -191,6 +197,7 @@ marksAfter (refusedAt c i) marks = marks
 pub record Leaves (w : DesignRead) (r : DesignReading) (cs cs′ : Cells) (ts ts′ ms ms′ : List ℕ) : Type 0 where
   pub verdict : r .verdict ≡ verdictOf w
   pub design : r .design ≡ designOf w
+  pub count : r .rows ≡ rowsRead w
   pub cells : cs′ ≡ cellsAfter w cs
   pub tables : ts′ ≡ tablesAfter w ts
   pub marks : ms′ ≡ marksAfter w ms

@@ -1,10 +1,10 @@
 // A command of a script, and the command that stands at a place of the lent bytes: its byte is looked at first, then how many bytes are left. Bytes
-// below 0x10 are the design's, the others the operations'.
+// below 0x10 are the design's, 0x1D and 0x1E change the rows, and the others are the operations'.
 ghost use mathlib.Core.Path.{_≡_};
 ghost use Prim.Native.Nat.{_+_, _≤_, _<_};
 ghost use lib.ListN.{length};
 ghost use Rattle.format.specs.Bytes.{byteAt, u16At, u32At};
-ghost use Rattle.format.specs.Commands.{designWidth, operationWidth, widthOf, columnAt, valueAt, joinAt, heldValueAt, queryAt, totalAt, designCommandAt, issuedAt, operationAt, commandAt, rowCellAt, rowIssueAt};
+ghost use Rattle.format.specs.Commands.{designWidth, operationWidth, widthOf, columnAt, valueAt, joinAt, heldValueAt, rangeAt, queryAt, totalAt, designCommandAt, issuedAt, operationAt, commandAt, rowCellAt, rowIssueAt, putRowAt};
 use crate::bytes::u16_at;
 use crate::bytes::u32_at;
 use state::Cell;
@@ -15,10 +15,12 @@ use state::HeldValue;
 use state::Join;
 use state::Operation;
 use state::Query;
+use state::Range;
+use state::Row;
 use state::Table;
 use state::Total;
 
-// A ROW's cells and issues are read from the bytes by place (an enum holds no array).
+// The cells and issues of a ROW and of a Put are read from the bytes by place (an enum holds no array).
 pub enum Command {
     Table(Table),
     Constraint(Constraint),
@@ -27,6 +29,10 @@ pub enum Command {
     Row(u8),
     End,
     Operate(Operation),
+    // 0x1D: the number and the table of a row that is put in
+    Put(u16, u8),
+    // 0x1E: the number of a row that is removed
+    Remove(u16),
     // cause 2: no command has this byte
     Unknown,
     // cause 1: too few bytes, or none
@@ -62,6 +68,8 @@ fn operation_width(b: u8) -> usize
         0x17 => 2,
         0x18 => 3,
         0x19 => 8,
+        0x1A => 10,
+        0x1B => 10,
         0x1C => 1,
         0x20 => 7,
         0x21 => 7,
@@ -77,6 +85,12 @@ pub fn width_of(b: u8) -> usize
 {
     if b < 0x10 {
         return design_width(b);
+    }
+    if b == 0x1D {
+        return 44;
+    }
+    if b == 0x1E {
+        return 3;
     }
     operation_width(b)
 }
@@ -146,7 +160,7 @@ fn filling_operands(script: &[u8], i: usize) -> Filling
     }
 }
 
-// The operands of a REFER or DROP, and of a QUERY, whose value has this issue.
+// The operands of a REFER or DROP, whose value has this issue, of a range, and of a QUERY.
 fn held_value_at(script: &[u8], issue: u8, i: usize) -> HeldValue
     requires { ⌜ i + 6 ≤ length (now script) ⌝ }
     ensures { λ r. ⌜ r ≡ heldValueAt (now (script .entry)) issue i ⌝ }
@@ -154,6 +168,17 @@ fn held_value_at(script: &[u8], issue: u8, i: usize) -> HeldValue
     HeldValue {
         filling: script[i + 1],
         value: value_at(script, issue, i + 2),
+    }
+}
+
+fn range_at(script: &[u8], i: usize) -> Range
+    requires { ⌜ i + 10 ≤ length (now script) ⌝ }
+    ensures { λ r. ⌜ r ≡ rangeAt (now (script .entry)) i ⌝ }
+{
+    Range {
+        filling: script[i + 1],
+        low: u32_at(script, i + 2),
+        high: u32_at(script, i + 6),
     }
 }
 
@@ -202,6 +227,40 @@ pub(crate) fn row_issue(script: &[u8], at: usize, c: usize) -> u8
     script[at + 34 + c]
 }
 
+// The numbers and the issues of the row of the 0x1D at place `at`, and the whole row, its table with them.
+fn put_numbers(script: &[u8], at: usize) -> [u32; 8]
+    requires { ⌜ at + 44 ≤ length (now script) ⌝ }
+    ensures { λ r. ⌜ r ≡ putRowAt (now (script .entry)) at .numbers ⌝ }
+{
+    let mut xs = [0u32; 8];
+    for c in 0..8usize {
+        xs[c] = u32_at(script, at + 4 + 4 * c);
+    }
+    xs
+}
+
+fn put_issues(script: &[u8], at: usize) -> [u8; 8]
+    requires { ⌜ at + 44 ≤ length (now script) ⌝ }
+    ensures { λ r. ⌜ r ≡ putRowAt (now (script .entry)) at .issues ⌝ }
+{
+    let mut xs = [0u8; 8];
+    for c in 0..8usize {
+        xs[c] = script[at + 36 + c];
+    }
+    xs
+}
+
+pub fn row_at(script: &[u8], at: usize) -> Row
+    requires { ⌜ at + 44 ≤ length (now script) ⌝ }
+    ensures { λ r. ⌜ r ≡ putRowAt (now (script .entry)) at ⌝ }
+{
+    Row {
+        table: script[at + 3],
+        numbers: put_numbers(script, at),
+        issues: put_issues(script, at),
+    }
+}
+
 // ---- the command whose byte is b, with its operands behind place i
 
 fn design_operands(b: u8, script: &[u8], i: usize) -> Command
@@ -243,6 +302,8 @@ fn issued_at(b: u8, script: &[u8], issue: u8, i: usize) -> Operation
             let own = script[i + 7];
             Operation::Opener(column_at(script, i + 1), value_at(script, own, i + 3))
         }
+        0x1A => Operation::ReferRange(range_at(script, i)),
+        0x1B => Operation::DropRange(range_at(script, i)),
         0x1C => Operation::SmallestKnot,
         _ => Operation::Query(query_at(script, issue, i)),
     }
@@ -277,6 +338,12 @@ pub(crate) fn read_at(script: &[u8], at: usize) -> Command
     }
     if b < 0x10 {
         return design_operands(b, script, at);
+    }
+    if b == 0x1D {
+        return Command::Put(u16_at(script, at + 1), script[at + 3]);
+    }
+    if b == 0x1E {
+        return Command::Remove(u16_at(script, at + 1));
     }
     Command::Operate(operation_at(b, script, at))
 }

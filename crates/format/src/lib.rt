@@ -10,6 +10,7 @@ mod verdict;
 mod writing;
 
 pub use command::Command;
+pub use command::row_at;
 pub use command::width_of;
 pub use opening::MOST_BYTES;
 pub use opening::read_catalogued;

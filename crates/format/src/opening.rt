@@ -19,13 +19,14 @@ use state::copy_bytes;
 
 pub const MOST_BYTES: usize = 65536;
 
-// A reading that is refused: its design is empty.
+// A reading that is refused: its design is empty, without rows.
 fn refusal(cause: u8, at: usize) -> DesignReading
-    ensures { λ r. ⌜ r ≡ record { verdict = Answer.Refused cause at; design = emptyDesign } ⌝ }
+    ensures { λ r. ⌜ r ≡ record { verdict = Answer.Refused cause at; design = emptyDesign; rows = 0 } ⌝ }
 {
     DesignReading {
         verdict: Verdict::Refused(cause, at),
         design: Design::empty(),
+        rows: 0,
     }
 }
 
@@ -44,15 +45,16 @@ fn read_rows(
 ) -> DesignReading
     requires { ⌜ (length (now cells) ≡ 4096) × (length (now issues) ≡ 4096) × (length (now tables) ≡ 512) ⌝ }
     ensures { λ r. ⌜ Read (readFrom (suc (length (now (script .entry)))) (now (script .entry))
-        (draft emptyDesign (cellsIn (now (cells .entry)) (now (issues .entry))) (now (tables .entry))) 0) r (cellsIn (now (cells .exit)) (now (issues .exit))) (now (tables .exit)) ⌝ }
+        (draft emptyDesign 0 (cellsIn (now (cells .entry)) (now (issues .entry))) (now (tables .entry))) 0) r (cellsIn (now (cells .exit)) (now (issues .exit))) (now (tables .exit)) ⌝ }
     ensures { λ r. ⌜ Opens r (cellsIn (now (cells .exit)) (now (issues .exit))) (now (tables .exit)) (now (next .exit)) (now (first .exit)) (now (keys .exit)) (now (heads .exit))
         (now (starts .exit)) ⌝ }
 {
     let stop = read_commands(script, cells, issues, tables);
     let d = stop.design;
     catalog::build(d, cells, issues, tables, next, first, keys, heads, starts);
-    let r = first_repeat(d, tables, next);
-    if r < d.rows {
+    let n = stop.rows;
+    let r = first_repeat(d, n, tables, next);
+    if r < n {
         return refusal(6, row_place(d, issues, r));
     }
     let v = stop.verdict;
@@ -60,11 +62,13 @@ fn read_rows(
         return DesignReading {
             verdict: v,
             design: Design::empty(),
+            rows: 0,
         };
     };
     DesignReading {
         verdict: v,
         design: d,
+        rows: n,
     }
 }
 
@@ -101,7 +105,7 @@ fn read_into(
 {
     let mut x = [0u32; 4096];
     let mut v = [0u8; 4096];
-    let mut y = [0u8; 512];
+    let mut y = [Design::FREE; 512];
     let z = [0u8; 512];
     let r = read_rows(
         script,
@@ -173,7 +177,7 @@ fn read_lent(
 }
 
 // Reads a design with its rows into lent buffers, and leaves the catalog of the rows: the verdict, with the place after the END or the cause and
-// place of the refusal, and the design, which is empty where it is refused. The buffers and the catalog's arrays are written only where it is
+// place of the refusal, and the design with its number of rows, empty and 0 where it is refused. The buffers and the catalog's arrays are written only where it is
 // accepted: the rows, no row marked, and the catalog. The cost of the catalog, and one look at each command and cell.
 pub fn read_catalogued(
     script: &[u8],

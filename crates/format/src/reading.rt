@@ -1,4 +1,4 @@
-// The first pass over a design with its rows: command by command into a draft, which is a design by value and three arrays that are lent. Causes 1 to
+// The first pass over a design with its rows: command by command into a draft, which is a design and a number of rows by value and three arrays that are lent. Causes 1 to
 // 5 are tested in document 01's order; cause 6 is left aside, and opening.rt finds it through the catalog of the rows read.
 ghost use mathlib.Core.Path.{_≡_};
 ghost use mathlib.Core.List.{List};
@@ -13,7 +13,7 @@ ghost use Rattle.format.specs.declared.command.Command.the-variants as C
 ghost use Rattle.format.specs.declared.reading.Outcome.the-variants as O;
 ghost use Rattle.format.specs.Bytes.{byteAt};
 ghost use Rattle.format.specs.Commands.{commandAt, rowCellAt, rowIssueAt};
-ghost use Rattle.format.specs.Reading.{withTable, withConstraint, withFilling, withRows, needless, draft, readFrom};
+ghost use Rattle.format.specs.Reading.{withTable, withConstraint, withFilling, needless, draft, readFrom};
 ghost use Rattle.format.specs.Admitting.{causeOf, Advances, Stopped};
 use crate::command::Command;
 use crate::command::row_cell;
@@ -34,20 +34,22 @@ pub enum Outcome {
     Cause(u8),
 }
 
-// The outcome with the design afterwards.
+// The outcome with the design and the number of rows afterwards.
 pub struct Advance {
     pub outcome: Outcome,
     pub design: Design,
+    pub rows: usize,
 }
 
 // Where the first pass stops: at the END, or at the first command that is refused. The verdict holds if no row read repeats a value; with it the
-// design read so far.
+// design read so far, and how many rows.
 pub struct Stop {
     pub verdict: Verdict,
     pub design: Design,
+    pub rows: usize,
 }
 
-// ---- one more table, constraint, filling or row. Constant time.
+// ---- one more table, constraint or filling. Constant time.
 
 fn with_table(mut d: Design, t: Table) -> Design
     requires { ⌜ d .tables < 8 ⌝ }
@@ -79,12 +81,7 @@ fn with_filling(mut d: Design, f: Filling) -> Design
     d
 }
 
-fn with_rows(mut d: Design, n: usize) -> Design
-    ensures { λ r. ⌜ r ≡ withRows d n ⌝ }
-{
-    d.rows = n;
-    d
-}
+// ---- the parts of a row
 
 // The numbers and the issues of the cells of the ROW at place `at`, stored as row r's. One step for each cell.
 fn store_cells(script: &[u8], at: usize, cells: &mut [u32], r: usize)
@@ -131,70 +128,75 @@ fn is_needless(script: &[u8], at: usize) -> bool
 
 // ---- one command
 
-// A command that is refused leaves the design as it was.
-fn refused(d: Design, cause: u8) -> Advance
-    ensures { λ r. ⌜ r ≡ record { outcome = O.Cause cause; design = d } ⌝ }
+// A command that is refused leaves the design and the number of rows as they were.
+fn refused(d: Design, rows: usize, cause: u8) -> Advance
+    ensures { λ r. ⌜ r ≡ record { outcome = O.Cause cause; design = d; rows = rows } ⌝ }
 {
     Advance {
         outcome: Outcome::Cause(cause),
         design: d,
+        rows,
     }
 }
 
 // A TABLE read into the draft. Constant time.
-fn take_table(d: Design, t: Table) -> Advance
-    ensures { λ r. ⌜ ((s : List ℕ) (cells : Cells) (tables : List ℕ) (i : ℕ) → Advances (draft d cells tables) s i (C.Table t) r cells tables) ⌝ }
+fn take_table(d: Design, rows: usize, t: Table) -> Advance
+    ensures { λ r. ⌜ ((s : List ℕ) (cells : Cells) (tables : List ℕ) (i : ℕ) → Advances (draft d rows cells tables) s i (C.Table t) r cells tables) ⌝ }
 {
-    let cause = order_cause(d, 0x01);
+    let cause = order_cause(d, rows, 0x01);
     if cause != 0 {
-        return refused(d, cause);
+        return refused(d, rows, cause);
     }
     if !lawful::table_fits(t) {
-        return refused(d, 5);
+        return refused(d, rows, 5);
     }
     Advance {
         outcome: Outcome::On,
         design: with_table(d, t),
+        rows,
     }
 }
 
 // A CONSTRAINT. One look at each constraint before it.
-fn take_constraint(d: Design, c: Constraint) -> Advance
-    ensures { λ r. ⌜ ((s : List ℕ) (cells : Cells) (tables : List ℕ) (i : ℕ) → Advances (draft d cells tables) s i (C.Constraint c) r cells tables) ⌝ }
+fn take_constraint(d: Design, rows: usize, c: Constraint) -> Advance
+    ensures { λ r. ⌜ ((s : List ℕ) (cells : Cells) (tables : List ℕ) (i : ℕ) → Advances (draft d rows cells tables) s i (C.Constraint c) r cells tables) ⌝ }
 {
-    let cause = order_cause(d, 0x02);
+    let cause = order_cause(d, rows, 0x02);
     if cause != 0 {
-        return refused(d, cause);
+        return refused(d, rows, cause);
     }
     if !lawful::constraint_fits(d, d.constraints, c) {
-        return refused(d, 5);
+        return refused(d, rows, 5);
     }
     Advance {
         outcome: Outcome::On,
         design: with_constraint(d, c),
+        rows,
     }
 }
 
 // A FILLING. One look at each filling before it.
-fn take_filling(d: Design, f: Filling) -> Advance
-    ensures { λ r. ⌜ ((s : List ℕ) (cells : Cells) (tables : List ℕ) (i : ℕ) → Advances (draft d cells tables) s i (C.Filling f) r cells tables) ⌝ }
+fn take_filling(d: Design, rows: usize, f: Filling) -> Advance
+    ensures { λ r. ⌜ ((s : List ℕ) (cells : Cells) (tables : List ℕ) (i : ℕ) → Advances (draft d rows cells tables) s i (C.Filling f) r cells tables) ⌝ }
 {
-    let cause = order_cause(d, 0x03);
+    let cause = order_cause(d, rows, 0x03);
     if cause != 0 {
-        return refused(d, cause);
+        return refused(d, rows, cause);
     }
     if !lawful::filling_fits(d, d.fillings, f) {
-        return refused(d, 5);
+        return refused(d, rows, 5);
     }
     Advance {
         outcome: Outcome::On,
         design: with_filling(d, f),
+        rows,
     }
 }
 
 // The ROW at place `at`, of table t. One look at each of its cells.
 fn take_row(
     d: Design,
+    rows: usize,
     script: &[u8],
     at: usize,
     t: u8,
@@ -203,32 +205,32 @@ fn take_row(
     tables: &mut [u8],
 ) -> Advance
     requires { ⌜ (at + 34 ≤ length (now script)) × (byteAt (now script) at ≡ 0x07 → at + 42 ≤ length (now script)) × (length (now cells) ≡ 4096) × (length (now issues) ≡ 4096) × (length (now tables) ≡ 512) ⌝ }
-    ensures { λ r. ⌜ Advances (draft d (cellsIn (now (cells .entry)) (now (issues .entry))) (now (tables .entry))) (now (script .entry)) at (C.Row t) r (cellsIn (now (cells .exit)) (now (issues .exit))) (now (tables .exit)) ⌝ }
+    ensures { λ r. ⌜ Advances (draft d rows (cellsIn (now (cells .entry)) (now (issues .entry))) (now (tables .entry))) (now (script .entry)) at (C.Row t) r (cellsIn (now (cells .exit)) (now (issues .exit))) (now (tables .exit)) ⌝ }
 {
-    let cause = order_cause(d, 0x04);
+    let cause = order_cause(d, rows, 0x04);
     if cause != 0 {
-        return refused(d, cause);
+        return refused(d, rows, cause);
     }
     if is_needless(script, at) {
-        return refused(d, 5);
+        return refused(d, rows, 5);
     }
-    let n = d.rows;
-    store_cells(script, at, cells, n);
-    store_issues(script, at, issues, n);
-    tables[n] = t;
-    let e = with_rows(d, n + 1);
-    if !lawful::row_fits(e, cells, issues, tables, n) {
-        return refused(d, 5);
+    store_cells(script, at, cells, rows);
+    store_issues(script, at, issues, rows);
+    tables[rows] = t;
+    if !lawful::row_fits(d, cells, issues, tables, rows) {
+        return refused(d, rows, 5);
     }
     Advance {
         outcome: Outcome::On,
-        design: e,
+        design: d,
+        rows: rows + 1,
     }
 }
 
 // Any command, which stands at place `at`, read into the draft.
 fn take(
     d: Design,
+    rows: usize,
     script: &[u8],
     at: usize,
     c: Command,
@@ -237,20 +239,23 @@ fn take(
     tables: &mut [u8],
 ) -> Advance
     requires { ⌜ (c ≡ commandAt (now script) at) × (length (now cells) ≡ 4096) × (length (now issues) ≡ 4096) × (length (now tables) ≡ 512) ⌝ }
-    ensures { λ r. ⌜ Advances (draft d (cellsIn (now (cells .entry)) (now (issues .entry))) (now (tables .entry))) (now (script .entry)) at c r (cellsIn (now (cells .exit)) (now (issues .exit))) (now (tables .exit)) ⌝ }
+    ensures { λ r. ⌜ Advances (draft d rows (cellsIn (now (cells .entry)) (now (issues .entry))) (now (tables .entry))) (now (script .entry)) at c r (cellsIn (now (cells .exit)) (now (issues .exit))) (now (tables .exit)) ⌝ }
 {
     match c {
-        Command::Table(t) => take_table(d, t),
-        Command::Constraint(k) => take_constraint(d, k),
-        Command::Filling(f) => take_filling(d, f),
-        Command::Row(t) => take_row(d, script, at, t, cells, issues, tables),
+        Command::Table(t) => take_table(d, rows, t),
+        Command::Constraint(k) => take_constraint(d, rows, k),
+        Command::Filling(f) => take_filling(d, rows, f),
+        Command::Row(t) => take_row(d, rows, script, at, t, cells, issues, tables),
         Command::End => Advance {
             outcome: Outcome::Complete,
             design: d,
+            rows,
         },
-        Command::Operate(_) => refused(d, 3),
-        Command::Unknown => refused(d, 2),
-        Command::Short => refused(d, 1),
+        Command::Operate(_) => refused(d, rows, 3),
+        Command::Put(_, _) => refused(d, rows, 3),
+        Command::Remove(_) => refused(d, rows, 3),
+        Command::Unknown => refused(d, rows, 2),
+        Command::Short => refused(d, rows, 1),
     }
 }
 
@@ -275,28 +280,32 @@ pub(crate) fn read_commands(
 ) -> Stop
     requires { ⌜ (length (now cells) ≡ 4096) × (length (now issues) ≡ 4096) × (length (now tables) ≡ 512) ⌝ }
     ensures { λ r. ⌜ Stopped (readFrom (suc (length (now (script .entry)))) (now (script .entry))
-        (draft emptyDesign (cellsIn (now (cells .entry)) (now (issues .entry))) (now (tables .entry))) 0) r (cellsIn (now (cells .exit)) (now (issues .exit))) (now (tables .exit)) ⌝ }
+        (draft emptyDesign 0 (cellsIn (now (cells .entry)) (now (issues .entry))) (now (tables .entry))) 0) r (cellsIn (now (cells .exit)) (now (issues .exit))) (now (tables .exit)) ⌝ }
 {
     let mut d = Design::empty();
+    let mut rows = 0usize;
     let mut at = 0usize;
     loop {
         let c = command_at(script, at);
-        let step = take(d, script, at, c, cells, issues, tables);
+        let step = take(d, rows, script, at, c, cells, issues, tables);
         let o = step.outcome;
         if let Outcome::Complete = o {
             return Stop {
                 verdict: Verdict::Accepted(at + 1),
                 design: d,
+                rows,
             };
         }
         let Outcome::On = o else {
             return Stop {
                 verdict: Verdict::Refused(cause_of(o), at),
                 design: d,
+                rows,
             };
         };
         let e = step.design;
         d = e;
+        rows = step.rows;
         at = at + width_of(script[at]);
     }
 }

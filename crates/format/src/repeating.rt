@@ -38,13 +38,14 @@ fn unique_next(d: Design, tables: &[u8], next: &[u16; 4096], x: usize) -> usize
     wide(next[x])
 }
 
-// The first row that repeats a value of an earlier row in a unique column, 512 if none does. One look at each cell of the rows.
-pub(crate) fn first_repeat(d: Design, tables: &[u8], next: &[u16; 4096]) -> usize
-    requires { ⌜ (d .rows ≤ 512) × (512 ≤ length (now tables)) ⌝ }
-    ensures { λ r. ⌜ r ≡ lowest (8 * d .rows) (uniqueNext d (now (tables .entry)) (now (next .entry))) ⌝ }
+// The first of so many rows that repeats a value of an earlier row in a unique column; if none does, a number that isn't below that. One look at each cell of
+// the rows.
+pub(crate) fn first_repeat(d: Design, rows: usize, tables: &[u8], next: &[u16; 4096]) -> usize
+    requires { ⌜ (rows ≤ 512) × (512 ≤ length (now tables)) ⌝ }
+    ensures { λ r. ⌜ r ≡ lowest (8 * rows) (uniqueNext d (now (tables .entry)) (now (next .entry))) ⌝ }
 {
     let mut r = Design::ROWS;
-    for x in 0..8 * d.rows {
+    for x in 0..8 * rows {
         r = lower_of(r, unique_next(d, tables, next, x));
     }
     r

@@ -6,8 +6,9 @@ pub enum Verdict {
     Refused(u8, usize),
 }
 
-// The verdict with the design, which is empty where it is refused. (An enum holds no array.)
+// The verdict with the design, which is empty where it is refused, and how many rows it has, 0 where it is refused. (An enum holds no array.)
 pub struct DesignReading {
     pub verdict: Verdict,
     pub design: Design,
+    pub rows: usize,
 }

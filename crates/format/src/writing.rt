@@ -1,4 +1,5 @@
-// Writing a design with its rows: its tables, constraints, fillings and rows in order of their numbers, then END.
+// Writing a design with its rows: its tables, constraints and fillings in order of their numbers, the rows in rising number, then END. Numbers without a row
+// are skipped.
 ghost use mathlib.Core.Path.{_≡_};
 ghost use mathlib.Core.List.{List, _∷_};
 ghost use Prim.Native.Nat.{ℕ, _+_, _≤_, _<_};
@@ -6,10 +7,12 @@ ghost use lib.ListN.{length, getD};
 ghost use lib.Seq.{sets};
 ghost use Rattle.finite.specs.Finite.{count};
 ghost use Rattle.finite.specs.Writing.{Wrote};
-ghost use Rattle.state.specs.Cells.{cellsIn};
+ghost use mathlib.Core.Bool.{_&&_};
+ghost use Rattle.state.specs.Cells.{Cells, cellsIn};
 ghost use Rattle.state.specs.Design.{InRange, Backed};
+ghost use Rattle.state.specs.Meaning.{databaseOf};
 ghost use Rattle.format.specs.Kinds.{countOf};
-ghost use Rattle.format.specs.Writing.{tableBytes, constraintBytes, fillingBytes, numberBytes, cellsBytes, issuesBytes, isIssued, rowBytes, designBytes, itemBytes, kindBytes, rowPlace};
+ghost use Rattle.format.specs.Writing.{tableBytes, constraintBytes, fillingBytes, numberBytes, cellsBytes, issuesBytes, isIssued, rowBytes, rowAt, designBytes, itemBytes, kindBytes, placeAfter, rowPlace};
 use crate::bytes::put_u32;
 use crate::kinds::count_of;
 use state::Cell;
@@ -18,6 +21,7 @@ use state::Design;
 use state::Filling;
 use state::Table;
 use state::cell_at;
+use state::is_live;
 
 // ---- lengths
 
@@ -48,20 +52,65 @@ fn issued_rows(issues: &[u8], n: usize) -> usize
     m
 }
 
-// Where row r's command begins in the written design, and the END behind the last row. The cost of `issued_rows`.
+// How many numbers have a row, and how many a row that has an issue. One look at each number, and eight at each row.
+fn live_rows(tables: &[u8]) -> usize
+    requires { ⌜ 512 ≤ length (now tables) ⌝ }
+    ensures { λ m. ⌜ ((cells : Cells) → m ≡ count 512 (databaseOf cells (now (tables .entry)) .live)) ⌝ }
+{
+    let mut m: usize = 0;
+    for r in 0..Design::ROWS {
+        if is_live(tables, r) {
+            m += 1;
+        }
+    }
+    m
+}
+
+fn is_live_issued(issues: &[u8], tables: &[u8], r: usize) -> bool
+    requires { ⌜ (r < 512) × (4096 ≤ length (now issues)) × (512 ≤ length (now tables)) ⌝ }
+    ensures { λ b. ⌜ ((numbers : List ℕ) → b ≡ databaseOf (cellsIn numbers (now (issues .entry))) (now (tables .entry)) .live r && isIssued (cellsIn numbers (now (issues .entry))) r) ⌝ }
+{
+    if !is_live(tables, r) {
+        return false;
+    }
+    is_issued(issues, r)
+}
+
+fn live_issued_rows(issues: &[u8], tables: &[u8]) -> usize
+    requires { ⌜ (4096 ≤ length (now issues)) × (512 ≤ length (now tables)) ⌝ }
+    ensures { λ m. ⌜ ((numbers : List ℕ) → m ≡ count 512 (λ r. databaseOf (cellsIn numbers (now (issues .entry))) (now (tables .entry)) .live r && isIssued (cellsIn numbers (now (issues .entry))) r)) ⌝ }
+{
+    let mut m: usize = 0;
+    for r in 0..Design::ROWS {
+        if is_live_issued(issues, tables, r) {
+            m += 1;
+        }
+    }
+    m
+}
+
+// Where the written design goes on behind m rows, k of them with issues. Constant time.
+fn place_after(d: Design, m: usize, k: usize) -> usize
+    requires { ⌜ InRange d × (m ≤ 512) × (k ≤ 512) ⌝ }
+    ensures { λ n. ⌜ n ≡ placeAfter d m k ⌝ }
+{
+    3 * d.tables + 5 * d.constraints + 11 * d.fillings + 34 * m + 8 * k
+}
+
+// Where row r's command begins in the written design if all numbers before r have a row. The cost of `issued_rows`.
 pub(crate) fn row_place(d: Design, issues: &[u8], r: usize) -> usize
     requires { ⌜ InRange d × (r ≤ 512) × (4096 ≤ length (now issues)) ⌝ }
     ensures { λ n. ⌜ ((numbers : List ℕ) → n ≡ rowPlace d (cellsIn numbers (now (issues .entry))) r) ⌝ }
 {
-    3 * d.tables + 5 * d.constraints + 11 * d.fillings + 34 * r + 8 * issued_rows(issues, r)
+    place_after(d, r, issued_rows(issues, r))
 }
 
-// How many bytes the design is written in: at most 21,697. Eight looks at each row.
-pub fn design_length(d: Design, issues: &[u8]) -> usize
-    requires { ⌜ InRange d × (4096 ≤ length (now issues)) ⌝ }
-    ensures { λ n. ⌜ ((numbers tables : List ℕ) → n ≡ length (designBytes d (cellsIn numbers (now (issues .entry))) tables)) ⌝ }
+// How many bytes the design is written in: at most 21,697. The cost of `live_issued_rows`.
+pub fn design_length(d: Design, issues: &[u8], tables: &[u8]) -> usize
+    requires { ⌜ InRange d × (4096 ≤ length (now issues)) × (512 ≤ length (now tables)) ⌝ }
+    ensures { λ n. ⌜ ((numbers : List ℕ) → n ≡ length (designBytes d (cellsIn numbers (now (issues .entry))) (now (tables .entry)))) ⌝ }
 {
-    row_place(d, issues, d.rows) + 1
+    place_after(d, live_rows(tables), live_issued_rows(issues, tables)) + 1
 }
 
 // ---- bytes
@@ -171,6 +220,25 @@ fn put_row(
     at + 42
 }
 
+// The row at number r, if there is one.
+fn put_live(
+    out: &mut [u8],
+    at: usize,
+    cells: &[u32],
+    issues: &[u8],
+    tables: &[u8],
+    r: usize,
+) -> usize
+    requires { ⌜ (r < 512) × Backed (cellsIn (now cells) (now issues)) (now tables)
+        × (at + length (rowAt (cellsIn (now cells) (now issues)) (now tables) r) ≤ length (now out)) ⌝ }
+    ensures { λ z. ⌜ Wrote (now (out .entry)) (now (out .exit)) at z (rowAt (cellsIn (now (cells .entry)) (now (issues .entry))) (now (tables .entry)) r) ⌝ }
+{
+    if !is_live(tables, r) {
+        return at;
+    }
+    put_row(out, at, cells, issues, tables, r)
+}
+
 // The command of kind b that has number i among them.
 fn put_item(
     d: Design,
@@ -182,7 +250,7 @@ fn put_item(
     out: &mut [u8],
     at: usize,
 ) -> usize
-    requires { ⌜ (i < countOf d b) × InRange d × Backed (cellsIn (now cells) (now issues)) (now tables)
+    requires { ⌜ (i < countOf d 512 b) × InRange d × Backed (cellsIn (now cells) (now issues)) (now tables)
         × (at + length (itemBytes d (cellsIn (now cells) (now issues)) (now tables) b i) ≤ length (now out)) ⌝ }
     ensures { λ r. ⌜ Wrote (now (out .entry)) (now (out .exit)) at r (itemBytes d (cellsIn (now (cells .entry)) (now (issues .entry))) (now (tables .entry)) b i) ⌝ }
 {
@@ -190,11 +258,11 @@ fn put_item(
         0x01 => put_table(out, at, d.table[i]),
         0x02 => put_constraint(out, at, d.constraint[i]),
         0x03 => put_filling(out, at, d.filling[i]),
-        _ => put_row(out, at, cells, issues, tables, i),
+        _ => put_live(out, at, cells, issues, tables, i),
     }
 }
 
-// All commands of kind b. One step for each.
+// All commands of kind b. One step for each, and for each number of a row.
 fn put_kind(
     d: Design,
     cells: &[u32],
@@ -208,14 +276,14 @@ fn put_kind(
     ensures { λ r. ⌜ Wrote (now (out .entry)) (now (out .exit)) at r (kindBytes d (cellsIn (now (cells .entry)) (now (issues .entry))) (now (tables .entry)) b) ⌝ }
 {
     let mut place = at;
-    for i in 0..count_of(d, b) {
+    for i in 0..count_of(d, Design::ROWS, b) {
         place = put_item(d, cells, issues, tables, b, i, out, place);
     }
     place
 }
 
-// Writes the design with its rows from the first byte on; how many bytes that took. One step for each table, constraint and filling, eight
-// for each row.
+// Writes the design with its rows from the first byte on; how many bytes that took. One step for each table, constraint, filling and
+// number of a row, eight for each row.
 pub fn write_design(d: Design, cells: &[u32], issues: &[u8], tables: &[u8], out: &mut [u8]) -> usize
     requires { ⌜ InRange d × Backed (cellsIn (now cells) (now issues)) (now tables) × (length (designBytes d (cellsIn (now cells) (now issues)) (now tables)) ≤ length (now out)) ⌝ }
     ensures { λ n. ⌜ (n ≡ length (designBytes d (cellsIn (now (cells .entry)) (now (issues .entry))) (now (tables .entry)))) × (now (out .exit) ≡ sets (now (out .entry)) 0 (designBytes d (cellsIn (now (cells .entry)) (now (issues .entry))) (now (tables .entry)))) ⌝ }

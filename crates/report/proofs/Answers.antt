@@ -34,19 +34,19 @@ next : (w n : ℕ) → (w ≡ n → ⊥) → n ≤ w → n + 1 ≤ w
 next w n m l = omega arith
 
 pub past-words : (w : ℕ) → (w ≡ 0 → ⊥) → (w ≡ 1 → ⊥) → (w ≡ 2 → ⊥) → (w ≡ 3 → ⊥) → (w ≡ 4 → ⊥) → (w ≡ 5 → ⊥) → (w ≡ 6 → ⊥) → (w ≡ 7 → ⊥) →
-    (w ≡ 8 → ⊥) → (w ≡ 9 → ⊥) → (w ≡ 10 → ⊥) → (w ≡ 11 → ⊥) → (w ≡ 12 → ⊥) → (w ≡ 13 → ⊥) → (w ≡ 14 → ⊥) → (w ≡ 15 → ⊥) → (w ≡ 16 → ⊥) → 17 ≤ w
-past-words w a b c d e f g h i j k l m n o p q =
-    next w 16 q (next w 15 p (next w 14 o (next w 13 n (next w 12 m (next w 11 l (next w 10 k (next w 9 j (next w 8 i (next w 7 h (next w 6 g (next w 5 f (next w 4 e
-    (next w 3 d (next w 2 c (next w 1 b (next w 0 a (least w)))))))))))))))))
+    (w ≡ 8 → ⊥) → (w ≡ 9 → ⊥) → (w ≡ 10 → ⊥) → (w ≡ 11 → ⊥) → (w ≡ 12 → ⊥) → (w ≡ 13 → ⊥) → (w ≡ 14 → ⊥) → (w ≡ 15 → ⊥) → (w ≡ 16 → ⊥) → (w ≡ 17 → ⊥) → (w ≡ 18 → ⊥) → 19 ≤ w
+past-words w a b c d e f g h i j k l m n o p q r s =
+    next w 18 s (next w 17 r (next w 16 q (next w 15 p (next w 14 o (next w 13 n (next w 12 m (next w 11 l (next w 10 k (next w 9 j (next w 8 i (next w 7 h (next w 6 g (next w 5 f (next w 4 e
+    (next w 3 d (next w 2 c (next w 1 b (next w 0 a (least w)))))))))))))))))))
 
-pub no-word : (o : List ℕ) (n w : ℕ) → 17 ≤ w → Wrote o o n n (wordText w)
+pub no-word : (o : List ℕ) (n w : ℕ) → 19 ≤ w → Wrote o o n n (wordText w)
 unfolding wordText
 no-word o n w l = wrote-as o o n n n [] (wordText w) refl (ap spacedWord (sym (List·getD-eq-default answer-words [] l))) (wrote-none o n)
 
--- the word with number 14 is none
-pub empty-word : (o : List ℕ) (n : ℕ) → Wrote o o n n (wordText 14)
+-- the words with numbers 14 and 17 are none
+pub empty-word : (o : List ℕ) (n : ℕ) → Wrote o o n n (wordText 14) × Wrote o o n n (wordText 17)
 unfolding wordText
-empty-word o n = wrote-none o n
+empty-word o n = (wrote-none o n, wrote-none o n)
 
 -- ---- a word, its numbers, and the place of a refusal
 

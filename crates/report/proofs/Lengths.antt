@@ -41,7 +41,9 @@ word-short (suc (suc (suc (suc (suc (suc (suc (suc (suc (suc (suc (suc (suc zero
 word-short (suc (suc (suc (suc (suc (suc (suc (suc (suc (suc (suc (suc (suc (suc zero)))))))))))))) = omega arith
 word-short (suc (suc (suc (suc (suc (suc (suc (suc (suc (suc (suc (suc (suc (suc (suc zero))))))))))))))) = omega arith
 word-short (suc (suc (suc (suc (suc (suc (suc (suc (suc (suc (suc (suc (suc (suc (suc (suc zero)))))))))))))))) = omega arith
-word-short (suc (suc (suc (suc (suc (suc (suc (suc (suc (suc (suc (suc (suc (suc (suc (suc (suc w))))))))))))))))) = omega arith
+word-short (suc (suc (suc (suc (suc (suc (suc (suc (suc (suc (suc (suc (suc (suc (suc (suc (suc zero))))))))))))))))) = omega arith
+word-short (suc (suc (suc (suc (suc (suc (suc (suc (suc (suc (suc (suc (suc (suc (suc (suc (suc (suc zero)))))))))))))))))) = omega arith
+word-short (suc (suc (suc (suc (suc (suc (suc (suc (suc (suc (suc (suc (suc (suc (suc (suc (suc (suc (suc w))))))))))))))))))) = omega arith
 
 -- numbers, each behind a space
 spaced-short : (k : ℕ) (f : ℕ → ℕ) → length (collect k (λ _. true) (λ i. spaced (f i))) ≤ 21 * k
@@ -74,10 +76,10 @@ pub command-line-short : (number : ℕ) (a : Answer) (place : ℕ) (text : List 
 unfolding commandLine
 command-line-short number a place text = simp length-append (omega (arith, decimal-short number, answer-short a place text))
 
-pub design-line-short : (d : Design) → length (designLine d) ≤ 91
+pub design-line-short : (d : Design) (rows : ℕ) → length (designLine d rows) ≤ 91
 unfolding designLine
-design-line-short d =
-    simp length-append (omega (arith, decimal-short (d .tables), decimal-short (d .constraints), decimal-short (d .fillings), decimal-short (d .rows)))
+design-line-short d rows =
+    simp length-append (omega (arith, decimal-short (d .tables), decimal-short (d .constraints), decimal-short (d .fillings), decimal-short rows))
 
 pub refusal-line-short : (n place : ℕ) → length (refusalLine n place) ≤ 50
 unfolding refusalLine
@@ -121,8 +123,8 @@ module _ (o o′ : List ℕ) (n z : ℕ) where
   command-line-reach number a place text =
       reach o o′ n z (commandLine number (answerOf a) place text) (391 + length text) (command-line-short number a place text)
 
-  pub design-line-reach : (d : Design) → Wrote o o′ n z (designLine d) → z ≤ n + 91
-  design-line-reach d = reach o o′ n z (designLine d) 91 (design-line-short d)
+  pub design-line-reach : (d : Design) (rows : ℕ) → Wrote o o′ n z (designLine d rows) → z ≤ n + 91
+  design-line-reach d rows = reach o o′ n z (designLine d rows) 91 (design-line-short d rows)
 
   pub refusal-line-reach : (cause place : ℕ) → Wrote o o′ n z (refusalLine cause place) → z ≤ n + 50
   refusal-line-reach cause place = reach o o′ n z (refusalLine cause place) 50 (refusal-line-short cause place)

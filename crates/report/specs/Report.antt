@@ -11,7 +11,7 @@ use Rattle.model.specs.Answers.{Answer, shown, isRefusal, hasText}
 abbrev pub newline : ℕ
 newline = 10
 
--- "loaded", "held", "no candidate", "dropped", "ground", "sent", "answer", "refused", "even", "uneven", "total", "knot", "desk", "open", "none", "absent", "design"
+-- "loaded", "held", "no candidate", "dropped", "ground", "sent", "answer", "refused", "even", "uneven", "total", "knot", "desk", "open", "none", "absent", "rows", "design"
 abbrev pub loaded-word : List ℕ
 loaded-word = 108 ∷ 111 ∷ 97 ∷ 100 ∷ 101 ∷ 100 ∷ []
 
@@ -60,12 +60,16 @@ none-word = 110 ∷ 111 ∷ 110 ∷ 101 ∷ []
 abbrev pub absent-word : List ℕ
 absent-word = 97 ∷ 98 ∷ 115 ∷ 101 ∷ 110 ∷ 116 ∷ []
 
+abbrev pub rows-word : List ℕ
+rows-word = 114 ∷ 111 ∷ 119 ∷ 115 ∷ []
+
 abbrev pub design-word : List ℕ
 design-word = 100 ∷ 101 ∷ 115 ∷ 105 ∷ 103 ∷ 110 ∷ []
 
--- the words of the answers, in the order of their numbers (`shown`). One has none: "printed as these three numbers" (02, Req 09)
+-- the words of the answers, in the order of their numbers (`shown`). Two have none: "printed as these three numbers" (02, Req 09), and the sentence of a
+-- reason (`answerText`)
 abbrev pub answer-words : List (List ℕ)
-answer-words = loaded-word ∷ held-word ∷ no-candidate-words ∷ dropped-word ∷ ground-word ∷ sent-word ∷ answer-word ∷ refused-word ∷ even-word ∷ uneven-word ∷ total-word ∷ knot-word ∷ desk-word ∷ open-word ∷ [] ∷ none-word ∷ absent-word ∷ []
+answer-words = loaded-word ∷ held-word ∷ no-candidate-words ∷ dropped-word ∷ ground-word ∷ sent-word ∷ answer-word ∷ refused-word ∷ even-word ∷ uneven-word ∷ total-word ∷ knot-word ∷ desk-word ∷ open-word ∷ [] ∷ none-word ∷ absent-word ∷ [] ∷ rows-word ∷ []
 
 -- a space, then the word, if there is one
 abbrev pub spacedWord : List ℕ → List ℕ
@@ -96,9 +100,9 @@ answerText a place text = cond (hasText a) (space ∷ take (bytesIn a) text) (pl
 unfoldable pub commandLine : ℕ → Answer → ℕ → List ℕ → List ℕ
 commandLine number a place text = decimal number ++ (answerText a place text ++ (newline ∷ []))
 
--- "design with tables, constraints, fillings and rows"
-unfoldable pub designLine : Design → List ℕ
-designLine d = design-word ++ (spaced (d .tables) ++ (spaced (d .constraints) ++ (spaced (d .fillings) ++ (spaced (d .rows) ++ (newline ∷ [])))))
+-- "design with tables, constraints, fillings and rows", of which so many were read
+unfoldable pub designLine : Design → ℕ → List ℕ
+designLine d rows = design-word ++ (spaced (d .tables) ++ (spaced (d .constraints) ++ (spaced (d .fillings) ++ (spaced rows ++ (newline ∷ [])))))
 
 -- "A refused design prints only refused number place"
 unfoldable pub refusalLine : ℕ → ℕ → List ℕ

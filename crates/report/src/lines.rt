@@ -42,6 +42,9 @@ fn put_word(out: &mut [u8], at: usize, word: u8) -> usize
         14 => at,
         15 => put_bytes(out, at, b" none", 5),
         16 => put_bytes(out, at, b" absent", 7),
+        // a sentence, which put_answer writes
+        17 => at,
+        18 => put_bytes(out, at, b" rows", 5),
         _ => at,
     }
 }
@@ -116,16 +119,16 @@ pub fn put_command_line(
     put_byte(out, y, 10)
 }
 
-// Writes an accepted design's line: its counts. At most 91 bytes.
-pub fn put_design_line(out: &mut [u8], at: usize, d: Design) -> usize
+// Writes an accepted design's line: its counts, and that of the rows that it was read with. At most 91 bytes.
+pub fn put_design_line(out: &mut [u8], at: usize, d: Design, rows: usize) -> usize
     requires { ⌜ at + 91 ≤ length (now out) ⌝ }
-    ensures { λ z. ⌜ Wrote (now (out .entry)) (now (out .exit)) at z (designLine d) ⌝ }
+    ensures { λ z. ⌜ Wrote (now (out .entry)) (now (out .exit)) at z (designLine d rows) ⌝ }
 {
     let z = put_bytes(out, at, b"design", 6);
     let y = put_spaced(out, z, d.tables as u64);
     let x = put_spaced(out, y, d.constraints as u64);
     let w = put_spaced(out, x, d.fillings as u64);
-    let v = put_spaced(out, w, d.rows as u64);
+    let v = put_spaced(out, w, rows as u64);
     put_byte(out, v, 10)
 }
 

@@ -3,7 +3,7 @@ use native.Mathlib.Omega.{arith}
 use mathlib.Core.Path.{ap, refl}
 use borrow.Author.Needs.{needs}
 use Rattle.format.specs.Commands.{operationWidth}
-use Rattle.format.proofs.CommandLaws.{operation-refer, operation-drop, operation-probe, operation-evenness, operation-total, operation-name, operation-reason, operation-opener, operation-smallest-knot, operation-query, is-query}
+use Rattle.format.proofs.CommandLaws.{operation-refer, operation-drop, operation-probe, operation-evenness, operation-total, operation-name, operation-reason, operation-opener, operation-refer-range, operation-drop-range, operation-smallest-knot, operation-query, is-query}
 use Rattle.format.proofs.command.issued_at.Statement.{statement}
 use Rattle.format.proofs.command.issued_at.Tie as tie
 
@@ -70,11 +70,19 @@ value-at-requires-2 : tie.Need-value-at-requires-2
 unfolding operationWidth
 value-at-requires-2 c κs = omega (arith, ap operationWidth (c .before .before .match .keys8))
 
+range-at-requires : tie.Need-range-at-requires
+unfolding operationWidth
+range-at-requires c κs = omega (arith, ap operationWidth (c .match .keys9))
+
+range-at-requires-2 : tie.Need-range-at-requires-2
+unfolding operationWidth
+range-at-requires-2 c κs = omega (arith, ap operationWidth (c .match .keys10))
+
 query-at-requires : tie.Need-query-at-requires
 unfolding operationWidth
 query-at-requires c κs =
     let r = c .match .rest in
-    omega (arith, ap operationWidth (is-query _ (c .before .before .pre .0) (c .before .before .pre .1) (r .0 .0 .0 .0 .0 .0 .0 .0 .1) (r .0 .0 .0 .0 .0 .0 .0 .1) (r .0 .0 .0 .0 .0 .0 .1) (r .0 .0 .0 .0 .0 .1) (r .0 .0 .0 .0 .1) (r .0 .0 .0 .1) (r .0 .0 .1) (r .0 .1) (r .1)))
+    omega (arith, ap operationWidth (is-query _ (c .before .before .pre .0) (c .before .before .pre .1) (r .0 .0 .0 .0 .0 .0 .0 .0 .0 .0 .1) (r .0 .0 .0 .0 .0 .0 .0 .0 .0 .1) (r .0 .0 .0 .0 .0 .0 .0 .0 .1) (r .0 .0 .0 .0 .0 .0 .0 .1) (r .0 .0 .0 .0 .0 .0 .1) (r .0 .0 .0 .0 .0 .1) (r .0 .0 .0 .0 .1) (r .0 .0 .0 .1) (r .0 .0 .1) (r .0 .1) (r .1)))
 
 returns : tie.Need-returns
 returns c = operation-refer _ _ _ _ _ (c .held-value-at .ensures) (c .before .match .keys1)
@@ -101,12 +109,18 @@ returns-8 : tie.Need-returns-8
 returns-8 c = operation-opener _ _ _ _ _ _ (c .before .column-at2 .ensures) (c .value-at2 .ensures) (c .before .before .before .match .keys8)
 
 returns-9 : tie.Need-returns-9
-returns-9 c = operation-smallest-knot _ _ _ _ (c .match .keys9)
+returns-9 c = operation-refer-range _ _ _ _ _ (c .range-at .ensures) (c .before .match .keys9)
 
 returns-10 : tie.Need-returns-10
-returns-10 c =
+returns-10 c = operation-drop-range _ _ _ _ _ (c .range-at2 .ensures) (c .before .match .keys10)
+
+returns-11 : tie.Need-returns-11
+returns-11 c = operation-smallest-knot _ _ _ _ (c .match .keys11)
+
+returns-12 : tie.Need-returns-12
+returns-12 c =
     let r = c .before .match .rest in
-    operation-query _ _ _ _ _ (c .query-at .ensures) (is-query _ (c .before .before .before .pre .0) (c .before .before .before .pre .1) (r .0 .0 .0 .0 .0 .0 .0 .0 .1) (r .0 .0 .0 .0 .0 .0 .0 .1) (r .0 .0 .0 .0 .0 .0 .1) (r .0 .0 .0 .0 .0 .1) (r .0 .0 .0 .0 .1) (r .0 .0 .0 .1) (r .0 .0 .1) (r .0 .1) (r .1))
+    operation-query _ _ _ _ _ (c .query-at .ensures) (is-query _ (c .before .before .before .pre .0) (c .before .before .before .pre .1) (r .0 .0 .0 .0 .0 .0 .0 .0 .0 .0 .1) (r .0 .0 .0 .0 .0 .0 .0 .0 .0 .1) (r .0 .0 .0 .0 .0 .0 .0 .0 .1) (r .0 .0 .0 .0 .0 .0 .0 .1) (r .0 .0 .0 .0 .0 .0 .1) (r .0 .0 .0 .0 .0 .1) (r .0 .0 .0 .0 .1) (r .0 .0 .0 .1) (r .0 .0 .1) (r .0 .1) (r .1))
 
 pub issued-at-spec : {M : Type 1} → statement M
 issued-at-spec =
@@ -129,6 +143,8 @@ issued-at-spec =
     column-at-requires-2
     add-value-at-2
     value-at-requires-2
+    range-at-requires
+    range-at-requires-2
     query-at-requires
     returns
     returns-2
@@ -139,4 +155,6 @@ issued-at-spec =
     returns-7
     returns-8
     returns-9
-    returns-10)
+    returns-10
+    returns-11
+    returns-12)

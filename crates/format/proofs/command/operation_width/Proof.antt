@@ -66,13 +66,21 @@ unfolding operationWidth
 returns-15 c = sym (ap operationWidth (c .match .keys15))
 
 returns-16 : tie.Need-returns-16
-returns-16 c =
+unfolding operationWidth
+returns-16 c = sym (ap operationWidth (c .match .keys16))
+
+returns-17 : tie.Need-returns-17
+unfolding operationWidth
+returns-17 c = sym (ap operationWidth (c .match .keys17))
+
+returns-18 : tie.Need-returns-18
+returns-18 c =
     let r = c .match .rest in
     let q = r .0 .0 .0 .0 .0 .0 .0 in
-    sym (operation-width-none _ (q .0 .0 .0 .0 .0 .0 .0 .1) (q .0 .0 .0 .0 .0 .0 .1) (q .0 .0 .0 .0 .0 .1) (q .0 .0 .0 .0 .1) (q .0 .0 .0 .1) (q .0 .0 .1) (q .0 .1) (q .1)
+    sym (operation-width-none _ (q .0 .0 .0 .0 .0 .0 .0 .0 .0 .1) (q .0 .0 .0 .0 .0 .0 .0 .0 .1) (q .0 .0 .0 .0 .0 .0 .0 .1) (q .0 .0 .0 .0 .0 .0 .1) (q .0 .0 .0 .0 .0 .1) (q .0 .0 .0 .0 .1) (q .0 .0 .0 .1) (q .0 .0 .1) (q .0 .1) (q .1)
     (r .0 .0 .0 .0 .0 .0 .1) (r .0 .0 .0 .0 .0 .1) (r .0 .0 .0 .0 .1) (r .0 .0 .0 .1) (r .0 .0 .1) (r .0 .1) (r .1))
 
 pub operation-width-spec : {M : Type 1} → statement M
 operation-width-spec =
     tie.close
-    (tie.spec returns returns-2 returns-3 returns-4 returns-5 returns-6 returns-7 returns-8 returns-9 returns-10 returns-11 returns-12 returns-13 returns-14 returns-15 returns-16)
+    (tie.spec returns returns-2 returns-3 returns-4 returns-5 returns-6 returns-7 returns-8 returns-9 returns-10 returns-11 returns-12 returns-13 returns-14 returns-15 returns-16 returns-17 returns-18)

@@ -1,7 +1,7 @@
 -- `format::command::width_of` meets its contract. Assumes nothing.
 use mathlib.Core.Path.{sym, _∙_}
 use borrow.Author.Needs.{needs}
-use Rattle.format.proofs.CommandLaws.{width-design, width-operation}
+use Rattle.format.proofs.CommandLaws.{width-design, width-put, width-remove, width-operation}
 use Rattle.format.proofs.command.width_of.Statement.{statement}
 use Rattle.format.proofs.command.width_of.Tie as tie
 
@@ -11,11 +11,17 @@ design-width-requires c κs = search needs
 returns : tie.Need-returns
 returns c = c .design-width .ensures ∙ sym (width-design _ (c .before .if1 .taken))
 
+returns-2 : tie.Need-returns-2
+returns-2 c = sym (width-put _ (c .if2 .taken))
+
+returns-3 : tie.Need-returns-3
+returns-3 c = sym (width-remove _ (c .if3 .taken))
+
 operation-width-requires : tie.Need-operation-width-requires
 operation-width-requires c κs = search needs
 
-returns-2 : tie.Need-returns-2
-returns-2 c = c .operation-width .ensures ∙ sym (width-operation _ (c .before .if1 .left))
+returns-4 : tie.Need-returns-4
+returns-4 c = c .operation-width .ensures ∙ sym (width-operation _ (c .before .before .before .if1 .left) (c .before .before .if2 .left) (c .before .if3 .left))
 
 pub width-of-spec : {M : Type 1} → statement M
-width-of-spec = tie.close (tie.spec design-width-requires returns operation-width-requires returns-2)
+width-of-spec = tie.close (tie.spec design-width-requires returns returns-2 returns-3 operation-width-requires returns-4)

@@ -10,7 +10,7 @@ returns : tie.Need-returns
 returns c = or-left (ltb 0 (c .before .before .args .d .fillings)) _ (lt-ltb _ _ (c .if1 .taken))
 
 returns-2 : tie.Need-returns-2
-returns-2 c = or-go (ltb 0 (c .before .before .before .args .d .fillings)) _ (le-ltb _ _ (c .before .if1 .left)) refl
+returns-2 c = or-go (ltb 0 (c .before .before .args .d .fillings)) _ (le-ltb _ _ (c .if1 .left)) refl
 
 pub after-constraints-spec : {M : Type 1} → statement M
 after-constraints-spec = tie.close (tie.spec returns returns-2)

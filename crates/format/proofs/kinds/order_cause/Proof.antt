@@ -10,7 +10,7 @@ is-late-requires : tie.Need-is-late-requires
 is-late-requires c κs = search needs
 
 returns : tie.Need-returns
-returns c = order-late _ _ (sym (c .before .is-late .ensures) ∙ c .if1 .taken)
+returns c = order-late _ _ _ (sym (c .before .is-late .ensures) ∙ c .if1 .taken)
 
 most-of-requires : tie.Need-most-of-requires
 most-of-requires c κs = search needs
@@ -19,10 +19,10 @@ count-of-requires : tie.Need-count-of-requires
 count-of-requires c κs = search needs
 
 returns-2 : tie.Need-returns-2
-returns-2 c = order-full _ _ (sym (c .before .before .before .before .is-late .ensures) ∙ c .before .before .before .if1 .left) (omega (arith, c .before .before .most-of .ensures, c .before .count-of .ensures))
+returns-2 c = order-full _ _ _ (sym (c .before .before .before .before .is-late .ensures) ∙ c .before .before .before .if1 .left) (omega (arith, c .before .before .most-of .ensures, c .before .count-of .ensures))
 
 returns-3 : tie.Need-returns-3
-returns-3 c = order-none _ _ (sym (c .before .before .before .before .is-late .ensures) ∙ c .before .before .before .if1 .left) (omega (arith, c .before .before .most-of .ensures, c .before .count-of .ensures))
+returns-3 c = order-none _ _ _ (sym (c .before .before .before .before .is-late .ensures) ∙ c .before .before .before .if1 .left) (omega (arith, c .before .before .most-of .ensures, c .before .count-of .ensures))
 
 pub order-cause-spec : {M : Type 1} → statement M
 order-cause-spec =

@@ -31,7 +31,7 @@ returns : tie.Need-returns
 returns c = (
   c .before .before .before .before .before .before .before .before .before .before .read-lent .ensures .0,
   (
-    opens-refused _ _ _ (c .enum-told2 .given .1) _ _ _ _ _ _ _,
+    opens-refused _ _ _ _ (c .enum-told2 .given .1) _ _ _ _ _ _ _,
     record { next = λ n i e. refl; first = λ n i e. refl; keys = λ n i e. refl; heads = λ n i e. refl; starts = λ n i e. refl },
   ),
 )

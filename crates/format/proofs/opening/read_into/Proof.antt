@@ -1,7 +1,7 @@
 -- `format::opening::read_into` meets its contract: a refusal writes no row, an accepted design is copied out. Assumes nothing.
 use mathlib.Core.Path.{refl}
 use native.Mathlib.Omega.{arith}
-use Rattle.format.proofs.Lent.{from-zeros, leaves-refused, leaves-accepted}
+use Rattle.format.proofs.Lent.{from-none, leaves-refused, leaves-accepted}
 use Rattle.format.proofs.Verdicts.{opens-refused, opens-copied}
 use borrow.Author.Needs.{needs}
 use Rattle.format.proofs.opening.read_into.Statement.{statement}
@@ -27,8 +27,8 @@ enum-told-2 c = search needs
 
 returns : tie.Need-returns
 returns c = (
-  leaves-refused _ _ (from-zeros _ _) _ _ _ (c .before .before .before .before .before .read-rows .ensures .0) _ _ _ _ _ (c .enum-told2 .given .1),
-  opens-refused _ _ _ (c .enum-told2 .given .1) _ _ _ _ _ _ _,
+  leaves-refused _ _ (from-none _ _) _ _ _ (c .before .before .before .before .before .read-rows .ensures .0) _ _ _ _ _ (c .enum-told2 .given .1),
+  opens-refused _ _ _ _ (c .enum-told2 .given .1) _ _ _ _ _ _ _,
 )
 
 slice-aggregate-copy-cells : tie.Need-slice-aggregate-copy-cells
@@ -69,9 +69,9 @@ same-length-4 c = search needs
 
 returns-2 : tie.Need-returns-2
 returns-2 c = (
-  leaves-accepted _ _ (from-zeros _ _) _ _ _ (c .before .before .before .before .before .before .before .before .before .before .before .before .before .before .before .before .before .before .before .before .before .before .before .before .before .read-rows .ensures .0) _ _ _ _ (c .before .before .before .before .before .before .before .before .before .before .before .before .before .before .before .before .before .before .before .before .enum-told .given .1) _ _ _ _ (c .before .before .before .before .before .before .before .before .before .before .before .before .before .before .before .before .before .copy-cells .ensures) (c .before .before .before .before .before .before .before .before .before .before .before .before .copy-bytes .ensures)
+  leaves-accepted _ _ (from-none _ _) _ _ _ (c .before .before .before .before .before .before .before .before .before .before .before .before .before .before .before .before .before .before .before .before .before .before .before .before .before .read-rows .ensures .0) _ _ _ _ (c .before .before .before .before .before .before .before .before .before .before .before .before .before .before .before .before .before .before .before .before .enum-told .given .1) _ _ _ _ (c .before .before .before .before .before .before .before .before .before .before .before .before .before .before .before .before .before .copy-cells .ensures) (c .before .before .before .before .before .before .before .before .before .before .before .before .copy-bytes .ensures)
       (c .before .before .before .before .before .before .before .copy-bytes2 .ensures) (c .before .before .copy-bytes3 .ensures),
-  opens-copied _ _ _ _ _ _ _ _ (c .before .before .before .before .before .before .before .before .before .before .before .before .before .before .before .before .before .before .before .before .before .before .before .before .before .read-rows .ensures .1) (copy-cells-requires (c .before .before .before .before .before .before .before .before .before .before .before .before .before .before .before .before .before .before) (c .before .before .before .before .before .before .before .before .before .before .before .before .before .before .before .before .before .copy-cells .lifetimes) .0)
+  opens-copied _ _ _ _ _ _ _ _ _ (c .before .before .before .before .before .before .before .before .before .before .before .before .before .before .before .before .before .before .before .before .before .before .before .before .before .read-rows .ensures .1) (copy-cells-requires (c .before .before .before .before .before .before .before .before .before .before .before .before .before .before .before .before .before .before) (c .before .before .before .before .before .before .before .before .before .before .before .before .before .before .before .before .before .copy-cells .lifetimes) .0)
       (copy-bytes-requires (c .before .before .before .before .before .before .before .before .before .before .before .before .before) (c .before .before .before .before .before .before .before .before .before .before .before .before .copy-bytes .lifetimes) .0) (copy-bytes-requires-2 (c .before .before .before .before .before .before .before .before) (c .before .before .before .before .before .before .before .copy-bytes2 .lifetimes) .0) _ _ _ _ _ _
       (c .before .before .before .before .before .before .before .before .before .before .before .before .before .before .before .before .before .copy-cells .ensures) (c .before .before .before .before .before .before .before .before .before .before .before .before .copy-bytes .ensures) (c .before .before .before .before .before .before .before .copy-bytes2 .ensures),
 )

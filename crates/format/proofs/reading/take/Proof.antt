@@ -2,7 +2,7 @@
 use mathlib.Core.Path.{refl, sym, _∙_}
 use borrow.Author.Needs.{needs}
 use Rattle.format.proofs.Seen.{row-whole}
-use Rattle.format.proofs.AdvancesLaws.{advances-as, advances-refused, advances-complete, kept-all, operation-refused, unknown-refused, short-refused, end-admitted}
+use Rattle.format.proofs.AdvancesLaws.{advances-as, advances-refused, advances-complete, kept-all, operation-refused, put-refused, remove-refused, unknown-refused, short-refused, end-admitted}
 use Rattle.format.proofs.reading.take.Statement.{statement}
 use Rattle.format.proofs.reading.take.Tie as tie
 
@@ -51,6 +51,18 @@ enum-told-4 c = search needs
 refused-requires-3 : tie.Need-refused-requires-3
 refused-requires-3 c κs = search needs
 
+enum-told-5 : tie.Need-enum-told-5
+enum-told-5 c = search needs
+
+refused-requires-4 : tie.Need-refused-requires-4
+refused-requires-4 c κs = search needs
+
+enum-told-6 : tie.Need-enum-told-6
+enum-told-6 c = search needs
+
+refused-requires-5 : tie.Need-refused-requires-5
+refused-requires-5 c κs = search needs
+
 returns : tie.Need-returns
 returns c = advances-as _ _ _ _ _ _ _ _ (c .before .before .c .given .1) (c .take-table .ensures _ _ _ _)
 
@@ -76,13 +88,19 @@ returns-5 : tie.Need-returns-5
 returns-5 c = advances-as _ _ _ _ _ _ _ _ (c .enum-told .given .1) (advances-complete _ _ _ _ _ _ _ refl refl (end-admitted _ _ _))
 
 returns-6 : tie.Need-returns-6
-returns-6 c = advances-as _ _ _ _ _ _ _ _ (c .before .enum-told2 .given .1) (advances-refused _ _ _ _ _ _ _ 3 _ (c .refused .ensures) (operation-refused _ _ _ _) (kept-all _ _ _))
+returns-6 c = advances-as _ _ _ _ _ _ _ _ (c .before .enum-told2 .given .1) (advances-refused _ _ _ _ _ _ _ 3 _ _ (c .refused .ensures) (operation-refused _ _ _ _) (kept-all _ _ _))
 
 returns-7 : tie.Need-returns-7
-returns-7 c = advances-as _ _ _ _ _ _ _ _ (c .before .enum-told3 .given .1) (advances-refused _ _ _ _ _ _ _ 2 _ (c .refused2 .ensures) (unknown-refused _ _ _) (kept-all _ _ _))
+returns-7 c = advances-as _ _ _ _ _ _ _ _ (c .before .enum-told3 .given .1) (advances-refused _ _ _ _ _ _ _ 3 _ _ (c .refused2 .ensures) (put-refused _ _ _ _ _) (kept-all _ _ _))
 
 returns-8 : tie.Need-returns-8
-returns-8 c = advances-as _ _ _ _ _ _ _ _ (c .before .enum-told4 .given .1) (advances-refused _ _ _ _ _ _ _ 1 _ (c .refused3 .ensures) (short-refused _ _ _) (kept-all _ _ _))
+returns-8 c = advances-as _ _ _ _ _ _ _ _ (c .before .enum-told4 .given .1) (advances-refused _ _ _ _ _ _ _ 3 _ _ (c .refused3 .ensures) (remove-refused _ _ _ _) (kept-all _ _ _))
+
+returns-9 : tie.Need-returns-9
+returns-9 c = advances-as _ _ _ _ _ _ _ _ (c .before .enum-told5 .given .1) (advances-refused _ _ _ _ _ _ _ 2 _ _ (c .refused4 .ensures) (unknown-refused _ _ _) (kept-all _ _ _))
+
+returns-10 : tie.Need-returns-10
+returns-10 c = advances-as _ _ _ _ _ _ _ _ (c .before .enum-told6 .given .1) (advances-refused _ _ _ _ _ _ _ 1 _ _ (c .refused5 .ensures) (short-refused _ _ _) (kept-all _ _ _))
 
 pub take-spec : {M : Type 1} → statement M
 take-spec =
@@ -103,6 +121,10 @@ take-spec =
     refused-requires-2
     enum-told-4
     refused-requires-3
+    enum-told-5
+    refused-requires-4
+    enum-told-6
+    refused-requires-5
     returns
     returns-2
     returns-3
@@ -113,4 +135,6 @@ take-spec =
     returns-5
     returns-6
     returns-7
-    returns-8)
+    returns-8
+    returns-9
+    returns-10)

@@ -18,30 +18,30 @@ refused-requires c κs = search needs
 
 returns : tie.Need-returns
 returns c =
-    λ s cells tables i. advances-refused _ _ _ _ _ _ _ _ _ (c .refused .ensures)
-    (constraint-item _ _ _ _ ∙ item-refused _ 2 _ _ _ (c .before .before .order-cause .ensures) (c .before .if1 .taken)) (kept-all _ _ _)
+    λ s cells tables i. advances-refused _ _ _ _ _ _ _ _ _ _ (c .refused .ensures)
+    (constraint-item _ _ _ _ ∙ item-refused _ _ 2 _ _ _ (c .before .before .order-cause .ensures) (c .before .if1 .taken)) (kept-all _ _ _)
 
 constraint-fits-requires : tie.Need-constraint-fits-requires
 unfolding countOf mostOf
-constraint-fits-requires c κs = let l = order-room _ 2 _ (c .before .order-cause .ensures) (c .if1 .left) in omega arith
+constraint-fits-requires c κs = let l = order-room _ _ 2 _ (c .before .order-cause .ensures) (c .if1 .left) in omega arith
 
 refused-requires-2 : tie.Need-refused-requires-2
 refused-requires-2 c κs = search needs
 
 returns-2 : tie.Need-returns-2
 returns-2 c =
-    λ s cells tables i. advances-refused _ _ _ _ _ _ _ 5 _ (c .refused2 .ensures)
-    (constraint-item _ _ _ _ ∙ item-wrong _ 2 _ _ _ (c .before .before .before .before .order-cause .ensures) (c .before .before .before .if1 .left) (sym (c .before .before .constraint-fits .ensures) ∙ not-true _ (c .before .if2 .taken)))
+    λ s cells tables i. advances-refused _ _ _ _ _ _ _ 5 _ _ (c .refused2 .ensures)
+    (constraint-item _ _ _ _ ∙ item-wrong _ _ 2 _ _ _ (c .before .before .before .before .order-cause .ensures) (c .before .before .before .if1 .left) (sym (c .before .before .constraint-fits .ensures) ∙ not-true _ (c .before .if2 .taken)))
     (kept-all _ _ _)
 
 with-constraint-requires : tie.Need-with-constraint-requires
 unfolding countOf mostOf
-with-constraint-requires c κs = order-room _ 2 _ (c .before .before .before .order-cause .ensures) (c .before .before .if1 .left)
+with-constraint-requires c κs = order-room _ _ 2 _ (c .before .before .before .order-cause .ensures) (c .before .before .if1 .left)
 
 returns-3 : tie.Need-returns-3
 returns-3 c =
     λ s cells tables i. advances-on _ _ _ _ _ _ _ refl
-    (constraint-item _ _ _ _ ∙ item-right _ 2 _ _ _ (c .before .before .before .before .order-cause .ensures) (c .before .before .before .if1 .left) _ (sym (c .before .before .constraint-fits .ensures) ∙ not-false _ (c .before .if2 .left)) (ap (λ x. draft x cells tables) (sym (c .with-constraint .ensures))))
+    (constraint-item _ _ _ _ ∙ item-right _ _ 2 _ _ _ (c .before .before .before .before .order-cause .ensures) (c .before .before .before .if1 .left) _ (sym (c .before .before .constraint-fits .ensures) ∙ not-false _ (c .before .if2 .left)) (ap (λ x. draft x (c .before .before .before .before .before .args .rows) cells tables) (sym (c .with-constraint .ensures))))
     (kept-all _ _ _)
 
 pub take-constraint-spec : {M : Type 1} → statement M

@@ -18,30 +18,30 @@ refused-requires c κs = search needs
 
 returns : tie.Need-returns
 returns c =
-    λ s cells tables i. advances-refused _ _ _ _ _ _ _ _ _ (c .refused .ensures)
-    (filling-item _ _ _ _ ∙ item-refused _ 3 _ _ _ (c .before .before .order-cause .ensures) (c .before .if1 .taken)) (kept-all _ _ _)
+    λ s cells tables i. advances-refused _ _ _ _ _ _ _ _ _ _ (c .refused .ensures)
+    (filling-item _ _ _ _ ∙ item-refused _ _ 3 _ _ _ (c .before .before .order-cause .ensures) (c .before .if1 .taken)) (kept-all _ _ _)
 
 filling-fits-requires : tie.Need-filling-fits-requires
 unfolding countOf mostOf
-filling-fits-requires c κs = let l = order-room _ 3 _ (c .before .order-cause .ensures) (c .if1 .left) in omega arith
+filling-fits-requires c κs = let l = order-room _ _ 3 _ (c .before .order-cause .ensures) (c .if1 .left) in omega arith
 
 refused-requires-2 : tie.Need-refused-requires-2
 refused-requires-2 c κs = search needs
 
 returns-2 : tie.Need-returns-2
 returns-2 c =
-    λ s cells tables i. advances-refused _ _ _ _ _ _ _ 5 _ (c .refused2 .ensures)
-    (filling-item _ _ _ _ ∙ item-wrong _ 3 _ _ _ (c .before .before .before .before .order-cause .ensures) (c .before .before .before .if1 .left) (sym (c .before .before .filling-fits .ensures) ∙ not-true _ (c .before .if2 .taken)))
+    λ s cells tables i. advances-refused _ _ _ _ _ _ _ 5 _ _ (c .refused2 .ensures)
+    (filling-item _ _ _ _ ∙ item-wrong _ _ 3 _ _ _ (c .before .before .before .before .order-cause .ensures) (c .before .before .before .if1 .left) (sym (c .before .before .filling-fits .ensures) ∙ not-true _ (c .before .if2 .taken)))
     (kept-all _ _ _)
 
 with-filling-requires : tie.Need-with-filling-requires
 unfolding countOf mostOf
-with-filling-requires c κs = order-room _ 3 _ (c .before .before .before .order-cause .ensures) (c .before .before .if1 .left)
+with-filling-requires c κs = order-room _ _ 3 _ (c .before .before .before .order-cause .ensures) (c .before .before .if1 .left)
 
 returns-3 : tie.Need-returns-3
 returns-3 c =
     λ s cells tables i. advances-on _ _ _ _ _ _ _ refl
-    (filling-item _ _ _ _ ∙ item-right _ 3 _ _ _ (c .before .before .before .before .order-cause .ensures) (c .before .before .before .if1 .left) _ (sym (c .before .before .filling-fits .ensures) ∙ not-false _ (c .before .if2 .left)) (ap (λ x. draft x cells tables) (sym (c .with-filling .ensures))))
+    (filling-item _ _ _ _ ∙ item-right _ _ 3 _ _ _ (c .before .before .before .before .order-cause .ensures) (c .before .before .before .if1 .left) _ (sym (c .before .before .filling-fits .ensures) ∙ not-false _ (c .before .if2 .left)) (ap (λ x. draft x (c .before .before .before .before .before .args .rows) cells tables) (sym (c .with-filling .ensures))))
     (kept-all _ _ _)
 
 pub take-filling-spec : {M : Type 1} → statement M

@@ -17,8 +17,8 @@ refused-requires c κs = search needs
 
 returns : tie.Need-returns
 returns c =
-    λ s cells tables i. advances-refused _ _ _ _ _ _ _ _ _ (c .refused .ensures)
-    (table-item _ _ _ _ ∙ item-refused _ 1 _ _ _ (c .before .before .order-cause .ensures) (c .before .if1 .taken)) (kept-all _ _ _)
+    λ s cells tables i. advances-refused _ _ _ _ _ _ _ _ _ _ (c .refused .ensures)
+    (table-item _ _ _ _ ∙ item-refused _ _ 1 _ _ _ (c .before .before .order-cause .ensures) (c .before .if1 .taken)) (kept-all _ _ _)
 
 table-fits-requires : tie.Need-table-fits-requires
 table-fits-requires c κs = search needs
@@ -28,18 +28,18 @@ refused-requires-2 c κs = search needs
 
 returns-2 : tie.Need-returns-2
 returns-2 c =
-    λ s cells tables i. advances-refused _ _ _ _ _ _ _ 5 _ (c .refused2 .ensures)
-    (table-item _ _ _ _ ∙ item-wrong _ 1 _ _ _ (c .before .before .before .before .order-cause .ensures) (c .before .before .before .if1 .left) (sym (c .before .before .table-fits .ensures) ∙ not-true _ (c .before .if2 .taken)))
+    λ s cells tables i. advances-refused _ _ _ _ _ _ _ 5 _ _ (c .refused2 .ensures)
+    (table-item _ _ _ _ ∙ item-wrong _ _ 1 _ _ _ (c .before .before .before .before .order-cause .ensures) (c .before .before .before .if1 .left) (sym (c .before .before .table-fits .ensures) ∙ not-true _ (c .before .if2 .taken)))
     (kept-all _ _ _)
 
 with-table-requires : tie.Need-with-table-requires
 unfolding countOf mostOf
-with-table-requires c κs = order-room _ 1 _ (c .before .before .before .order-cause .ensures) (c .before .before .if1 .left)
+with-table-requires c κs = order-room _ _ 1 _ (c .before .before .before .order-cause .ensures) (c .before .before .if1 .left)
 
 returns-3 : tie.Need-returns-3
 returns-3 c =
     λ s cells tables i. advances-on _ _ _ _ _ _ _ refl
-    (table-item _ _ _ _ ∙ item-right _ 1 _ _ _ (c .before .before .before .before .order-cause .ensures) (c .before .before .before .if1 .left) _ (sym (c .before .before .table-fits .ensures) ∙ not-false _ (c .before .if2 .left)) (ap (λ x. draft x cells tables) (sym (c .with-table .ensures))))
+    (table-item _ _ _ _ ∙ item-right _ _ 1 _ _ _ (c .before .before .before .before .order-cause .ensures) (c .before .before .before .if1 .left) _ (sym (c .before .before .table-fits .ensures) ∙ not-false _ (c .before .if2 .left)) (ap (λ x. draft x (c .before .before .before .before .before .args .rows) cells tables) (sym (c .with-table .ensures))))
     (kept-all _ _ _)
 
 pub take-table-spec : {M : Type 1} → statement M

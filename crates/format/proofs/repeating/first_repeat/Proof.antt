@@ -9,10 +9,10 @@ use Rattle.format.proofs.repeating.first_repeat.Statement.{statement}
 use Rattle.format.proofs.repeating.first_repeat.Tie as tie
 
 abbrev Inv-loop : tie.InvT-loop
-Inv-loop d tables next r₀ x₀ x-end r x = (x ≤ x-end) × (r ≡ lowest x (uniqueNext d tables next))
+Inv-loop d rows tables next r₀ x₀ x-end r x = (x ≤ x-end) × (r ≡ lowest x (uniqueNext d tables next))
 
 abbrev μ-loop : tie.MeasureT-loop
-μ-loop d tables next r₀ x₀ x-end r x = x-end - x
+μ-loop d rows tables next r₀ x₀ x-end r x = x-end - x
 
 mul-x-end : tie.Need-mul-x-end Inv-loop μ-loop
 mul-x-end c = omega arith
@@ -36,7 +36,7 @@ loop-again : tie.Need-loop-again Inv-loop μ-loop
 loop-again c = (omega arith, lowest-more _ _ _ _ _ (c .before .before .before .loop .inv .1) (c .before .unique-next .ensures) (c .lower-of .ensures))
 
 returns : tie.Need-returns Inv-loop μ-loop
-returns c = let e : c .before .loop .x ≡ 8 * c .before .before .before .before .args .d .rows = omega arith in c .before .loop .inv .1 ∙ lowest-at _ _ _ e
+returns c = let e : c .before .loop .x ≡ 8 * c .before .before .before .args .rows = omega arith in c .before .loop .inv .1 ∙ lowest-at _ _ _ e
 
 pub first-repeat-spec : {M : Type 1} → statement M
 first-repeat-spec =

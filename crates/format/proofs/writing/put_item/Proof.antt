@@ -34,8 +34,8 @@ element-copy-out-put-filling c = omega (arith, fillings-few _ (c .before .before
 put-filling-requires : tie.Need-put-filling-requires
 put-filling-requires c κs = room-is _ _ 11 _ _ (filling-is _ _ _ _ _ (c .before .before .match .keys3)) (length-filling _) (c .before .before .before .before .before .before .before .pre .3)
 
-put-row-requires : tie.Need-put-row-requires
-put-row-requires c κs =
+put-live-requires : tie.Need-put-live-requires
+put-live-requires c κs =
     let r = c .before .match .rest in (
       rows-few _ (c .before .before .before .before .before .before .pre .1) _ _ (c .before .before .before .before .before .before .pre .0) (r .0 .0 .1) (r .0 .1) (r .1),
       c .before .before .before .before .before .before .pre .2,
@@ -64,7 +64,7 @@ same-length-4 : tie.Need-same-length-4
 same-length-4 c = search needs
 
 returns-4 : tie.Need-returns-4
-returns-4 c = let r = c .before .before .before .before .match .rest in wrote-is _ _ _ _ _ _ (row-is _ _ _ _ _ (r .0 .0 .1) (r .0 .1) (r .1)) (c .before .before .put-row .ensures)
+returns-4 c = let r = c .before .before .before .before .match .rest in wrote-is _ _ _ _ _ _ (row-is _ _ _ _ _ (r .0 .0 .1) (r .0 .1) (r .1)) (c .before .before .put-live .ensures)
 
 pub put-item-spec : {M : Type 1} → statement M
 put-item-spec =
@@ -79,7 +79,7 @@ put-item-spec =
     mul-put-filling
     element-copy-out-put-filling
     put-filling-requires
-    put-row-requires
+    put-live-requires
     same-length
     returns
     same-length-2

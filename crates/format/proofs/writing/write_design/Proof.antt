@@ -45,7 +45,8 @@ add-result c =
     let cells = cellsIn (c .before .before .before .before .before .before .before .before .before .before .before .before .before .before .before .before .before .before .before .before .args .cells .now) (c .before .before .before .before .before .before .before .before .before .before .before .before .before .before .before .before .before .before .before .before .args .issues .now) in
     let tables = c .before .before .before .before .before .before .before .before .before .before .before .before .before .before .before .before .before .before .before .before .args .tables .now in
     let w = wrote-design d cells tables _ _ _ (behind (c .before .before .before .before .before .before .before .before .before .before .before .before .before .before .put-kind .ensures) (behind (c .before .before .before .before .before .before .before .before .before .before .put-kind2 .ensures) (behind (c .before .before .before .before .before .before .put-kind3 .ensures) (behind (c .before .before .put-kind4 .ensures) (wrote-one _ _ 5))))) in
-    omega (arith, w .0, length-most d cells tables (c .before .before .before .before .before .before .before .before .before .before .before .before .before .before .before .before .before .before .before .before .pre .0))
+    let h = c .before .before .before .before .before .before .before .before .before .before .before .before .before .before .before .before .before .before .before .before .pre .0 in
+    omega (arith, w .0, length-most d cells tables (h .tables) (h .constraints) (h .fillings))
 
 same-length : tie.Need-same-length
 same-length c = wrote-long _ _ _ _ _ (behind (c .before .before .before .before .before .before .before .before .before .before .before .before .before .before .put-kind .ensures) (behind (c .before .before .before .before .before .before .before .before .before .before .put-kind2 .ensures) (behind (c .before .before .before .before .before .before .put-kind3 .ensures) (behind (c .before .before .put-kind4 .ensures) (wrote-one _ _ _)))))

@@ -101,6 +101,12 @@ slice-aggregate-put-bytes-16 c = search needs
 put-bytes-requires-16 : tie.Need-put-bytes-requires-16
 put-bytes-requires-16 c κs = search needs
 
+slice-aggregate-put-bytes-17 : tie.Need-slice-aggregate-put-bytes-17
+slice-aggregate-put-bytes-17 c = search needs
+
+put-bytes-requires-17 : tie.Need-put-bytes-requires-17
+put-bytes-requires-17 c κs = search needs
+
 same-length : tie.Need-same-length
 same-length c = search needs
 
@@ -200,7 +206,7 @@ unfolding wordText
 returns-14 c = in-word (c .before .before .before .before .before .match .keys14) (c .before .before .put-bytes14 .ensures)
 
 returns-15 : tie.Need-returns-15
-returns-15 c = in-word (c .match .keys15) (empty-word _ _)
+returns-15 c = in-word (c .match .keys15) (empty-word _ _ .0)
 
 same-length-15 : tie.Need-same-length-15
 same-length-15 c = search needs
@@ -217,10 +223,20 @@ unfolding wordText
 returns-17 c = in-word (c .before .before .before .before .before .match .keys17) (c .before .before .put-bytes16 .ensures)
 
 returns-18 : tie.Need-returns-18
-returns-18 c =
+returns-18 c = in-word (c .match .keys18) (empty-word _ _ .1)
+
+same-length-17 : tie.Need-same-length-17
+same-length-17 c = search needs
+
+returns-19 : tie.Need-returns-19
+unfolding wordText
+returns-19 c = in-word (c .before .before .before .before .before .match .keys19) (c .before .before .put-bytes17 .ensures)
+
+returns-20 : tie.Need-returns-20
+returns-20 c =
     let r = c .match .rest in
     let q = r .0 .0 .0 .0 .0 .0 .0 .0 .0 in
-    no-word _ _ _ (past-words _ (q .0 .0 .0 .0 .0 .0 .0 .1) (q .0 .0 .0 .0 .0 .0 .1) (q .0 .0 .0 .0 .0 .1) (q .0 .0 .0 .0 .1) (q .0 .0 .0 .1) (q .0 .0 .1) (q .0 .1) (q .1)
+    no-word _ _ _ (past-words _ (q .0 .0 .0 .0 .0 .0 .0 .0 .0 .1) (q .0 .0 .0 .0 .0 .0 .0 .0 .1) (q .0 .0 .0 .0 .0 .0 .0 .1) (q .0 .0 .0 .0 .0 .0 .1) (q .0 .0 .0 .0 .0 .1) (q .0 .0 .0 .0 .1) (q .0 .0 .0 .1) (q .0 .0 .1) (q .0 .1) (q .1)
     (r .0 .0 .0 .0 .0 .0 .0 .0 .1) (r .0 .0 .0 .0 .0 .0 .0 .1) (r .0 .0 .0 .0 .0 .0 .1) (r .0 .0 .0 .0 .0 .1) (r .0 .0 .0 .0 .1) (r .0 .0 .0 .1) (r .0 .0 .1) (r .0 .1) (r .1))
 
 pub put-word-spec : {M : Type 1} → statement M
@@ -259,6 +275,8 @@ put-word-spec =
     put-bytes-requires-15
     slice-aggregate-put-bytes-16
     put-bytes-requires-16
+    slice-aggregate-put-bytes-17
+    put-bytes-requires-17
     same-length
     returns
     same-length-2
@@ -292,4 +310,7 @@ put-word-spec =
     returns-16
     same-length-16
     returns-17
-    returns-18)
+    returns-18
+    same-length-17
+    returns-19
+    returns-20)
