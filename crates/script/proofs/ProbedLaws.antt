@@ -1,7 +1,7 @@
 -- A probe behind a run: its answer on the state that the run has left, and that a yes is exact (demand 3). Assumes nothing.
 use Prim.Native.Nat.{ℕ}
 use native.Mathlib.Omega.{arith}
-use mathlib.Core.Path.{_≡_, refl, sym, ap, subst, _∙_}
+use mathlib.Core.Path.{_≡_, refl, ap, _∙_}
 use mathlib.Core.Bool.{true, false}
 use borrow.Author.Tests.{eq-eqb}
 use mathlib.Core.List.{List}
@@ -15,17 +15,17 @@ use Rattle.model.specs.Runs.{ask, probe}
 use Rattle.model.specs.Answers.{Answer, refused}
 use Rattle.state.specs.declared.cell.Cell as State-cell
 use Rattle.state.specs.declared.design.Design.{Design}
-use Rattle.state.specs.Meaning.{cellOf}
+use Rattle.state.specs.Meaning.{cellOf, schemeOf}
 use Rattle.state.specs.Lent.{State, lent, sound, answerAt}
 use Rattle.state.proofs.cell.Cell.{the-type}
-use Rattle.lawful.proofs.RowsLaws.{Stored}
 use Rattle.format.specs.declared.verdict.Verdict.the-variants.{Accepted, Refused}
-use Rattle.format.specs.Reading.{Draft, DesignRead, verdictOf, designOf, cellsAfter, tablesAfter}
+use Rattle.format.specs.Reading.{Draft, DesignRead, verdictOf, designOf}
 use Rattle.format.specs.Reading.DesignRead.{accepted, refusedAt}
 use Rattle.format.proofs.Small.{Small}
 use Rattle.script.specs.declared.outcome.Run.{Run}
-use Rattle.script.specs.Runs.{operationsAt, Buffers, roomsIn, readingOf, Called, Operated, Ran, ProbedAfter}
-use Rattle.script.proofs.JustRead.{begun}
+use Rattle.script.specs.Runs.{actionsAt, Buffers, roomsIn, readingOf, beginning, momentBy, Ran, ProbedAfter}
+use Rattle.script.proofs.JustRead.{begins}
+use Rattle.script.proofs.Tracking.{stands-from}
 use Rattle.script.proofs.ExactProbes.{answer-exact}
 
 -- a cell that a function owns has a u32 and a u8, and fits if it has a number
@@ -37,13 +37,6 @@ cell-fits v vs g n =
 -- the state that a run with an accepted design p leaves
 abbrev leftBehind : Draft → Buffers → Run → State
 leftBehind p a r = lent (p .design) (a .cells) (a .tables) (a .marks) (r .held)
-
--- it is what the calls that stand in the script leave
-left-called : (script : List ℕ) (b a : Buffers) (r : Run) (p : Draft) (i : ℕ) → Operated script p i b a (r .held) →
-    a .cells ≡ cellsAfter (accepted p i) (b .cells) → a .tables ≡ tablesAfter (accepted p i) (b .tables) →
-    Called p b (operationsAt script (roomsIn b) i) (leftBehind p a r)
-left-called script b a r p i o cells tables =
-    record { held = o .held; marks = o .marks; demand3 = o .demand3; design = refl; cells = cells; tables = tables; sound = o .sound }
 
 module _ (script : List ℕ) (b a : Buffers) (r : Run) (ran : Ran script b a r) where
   -- the design is refused, and so is the probe
@@ -67,24 +60,21 @@ module _ (script : List ℕ) (b a : Buffers) (r : Run) (ran : Ran script b a r) 
       where
         go : (R : DesignRead) → readingOf script b ≡ R → sound (lent (r .design) (a .cells) (a .tables) (a .marks) (r .held)) ≡ true
         go (accepted p i) e =
-            ap (λ (d : Design). sound (lent d (a .cells) (a .tables) (a .marks) (r .held))) (design-is p i e) ∙ ran .accepted p i e .sound
+            ap (λ (d : Design). sound (lent d (a .cells) (a .tables) (a .marks) (r .held))) (design-is p i e) ∙ ran .accepted p i e .point .sound
         go (refusedAt n i) e = absurd (let z : _≡_ {A = ℕ} 0 1 = cc (ran .verdict ∙ ap verdictOf e) in omega arith)
 
-    pub accepted-probed : Small script → Stored (a .cells) → (k : Column) (v : Cell) → (numberless v ≡ false → Fits v) → (x : Answer) →
+    pub accepted-probed : Small script → (k : Column) (v : Cell) → (numberless v ≡ false → Fits v) → (x : Answer) →
         x ≡ answerAt (lent (r .design) (a .cells) (a .tables) (a .marks) (r .held)) (ask (probe k v)) → ProbedAfter script b a r k v x
-    accepted-probed small stored k v f x h =
+    accepted-probed small k v f x h =
         record {
           ran = ran;
           refused = λ n i e. absurd (let z : _≡_ {A = ℕ} 0 1 = cc (ran .verdict ∙ ap verdictOf e) in omega arith);
           answer = answered;
           exact = λ p i e c full.
-              answer-exact b p i (begun script small b p i e (subst Stored (cells p i e) stored)) (operationsAt script (roomsIn b) i) (leftBehind p a r)
-              (left-called script b a r p i (ran .accepted p i e) (cells p i e) (ran .tables ∙ ap (λ (R : DesignRead). tablesAfter R (b .tables)) e))
-              k v c (f full) full x (answered p i e);
+              answer-exact p b (momentBy script p (roomsIn b) i) (leftBehind p a r)
+              (stands-from (schemeOf (p .design)) (beginning p) (begins script small b p i e) (actionsAt script (roomsIn b) i)) (ran .accepted p i e .point)
+              k v c full (f full) x (answered p i e);
         }
       where
-        cells : (p : Draft) (i : ℕ) → readingOf script b ≡ accepted p i → a .cells ≡ cellsAfter (accepted p i) (b .cells)
-        cells p i e = ran .cells ∙ ap (λ (R : DesignRead). cellsAfter R (b .cells)) e
-
         answered : (p : Draft) (i : ℕ) → readingOf script b ≡ accepted p i → x ≡ answerAt (leftBehind p a r) (ask (probe k v))
         answered p i e = h ∙ ap (λ (d : Design). answerAt (lent d (a .cells) (a .tables) (a .marks) (r .held)) (ask (probe k v))) (design-is p i e)

@@ -4,13 +4,14 @@ use Prim.Native.Nat.{ℕ}
 use mathlib.Core.Path.{_≡_, ap}
 use mathlib.Core.List.{List}
 use mathlib.Core.Logic.{⊎-elim}
-use lib.ListN.{length}
 use lib.Seq.{sets}
 use Rattle.finite.proofs.Bools.{same-number}
 use Rattle.model.specs.Runs.{Operation}
 use Rattle.model.specs.Answers.{refused}
 use Rattle.state.specs.Cells.{Cells}
+use Rattle.state.proofs.Arrays.{HeldSized}
 use Rattle.state.specs.Lent.{State, causeAt, answerAt, stateAfter}
+use Rattle.state.specs.Changes.{Change, changeAnswerAt, stateChanged}
 use Rattle.lawful.proofs.SoundState.{cause-none, cause-state, cause-words, cause-text}
 use Rattle.format.specs.Reading.{DesignRead, readInto, cellsAfter, tablesAfter, marksAfter}
 use Rattle.format.specs.Reading.DesignRead.{refusedAt}
@@ -18,15 +19,19 @@ use Rattle.script.specs.declared.outcome.Written.{Written}
 use Rattle.script.specs.declared.outcome.Written.the-variants.{Refused}
 use Rattle.script.specs.Step.{Outputs, outputs, outputsAfter}
 use Rattle.script.specs.Writing.{bytesOf, writtenAt, storedWith}
-use Rattle.script.proofs.Refusals.{refused-state, refused-outputs}
+use Rattle.script.proofs.Refusals.{refused-state, refused-outputs, refused-change}
 
--- THEOREM: `operate::perform`, whichever the operation is, with `out` lent for its answers. A record of held values has 64 places, as its type says.
-pub operation-refused : (s : State) → length (s .held .values) ≡ 64 → (n : ℕ) (o : Operation) → answerAt s o ≡ refused n → (out : Outputs) →
+-- THEOREM: `operate::perform`, whichever the operation is, with `out` lent for its answers. What is held has its places, as its type says.
+pub operation-refused : (s : State) → HeldSized (s .held) → (n : ℕ) (o : Operation) → answerAt s o ≡ refused n → (out : Outputs) →
     (stateAfter s o ≡ s) × (outputsAfter s o out ≡ out)
 operation-refused s places n o h out =
     ⊎-elim (λ (z : causeAt s ≡ 0). let e = cause-none s z in (refused-state s e n places o h, refused-outputs s e n places o h out))
     (λ (m : causeAt s ≡ 0 → ⊥). (cause-state s m o, λ x. outputs (sets (out .words) 0 (cause-words s m o x)) (sets (out .text) 0 (cause-text s m o x))))
     (same-number (causeAt s) 0)
+
+-- THEOREM: `change::put_row` and `change::remove_row`, whichever the change is
+pub change-refused : (s : State) (n : ℕ) (x : Change) → changeAnswerAt s x ≡ refused n → stateChanged s x ≡ s
+change-refused = refused-change
 
 -- THEOREM: `script::write`, with o as its buffer
 pub write-refused : (s : State) (n room : ℕ) (o : List ℕ) → writtenAt s room ≡ Refused n → sets o 0 (storedWith (writtenAt s room) (bytesOf s)) ≡ o

@@ -1,5 +1,4 @@
--- What the steps of a whole script leave, and any list of calls: the cache is the one that the model's run leaves, the state is sound, and nothing
--- else has changed. Assumes nothing.
+-- What the steps of a whole script leave, and any list of calls: the state at the moment that follows from the design and the operands. Assumes nothing.
 use Prim.Native.Nat.{ℕ, zero, suc, _+_, _≤_, _<_}
 use native.Mathlib.Omega.{arith}
 use mathlib.Core.Path.{_≡_, refl, sym, ap, subst, _∙_}
@@ -8,20 +7,28 @@ use mathlib.Core.List.{List, [], _∷_}
 use mathlib.Core.Logic.{⊎-elim}
 use borrow.Author.Tests.{leb-true, leb-false, le-leb, lt-leb}
 use lib.Dec.{leb}
-use lib.ListN.{length, drop as past}
+use lib.ListN.{length}
 use lib.Seq.{length-sets}
 use Rattle.finite.proofs.Bools.{dec, cond-true, cond-false}
-use Rattle.model.specs.Runs.{Operation, Cache, cacheFrom}
-use Rattle.state.specs.Lent.{State, scheme, database, cache, sound, stateAfter, wordsAt, textAt}
+use Rattle.model.specs.Scheme.{Scheme}
+use Rattle.model.specs.Runs.{Operation}
+use Rattle.state.specs.Meaning.{schemeOf}
+use Rattle.state.specs.Lent.{State, sound, wordsAt, textAt}
+use Rattle.state.specs.Changes.{put, remove}
+use Rattle.lawful.proofs.StoredLaws.{free-sized, free-stored}
 use Rattle.format.specs.declared.command.Command.{Command}
-use Rattle.format.specs.declared.command.Command.the-variants.{Table, Constraint, Filling, Row, End, Operate, Unknown, Short}
+use Rattle.format.specs.declared.command.Command.the-variants.{Table, Constraint, Filling, Row, End, Operate, Put, Remove, Unknown, Short}
 use Rattle.format.specs.Bytes.{byteAt}
-use Rattle.format.specs.Commands.{commandAt, widthOf}
-use Rattle.format.specs.Reading.{mostBytes}
+use Rattle.format.specs.Commands.{commandAt, widthOf, putRowAt}
+use Rattle.format.specs.Reading.{Draft, mostBytes}
 use Rattle.format.proofs.CommandLaws.{at-end}
-use Rattle.script.specs.Step.{Outputs, Rooms, roomsOf, operationIn, outputsAfter, Stepped, operated, carried, stepAt}
-use Rattle.script.specs.Runs.{operationThen, operationsFrom, Left, leaving, leftFrom, stateAfterAll}
-use Rattle.script.proofs.StepLaws.{Settled, after-cache, after-past, after-settled, step-carried, step-sound, step-on}
+use Rattle.format.proofs.Small.{Small}
+use Rattle.script.specs.Moments.{Action, operation, change, Moment, momentFrom, stateBehind, stateAfterAll}
+use Rattle.script.specs.Step.{Outputs, Rooms, roomsOf, operationIn, outputsAfter, Stepped, operated, changing, carried, stepAt}
+use Rattle.script.specs.Runs.{actionThen, actionsFrom, Left, leaving, leftFrom, Buffers}
+use Rattle.script.proofs.Places.{put-sized, put-stored}
+use Rattle.script.proofs.StepLaws.{step-carried, step-sound, step-on}
+use Rattle.script.proofs.Tracking.{Tracks, operated-tracks, changed-tracks, RowsGiven, given-rest}
 
 -- ---- one turn of `leftFrom`
 
@@ -80,80 +87,64 @@ left-sound script (suc n) s e out i =
     either true x y h k = h
     either false x y h k = k
 
--- state l comes from state s by the operations os: nothing but the held values and the first 512 marks has changed
-pub record Follows (s : State) (os : List Operation) (l : State) : Type 0 where
-  pub design : l .design ≡ s .design
-  pub cells : l .cells ≡ s .cells
-  pub tables : l .tables ≡ s .tables
-  pub past : past 512 (l .marks) ≡ past 512 (s .marks)
-  pub cache : cache l ≡ cacheFrom (scheme s) (database s) (cache s) os
-  pub settled : Settled l
+-- ---- a whole script
 
-stays : (s : State) → Settled s → Follows s [] s
-unfolding cacheFrom
-stays s t = record { design = refl; cells = refl; tables = refl; past = refl; cache = refl; settled = t }
-
-first : (s : State) → Settled s → (o : Operation) (os : List Operation) (l : State) → Follows (stateAfter s o) os l → Follows s (o ∷ os) l
-unfolding cacheFrom
-first s t o os l f =
-    record {
-      design = f .design;
-      cells = f .cells;
-      tables = f .tables;
-      past = f .past ∙ after-past s (t .sound) o;
-      cache = f .cache ∙ ap (λ (c : Cache). cacheFrom (scheme s) (database s) c os) (after-cache s (t .sound) o);
-      settled = f .settled;
-    }
-
-moved : (s : State) {os qs : List Operation} {l m : State} → os ≡ qs → l ≡ m → Follows s qs m → Follows s os l
-moved s p q f = rw (p, q) f
-
-operations-past : (script : List ℕ) (rooms : Rooms) (i n : ℕ) → length script ≤ i → operationsFrom n script rooms i ≡ []
-unfolding operationsFrom
-operations-past script rooms i zero l = refl
-operations-past script rooms i (suc n) l =
-    ap (λ (c : Command). operationThen c rooms (operationsFrom n script rooms (i + widthOf (byteAt script i)))) (sym (at-end script i l))
+actions-past : (script : List ℕ) (rooms : Rooms) (i n : ℕ) → length script ≤ i → actionsFrom n script rooms i ≡ []
+unfolding actionsFrom
+actions-past script rooms i zero l = refl
+actions-past script rooms i (suc n) l =
+    ap (λ (c : Command). actionThen script i c rooms (actionsFrom n script rooms (i + widthOf (byteAt script i)))) (sym (at-end script i l))
 
 -- as many words and bytes of text as were lent
 rooms-after : (s : State) (o : Operation) (out : Outputs) → roomsOf (outputsAfter s o out) ≡ roomsOf out
 rooms-after s o out = λ x. record { words = length-sets (out .words) 0 (wordsAt s o) x; bytes = length-sets (out .text) 0 (textAt s o) x }
 
-module _ (script : List ℕ) (short : length script ≤ mostBytes) where
-  -- a command and those behind it
-  then-follows : (n : ℕ) (s : State) (t : Settled s) (out : Outputs) (i j : ℕ) (os : List Operation) →
-      ((l : State) → Settled l → (w : Outputs) → roomsOf w ≡ roomsOf out → Follows l os (leftFrom n script l w j .state)) →
-      (c : Command) → Follows s (operationThen c (roomsOf out) os) (leftThen n script (carried s out script i j c) .state)
-  unfolding carried operated
-  then-follows n s t out i j os h (Operate op) =
-      let o = operationIn op (roomsOf out) in
-      first s t o os _ (h _ (after-settled s (t .sound) o) _ (rooms-after s o out))
-  then-follows n s t out i j os h (Table x) = h s t out refl
-  then-follows n s t out i j os h (Constraint x) = h s t out refl
-  then-follows n s t out i j os h (Filling x) = h s t out refl
-  then-follows n s t out i j os h (Row x) = h s t out refl
-  then-follows n s t out i j os h End = h s t out refl
-  then-follows n s t out i j os h Unknown = stays s t
-  then-follows n s t out i j os h Short = stays s t
+module _ (p : Draft) (b : Buffers) where
+  abbrev S : Scheme
+  S = schemeOf (p .design)
 
-  -- the whole script from place i on: refused operations too
-  pub left-follows : (n : ℕ) (s : State) → Settled s → (out : Outputs) (i : ℕ) →
-      Follows s (operationsFrom n script (roomsOf out) i) (leftFrom n script s out i .state)
-  unfolding operationsFrom leftFrom
-  left-follows zero s t out i = stays s t
-  left-follows (suc n) s t out i =
-      ⊎-elim (λ (q : leb (length script) i ≡ true). let l = leb-true (length script) i q in
-      moved s (operations-past script (roomsOf out) i (suc n) l) (ap (λ (x : Left). x .state) (left-past script s out i (suc n) l)) (stays s t))
-      (λ (q : leb (length script) i ≡ false). let j = i + widthOf (byteAt script i) in
-      moved s refl (ap (λ (x : Left). x .state) (left-step script s out i n (leb-false _ _ q) ∙
-      ap (leftThen n script) (step-carried s out script i (t .sound) short)))
-      (then-follows n s t out i j (operationsFrom n script (roomsOf out) j)
-      (λ l u w e. subst (λ (rooms : Rooms). Follows l (operationsFrom n script rooms j) (leftFrom n script l w j .state)) e (left-follows n l u w j))
-      (commandAt script i)))
-      (dec (leb (length script) i))
+  moved : {m k : Moment} {e l : State} → m ≡ k → e ≡ l → Tracks p b k l → Tracks p b m e
+  moved q r t = rw (q, r) t
 
--- ---- any list of calls
+  module _ (script : List ℕ) (small : Small script) (short : length script ≤ mostBytes) where
+    -- a command and those behind it
+    then-tracks : (n : ℕ) (m : Moment) (e : State) (t : Tracks p b m e) (out : Outputs) (i j : ℕ) (acts : List Action) →
+        ((k : Moment) (l : State) → Tracks p b k l → (w : Outputs) → roomsOf w ≡ roomsOf out → Tracks p b (momentFrom S k acts) (leftFrom n script l w j .state)) →
+        (c : Command) → Tracks p b (momentFrom S m (actionThen script i c (roomsOf out) acts)) (leftThen n script (carried e out script i j c) .state)
+    unfolding carried operated changing momentFrom
+    then-tracks n m e t out i j acts h (Operate op) =
+        let o = operationIn op (roomsOf out) in h _ _ (operated-tracks p b m e t o) _ (rooms-after e o out)
+    then-tracks n m e t out i j acts h (Put r x) =
+        h _ _ (changed-tracks p b m e t (put r (putRowAt script i)) (record { sized = put-sized script i; stored = put-stored script small i })) out refl
+    then-tracks n m e t out i j acts h (Remove r) = h _ _ (changed-tracks p b m e t (remove r) (record { sized = free-sized; stored = free-stored })) out refl
+    then-tracks n m e t out i j acts h (Table x) = h m e t out refl
+    then-tracks n m e t out i j acts h (Constraint x) = h m e t out refl
+    then-tracks n m e t out i j acts h (Filling x) = h m e t out refl
+    then-tracks n m e t out i j acts h (Row x) = h m e t out refl
+    then-tracks n m e t out i j acts h End = h m e t out refl
+    then-tracks n m e t out i j acts h Unknown = t
+    then-tracks n m e t out i j acts h Short = t
 
-pub calls-follow : (s : State) → Settled s → (os : List Operation) → Follows s os (stateAfterAll s os)
-unfolding stateAfterAll
-calls-follow s t [] = stays s t
-calls-follow s t (o ∷ os) = first s t o os _ (calls-follow (stateAfter s o) (after-settled s (t .sound) o) os)
+    -- n commands from place i on, refused ones too
+    pub left-tracks : (n : ℕ) (m : Moment) (e : State) → Tracks p b m e → (out : Outputs) (i : ℕ) →
+        Tracks p b (momentFrom S m (actionsFrom n script (roomsOf out) i)) (leftFrom n script e out i .state)
+    unfolding actionsFrom leftFrom momentFrom
+    left-tracks zero m e t out i = t
+    left-tracks (suc n) m e t out i =
+        ⊎-elim (λ (q : leb (length script) i ≡ true). let l = leb-true (length script) i q in
+        moved (ap (momentFrom S m) (actions-past script (roomsOf out) i (suc n) l)) (ap (λ (x : Left). x .state) (left-past script e out i (suc n) l)) t)
+        (λ (q : leb (length script) i ≡ false). let j = i + widthOf (byteAt script i) in
+        moved refl (ap (λ (x : Left). x .state) (left-step script e out i n (leb-false _ _ q) ∙
+        ap (leftThen n script) (step-carried e out script i (t .sound) short)))
+        (then-tracks n m e t out i j (actionsFrom n script (roomsOf out) j)
+        (λ k l u w r. subst (λ (rooms : Rooms). Tracks p b (momentFrom S k (actionsFrom n script rooms j)) (leftFrom n script l w j .state)) r (left-tracks n k l u w j))
+        (commandAt script i)))
+        (dec (leb (length script) i))
+
+  -- ---- any list of calls
+
+  pub calls-track : (m : Moment) (e : State) → Tracks p b m e → (acts : List Action) → RowsGiven acts → Tracks p b (momentFrom S m acts) (stateAfterAll e acts)
+  unfolding momentFrom stateAfterAll stateBehind
+  calls-track m e t [] g = t
+  calls-track m e t (operation o ∷ more) g = calls-track _ _ (operated-tracks p b m e t o) more (given-rest (operation o) more g)
+  calls-track m e t (change x ∷ more) g = calls-track _ _ (changed-tracks p b m e t x (g .each [] more x refl)) more (given-rest (change x) more g)

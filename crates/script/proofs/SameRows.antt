@@ -1,28 +1,23 @@
--- Two databases with the same rows under the same numbers: what is lawful, complete or smallest in one is so in the other, and a run holds the same.
--- Lent buffers give the same rows, whatever lies past the sizes that a design has. Assumes nothing.
-use Prim.Native.Nat.{ℕ, _+_, _*_, _^_, _≤_, _<_}
-use native.Mathlib.Omega.{arith}
+-- Two databases with the same rows under the same numbers: what is lawful, complete or smallest in one is so in the other, a probe has the same ground, and an
+-- operation leaves the same held. Assumes nothing.
+use Prim.Native.Nat.{ℕ, _^_, _≤_, _<_}
 use mathlib.Core.Path.{_≡_, refl, sym, ap, ap₂, subst, fun-ext, _∙_}
 use mathlib.Core.Bool.{Bool, true, false, not, cond, _&&_, and-eq-true-iff}
-use mathlib.Core.List.{List, [], _∷_, _++_}
-use borrow.Author.Tests.{ltb-true}
+use mathlib.Core.List.{List}
 use lib.Dec.{eqb, leb, ltb}
-use lib.ListN.{length, getD, List·getD-append}
-use Rattle.model.specs.Cell.{Cell, Fits, blank, numberless, equal}
+use lib.ListN.{length}
+use Rattle.model.specs.Cell.{Cell, Fits, numberless, equal}
 use Rattle.model.specs.Scheme.{Column, Constraint, Scheme}
-use Rattle.model.specs.Database.{Database, Has, Lawful}
-use Rattle.model.specs.Cache.{RowSet, Inside, Held, Complete, Holds, Meets, Smallest, Alike}
+use Rattle.model.specs.Database.{Database, Has, has, Lawful}
+use Rattle.model.specs.Cache.{RowSet, Inside, Held, Complete, Holds, Meets, Smallest}
 use Rattle.model.specs.Probe.{probe}
 use Rattle.model.specs.Holding.{Holding, withPair, heldIn}
 use Rattle.model.specs.Query.{Query, joinsOf, operandsFit, fitting, wordsOf, fullLists, totalOver, fullTotal, positionFits}
-use Rattle.model.specs.Runs.{Output, asLists, asTotal, Operation, refer, drop, ask, query, name, taken, cachedFor, pairFor, outputFits, withinLimit, answerable, refers, heldAfter, heldFrom}
+use Rattle.model.specs.Runs.{Output, asLists, asTotal, Operation, refer, drop, ask, query, name, referRange, dropRange, taken, cachedFor, pairFor, outputFits, withinLimit, answerable, refers, heldAfter}
 use Rattle.model.proofs.Loads.{one-smallest}
 use Rattle.model.proofs.RunLaws.{held-smallest}
 use Rattle.model.proofs.QueryLaws.{SameOn, operands-joins, fitting-reads, probe-reads}
 use Rattle.model.proofs.TotalLaws.{total-reads, position-within}
-use Rattle.state.specs.Cells.{Cells}
-use Rattle.state.specs.Meaning.{cellOf, cellIn, cellAt, databaseOf}
-use Rattle.script.specs.Runs.{longer}
 
 pub record SameRows (D E : Database) : Type 0 where
   pub size : D .size ≡ E .size
@@ -46,6 +41,18 @@ has-same {k = k} {v} {r} w h =
       table = sym (w .table r (h .live)) ∙ h .table;
       value = subst (λ (a : Cell). equal a v ≡ true) (w .cell r (k .place) (h .live)) (h .value);
     }
+
+-- two conjunctions whose first parts are the same, and whose second are if the first are true
+pub and-same : (a b x y : Bool) → a ≡ b → (a ≡ true → x ≡ y) → a && x ≡ b && y
+and-same true b x y e h = ap₂ _&&_ e (h refl)
+and-same false b x y e h = ap (λ (c : Bool). c && y) e
+
+-- the same, of the test
+pub has-test : {D E : Database} → SameRows D E → (k : Column) (v : Cell) (r : ℕ) → has D k v r ≡ has E k v r
+unfolding has
+has-test {D} {E} w k v r =
+    and-same (D .live r) (E .live r) (eqb (D .table r) (k .table) && equal (D .cell r (k .place)) v) (eqb (E .table r) (k .table) && equal (E .cell r (k .place)) v)
+    (w .live r) (λ l. ap₂ (λ (t : ℕ) (a : Cell). eqb t (k .table) && equal a v) (w .table r l) (w .cell r (k .place) l))
 
 holds-same : {D E : Database} (X : RowSet) (j : Constraint) → SameRows D E → Holds D X j → Holds E X j
 unfolding Holds Complete
@@ -76,25 +83,11 @@ lawful-same {S} {D} {E} w m =
     there : (r : ℕ) → E .live r ≡ true → D .live r ≡ true
     there r l = w .live r ∙ l
 
--- the databases that are like one are like the other
-pub alike-same : {S : Scheme} {D E F : Database} {H : Held} {X : RowSet} → SameRows D E → Inside X (D .live) → Alike S D H X F → Alike S E H X F
-alike-same w inside a =
-    record {
-      lawful = a .lawful;
-      keeps =
-          record {
-            live = a .keeps .live;
-            table = λ r x. a .keeps .table r x ∙ w .table r (inside r x);
-            cell = λ r c x. a .keeps .cell r c x ∙ w .cell r c (inside r x);
-          };
-      smallest = a .smallest;
-    }
-
--- ---- what a run holds is the same in both
+-- ---- what an operation leaves held is the same in both
 
 module _ (S : Scheme) {D E : Database} (w : SameRows D E) where
   -- they agree on any set of rows
-  same-on : (X : RowSet) → Inside X (D .live) → SameOn X D E
+  pub same-on : (X : RowSet) → Inside X (D .live) → SameOn X D E
   same-on X i =
       record { size = w .size; live = λ r x. w .live r; table = λ r x. w .table r (i r x); cell = λ r c x. w .cell r c (i r x) }
 
@@ -142,44 +135,12 @@ module _ (S : Scheme) {D E : Database} (w : SameRows D E) where
   refers-same h q out =
       ap₂ (λ (a : Bool) (g : ℕ). a && (eqb g 0 && taken S h (pairFor S q))) (answerable-same q out) (ground-same h q)
 
-  after-same : (h : Holding) (o : Operation) → heldAfter S D h o ≡ heldAfter S E h o
+  pub held-same : (h : Holding) (o : Operation) → heldAfter S D h o ≡ heldAfter S E h o
   unfolding heldAfter
-  after-same h (refer p) = refl
-  after-same h (drop p) = refl
-  after-same h (ask q) = refl
-  after-same h (name d) = refl
-  after-same h (query q out) = ap (λ (b : Bool). cond b (withPair h (pairFor S q)) h) (refers-same h q out)
-
-  pub held-same : (h : Holding) (os : List Operation) → heldFrom S D h os ≡ heldFrom S E h os
-  unfolding heldFrom
-  held-same h [] = refl
-  held-same h (o ∷ os) = ap (λ (g : Holding). heldFrom S D g os) (after-same h o) ∙ held-same _ os
-
--- ---- longer buffers
-
-module _ (rows : ℕ) (cells more : Cells) (tables others : List ℕ) (c : length (cells .numbers) ≡ 4096) (v : length (cells .issues) ≡ 4096)
-    (t : length tables ≡ 512) where
-  pub longer-cell : (x : ℕ) → x < 4096 → cellIn cells x ≡ cellIn (longer cells more) x
-  longer-cell x l =
-      λ i. record {
-        number = sym (List·getD-append (cells .numbers) (more .numbers) 0 x (omega arith)) i;
-        issue = sym (List·getD-append (cells .issues) (more .issues) 0 x (omega arith)) i;
-      }
-
-  pub longer-same : SameRows (databaseOf rows cells tables) (databaseOf rows (longer cells more) (tables ++ others))
-  unfolding databaseOf
-  longer-same =
-      record {
-        size = refl;
-        live = λ r. refl;
-        table = λ r l. let b = below r l in sym (List·getD-append tables others 0 r (omega arith));
-        cell = λ r k l. cell-same r k (below r l) (ltb k 8) (ltb-true k 8);
-      }
-    where
-      below : (r : ℕ) → databaseOf rows cells tables .live r ≡ true → r < 512
-      below r l = databaseOf rows cells tables .finite r l
-
-      cell-same : (r k : ℕ) → r < 512 → (b : Bool) → (b ≡ true → k < 8) →
-          cond b (cellOf (cellAt cells r k)) blank ≡ cond b (cellOf (cellAt (longer cells more) r k)) blank
-      cell-same r k l true h = let g = h refl in ap cellOf (longer-cell (8 * r + k) (omega arith))
-      cell-same r k l false h = refl
+  held-same h (refer p) = refl
+  held-same h (drop p) = refl
+  held-same h (ask q) = refl
+  held-same h (name d) = refl
+  held-same h (referRange r) = refl
+  held-same h (dropRange r) = refl
+  held-same h (query q out) = ap (λ (b : Bool). cond b (withPair h (pairFor S q)) h) (refers-same h q out)

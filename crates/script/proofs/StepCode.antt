@@ -1,22 +1,25 @@
 -- What the parts of a step give, as the code makes them, and how they make up a step. Assumes nothing.
 use Prim.Native.Nat.{ℕ, _+_, _≤_}
-use mathlib.Core.Path.{_≡_, refl, sym, ap, _∙_}
+use mathlib.Core.Path.{_≡_, refl, sym, ap, subst, _∙_}
 use mathlib.Core.Bool.{Bool, true, false}
 use mathlib.Core.List.{List}
 use lib.ListN.{length}
+use Rattle.model.specs.Answers as Model
 use Rattle.state.specs.declared.answer.Answer.{Answer}
 use Rattle.state.specs.declared.answer.Answer.the-variants.{Refused}
-use Rattle.state.specs.declared.design.Design.{Design}
 use Rattle.state.specs.declared.held.Held.{Held}
 use Rattle.state.specs.declared.operation.Operation.{Operation}
+use Rattle.state.specs.declared.rows.Row.{Row}
+use Rattle.state.specs.Cells.{Cells}
 use Rattle.state.specs.Meaning.{answerOf}
 use Rattle.state.specs.Lent.{State, lent, sound, causeAt, Performed}
+use Rattle.state.specs.Changes.{Change, put, Changed}
 use Rattle.format.specs.declared.command.Command.{Command}
 use Rattle.format.specs.Bytes.{byteAt}
 use Rattle.format.specs.Commands.{widthOf, commandAt}
 use Rattle.format.specs.Reading.{mostBytes}
 use Rattle.script.specs.declared.outcome.Step.{Step}
-use Rattle.script.specs.Step.{Outputs, outputs, roomsOf, operationIn, Stepped, placeOf, refusing, operated, carried, stepAt, Does}
+use Rattle.script.specs.Step.{Outputs, outputs, roomsOf, operationIn, Stepped, placeOf, refusing, operated, changing, carried, stepAt, Does}
 use Rattle.script.proofs.StepLaws.{step-caused, step-carried}
 
 -- the state that the code has after a step: the one that it was lent, with the marks m and the held values that the step gives
@@ -41,6 +44,26 @@ operated-does s out op i j a m h w p t e =
       state = ap (stateWith s m) e ∙ p .answered .state;
       outputs = λ x. outputs (p .words x) (p .text x);
     }
+
+-- ---- a change of the rows
+
+pub changed-does : (s : State) (x : Change) (i j : ℕ) (a : Answer) (cs : Cells) (ts ms : List ℕ) →
+    Changed s x (answerOf a) (lent (s .design) cs ts ms (s .held)) → (t : Step) → t ≡ answered a i j (s .held) → (out : Outputs) →
+    Does (changing s out x i j) t (lent (s .design) cs ts ms (t .held)) out
+unfolding changing
+changed-does s x i j a cs ts ms p t e out =
+    record {
+      answer = ap (λ (y : Step). answerOf (y .answer)) e ∙ p .answer;
+      place = ap (λ (y : Step). y .place) e ∙ ap (λ b. placeOf b i) (p .answer);
+      next = ap (λ (y : Step). y .next) e;
+      more = ap (λ (y : Step). y .more) e;
+      state = ap (λ (y : Step). lent (s .design) cs ts ms (y .held)) e ∙ p .state;
+      outputs = refl;
+    }
+
+-- the row is the one that a call has read
+pub put-changed : (s : State) (r : ℕ) (x y : Row) → x ≡ y → (a : Model.Answer) (s′ : State) → Changed s (put r x) a s′ → Changed s (put r y) a s′
+put-changed s r x y e a s′ h = subst (λ (z : Row). Changed s (put r z) a s′) e h
 
 -- ---- refusals
 

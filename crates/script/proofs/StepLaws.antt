@@ -1,8 +1,8 @@
--- Operations on a sound state, which leave the model's cache and a sound state; and steps on whatever is lent, case by case: a step leaves a sound
--- state sound, and one that goes on moves behind its command. Assumes nothing.
+-- Operations on a sound state, which leave the model's cache; and steps on whatever is lent, case by case: a step leaves a sound state sound, and one that goes
+-- on moves behind its command. Assumes nothing.
 use Prim.Native.Nat.{ℕ, _+_, _≤_, _<_}
 use native.Mathlib.Omega.{arith}
-use mathlib.Core.Path.{_≡_, refl, sym, ap, subst, _∙_}
+use mathlib.Core.Path.{_≡_, refl, ap, _∙_}
 use mathlib.Core.Bool.{Bool, true, false, not, cond}
 use mathlib.Core.List.{List}
 use mathlib.Core.Logic.{⊎-elim}
@@ -12,39 +12,33 @@ use lib.ListN.{length, take, drop as past}
 use lib.Seq.{take-at, drop-at}
 use Rattle.finite.proofs.Bools.{both, clash, cond-true, cond-false}
 use Rattle.model.specs.Runs as Runs
-use Rattle.model.proofs.HoldingLaws.{values-few}
 use Rattle.model.proofs.Fresh.{step-fresh}
 use Rattle.state.specs.declared.operation.Operation.{Operation}
-use Rattle.state.specs.Meaning.{holdingOf, heldOf}
+use Rattle.state.specs.Meaning.{holdingOf}
+use Rattle.state.specs.Changes.{Change, put, remove, rowOf}
 use Rattle.state.specs.Lent.{State, scheme, database, cache, longEnough, lawful, sound, causeAt, stateAfter}
 use Rattle.lawful.proofs.HeldLaws.{holding-back}
 use Rattle.lawful.proofs.SoundState.{sound-fresh, fresh-long, after, after-fit, held-after, marks-after, sound-after}
+use Rattle.lawful.proofs.StoredLaws.{RowSized, free-sized}
+use Rattle.lawful.proofs.SoundChange.{sound-changed}
 use Rattle.format.specs.declared.command.Command.{Command}
-use Rattle.format.specs.declared.command.Command.the-variants.{Table, Constraint, Filling, Row, End, Operate, Unknown, Short}
+use Rattle.format.specs.declared.command.Command.the-variants.{Table, Constraint, Filling, Row, End, Operate, Put, Remove, Unknown, Short}
 use Rattle.format.specs.Bytes.{byteAt}
-use Rattle.format.specs.Commands.{commandAt, widthOf}
+use Rattle.format.specs.Commands.{commandAt, widthOf, putRowAt}
 use Rattle.format.specs.Reading.{mostBytes}
 use Rattle.format.proofs.ReadingLaws.{Whole}
-use Rattle.script.specs.Step.{Outputs, roomsOf, operationIn, Stepped, refusing, operated, carried, stepAt}
+use Rattle.script.specs.Step.{Outputs, roomsOf, operationIn, Stepped, refusing, operated, changing, carried, stepAt}
 use Rattle.script.proofs.Causes.{caused, uncaused}
-use Rattle.script.proofs.Places.{command-kinds}
+use Rattle.script.proofs.Places.{command-kinds, put-sized}
 
 -- ---- an operation
 
--- a sound state whose record of held values is the one that its holding makes
-pub record Settled (s : State) : Type 0 where
-  pub sound : sound s ≡ true
-  pub held : s .held ≡ heldOf (holdingOf (s .held))
-
 module _ (s : State) (e : sound s ≡ true) (o : Runs.Operation) where
-  few : length (after s o .held .values) ≤ 64
-  few = values-few (after-fit s e o .values)
-
   long : length (after s o .marks) ≡ 512
   long = fresh-long (s .design) (s .cells) (s .tables) (after s o) (step-fresh (scheme s) (database s) (cache s) o (sound-fresh s e))
 
   after-holding : holdingOf (stateAfter s o .held) ≡ after s o .held
-  after-holding = ap holdingOf (held-after s e o) ∙ holding-back (after s o .held) few
+  after-holding = ap holdingOf (held-after s e o) ∙ holding-back (after s o .held) (after-fit s e o)
 
   -- the cache that it leaves is the model's
   pub after-cache : cache (stateAfter s o) ≡ after s o
@@ -54,9 +48,6 @@ module _ (s : State) (e : sound s ≡ true) (o : Runs.Operation) where
   -- the marks past 512 are untouched
   pub after-past : past 512 (stateAfter s o .marks) ≡ past 512 (s .marks)
   after-past = ap (past 512) (marks-after s e o) ∙ drop-at (after s o .marks) (past 512 (s .marks)) 512 long
-
-  pub after-settled : Settled (stateAfter s o)
-  after-settled = record { sound = sound-after s e o; held = held-after s e o ∙ ap heldOf (sym after-holding) }
 
 -- ---- a step
 
@@ -96,36 +87,39 @@ module _ (s : State) (out : Outputs) (script : List ℕ) (i : ℕ) where
   step-carried e l =
       uncaused s (λ n. refusing s out n 0 i false) _ e ∙ cond-false (ltb mostBytes (length script)) _ _ (le-ltb mostBytes (length script) l)
 
-  -- what holds of every operation, of the refusals behind which reading goes on and of those that stop it, holds of every command
+  -- what holds of every operation, of every change of the rows by a row that has its cells, of the refusals behind which reading goes on and of those that stop it, holds of every command
   pub carried-by : (j : ℕ) (P : Stepped → Type 0) → ((op : Operation) → P (operated s out op i j)) →
-      ((n : ℕ) → P (refusing s out n i j true)) → ((n place : ℕ) → P (refusing s out n place i false)) →
+      ((x : Change) → RowSized (rowOf x) → P (changing s out x i j)) → ((n : ℕ) → P (refusing s out n i j true)) → ((n place : ℕ) → P (refusing s out n place i false)) →
       (c : Command) → P (carried s out script i j c)
   unfolding carried
-  carried-by j P o r e (Operate op) = o op
-  carried-by j P o r e (Table t) = r 3
-  carried-by j P o r e (Constraint c) = r 3
-  carried-by j P o r e (Filling f) = r 3
-  carried-by j P o r e (Row t) = r 3
-  carried-by j P o r e End = r 3
-  carried-by j P o r e Unknown = e 2 i
-  carried-by j P o r e Short = e 1 _
+  carried-by j P o x r e (Operate op) = o op
+  carried-by j P o x r e (Put n t) = x (put n (putRowAt script i)) (put-sized script i)
+  carried-by j P o x r e (Remove n) = x (remove n) free-sized
+  carried-by j P o x r e (Table t) = r 3
+  carried-by j P o x r e (Constraint c) = r 3
+  carried-by j P o x r e (Filling f) = r 3
+  carried-by j P o x r e (Row t) = r 3
+  carried-by j P o x r e End = r 3
+  carried-by j P o x r e Unknown = e 2 i
+  carried-by j P o x r e Short = e 1 _
 
   -- ---- what a step leaves
 
   -- THEOREM: a step on a sound state leaves a sound one
   pub step-sound : sound s ≡ true → sound (stepAt s out script i .state) ≡ true
-  unfolding operated
+  unfolding operated changing
   step-sound e =
       step-by (λ (r : Stepped). sound (r .state) ≡ true) (λ n. e)
-      (λ _. carried-by _ (λ (r : Stepped). sound (r .state) ≡ true) (λ op. sound-after s e (operationIn op (roomsOf out))) (λ n. e) (λ n place. e) (commandAt script i))
+      (λ _. carried-by _ (λ (r : Stepped). sound (r .state) ≡ true) (λ op. sound-after s e (operationIn op (roomsOf out))) (λ x z. sound-changed s x e z) (λ n. e)
+      (λ n place. e) (commandAt script i))
 
   -- ---- where it goes on
 
   -- reading goes on only behind the command
   carried-next : (j : ℕ) (c : Command) → carried s out script i j c .more ≡ true → carried s out script i j c .next ≡ j
-  unfolding operated
+  unfolding operated changing
   carried-next j c =
-      carried-by j (λ (r : Stepped). r .more ≡ true → r .next ≡ j) (λ op h. refl) (λ n h. refl) (λ n place h. clash h refl) c
+      carried-by j (λ (r : Stepped). r .more ≡ true → r .next ≡ j) (λ op h. refl) (λ x z h. refl) (λ n h. refl) (λ n place h. clash h refl) c
 
   -- and inside the script
   abbrev Moves : Stepped → Type 0

@@ -11,12 +11,13 @@ use lib.ListN.{length}
 use Rattle.finite.proofs.Bools.{dec}
 use Rattle.model.specs.Answers.{refused}
 use Rattle.state.specs.Lent.{State}
+use Rattle.state.proofs.Arrays.{HeldSized}
 use Rattle.format.specs.Commands.{commandAt}
-use Rattle.script.specs.Step.{Outputs, roomsOf, operationIn, Stepped, operated, stepAt}
+use Rattle.script.specs.Step.{Outputs, roomsOf, operationIn, Stepped, operated, changing, stepAt}
 use Rattle.script.specs.Runs.{leftFrom}
 use Rattle.script.proofs.StepLaws.{step-by, carried-by, step-on}
 use Rattle.script.proofs.RunLaws.{left-fuel}
-use Rattle.script.proofs.Refusals.{refused-state, refused-outputs}
+use Rattle.script.proofs.Refusals.{refused-state, refused-outputs, refused-change}
 
 -- ---- a refused call
 
@@ -25,19 +26,20 @@ pub record Unchanged (s : State) (out : Outputs) (R : Stepped) : Type 0 where
   pub state : R .state ≡ s
   pub outputs : R .outputs ≡ out
 
--- a record of held values has 64 places, as its type says
-module _ (s : State) (places : length (s .held .values) ≡ 64) (out : Outputs) (script : List ℕ) (i n : ℕ) where
+-- what is held has its places, as its type says
+module _ (s : State) (places : HeldSized (s .held)) (out : Outputs) (script : List ℕ) (i n : ℕ) where
   abbrev Keeps : Stepped → Type 0
   Keeps r = r .answer ≡ refused n → Unchanged s out r
 
   -- THEOREM: a refused call leaves the state, the answer words and the text as they were
   pub refused-unchanged : stepAt s out script i .answer ≡ refused n → Unchanged s out (stepAt s out script i)
-  unfolding operated
+  unfolding operated changing
   refused-unchanged =
       step-by s out script i Keeps (λ m h. record { state = refl; outputs = refl })
       (λ e. carried-by s out script i _ Keeps
       (λ op h. let o = operationIn op (roomsOf out) in
       record { state = refused-state s e n places o h; outputs = refused-outputs s e n places o h out })
+      (λ x z h. record { state = refused-change s n x h; outputs = refl })
       (λ m h. record { state = refl; outputs = refl }) (λ m place h. record { state = refl; outputs = refl }) (commandAt script i))
 
 -- ---- a run ends

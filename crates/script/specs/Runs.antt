@@ -1,4 +1,4 @@
--- A whole script: the operations that stand behind its END, found from the bytes alone; the steps one after the other, each on the state that the one
+-- A whole script: what the commands behind its END do, found from the bytes alone; the steps one after the other, each on the state that the one
 -- before left; and what a run of all of it gives and leaves (demand 3). Assumes nothing.
 use Prim.Native.Nat.{ℕ, zero, suc, _+_}
 use mathlib.Core.Path.{_≡_}
@@ -11,8 +11,8 @@ use Rattle.model.specs.Cell.{Cell, Fits, numberless}
 use Rattle.model.specs.Scheme.{Column, ColumnOf}
 use Rattle.model.specs.Database.{Database}
 use Rattle.model.specs.Cache.{RowSet, Complete, Alike}
-use Rattle.model.specs.Holding.{Holding, nothingHeld, heldIn}
-use Rattle.model.specs.Runs.{Operation, ask, probe, heldFrom, marks, marked}
+use Rattle.model.specs.Holding.{nothingHeld, heldIn}
+use Rattle.model.specs.Runs.{ask, probe, marks, marked}
 use Rattle.model.specs.Answers.{Answer, refused, Yes}
 use Rattle.model.specs.Demand.{Demand3}
 use Rattle.state.specs.Cells.{Cells, cellsIn}
@@ -21,38 +21,42 @@ use Rattle.state.specs.declared.design.Column as State-column
 use Rattle.state.specs.declared.held.Held.{Held}
 use Rattle.state.specs.declared.operation.Operation.the-variants.{Probe}
 use Rattle.state.specs.Held.{noneHeld}
-use Rattle.state.specs.Meaning.{cellOf, columnOf, schemeOf, databaseOf, heldOf}
-use Rattle.state.specs.Lent.{State, lent, sound, answerAt, stateAfter}
+use Rattle.state.specs.Meaning.{cellOf, columnOf, schemeOf, heldOf}
+use Rattle.state.specs.Lent.{State, lent, sound, answerAt}
+use Rattle.state.specs.Changes.{put, remove, rowsIn}
 use Rattle.format.specs.declared.command.Command.{Command}
-use Rattle.format.specs.declared.command.Command.the-variants.{Table, Constraint, Filling, Row, End, Operate, Unknown, Short}
+use Rattle.format.specs.declared.command.Command.the-variants.{Table, Constraint, Filling, Row, End, Operate, Put, Remove, Unknown, Short}
 use Rattle.format.specs.Bytes.{byteAt}
-use Rattle.format.specs.Commands.{commandAt, widthOf}
+use Rattle.format.specs.Commands.{commandAt, widthOf, putRowAt}
 use Rattle.format.specs.Reading.{Draft, DesignRead, readInto, verdictOf, designOf, cellsAfter, tablesAfter, marksAfter}
 use Rattle.format.specs.Reading.DesignRead.{accepted, refusedAt}
 use Rattle.script.specs.declared.outcome.Run.{Run}
+use Rattle.script.specs.Moments.{Action, operation, change, Moment, tablesAt, momentFrom, stateAfterAll}
 use Rattle.script.specs.Step.{Outputs, Rooms, roomsOf, operationIn, stepAt}
 
--- the operations of a run that stand in a script from a command on, where so many answer words and bytes of text are lent: c is that command, and
--- `rest` are those behind it. Commands that are no operation change nothing; behind 1 or 2 there is no command
-abbrev pub operationThen : Command → Rooms → List Operation → List Operation
-operationThen (Operate op) rooms rest = operationIn op rooms ∷ rest
-operationThen (Table t) rooms rest = rest
-operationThen (Constraint c) rooms rest = rest
-operationThen (Filling f) rooms rest = rest
-operationThen (Row t) rooms rest = rest
-operationThen End rooms rest = rest
-operationThen Unknown rooms rest = []
-operationThen Short rooms rest = []
+-- what a run does by the commands that stand in a script from place i on, where so many answer words and bytes of text are lent: c is the command at place i,
+-- and `rest` is what those behind it do. Design commands do nothing; behind 1 or 2 there is no command
+abbrev pub actionThen : List ℕ → ℕ → Command → Rooms → List Action → List Action
+actionThen script i (Operate op) rooms rest = operation (operationIn op rooms) ∷ rest
+actionThen script i (Put r t) rooms rest = change (put r (putRowAt script i)) ∷ rest
+actionThen script i (Remove r) rooms rest = change (remove r) ∷ rest
+actionThen script i (Table t) rooms rest = rest
+actionThen script i (Constraint c) rooms rest = rest
+actionThen script i (Filling f) rooms rest = rest
+actionThen script i (Row t) rooms rest = rest
+actionThen script i End rooms rest = rest
+actionThen script i Unknown rooms rest = []
+actionThen script i Short rooms rest = []
 
--- ... from place i on, with n more commands at the most
-unfoldable pub operationsFrom : ℕ → List ℕ → Rooms → ℕ → List Operation
-operationsFrom zero script rooms i = []
-operationsFrom (suc n) script rooms i =
-    operationThen (commandAt script i) rooms (operationsFrom n script rooms (i + widthOf (byteAt script i)))
+-- ... with n more commands at the most
+unfoldable pub actionsFrom : ℕ → List ℕ → Rooms → ℕ → List Action
+actionsFrom zero script rooms i = []
+actionsFrom (suc n) script rooms i =
+    actionThen script i (commandAt script i) rooms (actionsFrom n script rooms (i + widthOf (byteAt script i)))
 
 -- a command takes at least one byte
-abbrev pub operationsAt : List ℕ → Rooms → ℕ → List Operation
-operationsAt script rooms i = operationsFrom (length script) script rooms i
+abbrev pub actionsAt : List ℕ → Rooms → ℕ → List Action
+actionsAt script rooms i = actionsFrom (length script) script rooms i
 
 -- what a run leaves: the state, and what is lent for answers
 pub record Left : Type 0 where
@@ -94,42 +98,24 @@ readingOf script b = readInto script (b .cells) (b .tables) (b .marks)
 abbrev pub justRead : DesignRead → Buffers → State
 justRead R b = lent (designOf R) (cellsAfter R (b .cells)) (tablesAfter R (b .tables)) (marksAfter R (b .marks)) noneHeld
 
--- the backend rows of a design
-abbrev pub rowsOf : Draft → Database
-rowsOf p = databaseOf (p .design .rows) (p .cells) (p .tables)
+-- the moment with which a run begins: the design's rows, and nothing held
+abbrev pub beginning : Draft → Moment
+beginning p = record { rows = rowsIn (p .cells) (p .tables); held = nothingHeld }
 
--- "What a run holds is a list of pairs, found from the design and the operands alone": of any list of operations on the design p, nothing held before
-abbrev pub heldWith : Draft → List Operation → Holding
-heldWith p os = heldFrom (schemeOf (p .design)) (rowsOf p) nothingHeld os
+-- the moment behind any list of actions on the design p just read
+abbrev pub momentWith : Draft → List Action → Moment
+momentWith p acts = momentFrom (schemeOf (p .design)) (beginning p) acts
 
--- ... and of a script whose design p has its END before place i, with so many answer words and bytes of text lent
-abbrev pub heldBy : List ℕ → Draft → Rooms → ℕ → Holding
-heldBy script p rooms i = heldWith p (operationsAt script rooms i)
+-- ... and behind the first n commands, and all, of a script whose design p has its END before place i, with so many answer words and bytes of text lent
+abbrev pub momentAt : ℕ → List ℕ → Draft → Rooms → ℕ → Moment
+momentAt n script p rooms i = momentWith p (actionsFrom n script rooms i)
+
+abbrev pub momentBy : List ℕ → Draft → Rooms → ℕ → Moment
+momentBy script p rooms i = momentAt (length script) script p rooms i
 
 -- "its cached rows those with mark 1"
 abbrev pub cachedBy : Buffers → RowSet
 cachedBy b = marked (take 512 (b .marks))
-
--- DEMAND 3, of the whole list of operations that the script has behind the END of its design p, at place i. The buffers are b before the run and
--- a after it, and h is the record of held values after it.
-pub record Operated (script : List ℕ) (p : Draft) (i : ℕ) (b a : Buffers) (h : Held) : Type 0 where
-  -- the held values are the run's, in order
-  pub held : h ≡ heldOf (heldBy script p (roomsIn b) i)
-  -- the first 512 marks are 1 on the cached rows and 0 on all other numbers; what lies past them is untouched
-  pub marks : a .marks ≡ marks (rowsOf p) (cachedBy a) ++ past 512 (b .marks)
-  -- the cached rows are the smallest row set for what is held, and every probe says yes exactly when the value is complete in all databases alike
-  pub demand3 : Demand3 (schemeOf (p .design)) (rowsOf p) (heldBy script p (roomsIn b) i) (cachedBy a)
-  -- the answer words and the text are those that the steps leave
-  pub outputs : a .outputs ≡ leftFrom (length script) script (justRead (accepted p i) b) (b .outputs) i .outputs
-  -- what is left can be worked on: neither cause 7 nor 12 applies
-  pub sound : sound (lent (p .design) (a .cells) (a .tables) (a .marks) h) ≡ true
-
--- ---- any list of calls
-
--- the state behind a list of operations, each called on the state that the one before left, a refused one too
-unfoldable pub stateAfterAll : State → List Operation → State
-stateAfterAll s [] = s
-stateAfterAll s (o ∷ os) = stateAfterAll (stateAfter s o) os
 
 -- the cells, and others behind them; the first n, and what lies past these
 abbrev pub longer : Cells → Cells → Cells
@@ -141,33 +127,49 @@ firstCells n cells = cellsIn (take n (cells .numbers)) (take n (cells .issues))
 abbrev pub pastCells : ℕ → Cells → Cells
 pastCells n cells = cellsIn (past n (cells .numbers)) (past n (cells .issues))
 
--- DEMAND 3, of any list of operations os, called on the design p just read into the buffers b: e is the state that they leave
-pub record Called (p : Draft) (b : Buffers) (os : List Operation) (e : State) : Type 0 where
-  -- the held values are the list's, in order
-  pub held : e .held ≡ heldOf (heldWith p os)
+-- DEMAND 3, at one point of a run on the design p, which began with the buffers b: m is the moment, found from the design and the operands, and e the state
+pub record Point (p : Draft) (b : Buffers) (m : Moment) (e : State) : Type 0 where
+  -- the held values are the run's, in order
+  pub held : e .held ≡ heldOf (m .held)
+  -- the rows are those of the moment; what lies past them is untouched
+  pub cells : e .cells ≡ longer (m .rows .cells) (pastCells 4096 (b .cells))
+  pub tables : e .tables ≡ m .rows .tables ++ past 512 (b .tables)
   -- the first 512 marks are 1 on the cached rows and 0 on all other numbers; what lies past them is untouched
-  pub marks : e .marks ≡ marks (rowsOf p) (marked (take 512 (e .marks))) ++ past 512 (b .marks)
+  pub marks : e .marks ≡ marks (tablesAt m) (marked (take 512 (e .marks))) ++ past 512 (b .marks)
   -- the cached rows are the smallest row set for what is held, and every probe says yes exactly when the value is complete in all databases alike
-  pub demand3 : Demand3 (schemeOf (p .design)) (rowsOf p) (heldWith p os) (marked (take 512 (e .marks)))
-  -- neither the design nor its rows have changed, and what is left can be worked on
+  pub demand3 : Demand3 (schemeOf (p .design)) (tablesAt m) (m .held) (marked (take 512 (e .marks)))
+  -- the design is as it was read, and what is left can be worked on: neither cause 7 nor 12 applies
   pub design : e .design ≡ p .design
-  pub cells : e .cells ≡ longer (p .cells) (pastCells 4096 (b .cells))
-  pub tables : e .tables ≡ p .tables ++ past 512 (b .tables)
   pub sound : sound e ≡ true
 
--- the value v in column k is complete in every lawful database from which the rows X would have been cached with h held
-abbrev pub CompleteInAll : Draft → Holding → RowSet → Column → Cell → Type 0
-CompleteInAll p h X k v =
-    (E : Database) → Alike (schemeOf (p .design)) (rowsOf p) (heldIn (schemeOf (p .design)) h) X E → Complete E X k v
+-- DEMAND 3, of any list of actions, called on the design p just read into the buffers b: e is the state that they leave
+abbrev pub Called : Draft → Buffers → List Action → State → Type 0
+Called p b acts e = Point p b (momentWith p acts) e
 
--- DEMAND 3, at every point: os is any list of operations, called on the design p just read into the buffers b, with its END before place i. Each PROBE
--- among them, on the state e that those before it have left, answers x; where that is no refusal, it is a ground exactly if the value is complete in
--- every lawful database from which the same rows would have been cached.
-pub record ProbesExact (p : Draft) (i : ℕ) (b : Buffers) (os : List Operation) : Type 0 where
-  pub exact : (earlier later : List Operation) (k : Column) (v : Cell) → os ≡ earlier ++ (ask (probe k v) ∷ later) → Fits v →
+-- DEMAND 3, of all that the script has behind the END of its design p, at place i. The buffers are b before the run and a after it, and h is the record of held
+-- values after it.
+pub record Operated (script : List ℕ) (p : Draft) (i : ℕ) (b a : Buffers) (h : Held) : Type 0 where
+  pub point : Point p b (momentBy script p (roomsIn b) i) (lent (p .design) (a .cells) (a .tables) (a .marks) h)
+  -- the answer words and the text are those that the steps leave
+  pub outputs : a .outputs ≡ leftFrom (length script) script (justRead (accepted p i) b) (b .outputs) i .outputs
+
+-- DEMAND 3, at every point: behind the first n commands, for every n
+pub record Points (script : List ℕ) (p : Draft) (i : ℕ) (b : Buffers) : Type 0 where
+  pub point : (n : ℕ) → Point p b (momentAt n script p (roomsIn b) i) (leftFrom n script (justRead (accepted p i) b) (b .outputs) i .state)
+
+-- the value v in column k is complete in every lawful database from which the rows X would have been cached at the moment m
+abbrev pub CompleteInAll : Draft → Moment → RowSet → Column → Cell → Type 0
+CompleteInAll p m X k v =
+    (E : Database) → Alike (schemeOf (p .design)) (tablesAt m) (heldIn (schemeOf (p .design)) (m .held)) X E → Complete E X k v
+
+-- DEMAND 3, of each probe: `acts` is any list of actions, called on the design p just read into the buffers b, with its END before place i. Each PROBE among them, on
+-- the state e that those before it have left, answers x; where that is no refusal, it is a ground exactly if the value is complete in every lawful database
+-- from which the same rows would have been cached.
+pub record ProbesExact (p : Draft) (i : ℕ) (b : Buffers) (acts : List Action) : Type 0 where
+  pub exact : (earlier later : List Action) (k : Column) (v : Cell) → acts ≡ earlier ++ (operation (ask (probe k v)) ∷ later) → Fits v →
       (e : State) → e ≡ stateAfterAll (justRead (accepted p i) b) earlier → (x : Answer) → x ≡ answerAt e (ask (probe k v)) →
       ((n : ℕ) → x ≢ refused n) →
-      Yes x ↔ CompleteInAll p (heldWith p earlier) (marked (take 512 (e .marks))) k v
+      Yes x ↔ CompleteInAll p (momentWith p earlier) (marked (take 512 (e .marks))) k v
 
 -- The same for the steps of a script: e is the state behind the first n commands that stand behind the END of the design p, at place i, and the next
 -- step is asked for any place j where a PROBE stands.
@@ -175,22 +177,21 @@ pub record StepsExact (script : List ℕ) (p : Draft) (i : ℕ) (b : Buffers) : 
   pub exact : (n j : ℕ) (out : Outputs) (k : State-column.Column) (v : State-cell.Cell) → commandAt script j ≡ Operate (Probe k v) → Fits (cellOf v) →
       (e : State) → e ≡ leftFrom n script (justRead (accepted p i) b) (b .outputs) i .state → (x : Answer) → x ≡ stepAt e out script j .answer →
       ((m : ℕ) → x ≢ refused m) →
-      Yes x ↔
-      CompleteInAll p (heldWith p (operationsFrom n script (roomsIn b) i)) (marked (take 512 (e .marks))) (columnOf k) (cellOf v)
+      Yes x ↔ CompleteInAll p (momentAt n script p (roomsIn b) i) (marked (take 512 (e .marks))) (columnOf k) (cellOf v)
 
 -- ---- what a whole run gives
 
 -- a refused design leaves everything as it was, and nothing held
 pub record Untouched (b a : Buffers) (h : Held) : Type 0 where
   pub held : h ≡ noneHeld
+  pub cells : a .cells ≡ b .cells
+  pub tables : a .tables ≡ b .tables
   pub marks : a .marks ≡ b .marks
   pub outputs : a .outputs ≡ b .outputs
 
 pub record Ran (script : List ℕ) (b a : Buffers) (r : Run) : Type 0 where
   pub verdict : r .verdict ≡ verdictOf (readingOf script b)
   pub design : r .design ≡ designOf (readingOf script b)
-  pub cells : a .cells ≡ cellsAfter (readingOf script b) (b .cells)
-  pub tables : a .tables ≡ tablesAfter (readingOf script b) (b .tables)
   pub refused : (n i : ℕ) → readingOf script b ≡ refusedAt n i → Untouched b a (r .held)
   pub accepted : (p : Draft) (i : ℕ) → readingOf script b ≡ accepted p i → Operated script p i b a (r .held)
 
@@ -207,4 +208,4 @@ pub record ProbedAfter (script : List ℕ) (b a : Buffers) (r : Run) (k : Column
   -- DEMAND 3, of the answer itself: a yes exactly when the value is complete in every lawful database from which the same rows would have been cached
   pub exact : (p : Draft) (i : ℕ) → readingOf script b ≡ accepted p i → ColumnOf (schemeOf (p .design)) k → numberless v ≡ false →
       Yes x ↔
-      CompleteInAll p (heldBy script p (roomsIn b) i) (cachedBy a) k v
+      CompleteInAll p (momentBy script p (roomsIn b) i) (cachedBy a) k v

@@ -12,10 +12,11 @@ use Rattle.model.specs.Answers.{Answer, refused, isRefusal}
 use Rattle.state.specs.declared.operation.Operation.{Operation}
 use Rattle.state.specs.Meaning.{answerOf, operationOf}
 use Rattle.state.specs.Lent.{State, longEnough, lawful, answerAt, stateAfter, wordsAt, textAt}
+use Rattle.state.specs.Changes.{Change, put, remove, changeAnswerAt, stateChanged}
 use Rattle.format.specs.declared.command.Command.{Command}
-use Rattle.format.specs.declared.command.Command.the-variants.{Table, Constraint, Filling, Row, End, Operate, Unknown, Short}
+use Rattle.format.specs.declared.command.Command.the-variants.{Table, Constraint, Filling, Row, End, Operate, Put, Remove, Unknown, Short}
 use Rattle.format.specs.Bytes.{byteAt}
-use Rattle.format.specs.Commands.{commandAt, widthOf}
+use Rattle.format.specs.Commands.{commandAt, widthOf, putRowAt}
 use Rattle.format.specs.Reading.{mostBytes}
 use Rattle.script.specs.declared.outcome.Step.{Step}
 
@@ -75,9 +76,23 @@ module _ (s : State) (out : Outputs) where
         outputs = outputsAfter s o out;
       }
 
+  -- a change of the rows, at place i and followed by place j: it writes neither words nor text
+  unfoldable pub changing : Change → ℕ → ℕ → Stepped
+  changing x i j =
+      record {
+        answer = changeAnswerAt s x;
+        place = placeOf (changeAnswerAt s x) i;
+        next = j;
+        more = true;
+        state = stateChanged s x;
+        outputs = out;
+      }
+
   -- the command c at place i of the script, followed by place j
   unfoldable pub carried : List ℕ → ℕ → ℕ → Command → Stepped
   carried script i j (Operate op) = operated op i j
+  carried script i j (Put r t) = changing (put r (putRowAt script i)) i j
+  carried script i j (Remove r) = changing (remove r) i j
   -- "a design command or a second END after END"
   carried script i j (Table t) = refusing 3 i j true
   carried script i j (Constraint c) = refusing 3 i j true

@@ -29,14 +29,14 @@ pub fn run_lawful(
     script: &[u8],
     at: usize,
     design: Design,
-    cells: &[u32],
-    issues: &[u8],
-    tables: &[u8],
-    next: &[u16; 4096],
-    first: &[u16; 8192],
-    keys: &[u64; 4096],
-    heads: &[u16; 4096],
-    starts: &[u16; 65],
+    cells: &mut [u32],
+    issues: &mut [u8],
+    tables: &mut [u8],
+    next: &mut [u16; 4096],
+    first: &mut [u16; 8192],
+    keys: &mut [u64; 4096],
+    heads: &mut [u16; 4096],
+    starts: &mut [u16; 65],
     marks: &mut [u8],
     held: Held,
     words: &mut [u32],
@@ -48,11 +48,13 @@ pub fn run_lawful(
 ) -> Held
     requires { ⌜ (sound (lent design (cellsIn (now cells) (now issues)) (now tables) (now marks) held) ≡ true)
         × Catalogued design (cellsIn (now cells) (now issues)) (now tables) (now next) (now first) (now keys) (now heads) (now starts) ⌝ }
-    ensures { λ h. ⌜ leaving (lent design (cellsIn (now (cells .entry)) (now (issues .entry))) (now (tables .entry)) (now (marks .exit)) h)
+    ensures { λ h. ⌜ leaving (lent design (cellsIn (now (cells .exit)) (now (issues .exit))) (now (tables .exit)) (now (marks .exit)) h)
         (outputs (now (words .exit)) (now (text .exit)))
         ≡ leftFrom (length (now (script .entry))) (now (script .entry))
         (lent design (cellsIn (now (cells .entry)) (now (issues .entry))) (now (tables .entry)) (now (marks .entry)) held)
         (outputs (now (words .entry)) (now (text .entry))) at ⌝ }
+    ensures { λ _. ⌜ Catalogued design (cellsIn (now (cells .exit)) (now (issues .exit))) (now (tables .exit)) (now (next .exit)) (now (first .exit))
+        (now (keys .exit)) (now (heads .exit)) (now (starts .exit)) ⌝ }
 {
     let mut i = at;
     let mut h = held;
@@ -88,7 +90,8 @@ pub fn run_lawful(
     h
 }
 
-// The run of a whole script, which leaves the catalog of an accepted design's rows in the arrays, whatever stood there. The cost of `read_catalogued`, then that of the operations. What is lent is known to be sound from then on, so that no step tests for cause 12.
+// The run of a whole script, which leaves the catalog of the rows in the arrays, whatever stood there. The cost of `read_catalogued`, then that of the
+// operations. What is lent is known to be sound from then on, so that no step tests for cause 12.
 fn run_catalogued(
     script: &[u8],
     cells: &mut [u32],

@@ -1,20 +1,25 @@
 // One step of a script: the command at a place, read and carried out on a lent state.
 ghost use mathlib.Core.Path.{_≡_};
 ghost use mathlib.Core.Bool.{true};
-ghost use Prim.Native.Nat.{_+_, min};
+ghost use Prim.Native.Nat.{_+_, _≤_, min};
+ghost use lib.ListN.{length};
 ghost use Rattle.state.specs.Cells.{cellsIn};
 ghost use Rattle.state.specs.declared.answer.Answer.the-variants as Answers;
 ghost use Rattle.state.specs.Meaning.{answerOf};
 ghost use Rattle.state.specs.Lent.{lent, sound};
+ghost use Rattle.state.specs.Changes.{put, remove};
 ghost use Rattle.catalog.specs.Catalog.{Catalogued};
 ghost use Rattle.format.specs.Bytes.{byteAt};
-ghost use Rattle.format.specs.Commands.{widthOf};
-ghost use Rattle.script.specs.Step.{placeOf, outputs, operated, carried, stepAt, Does};
+ghost use Rattle.format.specs.Commands.{widthOf, putRowAt, commandAt};
+ghost use Rattle.script.specs.Step.{Outputs, placeOf, outputs, operated, changing, carried, stepAt, Does};
 use crate::outcome::Step;
 use cache::cause;
+use change::put_lawful;
+use change::remove_lawful;
 use format::Command;
 use format::MOST_BYTES;
 use format::command_at;
+use format::row_at;
 use format::width_of;
 use operate::perform_lawful;
 use state::Answer;
@@ -133,6 +138,94 @@ fn operate_at(
     answering(a, at, after, h)
 }
 
+// Puts in the row that stands at place `at`, followed by place `after`. The cost is `put_lawful`'s.
+fn put_at(
+    script: &[u8],
+    at: usize,
+    after: usize,
+    r: u16,
+    design: Design,
+    cells: &mut [u32],
+    issues: &mut [u8],
+    tables: &mut [u8],
+    next: &mut [u16; 4096],
+    first: &mut [u16; 8192],
+    keys: &mut [u64; 4096],
+    heads: &mut [u16; 4096],
+    starts: &mut [u16; 65],
+    marks: &mut [u8],
+    held: Held,
+) -> Step
+    requires { ⌜ (sound (lent design (cellsIn (now cells) (now issues)) (now tables) (now marks) held) ≡ true)
+        × Catalogued design (cellsIn (now cells) (now issues)) (now tables) (now next) (now first) (now keys) (now heads) (now starts) ⌝ }
+    requires { ⌜ at + 44 ≤ length (now script) ⌝ }
+    ensures { λ t. ⌜ ((out : Outputs) → Does
+        (changing (lent design (cellsIn (now (cells .entry)) (now (issues .entry))) (now (tables .entry)) (now (marks .entry)) held) out (put r (putRowAt (now (script .entry)) at)) at after)
+        t (lent design (cellsIn (now (cells .exit)) (now (issues .exit))) (now (tables .exit)) (now (marks .exit)) (t .held)) out) ⌝ }
+    ensures { λ _. ⌜ Catalogued design (cellsIn (now (cells .exit)) (now (issues .exit))) (now (tables .exit)) (now (next .exit)) (now (first .exit))
+        (now (keys .exit)) (now (heads .exit)) (now (starts .exit)) ⌝ }
+{
+    let x = row_at(script, at);
+    let a = put_lawful(
+        design,
+        cells,
+        issues,
+        tables,
+        next,
+        first,
+        keys,
+        heads,
+        starts,
+        marks,
+        held,
+        r,
+        x,
+    );
+    answering(a, at, after, held)
+}
+
+// Removes row r, by the command that stands at place `at`, followed by place `after`. The cost is `remove_lawful`'s.
+fn remove_at(
+    at: usize,
+    after: usize,
+    r: u16,
+    design: Design,
+    cells: &mut [u32],
+    issues: &mut [u8],
+    tables: &mut [u8],
+    next: &mut [u16; 4096],
+    first: &mut [u16; 8192],
+    keys: &mut [u64; 4096],
+    heads: &mut [u16; 4096],
+    starts: &mut [u16; 65],
+    marks: &mut [u8],
+    held: Held,
+) -> Step
+    requires { ⌜ (sound (lent design (cellsIn (now cells) (now issues)) (now tables) (now marks) held) ≡ true)
+        × Catalogued design (cellsIn (now cells) (now issues)) (now tables) (now next) (now first) (now keys) (now heads) (now starts) ⌝ }
+    ensures { λ t. ⌜ ((out : Outputs) → Does
+        (changing (lent design (cellsIn (now (cells .entry)) (now (issues .entry))) (now (tables .entry)) (now (marks .entry)) held) out (remove r) at after)
+        t (lent design (cellsIn (now (cells .exit)) (now (issues .exit))) (now (tables .exit)) (now (marks .exit)) (t .held)) out) ⌝ }
+    ensures { λ _. ⌜ Catalogued design (cellsIn (now (cells .exit)) (now (issues .exit))) (now (tables .exit)) (now (next .exit)) (now (first .exit))
+        (now (keys .exit)) (now (heads .exit)) (now (starts .exit)) ⌝ }
+{
+    let a = remove_lawful(
+        design,
+        cells,
+        issues,
+        tables,
+        next,
+        first,
+        keys,
+        heads,
+        starts,
+        marks,
+        held,
+        r,
+    );
+    answering(a, at, after, held)
+}
+
 // Carries out the command that stands at place `at`, followed by place `after`. The cost is that of its operation.
 fn carry_out(
     script: &[u8],
@@ -140,14 +233,14 @@ fn carry_out(
     after: usize,
     command: Command,
     design: Design,
-    cells: &[u32],
-    issues: &[u8],
-    tables: &[u8],
-    next: &[u16; 4096],
-    first: &[u16; 8192],
-    keys: &[u64; 4096],
-    heads: &[u16; 4096],
-    starts: &[u16; 65],
+    cells: &mut [u32],
+    issues: &mut [u8],
+    tables: &mut [u8],
+    next: &mut [u16; 4096],
+    first: &mut [u16; 8192],
+    keys: &mut [u64; 4096],
+    heads: &mut [u16; 4096],
+    starts: &mut [u16; 65],
     marks: &mut [u8],
     held: Held,
     words: &mut [u32],
@@ -159,12 +252,15 @@ fn carry_out(
 ) -> Step
     requires { ⌜ (sound (lent design (cellsIn (now cells) (now issues)) (now tables) (now marks) held) ≡ true)
         × Catalogued design (cellsIn (now cells) (now issues)) (now tables) (now next) (now first) (now keys) (now heads) (now starts) ⌝ }
+    requires { ⌜ command ≡ commandAt (now script) at ⌝ }
     ensures { λ t. ⌜ Does
         (carried (lent design (cellsIn (now (cells .entry)) (now (issues .entry))) (now (tables .entry)) (now (marks .entry)) held)
         (outputs (now (words .entry)) (now (text .entry)))
         (now (script .entry)) at after command)
-        t (lent design (cellsIn (now (cells .entry)) (now (issues .entry))) (now (tables .entry)) (now (marks .exit)) (t .held))
+        t (lent design (cellsIn (now (cells .exit)) (now (issues .exit))) (now (tables .exit)) (now (marks .exit)) (t .held))
         (outputs (now (words .exit)) (now (text .exit))) ⌝ }
+    ensures { λ _. ⌜ Catalogued design (cellsIn (now (cells .exit)) (now (issues .exit))) (now (tables .exit)) (now (next .exit)) (now (first .exit))
+        (now (keys .exit)) (now (heads .exit)) (now (starts .exit)) ⌝ }
 {
     match command {
         Command::Operate(op) => operate_at(
@@ -189,6 +285,39 @@ fn carry_out(
             froms,
             links,
         ),
+        Command::Put(r, _) => put_at(
+            script,
+            at,
+            after,
+            r,
+            design,
+            cells,
+            issues,
+            tables,
+            next,
+            first,
+            keys,
+            heads,
+            starts,
+            marks,
+            held,
+        ),
+        Command::Remove(r) => remove_at(
+            at,
+            after,
+            r,
+            design,
+            cells,
+            issues,
+            tables,
+            next,
+            first,
+            keys,
+            heads,
+            starts,
+            marks,
+            held,
+        ),
         Command::Table(_) => refusing(3, at, after, true, held),
         Command::Constraint(_) => refusing(3, at, after, true, held),
         Command::Filling(_) => refusing(3, at, after, true, held),
@@ -205,14 +334,14 @@ pub fn step_lawful(
     script: &[u8],
     at: usize,
     design: Design,
-    cells: &[u32],
-    issues: &[u8],
-    tables: &[u8],
-    next: &[u16; 4096],
-    first: &[u16; 8192],
-    keys: &[u64; 4096],
-    heads: &[u16; 4096],
-    starts: &[u16; 65],
+    cells: &mut [u32],
+    issues: &mut [u8],
+    tables: &mut [u8],
+    next: &mut [u16; 4096],
+    first: &mut [u16; 8192],
+    keys: &mut [u64; 4096],
+    heads: &mut [u16; 4096],
+    starts: &mut [u16; 65],
     marks: &mut [u8],
     held: Held,
     words: &mut [u32],
@@ -227,8 +356,10 @@ pub fn step_lawful(
     ensures { λ t. ⌜ Does
         (stepAt (lent design (cellsIn (now (cells .entry)) (now (issues .entry))) (now (tables .entry)) (now (marks .entry)) held)
         (outputs (now (words .entry)) (now (text .entry))) (now (script .entry)) at)
-        t (lent design (cellsIn (now (cells .entry)) (now (issues .entry))) (now (tables .entry)) (now (marks .exit)) (t .held))
+        t (lent design (cellsIn (now (cells .exit)) (now (issues .exit))) (now (tables .exit)) (now (marks .exit)) (t .held))
         (outputs (now (words .exit)) (now (text .exit))) ⌝ }
+    ensures { λ _. ⌜ Catalogued design (cellsIn (now (cells .exit)) (now (issues .exit))) (now (tables .exit)) (now (next .exit)) (now (first .exit))
+        (now (keys .exit)) (now (heads .exit)) (now (starts .exit)) ⌝ }
 {
     if MOST_BYTES < script.len() {
         return refusing(4, 0, at, false, held);
@@ -266,9 +397,9 @@ pub fn step(
     script: &[u8],
     at: usize,
     design: Design,
-    cells: &[u32],
-    issues: &[u8],
-    tables: &[u8],
+    cells: &mut [u32],
+    issues: &mut [u8],
+    tables: &mut [u8],
     marks: &mut [u8],
     held: Held,
     words: &mut [u32],
@@ -277,7 +408,7 @@ pub fn step(
     ensures { λ t. ⌜ Does
         (stepAt (lent design (cellsIn (now (cells .entry)) (now (issues .entry))) (now (tables .entry)) (now (marks .entry)) held)
         (outputs (now (words .entry)) (now (text .entry))) (now (script .entry)) at)
-        t (lent design (cellsIn (now (cells .entry)) (now (issues .entry))) (now (tables .entry)) (now (marks .exit)) (t .held))
+        t (lent design (cellsIn (now (cells .exit)) (now (issues .exit))) (now (tables .exit)) (now (marks .exit)) (t .held))
         (outputs (now (words .exit)) (now (text .exit))) ⌝ }
 {
     let mut next = [512u16; 4096];
@@ -312,11 +443,11 @@ pub fn step(
         cells,
         issues,
         tables,
-        &next,
-        &first,
-        &keys,
-        &heads,
-        &starts,
+        &mut next,
+        &mut first,
+        &mut keys,
+        &mut heads,
+        &mut starts,
         marks,
         held,
         words,

@@ -44,7 +44,7 @@ pub fn write(
     if why != 0 {
         return Written::Refused(why);
     }
-    let n = design_length(design, issues);
+    let n = design_length(design, issues, tables);
     if out.len() < n {
         return Written::Refused(7);
     }

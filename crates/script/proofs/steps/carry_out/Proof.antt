@@ -1,7 +1,9 @@
 -- `script::steps::carry_out` meets its contract, command by command. Assumes nothing.
-use borrow.Author.Needs.{needs}
+use mathlib.Core.Path.{sym, _∙_}
 use Rattle.script.specs.Step.{carried}
+use Rattle.script.proofs.Places.{put-whole}
 use Rattle.script.proofs.StepCode.{refusing-does, placed, in-case}
+use borrow.Author.Needs.{needs}
 use Rattle.script.proofs.steps.carry_out.Statement.{statement}
 use Rattle.script.proofs.steps.carry_out.Tie as tie
 
@@ -10,6 +12,18 @@ enum-known-command c = search needs
 
 operate-at-requires : tie.Need-operate-at-requires
 operate-at-requires c κs = search needs
+
+enum-known-command-2 : tie.Need-enum-known-command-2
+enum-known-command-2 c = search needs
+
+put-at-requires : tie.Need-put-at-requires
+put-at-requires c κs = (c .before .before .before .before .before .before .before .before .before .before .before .before .before .before .before .before .before .before .before .pre .0, put-whole _ _ _ _ (sym (c .before .before .before .before .before .before .before .before .before .before .command2 .given .1) ∙ c .before .before .before .before .before .before .before .before .before .before .before .before .before .before .before .before .before .before .before .pre .1))
+
+enum-known-command-3 : tie.Need-enum-known-command-3
+enum-known-command-3 c = search needs
+
+remove-at-requires : tie.Need-remove-at-requires
+remove-at-requires c κs = search needs
 
 enum-told : tie.Need-enum-told
 enum-told c = search needs
@@ -65,39 +79,82 @@ same-length-2 c = search needs
 same-length-3 : tie.Need-same-length-3
 same-length-3 c = search needs
 
+same-length-4 : tie.Need-same-length-4
+same-length-4 c = search needs
+
+same-length-5 : tie.Need-same-length-5
+same-length-5 c = search needs
+
+same-length-6 : tie.Need-same-length-6
+same-length-6 c = search needs
+
 returns : tie.Need-returns
 unfolding carried
-returns c = in-case _ _ _ _ _ _ _ _ _ _ (c .before .before .before .before .before .before .before .before .before .before .before .before .before .before .before .command .given .1) (c .before .before .before .before .before .before .operate-at .ensures)
+returns c = (in-case _ _ _ _ _ _ _ _ _ _ (c .before .before .before .before .before .before .before .before .before .before .before .before .before .before .before .before .before .before .before .before .before .before .before .command .given .1) (c .before .before .before .before .before .before .operate-at .ensures), c .before .before .before .before .before .before .before .before .before .before .before .before .before .before .before .before .before .before .before .before .before .before .before .before .before .before .before .before .before .before .before .before .pre .0 .1)
+
+same-length-7 : tie.Need-same-length-7
+same-length-7 c = search needs
+
+same-length-8 : tie.Need-same-length-8
+same-length-8 c = search needs
+
+same-length-9 : tie.Need-same-length-9
+same-length-9 c = search needs
+
+same-length-10 : tie.Need-same-length-10
+same-length-10 c = search needs
 
 returns-2 : tie.Need-returns-2
 unfolding carried
-returns-2 c = in-case _ _ _ _ _ _ _ _ _ _ (c .before .enum-told .given .1) (refusing-does _ _ _ _ _ _ _ (c .refusing .ensures))
+returns-2 c = (in-case _ _ _ _ _ _ _ _ _ _ (c .before .before .before .before .before .before .before .before .before .before .before .before .before .before .before .before .before .before .before .command2 .given .1) (c .before .before .before .before .before .before .before .before .put-at .ensures .0 _), c .before .before .before .before .before .before .before .before .put-at .ensures .1)
+
+same-length-11 : tie.Need-same-length-11
+same-length-11 c = search needs
+
+same-length-12 : tie.Need-same-length-12
+same-length-12 c = search needs
+
+same-length-13 : tie.Need-same-length-13
+same-length-13 c = search needs
+
+same-length-14 : tie.Need-same-length-14
+same-length-14 c = search needs
 
 returns-3 : tie.Need-returns-3
 unfolding carried
-returns-3 c = in-case _ _ _ _ _ _ _ _ _ _ (c .before .enum-told2 .given .1) (refusing-does _ _ _ _ _ _ _ (c .refusing2 .ensures))
+returns-3 c = (in-case _ _ _ _ _ _ _ _ _ _ (c .before .before .before .before .before .before .before .before .before .before .before .before .before .before .before .before .before .before .before .command3 .given .1) (c .before .before .before .before .before .before .before .before .remove-at .ensures .0 _), c .before .before .before .before .before .before .before .before .remove-at .ensures .1)
 
 returns-4 : tie.Need-returns-4
 unfolding carried
-returns-4 c = in-case _ _ _ _ _ _ _ _ _ _ (c .before .enum-told3 .given .1) (refusing-does _ _ _ _ _ _ _ (c .refusing3 .ensures))
+returns-4 c = (in-case _ _ _ _ _ _ _ _ _ _ (c .before .enum-told .given .1) (refusing-does _ _ _ _ _ _ _ (c .refusing .ensures)), c .before .before .before .before .before .before .before .before .before .before .pre .0 .1)
 
 returns-5 : tie.Need-returns-5
 unfolding carried
-returns-5 c = in-case _ _ _ _ _ _ _ _ _ _ (c .before .enum-told4 .given .1) (refusing-does _ _ _ _ _ _ _ (c .refusing4 .ensures))
+returns-5 c = (in-case _ _ _ _ _ _ _ _ _ _ (c .before .enum-told2 .given .1) (refusing-does _ _ _ _ _ _ _ (c .refusing2 .ensures)), c .before .before .before .before .before .before .before .before .before .before .pre .0 .1)
 
 returns-6 : tie.Need-returns-6
 unfolding carried
-returns-6 c = in-case _ _ _ _ _ _ _ _ _ _ (c .before .enum-told5 .given .1) (refusing-does _ _ _ _ _ _ _ (c .refusing5 .ensures))
+returns-6 c = (in-case _ _ _ _ _ _ _ _ _ _ (c .before .enum-told3 .given .1) (refusing-does _ _ _ _ _ _ _ (c .refusing3 .ensures)), c .before .before .before .before .before .before .before .before .before .before .pre .0 .1)
 
 returns-7 : tie.Need-returns-7
 unfolding carried
-returns-7 c = in-case _ _ _ _ _ _ _ _ _ _ (c .before .enum-told6 .given .1) (refusing-does _ _ _ _ _ _ _ (c .refusing6 .ensures))
+returns-7 c = (in-case _ _ _ _ _ _ _ _ _ _ (c .before .enum-told4 .given .1) (refusing-does _ _ _ _ _ _ _ (c .refusing4 .ensures)), c .before .before .before .before .before .before .before .before .before .before .pre .0 .1)
 
 returns-8 : tie.Need-returns-8
 unfolding carried
-returns-8 c =
-    in-case _ _ _ _ _ _ _ _ _ _ (c .before .before .enum-told7 .given .1)
-    (refusing-does _ _ _ _ _ _ _ (placed _ _ _ _ _ _ _ (c .refusing7 .ensures) (c .before .lower .ensures)))
+returns-8 c = (in-case _ _ _ _ _ _ _ _ _ _ (c .before .enum-told5 .given .1) (refusing-does _ _ _ _ _ _ _ (c .refusing5 .ensures)), c .before .before .before .before .before .before .before .before .before .before .pre .0 .1)
+
+returns-9 : tie.Need-returns-9
+unfolding carried
+returns-9 c = (in-case _ _ _ _ _ _ _ _ _ _ (c .before .enum-told6 .given .1) (refusing-does _ _ _ _ _ _ _ (c .refusing6 .ensures)), c .before .before .before .before .before .before .before .before .before .before .pre .0 .1)
+
+returns-10 : tie.Need-returns-10
+unfolding carried
+returns-10 c = (
+  in-case _ _ _ _ _ _ _ _ _ _ (c .before .before .enum-told7 .given .1)
+      (refusing-does _ _ _ _ _ _ _ (placed _ _ _ _ _ _ _ (c .refusing7 .ensures) (c .before .lower .ensures))),
+  c .before .before .before .before .before .before .before .before .before .before .before .pre .0 .1,
+)
 
 pub carry-out-spec : {M : Type 1} → statement M
 carry-out-spec =
@@ -105,6 +162,10 @@ carry-out-spec =
     (tie.spec
     enum-known-command
     operate-at-requires
+    enum-known-command-2
+    put-at-requires
+    enum-known-command-3
+    remove-at-requires
     enum-told
     refusing-requires
     enum-told-2
@@ -123,11 +184,24 @@ carry-out-spec =
     same-length
     same-length-2
     same-length-3
+    same-length-4
+    same-length-5
+    same-length-6
     returns
+    same-length-7
+    same-length-8
+    same-length-9
+    same-length-10
     returns-2
+    same-length-11
+    same-length-12
+    same-length-13
+    same-length-14
     returns-3
     returns-4
     returns-5
     returns-6
     returns-7
-    returns-8)
+    returns-8
+    returns-9
+    returns-10)

@@ -1,8 +1,8 @@
 -- `script::steps::step` meets its contract: causes 7 and 12, then the step on a sound state. Assumes nothing.
 use mathlib.Core.Path.{sym, _∙_}
-use borrow.Author.Needs.{needs}
 use Rattle.lawful.proofs.SoundState.{cause-none}
 use Rattle.script.proofs.StepCode.{caused-does}
+use borrow.Author.Needs.{needs}
 use Rattle.script.proofs.steps.step.Statement.{statement}
 use Rattle.script.proofs.steps.step.Tie as tie
 
@@ -15,15 +15,6 @@ refusing-requires c κs = search needs
 same-length : tie.Need-same-length
 same-length c = search needs
 
-returns : tie.Need-returns
-returns c = caused-does _ _ _ _ _ (c .before .before .cause .ensures .0) (c .before .if1 .taken) _ (c .refusing .ensures)
-
-step-lawful-requires : tie.Need-step-lawful-requires
-step-lawful-requires c κs =
-    let z = c .before .before .before .before .before .before .before .before .before .before .before .before .if1 .left in
-    let e = c .before .before .before .before .before .before .before .before .before .before .before .before .before .cause .ensures in
-    (cause-none _ (sym (e .0) ∙ z), e .1 z)
-
 same-length-2 : tie.Need-same-length-2
 same-length-2 c = search needs
 
@@ -33,8 +24,52 @@ same-length-3 c = search needs
 same-length-4 : tie.Need-same-length-4
 same-length-4 c = search needs
 
+returns : tie.Need-returns
+returns c = caused-does _ _ _ _ _ (c .before .before .cause .ensures .0) (c .before .if1 .taken) _ (c .refusing .ensures)
+
+step-lawful-requires : tie.Need-step-lawful-requires
+step-lawful-requires c κs =
+    let z = c .before .before .before .before .before .before .before .before .before .before .before .before .before .before .before .if1 .left in
+    let e = c .before .before .before .before .before .before .before .before .before .before .before .before .before .before .before .before .cause .ensures in
+    (cause-none _ (sym (e .0) ∙ z), e .1 z)
+
+same-length-5 : tie.Need-same-length-5
+same-length-5 c = search needs
+
+same-length-6 : tie.Need-same-length-6
+same-length-6 c = search needs
+
+same-length-7 : tie.Need-same-length-7
+same-length-7 c = search needs
+
+same-length-8 : tie.Need-same-length-8
+same-length-8 c = search needs
+
+same-length-9 : tie.Need-same-length-9
+same-length-9 c = search needs
+
+same-length-10 : tie.Need-same-length-10
+same-length-10 c = search needs
+
 returns-2 : tie.Need-returns-2
-returns-2 c = search needs
+returns-2 c = c .before .before .before .before .before .before .before .before .before .before .before .before .step-lawful .ensures .0
 
 pub step-spec : {M : Type 1} → statement M
-step-spec = tie.close (tie.spec cause-requires refusing-requires same-length returns step-lawful-requires same-length-2 same-length-3 same-length-4 returns-2)
+step-spec =
+    tie.close
+    (tie.spec
+    cause-requires
+    refusing-requires
+    same-length
+    same-length-2
+    same-length-3
+    same-length-4
+    returns
+    step-lawful-requires
+    same-length-5
+    same-length-6
+    same-length-7
+    same-length-8
+    same-length-9
+    same-length-10
+    returns-2)

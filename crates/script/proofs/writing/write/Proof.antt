@@ -20,14 +20,14 @@ design-length-requires : tie.Need-design-length-requires
 design-length-requires c κs =
     let s = c .before .before .before .before .before .before .before .before .before .before .before .before in
     let e = cause-none _ (sym (c .before .cause .ensures .0) ∙ c .if1 .left) in
-    (sound-range _ e (sized (s .args .design) _ (s .good .0)), sound-backed _ e .issued)
+    (sound-range _ e (sized (s .args .design) _ (s .good .0)), sound-backed _ e .issued, sound-backed _ e .members)
 
 returns-2 : tie.Need-returns-2
 returns-2 c =
     let k = c .before .before in
     let s = k .before .before .before .before .before .before .before .before .before .before .before .before in
     cramped-writes _ _ (cause-none _ (sym (k .before .cause .ensures .0) ∙ k .if1 .left))
-    (omega (arith, c .before .design-length .ensures (now (s .args .cells)) (now (s .args .tables))))
+    (omega (arith, c .before .design-length .ensures (now (s .args .cells))))
 
 write-design-requires : tie.Need-write-design-requires
 write-design-requires c κs =
@@ -36,7 +36,7 @@ write-design-requires c κs =
     let e = cause-none _ (sym (k .before .cause .ensures .0) ∙ k .if1 .left) in (
       sound-range _ e (sized (s .args .design) _ (s .good .0)),
       sound-backed _ e,
-      omega (arith, c .before .before .design-length .ensures (now (s .args .cells)) (now (s .args .tables))),
+      omega (arith, c .before .before .design-length .ensures (now (s .args .cells))),
     )
 
 same-length : tie.Need-same-length
@@ -48,8 +48,8 @@ returns-3 c =
     let k = n .before in
     let s = k .before .before .before .before .before .before .before .before .before .before .before .before in
     stored-writes _ _ (cause-none _ (sym (k .before .cause .ensures .0) ∙ k .if1 .left))
-    (omega (arith, n .design-length .ensures (now (s .args .cells)) (now (s .args .tables)))) _ _
-    (n .design-length .ensures _ _) (c .before .before .write-design .ensures .1)
+    (omega (arith, n .design-length .ensures (now (s .args .cells)))) _ _
+    (n .design-length .ensures _) (c .before .before .write-design .ensures .1)
 
 pub write-spec : {M : Type 1} → statement M
 write-spec = tie.close (tie.spec cause-requires returns design-length-requires returns-2 write-design-requires same-length returns-3)
