@@ -9,7 +9,8 @@ use borrow.Author.Tests.{lt-ltb, ltb-true}
 use lib.Dec.{leb, ltb, lit<}
 use lib.ListN.{length}
 use lib.Seq.{sets, length-sets}
-use Rattle.finite.proofs.Tables.{length-tab, tab-at}
+use Rattle.finite.proofs.Tables.{tab-at}
+use Rattle.model.specs.Holding.{nothingHeld}
 use Rattle.state.specs.Cells.{Cells}
 use Rattle.state.specs.declared.design.Design.{Design}
 use Rattle.state.specs.declared.held.OwnedValue.{OwnedValue}
@@ -18,6 +19,8 @@ use Rattle.state.specs.Lent.{lent, sound, longEnough}
 use Rattle.state.specs.Design.{emptyDesign}
 use Rattle.state.specs.Meaning.{schemeOf, databaseOf}
 use Rattle.state.specs.Lawful.{tableFits, constraintFits, fillingFits, rowFits, repeats}
+use Rattle.state.proofs.Arrays.{HeldSized}
+use Rattle.lawful.proofs.HeldLaws.{held-of-sized}
 use Rattle.lawful.proofs.RowsLaws.{Stored}
 use Rattle.lawful.proofs.SoundState.{parts}
 use Rattle.format.specs.declared.command.Command as Commands
@@ -29,10 +32,12 @@ use Rattle.format.specs.Reading.{advanced, readOn, readFrom, readDesign, readIn
 use Rattle.format.specs.Reading.Advanced.{on, complete, refused}
 use Rattle.format.specs.Reading.DesignRead.{accepted, refusedAt}
 use Rattle.format.proofs.Small.{Small}
+use Rattle.format.proofs.RoundTrip.{accepted-lawful}
 use Rattle.script.specs.Step.{outputs}
-use Rattle.script.specs.Runs.{buffers, justRead}
-use Rattle.script.proofs.JustRead.{Begun, begun}
-use Rattle.foreign.specs.Words.{designLength, heldLength, designWords, heldWords, wordsDesign, wordsHeld}
+use Rattle.script.specs.Runs.{Buffers, buffers, justRead, beginning}
+use Rattle.script.proofs.JustRead.{into-parts, begun, none-held}
+use Rattle.script.proofs.Tracking.{Tracks}
+use Rattle.foreign.specs.Words.{designLength, heldLength, designWords, heldWords, wordsDesign, wordsHeld, Typed}
 use Rattle.foreign.specs.Calls.{opening, causeNumber, designWordsAfter, heldWordsAfter, Opened, Arrays, CatalogIn, Catalogs, wordsState, Ready}
 use Rattle.foreign.proofs.WordLaws.{design-stored, held-stored}
 use Rattle.foreign.proofs.Narrow.{narrow-design, narrow-held}
@@ -59,21 +64,23 @@ if-caused false n t l h = h
 advanced-caused : (p : Draft) (s : List ℕ) (i : ℕ) (c : Commands.Command) → causeAdvanced (advanced p s i c) ≡ true
 unfolding advanced rowAdvanced
 advanced-caused p s i (C.Table t) =
-    if-caused (afterTables (p .design)) 3 _ (omega arith) (if-caused (leb 8 (p .design .tables)) 4 _ (omega arith)
+    if-caused (afterTables (p .design) (p .rows)) 3 _ (omega arith) (if-caused (leb 8 (p .design .tables)) 4 _ (omega arith)
     (if-caused (not (tableFits t)) 5 _ (omega arith) refl))
 advanced-caused p s i (C.Constraint c) =
-    if-caused (afterConstraints (p .design)) 3 _ (omega arith) (if-caused (leb 16 (p .design .constraints)) 4 _ (omega arith)
+    if-caused (afterConstraints (p .design) (p .rows)) 3 _ (omega arith) (if-caused (leb 16 (p .design .constraints)) 4 _ (omega arith)
     (if-caused (not (constraintFits (p .design) (p .design .constraints) c)) 5 _ (omega arith) refl))
 advanced-caused p s i (C.Filling f) =
-    if-caused (afterFillings (p .design)) 3 _ (omega arith) (if-caused (leb 8 (p .design .fillings)) 4 _ (omega arith)
+    if-caused (afterFillings (p .rows)) 3 _ (omega arith) (if-caused (leb 8 (p .design .fillings)) 4 _ (omega arith)
     (if-caused (not (fillingFits (p .design) (p .design .fillings) f)) 5 _ (omega arith) refl))
 advanced-caused p s i (C.Row t) =
-    let q = withRow p s i t in let r = p .design .rows in
-    let S = schemeOf (q .design) in let D = databaseOf (q .design .rows) (q .cells) (q .tables) in
+    let q = withRow p s i t in let r = p .rows in
+    let S = schemeOf (q .design) in let D = databaseOf (q .cells) (q .tables) in
     if-caused (leb 512 r) 4 _ (omega arith) (if-caused (needless s i) 5 _ (omega arith)
     (if-caused (not (rowFits S D r)) 5 _ (omega arith) (if-caused (repeats S D r) 6 _ (omega arith) refl)))
 advanced-caused p s i C.End = refl
 advanced-caused p s i (C.Operate o) = cause 3 (omega arith)
+advanced-caused p s i (C.Put r t) = cause 3 (omega arith)
+advanced-caused p s i (C.Remove r) = cause 3 (omega arith)
 advanced-caused p s i C.Unknown = cause 2 (omega arith)
 advanced-caused p s i C.Short = cause 1 (omega arith)
 
@@ -108,13 +115,14 @@ opening-caused script cs ts ms ds hs =
 
 -- ---- what is left with number 0
 
-none-long : length (noneHeld .values) ≡ 64
-unfolding noneHeld
-none-long = length-tab 64 (λ _. noValue)
-
 none-issues : (i : ℕ) → i < 64 → heldAt noneHeld i .pair .value .issue < 256
 unfolding noneHeld
 none-issues i l = subst (λ (v : OwnedValue). v .pair .value .issue < 256) (sym (tab-at noValue 64 (λ _. noValue) i l)) (lit< tt)
+
+none-typed : Typed noneHeld
+none-typed =
+    let z = subst HeldSized (sym none-held) (held-of-sized nothingHeld) in
+    record { values = z .values; ranges = z .ranges; list = z .list; issue = none-issues }
 
 module _ (script : List ℕ) (cs : Cells) (ts ms ds hs : List ℕ) (n : ℕ) (cs′ : Cells) (ts′ ms′ ds′ hs′ : List ℕ)
     (o : Opened (opening script cs ts ms ds hs) n cs cs′ ts ts′ ms ms′ ds ds′ hs hs′) (k k′ : Arrays)
@@ -136,15 +144,17 @@ module _ (script : List ℕ) (cs : Cells) (ts ms ds hs : List ℕ) (n : ℕ) (cs
           let marks : ms′ ≡ marksAfter (accepted p i) ms = o .marks ∙ ap (λ (v : DesignRead). marksAfter v ms) q in
           let design : ds′ ≡ sets ds 0 (designWords (p .design)) = o .design ∙ ap (λ (v : DesignRead). designWordsAfter v ds) q in
           let held : hs′ ≡ sets hs 0 (heldWords noneHeld) = o .held ∙ ap (λ (v : DesignRead). heldWordsAfter v hs) q in
-          let b : Begun (buffers cs ts ms (outputs [] [])) p i = begun script small (buffers cs ts ms (outputs [] [])) p i (w .2) (subst Stored cells stored) in
-          let z = b .sizes in
+          let lends : Buffers = buffers cs ts ms (outputs [] []) in
+          let b : Tracks p lends (beginning p) (justRead (accepted p i) lends) = begun script small lends p i (w .2) (subst Stored cells stored) in
+          let l = accepted-lawful script small p i (into-parts script lends p i (w .2) .1) in
+          let z = l .2 in
           let d : wordsDesign ds′ ≡ p .design =
           ap wordsDesign design ∙
           design-stored (p .design) (record { table = z .table; constraint = z .constraint; filling = z .filling })
-          (narrow-design (p .design) (b .design)) ds (w .0) in
+          (narrow-design (p .design) (l .0)) ds (w .0) in
           let h : wordsHeld hs′ ≡ noneHeld =
-          ap wordsHeld held ∙ held-stored noneHeld none-long (narrow-held (p .design) noneHeld (b .design) (parts _ (b .sound) .held) none-issues) hs (w .1) in
-          let s : wordsState ds′ cs′ ts′ ms′ hs′ ≡ justRead (accepted p i) (buffers cs ts ms (outputs [] [])) =
+          ap wordsHeld held ∙ held-stored noneHeld (narrow-held (p .design) noneHeld (l .0) (parts _ (b .sound) .held) none-typed) hs (w .1) in
+          let s : wordsState ds′ cs′ ts′ ms′ hs′ ≡ justRead (accepted p i) lends =
           λ x. lent (d x) (cells x) (tables x) (marks x) (h x) in
           record {
             design = omega (arith, w .0, ap length design, length-sets ds 0 (designWords (p .design)));

@@ -13,9 +13,11 @@ use Rattle.finite.proofs.Bools.{dec, both, and-left, and-right, cond-true, cond
 use Rattle.state.specs.Cells.{Cells}
 use Rattle.state.specs.declared.held.Held.{Held}
 use Rattle.state.specs.declared.design.Design.{Design}
-use Rattle.state.specs.Held.{noneHeld}
+use Rattle.state.specs.Design.{emptyDesign}
+use Rattle.state.specs.Held.{noneHeld, Tidy}
 use Rattle.lawful.specs.LawfulState.{LawfulDesign}
 use Rattle.lawful.proofs.DesignLaws.{design-says}
+use Rattle.lawful.proofs.HeldLaws.{held-tidy}
 use Rattle.format.specs.declared.verdict.Verdict.the-variants.{Accepted, Refused}
 use Rattle.format.specs.declared.verdict.DesignReading.{DesignReading}
 use Rattle.format.specs.Reading.{Draft, DesignRead, readInto, verdictOf, designOf, cellsAfter, tablesAfter, marksAfter, Leaves}
@@ -24,7 +26,7 @@ use Rattle.format.proofs.Small.{Small}
 use Rattle.format.proofs.RoundTrip.{accepted-lawful}
 use Rattle.script.specs.Step.{outputs}
 use Rattle.script.specs.Runs.{buffers}
-use Rattle.script.proofs.JustRead.{into-parts}
+use Rattle.script.proofs.JustRead.{into-parts, none-lawful}
 use Rattle.foreign.specs.Words.{designLength, heldLength, designWords, heldWords}
 use Rattle.foreign.specs.Calls.{opening, causeNumber, designWordsAfter, heldWordsAfter, Opened, Arrays, CatalogIn, Catalogs}
 
@@ -151,6 +153,5 @@ opened-lawful script cs ts ms r cs′ ts′ ms′ read j v small = go (readInto 
     go (refusedAt c i) e = absurd (let z : _≡_ {A = ℕ} 0 1 = cc (v, read .verdict ∙ ap verdictOf e) in omega arith)
 
 -- nothing is held
-pub none-few : (none : Held) → none ≡ noneHeld → none .count ≤ 64
-unfolding noneHeld
-none-few none e = omega (arith, ap (λ (h : Held). h .count) e)
+pub none-tidy : (none : Held) → none ≡ noneHeld → Tidy none
+none-tidy none e = subst Tidy (sym e) (held-tidy emptyDesign noneHeld (none-lawful emptyDesign))

@@ -7,7 +7,7 @@ use lib.ListN.{length, getD, take, length-take}
 use lib.Seq.{getD-take}
 use Rattle.finite.specs.Finite.{tab}
 use Rattle.finite.proofs.Tables.{length-tab, tab-at, tab-of}
-use Rattle.model.specs.Answers.{Answer, loaded, held, noCandidate, dropped, ground, sent, lists, refused, even, uneven, total, knot, named, opened, openedBy, noOpener, absent, explained, shown}
+use Rattle.model.specs.Answers.{Answer, loaded, held, noCandidate, dropped, ground, sent, lists, refused, even, uneven, total, knot, named, opened, openedBy, noOpener, absent, explained, changed, shown}
 use Rattle.state.specs.Meaning.{sixteen}
 use Rattle.foreign.specs.Told.{Told, answerIn}
 
@@ -40,6 +40,7 @@ read-back (openedBy f n i) l = refl
 read-back noOpener l = refl
 read-back absent l = refl
 read-back (explained n) l = refl
+read-back (changed came went) l = refl
 
 module _ (a : Answer) (n : ℕ) (ns : List ℕ) (k : ℕ) (t : Told a n ns k) where
   -- THEOREM: what is told is the answer that a caller reads off it ..

@@ -81,19 +81,21 @@ pub record Ready (ds : List ℕ) (cs : Cells) (ts : List ℕ) (k : Arrays) (ms h
   pub sound : sound (wordsState ds cs ts ms hs) ≡ true
   pub catalog : CatalogIn k (wordsDesign ds) cs ts
 
--- the state s, and w of what is lent for answers, are left: the marks ms′ and ws′ afterwards, the held words hs before and hs′ after; and the next step
--- can be taken
-pub record Kept (s : State) (w : Outputs) (ds : List ℕ) (cs : Cells) (ts : List ℕ) (k : Arrays) (ms′ : List ℕ) (ws′ : Outputs) (hs hs′ : List ℕ) : Type 0 where
+-- the state s, and w of what is lent for answers, are left: the cells cs′, the row tables ts′, the catalog's arrays k′, the marks ms′ and ws′ afterwards, the
+-- held words hs before and hs′ after; and the next step can be taken
+pub record Kept (s : State) (w : Outputs) (ds : List ℕ) (cs′ : Cells) (ts′ : List ℕ) (k′ : Arrays) (ms′ : List ℕ) (ws′ : Outputs) (hs hs′ : List ℕ) : Type 0 where
+  pub cells : cs′ ≡ s .cells
+  pub tables : ts′ ≡ s .tables
   pub marks : ms′ ≡ s .marks
   pub outputs : ws′ ≡ w
   pub held : hs′ ≡ sets hs 0 (heldWords (s .held))
-  pub ready : Ready ds cs ts k ms′ hs′
+  pub ready : Ready ds cs′ ts′ k′ ms′ hs′
 
 -- the step R was taken: the number n, the buffer ns′ and the count q′ tell its answer, and what it leaves is kept
-pub record StepTaken (R : Stepped) (n : ℕ) (ns′ : List ℕ) (q′ : ℕ) (ds : List ℕ) (cs : Cells) (ts : List ℕ) (k : Arrays) (ms′ : List ℕ)
+pub record StepTaken (R : Stepped) (n : ℕ) (ns′ : List ℕ) (q′ : ℕ) (ds : List ℕ) (cs′ : Cells) (ts′ : List ℕ) (k′ : Arrays) (ms′ : List ℕ)
     (ws′ : Outputs) (hs hs′ : List ℕ) : Type 0 where
   pub told : Told (R .answer) n ns′ q′
-  pub kept : Kept (R .state) (R .outputs) ds cs ts k ms′ ws′ hs hs′
+  pub kept : Kept (R .state) (R .outputs) ds cs′ ts′ k′ ms′ ws′ hs hs′
 
 -- ---- wurzsige_run
 

@@ -6,7 +6,7 @@ use mathlib.Core.Bool.{cond}
 use mathlib.Core.List.{List}
 use lib.Dec.{eqb}
 use lib.ListN.{length, getD, take}
-use Rattle.model.specs.Answers.{Answer, loaded, held, noCandidate, dropped, ground, sent, lists, refused, even, uneven, total, knot, named, opened, openedBy, noOpener, absent, explained, shown, listsWord, explainedWord}
+use Rattle.model.specs.Answers.{Answer, loaded, held, noCandidate, dropped, ground, sent, lists, refused, even, uneven, total, knot, named, opened, openedBy, noOpener, absent, explained, changed, shown, listsWord, explainedWord}
 use Rattle.state.specs.Meaning.{sixteen}
 
 -- the word's number n, the buffer ns and the count k tell the answer a
@@ -36,4 +36,5 @@ answerIn n ns k =
     (cond (eqb n 15) noOpener
     (cond (eqb n 16) absent
     (cond (eqb n explainedWord) (explained (getD ns 0 0))
-    (refused (getD ns 0 0))))))))))))))))))
+    (cond (eqb n 18) (changed (getD ns 0 0) (getD ns 1 0))
+    (refused (getD ns 0 0)))))))))))))))))))

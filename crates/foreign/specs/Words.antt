@@ -1,9 +1,11 @@
--- A design and held values as lists of u32 words, 116 and 258 of them, and the design and held values that such a list stands for. The words of a
--- design are its four counts, then each table, constraint and filling; those of held values the named desk, the count, then each value with its desk. Assumes nothing.
-use Prim.Native.Nat.{ℕ, _+_, _*_, _%_}
+-- A design and held values as lists of u32 words, 115 and 358 of them, and the design and held values that such a list stands for. The words of a
+-- design are its three counts, then each table, constraint and filling; those of held values the named desk, the count, each value with
+-- its desk, then for each desk the count of its ranges and each of these. Assumes nothing.
+use Prim.Native.Nat.{ℕ, _+_, _*_, _%_, _<_}
+use mathlib.Core.Path.{_≡_}
 use mathlib.Core.Bool.{true}
 use mathlib.Core.List.{List, [], _∷_, _++_}
-use lib.ListN.{getD}
+use lib.ListN.{getD, length}
 use Rattle.finite.specs.Finite.{tab, collect}
 use Rattle.state.specs.declared.design.Table.{Table}
 use Rattle.state.specs.declared.design.Column.{Column}
@@ -11,16 +13,18 @@ use Rattle.state.specs.declared.design.Constraint.{Constraint}
 use Rattle.state.specs.declared.design.Filling.{Filling}
 use Rattle.state.specs.declared.design.Design.{Design}
 use Rattle.state.specs.declared.held.OwnedValue.{OwnedValue}
+use Rattle.state.specs.declared.held.Range.{Range}
+use Rattle.state.specs.declared.held.DeskRanges.{DeskRanges}
 use Rattle.state.specs.declared.held.Held.{Held}
 use Rattle.state.specs.Design.{noTable, noConstraint, noFilling}
-use Rattle.state.specs.Held.{noValue}
+use Rattle.state.specs.Held.{noValue, noRange, noRanges, heldAt, rangesAt}
 
 -- how many words a design takes, and held values
 abbrev pub designLength : ℕ
-designLength = 116
+designLength = 115
 
 abbrev pub heldLength : ℕ
-heldLength = 258
+heldLength = 358
 
 -- ---- to words
 
@@ -36,8 +40,11 @@ fillingWords f = f .column .table ∷ f .column .place ∷ f .low ∷ f .high �
 abbrev pub valueWords : OwnedValue → List ℕ
 valueWords v = v .desk ∷ v .pair .filling ∷ v .pair .value .number ∷ v .pair .value .issue ∷ []
 
+abbrev pub rangeWords : Range → List ℕ
+rangeWords r = r .filling ∷ r .low ∷ r .high ∷ []
+
 abbrev pub countsWords : Design → List ℕ
-countsWords d = d .tables ∷ d .constraints ∷ d .fillings ∷ d .rows ∷ []
+countsWords d = d .tables ∷ d .constraints ∷ d .fillings ∷ []
 
 -- all places of an array of n, unused ones too: their words one behind the other
 abbrev pub placesWords : {A : Type 0} → ℕ → A → (A → List ℕ) → List A → List ℕ
@@ -55,11 +62,21 @@ fillingsWords = placesWords 8 noFilling fillingWords
 abbrev pub valuesWords : List OwnedValue → List ℕ
 valuesWords = placesWords 64 noValue valueWords
 
+abbrev pub listWords : List Range → List ℕ
+listWords = placesWords 8 noRange rangeWords
+
+-- a desk's ranges: their count, and its places
+abbrev pub rangesWords : DeskRanges → List ℕ
+rangesWords s = s .count ∷ listWords (s .list)
+
+abbrev pub desksWords : List DeskRanges → List ℕ
+desksWords = placesWords 4 noRanges rangesWords
+
 unfoldable pub designWords : Design → List ℕ
 designWords d = countsWords d ++ (tablesWords (d .table) ++ (constraintsWords (d .constraint) ++ fillingsWords (d .filling)))
 
 unfoldable pub heldWords : Held → List ℕ
-heldWords h = h .desk ∷ h .count ∷ valuesWords (h .values)
+heldWords h = h .desk ∷ h .count ∷ (valuesWords (h .values) ++ desksWords (h .ranges))
 
 -- ---- from words
 
@@ -89,21 +106,34 @@ valueFrom ws i =
       pair = record { filling = byteOf ws (i + 1); value = record { number = wordAt ws (i + 2); issue = byteOf ws (i + 3) } };
     }
 
+abbrev pub rangeFrom : List ℕ → ℕ → Range
+rangeFrom ws i = record { filling = byteOf ws i; low = wordAt ws (i + 1); high = wordAt ws (i + 2) }
+
 -- the n places of an array, each of w words, the first at word a
 abbrev pub placesFrom : {A : Type 0} → ℕ → ℕ → ℕ → (List ℕ → ℕ → A) → List ℕ → List A
 placesFrom n a w from ws = tab n (λ i. from ws (a + w * i))
 
 abbrev pub tablesFrom : List ℕ → List Table
-tablesFrom = placesFrom 8 4 2 tableFrom
+tablesFrom = placesFrom 8 3 2 tableFrom
 
 abbrev pub constraintsFrom : List ℕ → List Constraint
-constraintsFrom = placesFrom 16 20 4 constraintFrom
+constraintsFrom = placesFrom 16 19 4 constraintFrom
 
 abbrev pub fillingsFrom : List ℕ → List Filling
-fillingsFrom = placesFrom 8 84 4 fillingFrom
+fillingsFrom = placesFrom 8 83 4 fillingFrom
 
 abbrev pub valuesFrom : List ℕ → List OwnedValue
 valuesFrom = placesFrom 64 2 4 valueFrom
+
+-- from word i on
+abbrev pub listFrom : List ℕ → ℕ → List Range
+listFrom ws i = placesFrom 8 i 3 rangeFrom ws
+
+abbrev pub rangesFrom : List ℕ → ℕ → DeskRanges
+rangesFrom ws i = record { count = wordAt ws i; list = listFrom ws (i + 1) }
+
+abbrev pub desksFrom : List ℕ → List DeskRanges
+desksFrom = placesFrom 4 258 25 rangesFrom
 
 unfoldable pub wordsDesign : List ℕ → Design
 wordsDesign ws =
@@ -114,8 +144,14 @@ wordsDesign ws =
       constraint = constraintsFrom ws;
       fillings = wordAt ws 2;
       filling = fillingsFrom ws;
-      rows = wordAt ws 3;
     }
 
 unfoldable pub wordsHeld : List ℕ → Held
-wordsHeld ws = record { desk = byteOf ws 0; count = wordAt ws 1; values = valuesFrom ws }
+wordsHeld ws = record { desk = byteOf ws 0; count = wordAt ws 1; values = valuesFrom ws; ranges = desksFrom ws }
+
+-- what the type of a held record says of it: its arrays have their places, and an issue is a byte
+pub record Typed (h : Held) : Type 0 where
+  pub values : length (h .values) ≡ 64
+  pub ranges : length (h .ranges) ≡ 4
+  pub list : (e : ℕ) → e < 4 → length (rangesAt h e .list) ≡ 8
+  pub issue : (i : ℕ) → i < 64 → heldAt h i .pair .value .issue < 256

@@ -3,18 +3,20 @@ ghost use Prim.Native.Nat.{_+_, _≤_, _<_};
 ghost use mathlib.Core.Path.{_≡_};
 ghost use lib.ListN.{length};
 ghost use Rattle.foreign.specs.Words.{wordAt, byteOf, tableFrom, columnFrom, constraintFrom, fillingFrom, valueFrom, tablesFrom};
-ghost use Rattle.foreign.specs.Words.{constraintsFrom, fillingsFrom, valuesFrom, wordsDesign, wordsHeld};
+ghost use Rattle.foreign.specs.Words.{constraintsFrom, fillingsFrom, valuesFrom, rangeFrom, listFrom, rangesFrom, desksFrom, wordsDesign, wordsHeld};
 use state::Cell;
 use state::Column;
 use state::Constraint;
 use state::Design;
+use state::DeskRanges;
 use state::Filling;
 use state::Held;
 use state::HeldValue;
 use state::OwnedValue;
+use state::Range;
 use state::Table;
 
-// A word where a u8 is kept. Constant time, as are the next five.
+// A word where a u8 is kept. Constant time, as are the next seven.
 fn byte_at(words: &[u32], i: usize) -> u8
     requires { ⌜ i < length (now words) ⌝ }
     ensures { λ b. ⌜ b ≡ byteOf (now (words .entry)) i ⌝ }
@@ -80,9 +82,19 @@ fn value_from(words: &[u32], at: usize) -> OwnedValue
     OwnedValue { desk, pair }
 }
 
+fn range_from(words: &[u32], at: usize) -> Range
+    requires { ⌜ at + 3 ≤ length (now words) ⌝ }
+    ensures { λ r. ⌜ r ≡ rangeFrom (now (words .entry)) at ⌝ }
+{
+    let filling = byte_at(words, at);
+    let low = words[at + 1];
+    let high = words[at + 2];
+    Range { filling, low, high }
+}
+
 // All places of an array. One step for each.
 fn tables_from(words: &[u32]) -> [Table; 8]
-    requires { ⌜ 116 ≤ length (now words) ⌝ }
+    requires { ⌜ 115 ≤ length (now words) ⌝ }
     ensures { λ ts. ⌜ ts ≡ tablesFrom (now (words .entry)) ⌝ }
 {
     let mut ts = [Table {
@@ -90,14 +102,14 @@ fn tables_from(words: &[u32]) -> [Table; 8]
         unique: 0,
     }; 8];
     for i in 0..8usize {
-        let t = table_from(words, 4 + 2 * i);
+        let t = table_from(words, 3 + 2 * i);
         ts[i] = t;
     }
     ts
 }
 
 fn constraints_from(words: &[u32]) -> [Constraint; 16]
-    requires { ⌜ 116 ≤ length (now words) ⌝ }
+    requires { ⌜ 115 ≤ length (now words) ⌝ }
     ensures { λ cs. ⌜ cs ≡ constraintsFrom (now (words .entry)) ⌝ }
 {
     let k = Column { table: 0, place: 0 };
@@ -106,14 +118,14 @@ fn constraints_from(words: &[u32]) -> [Constraint; 16]
         target: k,
     }; 16];
     for i in 0..16usize {
-        let c = constraint_from(words, 20 + 4 * i);
+        let c = constraint_from(words, 19 + 4 * i);
         cs[i] = c;
     }
     cs
 }
 
 fn fillings_from(words: &[u32]) -> [Filling; 8]
-    requires { ⌜ 116 ≤ length (now words) ⌝ }
+    requires { ⌜ 115 ≤ length (now words) ⌝ }
     ensures { λ fs. ⌜ fs ≡ fillingsFrom (now (words .entry)) ⌝ }
 {
     let k = Column { table: 0, place: 0 };
@@ -123,14 +135,14 @@ fn fillings_from(words: &[u32]) -> [Filling; 8]
         high: 0,
     }; 8];
     for i in 0..8usize {
-        let f = filling_from(words, 84 + 4 * i);
+        let f = filling_from(words, 83 + 4 * i);
         fs[i] = f;
     }
     fs
 }
 
 fn values_from(words: &[u32]) -> [OwnedValue; 64]
-    requires { ⌜ 258 ≤ length (now words) ⌝ }
+    requires { ⌜ 358 ≤ length (now words) ⌝ }
     ensures { λ vs. ⌜ vs ≡ valuesFrom (now (words .entry)) ⌝ }
 {
     let mut vs = [OwnedValue {
@@ -150,9 +162,48 @@ fn values_from(words: &[u32]) -> [OwnedValue; 64]
     vs
 }
 
-// The design that the first 116 words stand for. One step for each of its 32 places.
+// The places of a desk's ranges from word `at` on, and these with their count.
+fn list_from(words: &[u32], at: usize) -> [Range; 8]
+    requires { ⌜ at + 24 ≤ length (now words) ⌝ }
+    ensures { λ rs. ⌜ rs ≡ listFrom (now (words .entry)) at ⌝ }
+{
+    let mut rs = [Range {
+        filling: 0,
+        low: 0,
+        high: 0,
+    }; 8];
+    for i in 0..8usize {
+        let r = range_from(words, at + 3 * i);
+        rs[i] = r;
+    }
+    rs
+}
+
+fn ranges_from(words: &[u32], at: usize) -> DeskRanges
+    requires { ⌜ at + 25 ≤ length (now words) ⌝ }
+    ensures { λ s. ⌜ s ≡ rangesFrom (now (words .entry)) at ⌝ }
+{
+    let count = count_at(words, at);
+    let list = list_from(words, at + 1);
+    DeskRanges { count, list }
+}
+
+fn desks_from(words: &[u32]) -> [DeskRanges; 4]
+    requires { ⌜ 358 ≤ length (now words) ⌝ }
+    ensures { λ ss. ⌜ ss ≡ desksFrom (now (words .entry)) ⌝ }
+{
+    let none = DeskRanges::none();
+    let mut ss = [none; 4];
+    for e in 0..4usize {
+        let s = ranges_from(words, 258 + 25 * e);
+        ss[e] = s;
+    }
+    ss
+}
+
+// The design that the first 115 words stand for. One step for each of its 32 places.
 pub(crate) fn design_from(words: &[u32]) -> Design
-    requires { ⌜ 116 ≤ length (now words) ⌝ }
+    requires { ⌜ 115 ≤ length (now words) ⌝ }
     ensures { λ d. ⌜ d ≡ wordsDesign (now (words .entry)) ⌝ }
 {
     let tables = count_at(words, 0);
@@ -161,7 +212,6 @@ pub(crate) fn design_from(words: &[u32]) -> Design
     let constraint = constraints_from(words);
     let fillings = count_at(words, 2);
     let filling = fillings_from(words);
-    let rows = count_at(words, 3);
     Design {
         tables,
         table,
@@ -169,21 +219,22 @@ pub(crate) fn design_from(words: &[u32]) -> Design
         constraint,
         fillings,
         filling,
-        rows,
     }
 }
 
-// The held values that the first 258 words stand for. One step for each of their 64 places.
+// What the first 358 words hold. One step for each of the 64 places of values and the 32 of ranges.
 pub(crate) fn held_from(words: &[u32]) -> Held
-    requires { ⌜ 258 ≤ length (now words) ⌝ }
+    requires { ⌜ 358 ≤ length (now words) ⌝ }
     ensures { λ h. ⌜ h ≡ wordsHeld (now (words .entry)) ⌝ }
 {
     let desk = byte_at(words, 0);
     let count = count_at(words, 1);
     let values = values_from(words);
+    let ranges = desks_from(words);
     Held {
         desk,
         count,
         values,
+        ranges,
     }
 }

@@ -24,9 +24,9 @@ use script::step_lawful;
 use state::Held;
 
 // How many words a design takes, and held values.
-const DESIGN_WORDS: usize = 116;
+const DESIGN_WORDS: usize = 115;
 
-const HELD_WORDS: usize = 258;
+const HELD_WORDS: usize = 358;
 
 // Reads a design into lent buffers and makes the catalog of its rows: 0, or the cause of its refusal, which leaves all of them as they were. The cost
 // of `read_catalogued`.
@@ -92,14 +92,14 @@ pub extern "C" fn wurzsige_open(
 pub extern "C" fn wurzsige_step(
     script: &[u8],
     at: usize,
-    cells: &[u32],
-    issues: &[u8],
-    tables: &[u8],
-    next: &[u16; 4096],
-    first: &[u16; 8192],
-    keys: &[u64; 4096],
-    heads: &[u16; 4096],
-    starts: &[u16; 65],
+    cells: &mut [u32],
+    issues: &mut [u8],
+    tables: &mut [u8],
+    next: &mut [u16; 4096],
+    first: &mut [u16; 8192],
+    keys: &mut [u64; 4096],
+    heads: &mut [u16; 4096],
+    starts: &mut [u16; 65],
     marks: &mut [u8],
     design: &[u32],
     held: &mut [u32],
@@ -116,8 +116,8 @@ pub extern "C" fn wurzsige_step(
     ensures { λ n. ⌜ StepTaken
         (stepAt (wordsState (now (design .entry)) (cellsIn (now (cells .entry)) (now (issues .entry))) (now (tables .entry)) (now (marks .entry)) (now (held .entry)))
         (outputs (now (words .entry)) (now (text .entry))) (now (script .entry)) at)
-        n (now (numbers .exit)) (now (count .exit)) (now (design .entry)) (cellsIn (now (cells .entry)) (now (issues .entry))) (now (tables .entry))
-        (arrays (now (next .entry)) (now (first .entry)) (now (keys .entry)) (now (heads .entry)) (now (starts .entry)))
+        n (now (numbers .exit)) (now (count .exit)) (now (design .entry)) (cellsIn (now (cells .exit)) (now (issues .exit))) (now (tables .exit))
+        (arrays (now (next .exit)) (now (first .exit)) (now (keys .exit)) (now (heads .exit)) (now (starts .exit)))
         (now (marks .exit)) (outputs (now (words .exit)) (now (text .exit))) (now (held .entry)) (now (held .exit)) ⌝ }
 {
     let d = design_from(design);
@@ -155,14 +155,14 @@ pub extern "C" fn wurzsige_step(
 pub extern "C" fn wurzsige_run(
     script: &[u8],
     at: usize,
-    cells: &[u32],
-    issues: &[u8],
-    tables: &[u8],
-    next: &[u16; 4096],
-    first: &[u16; 8192],
-    keys: &[u64; 4096],
-    heads: &[u16; 4096],
-    starts: &[u16; 65],
+    cells: &mut [u32],
+    issues: &mut [u8],
+    tables: &mut [u8],
+    next: &mut [u16; 4096],
+    first: &mut [u16; 8192],
+    keys: &mut [u64; 4096],
+    heads: &mut [u16; 4096],
+    starts: &mut [u16; 65],
     marks: &mut [u8],
     design: &[u32],
     held: &mut [u32],
@@ -178,8 +178,8 @@ pub extern "C" fn wurzsige_run(
         (leftFrom (length (now (script .entry))) (now (script .entry))
         (wordsState (now (design .entry)) (cellsIn (now (cells .entry)) (now (issues .entry))) (now (tables .entry)) (now (marks .entry)) (now (held .entry)))
         (outputs (now (words .entry)) (now (text .entry))) at)
-        (now (design .entry)) (cellsIn (now (cells .entry)) (now (issues .entry))) (now (tables .entry))
-        (arrays (now (next .entry)) (now (first .entry)) (now (keys .entry)) (now (heads .entry)) (now (starts .entry)))
+        (now (design .entry)) (cellsIn (now (cells .exit)) (now (issues .exit))) (now (tables .exit))
+        (arrays (now (next .exit)) (now (first .exit)) (now (keys .exit)) (now (heads .exit)) (now (starts .exit)))
         (now (marks .exit)) (outputs (now (words .exit)) (now (text .exit))) (now (held .entry)) (now (held .exit)) ⌝ }
 {
     let d = design_from(design);

@@ -4,23 +4,34 @@ ghost use mathlib.Core.Path.{_≡_};
 ghost use mathlib.Core.List.{[], _∷_};
 ghost use lib.ListN.{length, getD};
 ghost use lib.Seq.{sets};
-ghost use Rattle.state.specs.Held.{noValue, heldAt};
+ghost use Rattle.state.specs.Held.{noValue, noRanges, Tidy};
 ghost use Rattle.foreign.specs.Words.{tableWords, constraintWords, fillingWords, valueWords, countsWords, tablesWords, constraintsWords};
-ghost use Rattle.foreign.specs.Words.{fillingsWords, valuesWords, designWords, heldWords};
+ghost use Rattle.foreign.specs.Words.{fillingsWords, valuesWords, rangeWords, listWords, rangesWords, desksWords, designWords, heldWords, Typed};
 use state::Constraint;
 use state::Design;
+use state::DeskRanges;
 use state::Filling;
 use state::Held;
 use state::OwnedValue;
+use state::Range;
 use state::Table;
 
-// Two words, and four, from word `at` on. Constant time, as are the next five.
+// Two words, three, and four, from word `at` on. Constant time, as are the next six.
 fn put_two(words: &mut [u32], at: usize, a: u32, b: u32)
     requires { ⌜ at + 2 ≤ length (now words) ⌝ }
     ensures { λ _. ⌜ now (words .exit) ≡ sets (now (words .entry)) at (a ∷ b ∷ []) ⌝ }
 {
     words[at] = a;
     words[at + 1] = b;
+}
+
+fn put_three(words: &mut [u32], at: usize, a: u32, b: u32, c: u32)
+    requires { ⌜ at + 3 ≤ length (now words) ⌝ }
+    ensures { λ _. ⌜ now (words .exit) ≡ sets (now (words .entry)) at (a ∷ b ∷ c ∷ []) ⌝ }
+{
+    words[at] = a;
+    words[at + 1] = b;
+    words[at + 2] = c;
 }
 
 fn put_four(words: &mut [u32], at: usize, a: u32, b: u32, c: u32, d: u32)
@@ -80,51 +91,57 @@ fn put_value(words: &mut [u32], at: usize, v: OwnedValue)
     );
 }
 
-// The four counts of a design.
+fn put_range(words: &mut [u32], at: usize, r: Range)
+    requires { ⌜ at + 3 ≤ length (now words) ⌝ }
+    ensures { λ _. ⌜ now (words .exit) ≡ sets (now (words .entry)) at (rangeWords r) ⌝ }
+{
+    put_three(words, at, r.filling as u32, r.low, r.high);
+}
+
+// The three counts of a design.
 fn put_counts(d: Design, words: &mut [u32])
-    requires { ⌜ (4 ≤ length (now words)) × (d .tables ≤ 8) × (d .constraints ≤ 16) × (d .fillings ≤ 8) × (d .rows ≤ 512) ⌝ }
+    requires { ⌜ (3 ≤ length (now words)) × (d .tables ≤ 8) × (d .constraints ≤ 16) × (d .fillings ≤ 8) ⌝ }
     ensures { λ _. ⌜ now (words .exit) ≡ sets (now (words .entry)) 0 (countsWords d) ⌝ }
 {
-    put_four(
+    put_three(
         words,
         0,
         d.tables as u32,
         d.constraints as u32,
         d.fillings as u32,
-        d.rows as u32,
     );
 }
 
 // All places of an array. One step for each.
 fn put_tables(ts: [Table; 8], words: &mut [u32])
-    requires { ⌜ 116 ≤ length (now words) ⌝ }
-    ensures { λ _. ⌜ now (words .exit) ≡ sets (now (words .entry)) 4 (tablesWords ts) ⌝ }
+    requires { ⌜ 115 ≤ length (now words) ⌝ }
+    ensures { λ _. ⌜ now (words .exit) ≡ sets (now (words .entry)) 3 (tablesWords ts) ⌝ }
 {
     for i in 0..8usize {
-        put_table(words, 4 + 2 * i, ts[i]);
+        put_table(words, 3 + 2 * i, ts[i]);
     }
 }
 
 fn put_constraints(cs: [Constraint; 16], words: &mut [u32])
-    requires { ⌜ 116 ≤ length (now words) ⌝ }
-    ensures { λ _. ⌜ now (words .exit) ≡ sets (now (words .entry)) 20 (constraintsWords cs) ⌝ }
+    requires { ⌜ 115 ≤ length (now words) ⌝ }
+    ensures { λ _. ⌜ now (words .exit) ≡ sets (now (words .entry)) 19 (constraintsWords cs) ⌝ }
 {
     for i in 0..16usize {
-        put_constraint(words, 20 + 4 * i, cs[i]);
+        put_constraint(words, 19 + 4 * i, cs[i]);
     }
 }
 
 fn put_fillings(fs: [Filling; 8], words: &mut [u32])
-    requires { ⌜ 116 ≤ length (now words) ⌝ }
-    ensures { λ _. ⌜ now (words .exit) ≡ sets (now (words .entry)) 84 (fillingsWords fs) ⌝ }
+    requires { ⌜ 115 ≤ length (now words) ⌝ }
+    ensures { λ _. ⌜ now (words .exit) ≡ sets (now (words .entry)) 83 (fillingsWords fs) ⌝ }
 {
     for i in 0..8usize {
-        put_filling(words, 84 + 4 * i, fs[i]);
+        put_filling(words, 83 + 4 * i, fs[i]);
     }
 }
 
 fn put_values(vs: [OwnedValue; 64], words: &mut [u32])
-    requires { ⌜ 258 ≤ length (now words) ⌝ }
+    requires { ⌜ 358 ≤ length (now words) ⌝ }
     ensures { λ _. ⌜ (now (words .exit) ≡ sets (now (words .entry)) 2 (valuesWords vs)) × ((i : ℕ) → i < 64 → getD vs i noValue .pair .value .issue < 256) ⌝ }
 {
     for i in 0..64usize {
@@ -132,9 +149,37 @@ fn put_values(vs: [OwnedValue; 64], words: &mut [u32])
     }
 }
 
-// The design as the first 116 words. One step for each of its 32 places.
+// The places of a desk's ranges from word `at` on, and these behind their count.
+fn put_list(list: [Range; 8], words: &mut [u32], at: usize)
+    requires { ⌜ at + 24 ≤ length (now words) ⌝ }
+    ensures { λ _. ⌜ now (words .exit) ≡ sets (now (words .entry)) at (listWords list) ⌝ }
+{
+    for i in 0..8usize {
+        put_range(words, at + 3 * i, list[i]);
+    }
+}
+
+fn put_ranges(words: &mut [u32], at: usize, s: DeskRanges)
+    requires { ⌜ (at + 25 ≤ length (now words)) × (s .count ≤ 8) ⌝ }
+    ensures { λ _. ⌜ now (words .exit) ≡ sets (now (words .entry)) at (rangesWords s) ⌝ }
+{
+    words[at] = s.count as u32;
+    let list = s.list;
+    put_list(list, words, at + 1);
+}
+
+fn put_desks(ss: [DeskRanges; 4], words: &mut [u32])
+    requires { ⌜ (358 ≤ length (now words)) × ((e : ℕ) → e < 4 → getD ss e noRanges .count ≤ 8) ⌝ }
+    ensures { λ _. ⌜ now (words .exit) ≡ sets (now (words .entry)) 258 (desksWords ss) ⌝ }
+{
+    for e in 0..4usize {
+        put_ranges(words, 258 + 25 * e, ss[e]);
+    }
+}
+
+// The design as the first 115 words. One step for each of its 32 places.
 pub(crate) fn put_design(d: Design, words: &mut [u32])
-    requires { ⌜ (116 ≤ length (now words)) × (d .tables ≤ 8) × (d .constraints ≤ 16) × (d .fillings ≤ 8) × (d .rows ≤ 512) ⌝ }
+    requires { ⌜ (115 ≤ length (now words)) × (d .tables ≤ 8) × (d .constraints ≤ 16) × (d .fillings ≤ 8) ⌝ }
     ensures { λ _. ⌜ now (words .exit) ≡ sets (now (words .entry)) 0 (designWords d) ⌝ }
 {
     put_counts(d, words);
@@ -146,13 +191,14 @@ pub(crate) fn put_design(d: Design, words: &mut [u32])
     put_fillings(filling, words);
 }
 
-// The held values as the first 258 words; their array has 64 places, and their issues are bytes, as their types say. One step for each place.
+// What is held as the first 358 words; its arrays have their places, and the issues are bytes, as its type says. One step for each place.
 pub(crate) fn put_held(h: Held, words: &mut [u32])
-    requires { ⌜ (258 ≤ length (now words)) × (h .count ≤ 64) ⌝ }
-    ensures { λ _. ⌜ (now (words .exit) ≡ sets (now (words .entry)) 0 (heldWords h)) × (length (h .values) ≡ 64)
-        × ((i : ℕ) → i < 64 → heldAt h i .pair .value .issue < 256) ⌝ }
+    requires { ⌜ (358 ≤ length (now words)) × Tidy h ⌝ }
+    ensures { λ _. ⌜ (now (words .exit) ≡ sets (now (words .entry)) 0 (heldWords h)) × Typed h ⌝ }
 {
     put_two(words, 0, h.desk as u32, h.count as u32);
     let values = h.values;
     put_values(values, words);
+    let ranges = h.ranges;
+    put_desks(ranges, words);
 }

@@ -2,7 +2,7 @@
 use native.Mathlib.Omega.{arith}
 use Rattle.foreign.specs.Calls.{arrays}
 use Rattle.foreign.proofs.Opening.{few-design, few-design-kept, few-held, few-held-kept, opened-refused, opened-accepted}
-use Rattle.foreign.proofs.Opening.{catalogs-refused, catalogs-accepted, opened-lawful, none-few}
+use Rattle.foreign.proofs.Opening.{catalogs-refused, catalogs-accepted, opened-lawful, none-tidy}
 use borrow.Author.Needs.{needs}
 use Rattle.foreign.proofs.wurzsige_open.Statement.{statement}
 use Rattle.foreign.proofs.wurzsige_open.Tie as tie
@@ -26,10 +26,10 @@ put-design-requires : tie.Need-put-design-requires
 put-design-requires c κs =
     let w = opened-lawful _ _ _ _ _ _ _ _ (c .before .before .before .before .before .before .before .before .before .before .before .before .read-catalogued .ensures .0) _ (c .before .before .enum-told .given .1)
     (record { at = λ j. omega (arith, c .before .before .before .before .before .before .before .before .before .before .before .before .before .before .before .before .before .before .before .before .before .before .before .before .before .before .before .before .before .before .shared-slice-known .given j) }) in
-    (omega (arith, c .before .before .before .before .before .before .before .before .before .before .before .before .before .before .before .before .before .before .before .before .before .before .before .if1 .left), w .tables, w .constraints, w .fillings, w .rows)
+    (omega (arith, c .before .before .before .before .before .before .before .before .before .before .before .before .before .before .before .before .before .before .before .before .before .before .before .if1 .left), w .tables, w .constraints, w .fillings)
 
 put-held-requires : tie.Need-put-held-requires
-put-held-requires c κs = (omega (arith, c .before .before .before .before .before .before .before .before .before .before .before .before .before .before .before .before .before .before .before .before .before .before .before .before .before .before .before .if2 .left), none-few _ (c .before .none .ensures))
+put-held-requires c κs = (omega (arith, c .before .before .before .before .before .before .before .before .before .before .before .before .before .before .before .before .before .before .before .before .before .before .before .before .before .before .before .if2 .left), none-tidy _ (c .before .none .ensures))
 
 returns-4 : tie.Need-returns-4
 returns-4 c =

@@ -12,7 +12,7 @@ use Rattle.foreign.proofs.from_words.constraints_from.Tie as tie
 pub constraints-from-spec : {M : Type 1} → statement M
 constraints-from-spec =
     tie.close
-    (tie.spec (λ words cs₀ i₀ cs i. Reading 16 20 4 noConstraint constraintFrom words cs₀ cs i) (λ words cs₀ i₀ cs i. 16 - i)
+    (tie.spec (λ words cs₀ i₀ cs i. Reading 16 19 4 noConstraint constraintFrom words cs₀ cs i) (λ words cs₀ i₀ cs i. 16 - i)
     (λ c. reading-start refl) (λ c. search needs) (λ c. omega arith) (λ c κs. omega arith) (λ c. search needs) (λ c. search needs)
     (λ c. omega arith) (λ c. omega arith)
     (λ c. reading-more (c .before .before .loop .inv) (c .before .loop-test .taken) (c .constraint-from .ensures))

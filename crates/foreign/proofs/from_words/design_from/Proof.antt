@@ -6,13 +6,13 @@ use Rattle.foreign.proofs.from_words.design_from.Tie as tie
 
 returns : tie.Need-returns
 returns c =
-    let k = c .before .before .before in
+    let k = c .before .before in
     let t = k .before .before in
-    design-is _ _ _ _ _ _ _ _ (t .before .count-at .ensures) (t .tables-from .ensures) (k .before .count-at2 .ensures) (k .constraints-from .ensures)
-    (c .before .before .count-at3 .ensures) (c .before .fillings-from .ensures) (c .count-at4 .ensures)
+    design-is _ _ _ _ _ _ _ (t .before .count-at .ensures) (t .tables-from .ensures) (k .before .count-at2 .ensures) (k .constraints-from .ensures)
+    (c .before .count-at3 .ensures) (c .fillings-from .ensures)
 
 pub design-from-spec : {M : Type 1} → statement M
 design-from-spec =
     tie.close
     (tie.spec (λ c κs. search needs) (λ c κs. search needs) (λ c κs. search needs) (λ c κs. search needs) (λ c κs. search needs)
-    (λ c κs. search needs) (λ c κs. search needs) returns)
+    (λ c κs. search needs) returns)

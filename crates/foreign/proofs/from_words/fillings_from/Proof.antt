@@ -12,7 +12,7 @@ use Rattle.foreign.proofs.from_words.fillings_from.Tie as tie
 pub fillings-from-spec : {M : Type 1} → statement M
 fillings-from-spec =
     tie.close
-    (tie.spec (λ words fs₀ i₀ fs i. Reading 8 84 4 noFilling fillingFrom words fs₀ fs i) (λ words fs₀ i₀ fs i. 8 - i)
+    (tie.spec (λ words fs₀ i₀ fs i. Reading 8 83 4 noFilling fillingFrom words fs₀ fs i) (λ words fs₀ i₀ fs i. 8 - i)
     (λ c. reading-start refl) (λ c. search needs) (λ c. omega arith) (λ c κs. omega arith) (λ c. search needs) (λ c. search needs)
     (λ c. omega arith) (λ c. omega arith)
     (λ c. reading-more (c .before .before .loop .inv) (c .before .loop-test .taken) (c .filling-from .ensures))

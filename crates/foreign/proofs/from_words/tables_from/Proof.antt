@@ -12,7 +12,7 @@ use Rattle.foreign.proofs.from_words.tables_from.Tie as tie
 pub tables-from-spec : {M : Type 1} → statement M
 tables-from-spec =
     tie.close
-    (tie.spec (λ words ts₀ i₀ ts i. Reading 8 4 2 noTable tableFrom words ts₀ ts i) (λ words ts₀ i₀ ts i. 8 - i)
+    (tie.spec (λ words ts₀ i₀ ts i. Reading 8 3 2 noTable tableFrom words ts₀ ts i) (λ words ts₀ i₀ ts i. 8 - i)
     (λ c. reading-start refl) (λ c. search needs) (λ c. omega arith) (λ c κs. omega arith) (λ c. search needs) (λ c. search needs)
     (λ c. omega arith) (λ c. omega arith)
     (λ c. reading-more (c .before .before .loop .inv) (c .before .loop-test .taken) (c .table-from .ensures))

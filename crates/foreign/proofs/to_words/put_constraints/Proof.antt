@@ -12,7 +12,7 @@ use Rattle.foreign.proofs.to_words.put_constraints.Tie as tie
 pub put-constraints-spec : {M : Type 1} → statement M
 put-constraints-spec =
     tie.close
-    (tie.spec (λ words₀ cs i₀ words i. Storing 16 20 4 noConstraint constraintWords cs words₀ words i) (λ words₀ cs i₀ words i. 16 - i)
+    (tie.spec (λ words₀ cs i₀ words i. Storing 16 19 4 noConstraint constraintWords cs words₀ words i) (λ words₀ cs i₀ words i. 16 - i)
     (λ c. storing-start) (λ c. search needs) (λ c. omega arith) (λ c. search needs) (λ c. search needs) (λ c κs. omega arith) (λ c. omega arith)
     (λ c. omega arith)
     (λ c. storing-more (c .before .before .before .before .before .before .loop .inv) (omega arith) (λ x. refl) (c .before .before .put-constraint .ensures))

@@ -12,7 +12,7 @@ use Rattle.foreign.proofs.to_words.put_fillings.Tie as tie
 pub put-fillings-spec : {M : Type 1} → statement M
 put-fillings-spec =
     tie.close
-    (tie.spec (λ words₀ fs i₀ words i. Storing 8 84 4 noFilling fillingWords fs words₀ words i) (λ words₀ fs i₀ words i. 8 - i)
+    (tie.spec (λ words₀ fs i₀ words i. Storing 8 83 4 noFilling fillingWords fs words₀ words i) (λ words₀ fs i₀ words i. 8 - i)
     (λ c. storing-start) (λ c. search needs) (λ c. omega arith) (λ c. search needs) (λ c. search needs) (λ c κs. omega arith) (λ c. omega arith)
     (λ c. omega arith)
     (λ c. storing-more (c .before .before .before .before .before .before .loop .inv) (omega arith) (λ x. refl) (c .before .before .put-filling .ensures))

@@ -12,7 +12,7 @@ use Rattle.foreign.proofs.to_words.put_tables.Tie as tie
 pub put-tables-spec : {M : Type 1} → statement M
 put-tables-spec =
     tie.close
-    (tie.spec (λ words₀ ts i₀ words i. Storing 8 4 2 noTable tableWords ts words₀ words i) (λ words₀ ts i₀ words i. 8 - i)
+    (tie.spec (λ words₀ ts i₀ words i. Storing 8 3 2 noTable tableWords ts words₀ words i) (λ words₀ ts i₀ words i. 8 - i)
     (λ c. storing-start) (λ c. search needs) (λ c. omega arith) (λ c. search needs) (λ c. search needs) (λ c κs. omega arith) (λ c. omega arith)
     (λ c. omega arith)
     (λ c. storing-more (c .before .before .before .before .before .before .loop .inv) (omega arith) (λ x. refl) (c .before .before .put-table .ensures))
