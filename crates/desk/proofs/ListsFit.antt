@@ -12,12 +12,13 @@ use Rattle.model.specs.Cell.{numberless}
 use Rattle.model.specs.Scheme.{Scheme, isColumn, candidate}
 use Rattle.model.specs.Database.{Database}
 use Rattle.model.specs.Probe
-use Rattle.model.specs.Holding.{desks, Pair, holds, hasRoom, heldIn}
+use Rattle.model.specs.Ranges.{Range, isRange, onlyCandidates}
+use Rattle.model.specs.Holding.{desks, Pair, holds, hasRoom, holdsRange, coversRange, hasRangeRoom, heldIn}
 use Rattle.model.specs.Even.{lowestUneven}
 use Rattle.model.specs.Knot.{isUnevenScheme}
 use Rattle.model.specs.Opener.{isOpen, lowestFilling}
 use Rattle.model.specs.Sentence.{reasonText}
-use Rattle.model.specs.Runs.{Question, probe, evenness, smallestKnot, opener, reason, asLists, asTotal, refer, drop, name, outputFits, withinLimit, marked, Cache}
+use Rattle.model.specs.Runs.{Question, probe, evenness, smallestKnot, opener, reason, asLists, asTotal, refer, drop, name, referRange, dropRange, outputFits, withinLimit, marked, Cache}
 use Rattle.model.specs.Query as Q
 use Rattle.model.specs.Query.{joinsOf, operandsFit, wordsOf, fullLists, fullTotal, mostJoins}
 use Rattle.model.specs.Answers.{Answer, held, noCandidate, ground, sent, lists, even, uneven, knot, named, opened, openedBy, noOpener, absent, evenAnswer, knotAnswer, openerAnswer, reasonAnswer, shown, hasLists, unless, orAnswer, questionAnswer, isAnswered, fullAnswer, queryAnswer, answer}
@@ -28,11 +29,12 @@ use Rattle.state.specs.declared.design.Filling as State-filling
 use Rattle.state.specs.declared.operation.Operation.{Operation}
 use Rattle.state.specs.declared.operation.Operation.the-variants as O
 use Rattle.state.specs.Lent.{State, scheme, database, cache, longEnough, lawful, guarded, answerAt}
+use Rattle.state.specs.Changes.{Change, put, remove, changeCause, changedAnswer, changeAnswer, rows, changeAnswerAt}
 use Rattle.format.specs.declared.command.Command.{Command}
-use Rattle.format.specs.declared.command.Command.the-variants.{Table, Constraint, Filling, Row, End, Operate, Unknown, Short}
+use Rattle.format.specs.declared.command.Command.the-variants.{Table, Constraint, Filling, Row, End, Operate, Put, Remove, Unknown, Short}
 use Rattle.format.specs.Bytes.{byteAt, u16At}
-use Rattle.format.specs.Commands.{columnAt, valueAt, heldValueAt, queryAt, totalAt, operationWidth, issuedAt, operationAt, designCommandAt, operandsAt, commandAt, widthOf}
-use Rattle.script.specs.Step.{Outputs, roomsOf, operationIn, Stepped, operated, carried, stepAt}
+use Rattle.format.specs.Commands.{columnAt, valueAt, heldValueAt, rangeAt, queryAt, totalAt, operationWidth, issuedAt, operationAt, designCommandAt, operandsAt, commandAt, widthOf, putRowAt}
+use Rattle.script.specs.Step.{Outputs, roomsOf, operationIn, Stepped, operated, changing, carried, stepAt}
 use Rattle.script.proofs.StepLaws.{step-by}
 use Rattle.desk.specs.Printed.{listsIn, positionsAt}
 
@@ -93,6 +95,18 @@ module _ (p room : ℕ) where
     unfolding answer hasLists shown
     name-within d = unless-within (not (ltb d desks)) 5 (named d) (λ _ h. clash h refl)
 
+    load-within : (x : Range) → Within (answer S D c (referRange x))
+    unfolding answer hasLists shown
+    load-within x =
+        unless-within (not (isRange S x)) 5 _ (λ _. or-within (not (onlyCandidates S x)) noCandidate _ (λ h. clash h refl)
+        (or-within (coversRange (c .held) x) held _ (λ h. clash h refl)
+        (unless-within (not (hasRangeRoom (c .held) x)) 8 _ (λ _ h. clash h refl))))
+
+    unload-within : (x : Range) → Within (answer S D c (dropRange x))
+    unfolding answer hasLists shown
+    unload-within x =
+        unless-within (not (isRange S x)) 5 _ (λ _. unless-within (not (holdsRange (c .held) x)) 10 _ (λ _ h. clash h refl))
+
     module _ (q : Q.Query) (four : length (q .pairs) ≡ 4) (positions : q .joins + 1 ≡ p) where
       -- as many lists as there are
       all-within : operandsFit S q ≡ true → length (wordsOf (fullLists S D q)) ≤ room → length (fullLists S D q) * p ≤ room
@@ -137,13 +151,18 @@ module _ (s : State) (out : Outputs) (script : List ℕ) (i : ℕ) where
   guarded-within : (a : Answer) → Here a → Here (guarded s a)
   guarded-within a f = unless-within _ _ (not (longEnough s)) 7 _ (λ _. unless-within _ _ (not (lawful s)) 12 _ (λ _. f))
 
+  -- a change of the rows has no lists
+  change-within : (x : Change) → Here (changeAnswerAt s x)
+  unfolding changeAnswerAt changeAnswer changedAnswer hasLists shown
+  change-within x = let n = changeCause (scheme s) (rows s) x in guarded-within _ (unless-within _ _ (not (eqb n 0)) n _ (λ _ h. clash h refl))
+
   -- the operation at place i of the byte b, whose value has the issue w
   issued-within : (b w : ℕ) → Here (answerAt s (operationIn (issuedAt b script w i) (roomsOf out)))
   unfolding answerAt answer issuedAt
-  issued-within b w = go (eqb b 0x10) (eqb b 0x11) (eqb b 0x12) (eqb b 0x14) (eqb b 0x15) (eqb b 0x17) (eqb b 0x18) (eqb b 0x19) (eqb b 0x1C)
+  issued-within b w = go (eqb b 0x10) (eqb b 0x11) (eqb b 0x12) (eqb b 0x14) (eqb b 0x15) (eqb b 0x17) (eqb b 0x18) (eqb b 0x19) (eqb b 0x1A) (eqb b 0x1B) (eqb b 0x1C)
     where
-      op : Bool → Bool → Bool → Bool → Bool → Bool → Bool → Bool → Bool → Operation
-      op x y z v t d r o k =
+      op : Bool → Bool → Bool → Bool → Bool → Bool → Bool → Bool → Bool → Bool → Bool → Operation
+      op x y z v t d r o m n k =
           cond x (O.Refer (heldValueAt script w i))
           (cond y (O.Drop (heldValueAt script w i))
           (cond z (O.Probe (columnAt script (i + 1)) (valueAt script w (i + 3)))
@@ -152,20 +171,24 @@ module _ (s : State) (out : Outputs) (script : List ℕ) (i : ℕ) where
           (cond d (O.Name (byteAt script (i + 1)))
           (cond r (O.Reason (u16At script (i + 1)))
           (cond o (O.Opener (columnAt script (i + 1)) (valueAt script (byteAt script (i + 7)) (i + 3)))
+          (cond m (O.ReferRange (rangeAt script i))
+          (cond n (O.DropRange (rangeAt script i))
           (cond k O.SmallestKnot
-          (O.Query (queryAt script w i))))))))))
+          (O.Query (queryAt script w i))))))))))))
 
-      go : (x y z v t d r o k : Bool) → Here (answerAt s (operationIn (op x y z v t d r o k) (roomsOf out)))
-      go true y z v t d r o k = guarded-within _ (refer-within _ _ (scheme s) (database s) (cache s) _)
-      go false true z v t d r o k = guarded-within _ (drop-within _ _ (scheme s) (database s) (cache s) _)
-      go false false true v t d r o k = guarded-within _ (question-within _ _ (scheme s) (database s) (cache s) _)
-      go false false false true t d r o k = guarded-within _ (question-within _ _ (scheme s) (database s) (cache s) _)
-      go false false false false true d r o k = guarded-within _ (total-within _ _ (scheme s) (database s) (cache s) _ _ _)
-      go false false false false false true r o k = guarded-within _ (name-within _ _ (scheme s) (database s) (cache s) (byteAt script (i + 1)))
-      go false false false false false false true o k = guarded-within _ (question-within _ _ (scheme s) (database s) (cache s) _)
-      go false false false false false false false true k = guarded-within _ (question-within _ _ (scheme s) (database s) (cache s) _)
-      go false false false false false false false false true = guarded-within _ (question-within _ _ (scheme s) (database s) (cache s) _)
-      go false false false false false false false false false = guarded-within _ (query-within _ _ (scheme s) (database s) (cache s) _ refl refl)
+      go : (x y z v t d r o m n k : Bool) → Here (answerAt s (operationIn (op x y z v t d r o m n k) (roomsOf out)))
+      go true y z v t d r o m n k = guarded-within _ (refer-within _ _ (scheme s) (database s) (cache s) _)
+      go false true z v t d r o m n k = guarded-within _ (drop-within _ _ (scheme s) (database s) (cache s) _)
+      go false false true v t d r o m n k = guarded-within _ (question-within _ _ (scheme s) (database s) (cache s) _)
+      go false false false true t d r o m n k = guarded-within _ (question-within _ _ (scheme s) (database s) (cache s) _)
+      go false false false false true d r o m n k = guarded-within _ (total-within _ _ (scheme s) (database s) (cache s) _ _ _)
+      go false false false false false true r o m n k = guarded-within _ (name-within _ _ (scheme s) (database s) (cache s) (byteAt script (i + 1)))
+      go false false false false false false true o m n k = guarded-within _ (question-within _ _ (scheme s) (database s) (cache s) _)
+      go false false false false false false false true m n k = guarded-within _ (question-within _ _ (scheme s) (database s) (cache s) _)
+      go false false false false false false false false true n k = guarded-within _ (load-within _ _ (scheme s) (database s) (cache s) _)
+      go false false false false false false false false false true k = guarded-within _ (unload-within _ _ (scheme s) (database s) (cache s) _)
+      go false false false false false false false false false false true = guarded-within _ (question-within _ _ (scheme s) (database s) (cache s) _)
+      go false false false false false false false false false false false = guarded-within _ (query-within _ _ (scheme s) (database s) (cache s) _ refl refl)
 
   -- the operation at place i, whose byte is b
   operation-within : (b : ℕ) → Here (answerAt s (operationIn (operationAt b script i) (roomsOf out)))
@@ -178,25 +201,27 @@ module _ (s : State) (out : Outputs) (script : List ℕ) (i : ℕ) where
 
   -- the command at place i
   command-within : (j : ℕ) → Here (carried s out script i j (commandAt script i) .answer)
-  unfolding commandAt operandsAt designCommandAt carried operated hasLists shown
+  unfolding commandAt operandsAt designCommandAt carried operated changing hasLists shown
   command-within j =
       let b = byteAt script i in
       go (leb (length script) i) (eqb (widthOf b) 0) (ltb (length script - i) (widthOf b)) (ltb b 0x10)
-      (eqb b 0x01) (eqb b 0x02) (eqb b 0x03) (eqb b 0x05) _ _ _ _ _ (operation-within b)
+      (eqb b 0x01) (eqb b 0x02) (eqb b 0x03) (eqb b 0x05) (eqb b 0x1D) (eqb b 0x1E) _ _ _ _ _ _ _ (operation-within b)
     where
-      go : (x y z k p q r t : Bool) (a : State-table.Table) (c : State-constraint.Constraint) (f : State-filling.Filling) (m : ℕ) (op : Operation) →
+      go : (x y z k p q r t u v : Bool) (a : State-table.Table) (c : State-constraint.Constraint) (f : State-filling.Filling) (m g n : ℕ) (op : Operation) →
           Here (answerAt s (operationIn op (roomsOf out))) →
           Here (carried s out script i j (cond x Short (cond y Unknown (cond z Short
-          (cond k (cond p (Table a) (cond q (Constraint c) (cond r (Filling f) (cond t End (Row m))))) (Operate op))))) .answer)
-      go true y z k p q r t a c f m op h = λ e. clash e refl
-      go false true z k p q r t a c f m op h = λ e. clash e refl
-      go false false true k p q r t a c f m op h = λ e. clash e refl
-      go false false false true true q r t a c f m op h = λ e. clash e refl
-      go false false false true false true r t a c f m op h = λ e. clash e refl
-      go false false false true false false true t a c f m op h = λ e. clash e refl
-      go false false false true false false false true a c f m op h = λ e. clash e refl
-      go false false false true false false false false a c f m op h = λ e. clash e refl
-      go false false false false p q r t a c f m op h = h
+          (cond k (cond p (Table a) (cond q (Constraint c) (cond r (Filling f) (cond t End (Row m))))) (cond u (Put g n) (cond v (Remove g) (Operate op))))))) .answer)
+      go true y z k p q r t u v a c f m g n op h = λ e. clash e refl
+      go false true z k p q r t u v a c f m g n op h = λ e. clash e refl
+      go false false true k p q r t u v a c f m g n op h = λ e. clash e refl
+      go false false false true true q r t u v a c f m g n op h = λ e. clash e refl
+      go false false false true false true r t u v a c f m g n op h = λ e. clash e refl
+      go false false false true false false true t u v a c f m g n op h = λ e. clash e refl
+      go false false false true false false false true u v a c f m g n op h = λ e. clash e refl
+      go false false false true false false false false u v a c f m g n op h = λ e. clash e refl
+      go false false false false p q r t true v a c f m g n op h = change-within (put g (putRowAt script i))
+      go false false false false p q r t false true a c f m g n op h = change-within (remove g)
+      go false false false false p q r t false false a c f m g n op h = h
 
   pub step-within : Within (positionsAt script i) (length (out .words)) (stepAt s out script i .answer)
   unfolding hasLists shown

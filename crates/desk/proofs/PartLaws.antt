@@ -20,7 +20,7 @@ use Rattle.lawful.proofs.RowsLaws.{Stored}
 use Rattle.format.specs.declared.verdict.Verdict.{Verdict}
 use Rattle.format.specs.declared.verdict.Verdict.the-variants.{Accepted, Refused}
 use Rattle.format.specs.declared.verdict.DesignReading.{DesignReading}
-use Rattle.format.specs.Reading.{DesignRead, readInto, verdictOf, designOf, Leaves}
+use Rattle.format.specs.Reading.{DesignRead, readInto, verdictOf, designOf, rowsRead, Leaves}
 use Rattle.format.specs.Reading.DesignRead.{accepted, refusedAt}
 use Rattle.format.proofs.Small.{Small}
 use Rattle.report.specs.Report.{designLine, refusalLine}
@@ -30,7 +30,7 @@ use Rattle.script.specs.Runs.{Buffers, buffers, justRead}
 use Rattle.desk.specs.declared.reporting.Progress.{Progress}
 use Rattle.desk.specs.declared.parts.Beginning.{Beginning}
 use Rattle.desk.specs.declared.Handed.{Handed}
-use Rattle.desk.specs.Printed.{textAt, restOf, reportOf, stateWith, Printed}
+use Rattle.desk.specs.Printed.{textAt, restOf, reportOf, Printed}
 use Rattle.desk.specs.Parts.{firstText, firstPlace, anyCommand, First, Part, NextReady, Begins, Continues, lentBuffers, deskReport, Stands, HandedOver}
 use Rattle.desk.proofs.TextLaws.{turns, turns-less, turns-few}
 use Rattle.desk.proofs.Started.{started}
@@ -44,35 +44,35 @@ front o o′ z w h l =
 
 -- ---- the first part
 
-pub first-accepted : (script : List ℕ) (d : Design) (v : Verdict) (i : ℕ) (o o′ : List ℕ) (p : Progress) → v ≡ Accepted i →
-    Wrote o o′ 0 (p .end) (designLine d) →
-    p .at ≡ i → p .number ≡ 0 → p .more ≡ ltb i (length script) → p .held ≡ noneHeld → First script d v o o′ p
+pub first-accepted : (script : List ℕ) (d : Design) (rows : ℕ) (v : Verdict) (i : ℕ) (o o′ : List ℕ) (p : Progress) → v ≡ Accepted i →
+    Wrote o o′ 0 (p .end) (designLine d rows) →
+    p .at ≡ i → p .number ≡ 0 → p .more ≡ ltb i (length script) → p .held ≡ noneHeld → First script d rows v o o′ p
 unfolding firstText anyCommand
-first-accepted script d v i o o′ p e w a n m h =
-    subst (λ (u : Verdict). First script d u o o′ p) (sym e) (record { wrote = w; at = a; number = n; more = m; held = h })
+first-accepted script d rows v i o o′ p e w a n m h =
+    subst (λ (u : Verdict). First script d rows u o o′ p) (sym e) (record { wrote = w; at = a; number = n; more = m; held = h })
 
-pub first-refused : (script : List ℕ) (d : Design) (v : Verdict) (n i : ℕ) (o o′ : List ℕ) (p : Progress) → v ≡ Refused n i →
+pub first-refused : (script : List ℕ) (d : Design) (rows : ℕ) (v : Verdict) (n i : ℕ) (o o′ : List ℕ) (p : Progress) → v ≡ Refused n i →
     Wrote o o′ 0 (p .end) (refusalLine n i) →
-    p .at ≡ i → p .number ≡ 0 → p .more ≡ false → p .held ≡ noneHeld → First script d v o o′ p
+    p .at ≡ i → p .number ≡ 0 → p .more ≡ false → p .held ≡ noneHeld → First script d rows v o o′ p
 unfolding firstText anyCommand
-first-refused script d v n i o o′ p e w a k m h =
-    subst (λ (u : Verdict). First script d u o o′ p) (sym e) (record { wrote = w; at = a; number = k; more = m; held = h })
+first-refused script d rows v n i o o′ p e w a k m h =
+    subst (λ (u : Verdict). First script d rows u o o′ p) (sym e) (record { wrote = w; at = a; number = k; more = m; held = h })
 
 -- a command follows only an accepted design
-pub accepted-more : (script : List ℕ) (d : Design) (v : Verdict) (o o′ : List ℕ) (p : Progress) → First script d v o o′ p → p .more ≡ true →
+pub accepted-more : (script : List ℕ) (d : Design) (rows : ℕ) (v : Verdict) (o o′ : List ℕ) (p : Progress) → First script d rows v o o′ p → p .more ≡ true →
     (i : ℕ) × (v ≡ Accepted i)
 unfolding anyCommand
-accepted-more script d (Accepted i) o o′ p f m = (i, refl)
-accepted-more script d (Refused n i) o o′ p f m = clash m (f .more)
+accepted-more script d rows (Accepted i) o o′ p f m = (i, refl)
+accepted-more script d rows (Refused n i) o o′ p f m = clash m (f .more)
 
-first-reach : (o o′ : List ℕ) (z : ℕ) (d : Design) (v : Verdict) → Wrote o o′ 0 z (firstText d v) → z ≤ 91
+first-reach : (o o′ : List ℕ) (z : ℕ) (d : Design) (rows : ℕ) (v : Verdict) → Wrote o o′ 0 z (firstText d rows v) → z ≤ 91
 unfolding firstText
-first-reach o o′ z d (Accepted i) w = omega (arith, design-line-reach o o′ 0 z d w)
-first-reach o o′ z d (Refused n i) w = omega (arith, refusal-line-reach o o′ 0 z n i w)
+first-reach o o′ z d rows (Accepted i) w = omega (arith, design-line-reach o o′ 0 z d rows w)
+first-reach o o′ z d rows (Refused n i) w = omega (arith, refusal-line-reach o o′ 0 z n i w)
 
 module _ (script : List ℕ) (cs₀ : Cells) (ts₀ ms₀ : List ℕ) (outs : Outputs) (r : DesignReading) (cs : Cells) (ts ms : List ℕ)
     (read : Leaves (readInto script cs₀ ts₀ ms₀) r cs₀ cs ts₀ ts ms₀ ms) (p : Progress) (o o′ : List ℕ)
-    (first : First script (r .design) (r .verdict) o o′ p) where
+    (first : First script (r .design) (r .rows) (r .verdict) o o′ p) where
   abbrev b : Buffers
   b = buffers cs₀ ts₀ ms₀ outs
 
@@ -83,17 +83,18 @@ module _ (script : List ℕ) (cs₀ : Cells) (ts₀ ms₀ : List ℕ) (outs : Ou
 
   -- the report is the first text, and what is then still to be printed
   begins-whole : (R : DesignRead) → readInto script cs₀ ts₀ ms₀ ≡ R →
-      reportOf script b R ≡ firstText (r .design) (r .verdict) ++ restOf script (lent (r .design) cs ts ms (p .held)) outs p
+      reportOf script b R ≡ firstText (r .design) (r .rows) (r .verdict) ++ restOf script (lent (r .design) cs ts ms (p .held)) outs p
   unfolding firstText anyCommand
   begins-whole (accepted q i) e =
       let v : r .verdict ≡ Accepted i = read .verdict ∙ ap verdictOf e in
       let d : r .design ≡ q .design = read .design ∙ ap designOf e in
+      let n : r .rows ≡ q .rows = read .count ∙ ap rowsRead e in
       report-begins script b q i p (first .at ∙ ap firstPlace v) (first .number) (first .more ∙ ap (anyCommand script) v) ∙
-      sym (λ x. firstText (d x) (v x) ++ restOf script (start-is (accepted q i) e x) outs p)
+      sym (λ x. firstText (d x) (n x) (v x) ++ restOf script (start-is (accepted q i) e x) outs p)
   begins-whole (refusedAt n i) e =
       let v : r .verdict ≡ Refused n i = read .verdict ∙ ap verdictOf e in
       sym
-      (ap₂ (λ (a c : List ℕ). a ++ c) (ap (firstText (r .design)) v) (report-ends script _ outs p (first .more ∙ ap (anyCommand script) v)) ∙
+      (ap₂ (λ (a c : List ℕ). a ++ c) (ap (firstText (r .design) (r .rows)) v) (report-ends script _ outs p (first .more ∙ ap (anyCommand script) v)) ∙
       append-nil (refusalLine n i))
 
   begins-ready : Small script → Stored cs → p .more ≡ true → (v : Verdict) → r .verdict ≡ v → NextReady script (lent (r .design) cs ts ms (p .held)) p
@@ -109,7 +110,7 @@ module _ (script : List ℕ) (cs₀ : Cells) (ts₀ ms₀ : List ℕ) (outs : Ou
 
   pub begins : Small script → Stored cs → 91 ≤ length o → Begins script b cs ts ms o′ (record { design = r .design; progress = p })
   begins small stored room =
-      let reach = first-reach o o′ (p .end) (r .design) (r .verdict) (first .wrote) in
+      let reach = first-reach o o′ (p .end) (r .design) (r .rows) (r .verdict) (first .wrote) in
       record {
         part = record {
           fits = omega (arith, wrote-long o o′ 0 (p .end) _ (first .wrote));
@@ -122,17 +123,17 @@ module _ (script : List ℕ) (cs₀ : Cells) (ts₀ ms₀ : List ℕ) (outs : Ou
 
 -- ---- the next part
 
-pub continues : (script : List ℕ) (s : State) (outs : Outputs) (from p : Progress) (o o′ m : List ℕ) (w : Outputs) (q : Progress) →
-    p .at ≡ from .at → p .number ≡ from .number → p .more ≡ from .more → p .end ≡ 0 → Printed script s outs p o o′ m w q → q .end ≤ length o →
-    (q .more ≡ true → (p .at < q .at) × (q .at < length script) × (q .number ≤ q .at)) → Continues script s outs from o′ m w q
+pub continues : (script : List ℕ) (s : State) (outs : Outputs) (from p : Progress) (o o′ : List ℕ) (e : State) (w : Outputs) (q : Progress) →
+    p .at ≡ from .at → p .number ≡ from .number → p .more ≡ from .more → p .end ≡ 0 → Printed script s outs p o o′ e w q → q .end ≤ length o →
+    (q .more ≡ true → (p .at < q .at) × (q .at < length script) × (q .number ≤ q .at)) → Continues script s outs from o′ e w q
 unfolding restOf
-continues script s outs from p o o′ m w q a n e z r l f =
+continues script s outs from p o o′ e w q a n m z r l f =
     let wrote = subst (λ (k : ℕ). Wrote o o′ k (q .end) (r .part)) z (r .wrote) in
     record {
       part = record {
         fits = omega (arith, wrote-long o o′ 0 (q .end) _ wrote);
-        whole = (λ x. cond (sym e x) (textAt script s outs (sym n x) (sym a x)) []) ∙ r .whole ∙
-            ap (λ (t : List ℕ). t ++ restOf script (stateWith s m (q .held)) w q) (sym (front o o′ (q .end) (r .part) wrote l));
+        whole = (λ x. cond (sym m x) (textAt script s outs (sym n x) (sym a x)) []) ∙ r .whole ∙
+            ap (λ (t : List ℕ). t ++ restOf script e w q) (sym (front o o′ (q .end) (r .part) wrote l));
       };
       ready = λ h. record { sound = r .sound; at = f h .1; number = f h .2 };
       on = λ h. omega (arith, a, f h .0);
@@ -177,9 +178,9 @@ module _ (script : List ℕ) (s : State) (outs : Outputs) (p : Progress) (out : 
     counted : h′ .well ≡ true → h′ .bytes ≡ done + p .end
     counted e = omega (arith, long, sum ∙ cond-true (h′ .well) _ _ e)
 
-    pub standing-next : h′ .well ≡ true → p .more ≡ true → (o m : List ℕ) (w : Outputs) (q : Progress) → Continues script s outs p o m w q → length o ≡ 81920 →
-        Standing script (stateWith s m (q .held)) w q o (h′ .bytes)
-    standing-next t e o m w q f l =
+    pub standing-next : h′ .well ≡ true → p .more ≡ true → (o : List ℕ) (s′ : State) (w : Outputs) (q : Progress) → Continues script s outs p o s′ w q → length o ≡ 81920 →
+        Standing script s′ w q o (h′ .bytes)
+    standing-next t e o s′ w q f l =
         record {
           within = omega (arith, counted t, reached);
           part = record { fits = f .part .fits; whole = ap (λ (k : ℕ). drop k (deskReport script)) (counted t) ∙ behind ∙ f .part .whole };

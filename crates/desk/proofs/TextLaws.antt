@@ -15,14 +15,14 @@ use Rattle.finite.proofs.Writing.{wrote-none, wrote-then, wrote-as}
 use Rattle.model.specs.Answers.{Answer, shown, hasLists}
 use Rattle.state.specs.declared.answer.Shown.{Shown}
 use Rattle.state.specs.Meaning.{answerOf, shownOf}
-use Rattle.state.specs.Lent.{State, lent, sound}
+use Rattle.state.specs.Lent.{State, sound}
 use Rattle.report.specs.Report.{commandLine, listLines}
 use Rattle.report.proofs.Lengths.{list-lines-reach}
 use Rattle.script.specs.declared.outcome.Step.{Step}
 use Rattle.script.specs.Step.{Outputs, Stepped, stepAt, Does}
 use Rattle.script.proofs.StepLaws.{step-on, step-sound}
 use Rattle.desk.specs.declared.reporting.Progress.{Progress}
-use Rattle.desk.specs.Printed.{listsIn, listsText, positionsAt, stepText, textFrom, textAt, restOf, stateWith, Printed}
+use Rattle.desk.specs.Printed.{listsIn, listsText, positionsAt, stepText, textFrom, textAt, restOf, Printed}
 use Rattle.desk.proofs.ListsFit.{Within, step-within}
 
 -- ---- answers
@@ -113,25 +113,22 @@ module _ (script : List ℕ) (s : State) (outs : Outputs) (p : Progress) (more :
       cond-true (p .more) _ _ more ∙ text-fuel script (length script) (suc (length script)) s outs (p .number) (p .at) (omega arith) (omega arith) ∙
       text-step script s outs (p .number) (p .at) (length script) below
 
-  module _ (t : Step) (m : List ℕ) (w : Outputs) (d : Does r t (stateWith s m (t .held)) w) (q : Progress) (at : q .at ≡ t .next) (number : q .number ≡ p .number + 1)
-      (on : q .more ≡ (t .more && ltb (t .next) (length script))) (held : q .held ≡ t .held) where
+  module _ (t : Step) (e : State) (w : Outputs) (d : Does r t e w) (q : Progress) (at : q .at ≡ t .next) (number : q .number ≡ p .number + 1)
+      (on : q .more ≡ (t .more && ltb (t .next) (length script))) where
     -- the code's state and outs are the step's
-    state-code : stateWith s m (q .held) ≡ r .state
-    state-code = ap (stateWith s m) held ∙ d .state
-
-    then-code : textThen (length script) script (p .number) r ≡ cond (t .more) (textAt script (stateWith s m (q .held)) w (q .number) (q .at)) []
-    then-code = sym (λ x. cond (d .more x) (textAt script (state-code x) (d .outputs x) (number x) ((at ∙ d .next) x)) [])
+    then-code : textThen (length script) script (p .number) r ≡ cond (t .more) (textAt script e w (q .number) (q .at)) []
+    then-code = sym (λ x. cond (d .more x) (textAt script (d .state x) (d .outputs x) (number x) ((at ∙ d .next) x)) [])
 
     rest-code : (a b : Bool) → t .more ≡ a → ltb (t .next) (length script) ≡ b →
-        cond (t .more) (textAt script (stateWith s m (q .held)) w (q .number) (q .at)) [] ≡ restOf script (stateWith s m (q .held)) w q
+        cond (t .more) (textAt script e w (q .number) (q .at)) [] ≡ restOf script e w q
     unfolding restOf
-    rest-code true true e f =
-        cond-true (t .more) _ _ e ∙ sym (cond-true (q .more) _ _ (on ∙ ap (λ (b : Bool). b && ltb (t .next) (length script)) e ∙ f))
-    rest-code true false e f =
-        cond-true (t .more) _ _ e ∙
-        text-past script (stateWith s m (q .held)) w (q .number) (q .at) (length script) (omega (arith, at, ltb-false (t .next) (length script) f)) ∙
-        sym (cond-false (q .more) _ _ (on ∙ ap (λ (b : Bool). b && ltb (t .next) (length script)) e ∙ f))
-    rest-code false b e f = cond-false (t .more) _ _ e ∙ sym (cond-false (q .more) _ _ (on ∙ ap (λ (b : Bool). b && ltb (t .next) (length script)) e))
+    rest-code true true h f =
+        cond-true (t .more) _ _ h ∙ sym (cond-true (q .more) _ _ (on ∙ ap (λ (b : Bool). b && ltb (t .next) (length script)) h ∙ f))
+    rest-code true false h f =
+        cond-true (t .more) _ _ h ∙
+        text-past script e w (q .number) (q .at) (length script) (omega (arith, at, ltb-false (t .next) (length script) f)) ∙
+        sym (cond-false (q .more) _ _ (on ∙ ap (λ (b : Bool). b && ltb (t .next) (length script)) h ∙ f))
+    rest-code false b h f = cond-false (t .more) _ _ h ∙ sym (cond-false (q .more) _ _ (on ∙ ap (λ (b : Bool). b && ltb (t .next) (length script)) h))
 
     -- the step's lines
     abbrev lines : List ℕ
@@ -145,13 +142,13 @@ module _ (script : List ℕ) (s : State) (outs : Outputs) (p : Progress) (more :
 
     -- and the rest
     pub step-printed : (o o′ o″ : List ℕ) (z : ℕ) → Wrote o o′ (p .end) z (commandLine (p .number) (answerOf (t .answer)) (t .place) (w .text)) →
-        Wrote o′ o″ z (q .end) (listsText (answerOf (t .answer)) (w .words) (positionsAt script (p .at))) → sound s ≡ true → Printed script s outs p o o″ m w q
-    step-printed o o′ o″ z a b e =
+        Wrote o′ o″ z (q .end) (listsText (answerOf (t .answer)) (w .words) (positionsAt script (p .at))) → sound s ≡ true → Printed script s outs p o o″ e w q
+    step-printed o o′ o″ z a b h =
         record {
           part = lines;
           wrote = wrote-then o o′ o″ (p .end) z (q .end) _ _ a b;
           whole = turn ∙ (λ x. line-code x ++ (then-code ∙ rest-code (t .more) (ltb (t .next) (length script)) refl refl) x);
-          sound = ap sound state-code ∙ step-sound s outs script (p .at) e;
+          sound = ap sound (d .state) ∙ step-sound s outs script (p .at) h;
         }
 
   -- where a command follows, it stands further on, and its number has grown by one
@@ -172,19 +169,18 @@ module _ (script : List ℕ) (s : State) (outs : Outputs) (p : Progress) (more :
 
 -- ---- part behind part
 
-pub printed-none : (script : List ℕ) (s : State) (outs : Outputs) (p : Progress) (o : List ℕ) → sound (stateWith s (s .marks) (p .held)) ≡ true → s .held ≡ p .held →
-    Printed script s outs p o o (s .marks) outs p
-printed-none script s outs p o e h =
+pub printed-none : (script : List ℕ) (s : State) (outs : Outputs) (p : Progress) (o : List ℕ) → sound s ≡ true → Printed script s outs p o o s outs p
+printed-none script s outs p o e =
     record {
       part = [];
       wrote = wrote-none o (p .end);
-      whole = λ x. restOf script (lent (s .design) (s .cells) (s .tables) (s .marks) (h x)) outs p;
+      whole = refl;
       sound = e;
     }
 
-pub printed-then : (script : List ℕ) (s : State) (outs : Outputs) (p : Progress) (o o′ m : List ℕ) (w : Outputs) (q : Progress) (o″ m′ : List ℕ) (w′ : Outputs) (z : Progress) →
-    Printed script s outs p o o′ m w q → Printed script (stateWith s m (q .held)) w q o′ o″ m′ w′ z → Printed script s outs p o o″ m′ w′ z
-printed-then script s outs p o o′ m w q o″ m′ w′ z a b =
+pub printed-then : (script : List ℕ) (s : State) (outs : Outputs) (p : Progress) (o o′ : List ℕ) (e : State) (w : Outputs) (q : Progress) (o″ : List ℕ) (e′ : State) (w′ : Outputs) (z : Progress) →
+    Printed script s outs p o o′ e w q → Printed script e w q o′ o″ e′ w′ z → Printed script s outs p o o″ e′ w′ z
+printed-then script s outs p o o′ e w q o″ e′ w′ z a b =
     record {
       part = a .part ++ b .part;
       wrote = wrote-then o o′ o″ (p .end) (q .end) (z .end) (a .part) (b .part) (a .wrote) (b .wrote);

@@ -21,9 +21,9 @@ use Rattle.desk.proofs.TextLaws.{text-past}
 
 -- THEOREM: the report of an accepted design is its line, and what is still to be printed at the place after its END
 pub report-begins : (script : List ℕ) (b : Buffers) (p : Draft) (i : ℕ) (q : Progress) → q .at ≡ i → q .number ≡ 0 → q .more ≡ ltb i (length script) →
-    reportOf script b (accepted p i) ≡ designLine (p .design) ++ restOf script (justRead (accepted p i) b) (b .outputs) q
+    reportOf script b (accepted p i) ≡ designLine (p .design) (p .rows) ++ restOf script (justRead (accepted p i) b) (b .outputs) q
 unfolding restOf
-report-begins script b p i q a n m = ap (λ (t : List ℕ). designLine (p .design) ++ t) (sym (rest (q .more) (q .number) (q .at) a n m))
+report-begins script b p i q a n m = ap (λ (t : List ℕ). designLine (p .design) (p .rows) ++ t) (sym (rest (q .more) (q .number) (q .at) a n m))
   where
     lines : List ℕ
     lines = textAt script (justRead (accepted p i) b) (b .outputs) 0 i

@@ -18,14 +18,14 @@ use Rattle.script.specs.Runs.{Buffers, buffers, readingOf}
 use Rattle.desk.specs.declared.reporting.Progress.{Progress}
 use Rattle.desk.specs.declared.parts.Beginning.{Beginning}
 use Rattle.desk.specs.declared.Handed.{Handed}
-use Rattle.desk.specs.Printed.{reportOf, restOf, stateWith}
+use Rattle.desk.specs.Printed.{reportOf, restOf}
 
 -- ---- the first text
 
 -- "design with tables, constraints, fillings and rows", or "A refused design prints only refused number place"
-unfoldable pub firstText : Design → Verdict → List ℕ
-firstText d (Accepted i) = designLine d
-firstText d (Refused n i) = refusalLine n i
+unfoldable pub firstText : Design → ℕ → Verdict → List ℕ
+firstText d rows (Accepted i) = designLine d rows
+firstText d rows (Refused n i) = refusalLine n i
 
 -- the place of the first command, and whether there is one
 abbrev pub firstPlace : Verdict → ℕ
@@ -37,8 +37,8 @@ anyCommand script (Accepted i) = ltb i (length script)
 anyCommand script (Refused n i) = false
 
 -- the first text in a buffer, o before and o′ after, and the progress p with which the report goes on
-pub record First (script : List ℕ) (d : Design) (v : Verdict) (o o′ : List ℕ) (p : Progress) : Type 0 where
-  pub wrote : Wrote o o′ 0 (p .end) (firstText d v)
+pub record First (script : List ℕ) (d : Design) (rows : ℕ) (v : Verdict) (o o′ : List ℕ) (p : Progress) : Type 0 where
+  pub wrote : Wrote o o′ 0 (p .end) (firstText d rows v)
   pub at : p .at ≡ firstPlace v
   pub number : p .number ≡ 0
   pub more : p .more ≡ anyCommand script v
@@ -63,11 +63,11 @@ pub record Begins (script : List ℕ) (b : Buffers) (cs : Cells) (ts ms o : List
       (restOf script (lent (r .design) cs ts ms (r .progress .held)) (b .outputs) (r .progress))
   pub ready : r .progress .more ≡ true → NextReady script (lent (r .design) cs ts ms (r .progress .held)) (r .progress)
 
--- what `next_part` gives, from p to q: the buffer o has the next part. The marks m, and w, which is lent for
+-- what `next_part` gives, from p to q: the buffer o has the next part. The state e, and w, which is lent for
 -- answers, are those afterwards.
-pub record Continues (script : List ℕ) (s : State) (outs : Outputs) (p : Progress) (o m : List ℕ) (w : Outputs) (q : Progress) : Type 0 where
-  pub part : Part (restOf script s outs p) o (q .end) (restOf script (stateWith s m (q .held)) w q)
-  pub ready : q .more ≡ true → NextReady script (stateWith s m (q .held)) q
+pub record Continues (script : List ℕ) (s : State) (outs : Outputs) (p : Progress) (o : List ℕ) (e : State) (w : Outputs) (q : Progress) : Type 0 where
+  pub part : Part (restOf script s outs p) o (q .end) (restOf script e w q)
+  pub ready : q .more ≡ true → NextReady script e q
   pub on : q .more ≡ true → p .at < q .at
 
 -- ---- the whole report of a script

@@ -7,8 +7,7 @@ use lib.Dec.{leb}
 use lib.ListN.{length, getD}
 use Rattle.finite.specs.Writing.{Wrote}
 use Rattle.model.specs.Answers.{Answer, shown, hasLists}
-use Rattle.state.specs.declared.held.Held.{Held}
-use Rattle.state.specs.Lent.{State, lent, sound}
+use Rattle.state.specs.Lent.{State, sound}
 use Rattle.format.specs.Bytes.{byteAt}
 use Rattle.format.specs.Reading.{DesignRead}
 use Rattle.format.specs.Reading.DesignRead.{accepted, refusedAt}
@@ -48,7 +47,7 @@ textAt script s outs number i = textFrom (length script) script s outs number i
 
 -- the whole report, where the buffers b are lent
 abbrev pub reportOf : List ℕ → Buffers → DesignRead → List ℕ
-reportOf script b (accepted p i) = designLine (p .design) ++ textAt script (justRead (accepted p i) b) (b .outputs) 0 i
+reportOf script b (accepted p i) = designLine (p .design) (p .rows) ++ textAt script (justRead (accepted p i) b) (b .outputs) 0 i
 reportOf script b (refusedAt n i) = refusalLine n i
 
 -- ---- part by part
@@ -57,14 +56,10 @@ reportOf script b (refusedAt n i) = refusalLine n i
 unfoldable pub restOf : List ℕ → State → Outputs → Progress → List ℕ
 restOf script s outs p = cond (p .more) (textAt script s outs (p .number) (p .at)) []
 
--- the state with what an operation can change
-abbrev pub stateWith : State → List ℕ → Held → State
-stateWith s marks h = lent (s .design) (s .cells) (s .tables) marks h
-
 -- The part of the report that was written into the buffer, o before and o′ after, between p and q: with what is left it is what was left before.
--- The marks m, and w, which is lent for answers, are those afterwards.
-pub record Printed (script : List ℕ) (s : State) (outs : Outputs) (p : Progress) (o o′ m : List ℕ) (w : Outputs) (q : Progress) : Type 0 where
+-- The state e, and w, which is lent for answers, are those afterwards.
+pub record Printed (script : List ℕ) (s : State) (outs : Outputs) (p : Progress) (o o′ : List ℕ) (e : State) (w : Outputs) (q : Progress) : Type 0 where
   pub part : List ℕ
   pub wrote : Wrote o o′ (p .end) (q .end) part
-  pub whole : restOf script s outs p ≡ part ++ restOf script (stateWith s m (q .held)) w q
-  pub sound : sound (stateWith s m (q .held)) ≡ true
+  pub whole : restOf script s outs p ≡ part ++ restOf script e w q
+  pub sound : sound e ≡ true

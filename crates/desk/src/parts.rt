@@ -25,14 +25,20 @@ pub struct Beginning {
     pub progress: Progress,
 }
 
-// Writes the first text: the line of an accepted design, or that of the refusal. Constant time.
-fn put_first(script: &[u8], out: &mut [u8], design: Design, verdict: Verdict) -> Progress
+// Writes the first text: the line of an accepted design with its rows, or that of the refusal. Constant time.
+fn put_first(
+    script: &[u8],
+    out: &mut [u8],
+    design: Design,
+    rows: usize,
+    verdict: Verdict,
+) -> Progress
     requires { ⌜ 91 ≤ length (now out) ⌝ }
-    ensures { λ p. ⌜ First (now (script .entry)) design verdict (now (out .entry)) (now (out .exit)) p ⌝ }
+    ensures { λ p. ⌜ First (now (script .entry)) design rows verdict (now (out .entry)) (now (out .exit)) p ⌝ }
 {
     match verdict {
         Verdict::Accepted(at) => {
-            let end = put_design_line(out, 0, design);
+            let end = put_design_line(out, 0, design, rows);
             let held = Held::none();
             Progress {
                 at,
@@ -90,8 +96,9 @@ pub(crate) fn begin(
         starts,
     );
     let design = reading.design;
+    let rows = reading.rows;
     let verdict = reading.verdict;
-    let progress = put_first(script, out, design, verdict);
+    let progress = put_first(script, out, design, rows, verdict);
     Beginning { design, progress }
 }
 
@@ -100,14 +107,14 @@ pub(crate) fn next_part(
     script: &[u8],
     from: Progress,
     design: Design,
-    cells: &[u32],
-    issues: &[u8],
-    tables: &[u8],
-    next: &[u16; 4096],
-    first: &[u16; 8192],
-    keys: &[u64; 4096],
-    heads: &[u16; 4096],
-    starts: &[u16; 65],
+    cells: &mut [u32],
+    issues: &mut [u8],
+    tables: &mut [u8],
+    next: &mut [u16; 4096],
+    first: &mut [u16; 8192],
+    keys: &mut [u64; 4096],
+    heads: &mut [u16; 4096],
+    starts: &mut [u16; 65],
     marks: &mut [u8],
     words: &mut [u32],
     text: &mut [u8],
@@ -121,7 +128,11 @@ pub(crate) fn next_part(
         × Catalogued design (cellsIn (now cells) (now issues)) (now tables) (now next) (now first) (now keys) (now heads) (now starts) ⌝ }
     requires { ⌜ (length (now words) ≤ 4096) × (length (now text) ≤ 16384) × (length (now out) ≡ 81920) ⌝ }
     ensures { λ q. ⌜ Continues (now (script .entry)) (lent design (cellsIn (now (cells .entry)) (now (issues .entry))) (now (tables .entry)) (now (marks .entry)) (from .held))
-        (outputs (now (words .entry)) (now (text .entry))) from (now (out .exit)) (now (marks .exit)) (outputs (now (words .exit)) (now (text .exit))) q ⌝ }
+        (outputs (now (words .entry)) (now (text .entry))) from (now (out .exit))
+        (lent design (cellsIn (now (cells .exit)) (now (issues .exit))) (now (tables .exit)) (now (marks .exit)) (q .held))
+        (outputs (now (words .exit)) (now (text .exit))) q ⌝ }
+    ensures { λ _. ⌜ Catalogued design (cellsIn (now (cells .exit)) (now (issues .exit))) (now (tables .exit)) (now (next .exit)) (now (first .exit))
+        (now (keys .exit)) (now (heads .exit)) (now (starts .exit)) ⌝ }
 {
     let mut p = from;
     p.end = 0;

@@ -78,14 +78,14 @@ fn report_step(
     script: &[u8],
     from: Progress,
     design: Design,
-    cells: &[u32],
-    issues: &[u8],
-    tables: &[u8],
-    next: &[u16; 4096],
-    first: &[u16; 8192],
-    keys: &[u64; 4096],
-    heads: &[u16; 4096],
-    starts: &[u16; 65],
+    cells: &mut [u32],
+    issues: &mut [u8],
+    tables: &mut [u8],
+    next: &mut [u16; 4096],
+    first: &mut [u16; 8192],
+    keys: &mut [u64; 4096],
+    heads: &mut [u16; 4096],
+    starts: &mut [u16; 65],
     marks: &mut [u8],
     words: &mut [u32],
     text: &mut [u8],
@@ -100,9 +100,13 @@ fn report_step(
     requires { ⌜ (from .more ≡ true) × (from .at < length (now script)) × (from .number ≤ from .at) × (length (now words) ≤ 4096)
         × (length (now text) ≤ 16384) × (from .end + 61840 ≤ length (now out)) ⌝ }
     ensures { λ q. ⌜ Printed (now (script .entry)) (lent design (cellsIn (now (cells .entry)) (now (issues .entry))) (now (tables .entry)) (now (marks .entry)) (from .held))
-        (outputs (now (words .entry)) (now (text .entry))) from (now (out .entry)) (now (out .exit)) (now (marks .exit)) (outputs (now (words .exit)) (now (text .exit))) q ⌝ }
+        (outputs (now (words .entry)) (now (text .entry))) from (now (out .entry)) (now (out .exit))
+        (lent design (cellsIn (now (cells .exit)) (now (issues .exit))) (now (tables .exit)) (now (marks .exit)) (q .held))
+        (outputs (now (words .exit)) (now (text .exit))) q ⌝ }
     ensures { λ q. ⌜ (q .end ≤ from .end + 61831)
         × (q .more ≡ true → (from .at < q .at) × (q .at < length (now (script .entry))) × (q .number ≤ q .at)) ⌝ }
+    ensures { λ _. ⌜ Catalogued design (cellsIn (now (cells .exit)) (now (issues .exit))) (now (tables .exit)) (now (next .exit)) (now (first .exit))
+        (now (keys .exit)) (now (heads .exit)) (now (starts .exit)) ⌝ }
 {
     let at = from.at;
     let held = from.held;
@@ -150,14 +154,14 @@ pub(crate) fn fill(
     script: &[u8],
     from: Progress,
     design: Design,
-    cells: &[u32],
-    issues: &[u8],
-    tables: &[u8],
-    next: &[u16; 4096],
-    first: &[u16; 8192],
-    keys: &[u64; 4096],
-    heads: &[u16; 4096],
-    starts: &[u16; 65],
+    cells: &mut [u32],
+    issues: &mut [u8],
+    tables: &mut [u8],
+    next: &mut [u16; 4096],
+    first: &mut [u16; 8192],
+    keys: &mut [u64; 4096],
+    heads: &mut [u16; 4096],
+    starts: &mut [u16; 65],
     marks: &mut [u8],
     words: &mut [u32],
     text: &mut [u8],
@@ -172,8 +176,12 @@ pub(crate) fn fill(
     requires { ⌜ (from .more ≡ true → (from .at < length (now script)) × (from .number ≤ from .at)) × (length (now words) ≤ 4096)
         × (length (now text) ≤ 16384) × (from .end ≤ 16384) × (length (now out) ≡ 81920) ⌝ }
     ensures { λ q. ⌜ Printed (now (script .entry)) (lent design (cellsIn (now (cells .entry)) (now (issues .entry))) (now (tables .entry)) (now (marks .entry)) (from .held))
-        (outputs (now (words .entry)) (now (text .entry))) from (now (out .entry)) (now (out .exit)) (now (marks .exit)) (outputs (now (words .exit)) (now (text .exit))) q ⌝ }
+        (outputs (now (words .entry)) (now (text .entry))) from (now (out .entry)) (now (out .exit))
+        (lent design (cellsIn (now (cells .exit)) (now (issues .exit))) (now (tables .exit)) (now (marks .exit)) (q .held))
+        (outputs (now (words .exit)) (now (text .exit))) q ⌝ }
     ensures { λ q. ⌜ (q .end ≤ 81920) × (q .more ≡ true → (from .at < q .at) × (q .at < length (now (script .entry))) × (q .number ≤ q .at)) ⌝ }
+    ensures { λ _. ⌜ Catalogued design (cellsIn (now (cells .exit)) (now (issues .exit))) (now (tables .exit)) (now (next .exit)) (now (first .exit))
+        (now (keys .exit)) (now (heads .exit)) (now (starts .exit)) ⌝ }
 {
     let mut p = from;
     loop {

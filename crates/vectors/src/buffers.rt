@@ -39,6 +39,18 @@ pub(crate) fn are_bytes_left(bytes: &[u8], from: usize) -> bool {
     true
 }
 
+// Whether two buffers have the same cells. One step for each.
+pub(crate) fn are_same_cells(cells: &[u32; 4096], others: &[u32; 4096]) -> bool {
+    let mut i = 0;
+    while i < Design::CELLS {
+        if cells[i] != others[i] {
+            return false;
+        }
+        i += 1;
+    }
+    true
+}
+
 // Everything past what an accepted design stores; or everything.
 fn are_left(cause: u8, cells: &[u32], issues: &[u8], tables: &[u8], marks: &[u8]) -> bool {
     if cause != 0 {
@@ -115,7 +127,13 @@ pub struct Tried {
 }
 
 // The seven operations on buffers of 9s, of which one is too short: they leave everything.
-fn try_short(s: State, cells: &[u32], issues: &[u8], tables: &[u8], marks: &mut [u8]) -> Tried {
+fn try_short(
+    s: State,
+    cells: &mut [u32],
+    issues: &mut [u8],
+    tables: &mut [u8],
+    marks: &mut [u8],
+) -> Tried {
     let mut words = [9u32; 8];
     let mut text = [9u8; 512];
     let mut out = [9u8; 512];
@@ -132,7 +150,7 @@ fn try_short(s: State, cells: &[u32], issues: &[u8], tables: &[u8], marks: &mut 
         &mut text,
         &mut out,
     );
-    let is_left = are_bytes_left(marks, 0)
+    let is_left = are_left(7, cells, issues, tables, marks)
         && are_cells_left(&words, 0)
         && are_bytes_left(&text, 0)
         && are_bytes_left(&out, 0);
@@ -178,7 +196,13 @@ fn load_3(
 }
 
 // The seven operations on a lawful state: past the sizes they leave everything.
-fn try_long(l: Loaded, cells: &[u32], issues: &[u8], tables: &[u8], marks: &mut [u8]) -> Tried {
+fn try_long(
+    l: Loaded,
+    cells: &mut [u32],
+    issues: &mut [u8],
+    tables: &mut [u8],
+    marks: &mut [u8],
+) -> Tried {
     let mut words = [9u32; 8];
     let mut text = [9u8; 512];
     let mut out = [9u8; 512];
@@ -208,31 +232,31 @@ fn try_longer(script: &[u8]) -> Tried {
     let mut tables = [9u8; 514];
     let mut marks = [9u8; 514];
     let l = load_3(script, &mut cells, &mut issues, &mut tables, &mut marks);
-    try_long(l, &cells, &issues, &tables, &mut marks)
+    try_long(l, &mut cells, &mut issues, &mut tables, &mut marks)
 }
 
 // One place too short, and unlawful besides: 0 the cells, 1 the row tables, 2 the marks, 4 the issues; else longer buffers.
 pub(crate) fn operations(script: &[u8], s: State, kind: usize) -> Tried {
-    let cells = [9u32; 4096];
-    let issues = [9u8; 4096];
-    let tables = [9u8; 512];
+    let mut cells = [9u32; 4096];
+    let mut issues = [9u8; 4096];
+    let mut tables = [9u8; 512];
     let mut marks = [9u8; 512];
     match kind {
         0 => {
-            let few = [9u32; 4095];
-            try_short(s, &few, &issues, &tables, &mut marks)
+            let mut few = [9u32; 4095];
+            try_short(s, &mut few, &mut issues, &mut tables, &mut marks)
         }
         1 => {
-            let few = [9u8; 511];
-            try_short(s, &cells, &issues, &few, &mut marks)
+            let mut few = [9u8; 511];
+            try_short(s, &mut cells, &mut issues, &mut few, &mut marks)
         }
         2 => {
             let mut few = [9u8; 511];
-            try_short(s, &cells, &issues, &tables, &mut few)
+            try_short(s, &mut cells, &mut issues, &mut tables, &mut few)
         }
         4 => {
-            let few = [9u8; 4095];
-            try_short(s, &cells, &few, &tables, &mut marks)
+            let mut few = [9u8; 4095];
+            try_short(s, &mut cells, &mut few, &mut tables, &mut marks)
         }
         _ => try_longer(script),
     }

@@ -1,4 +1,8 @@
 // A lent state, changed in one place or two, and the operations of the library that take whatever is lent.
+use crate::held::low_byte;
+use crate::held::low_word;
+use crate::held::same_held;
+use crate::held::with_held;
 use crate::scripts::step_of;
 use format::Verdict;
 use format::read_design;
@@ -16,11 +20,8 @@ use state::Held;
 use state::HeldValue;
 use state::Join;
 use state::Operation;
-use state::OwnedValue;
 use state::Query;
 use state::Table;
-use state::is_blank;
-use state::same_cell;
 
 // Everything that a caller lends an operation.
 pub struct State {
@@ -49,9 +50,9 @@ pub(crate) fn state_after(script: &[u8], number: usize) -> State {
             script,
             at,
             design,
-            &cells,
-            &issues,
-            &tables,
+            &mut cells,
+            &mut issues,
+            &mut tables,
             &mut marks,
             number,
             &mut words,
@@ -72,20 +73,11 @@ pub(crate) fn state_after(script: &[u8], number: usize) -> State {
 
 // ---- changes: what is changed, where, and to what. Constant time.
 
-fn low_byte(v: usize) -> u8 {
-    (v % 256) as u8
-}
-
-fn low_word(v: usize) -> u32 {
-    (v % 4294967296) as u32
-}
-
 fn with_counts(mut d: Design, kind: usize, v: usize) -> Design {
     match kind {
         5 => d.tables = v,
         6 => d.constraints = v,
-        7 => d.fillings = v,
-        _ => d.rows = v,
+        _ => d.fillings = v,
     }
     d
 }
@@ -124,29 +116,20 @@ fn with_item(mut d: Design, kind: usize, v: usize) -> Design {
     d
 }
 
-fn with_held(mut h: Held, kind: usize, i: usize, v: usize) -> Held {
-    if kind == 3 {
-        h.count = v;
-        return h;
+// A row of two columns goes, and its row table is v.
+fn without_row(mut s: State, i: usize, v: usize) -> State {
+    if i < Design::ROWS {
+        s.cells[8 * i] = 0;
+        s.cells[8 * i + 1] = 0;
+        s.tables[i] = low_byte(v);
     }
-    if kind == 14 {
-        h.desk = low_byte(v);
-        return h;
-    }
-    if i < Held::PLACES {
-        let number = low_word(v % 1000);
-        let issue = low_byte(v / 100000 % 10);
-        let pair = HeldValue {
-            filling: low_byte(v / 1000 % 100),
-            value: Cell { number, issue },
-        };
-        let desk = low_byte(v / 1000000);
-        h.values[i] = OwnedValue { desk, pair };
-    }
-    h
+    s
 }
 
 fn with_row(mut s: State, kind: usize, i: usize, v: usize) -> State {
+    if kind == 8 {
+        return without_row(s, i, v);
+    }
     if kind == 0 {
         if i < Design::CELLS {
             s.cells[i] = low_word(v);
@@ -169,14 +152,15 @@ fn with_row(mut s: State, kind: usize, i: usize, v: usize) -> State {
     s
 }
 
-// Kinds: 0 a cell, 1 a row table, 2 a mark, 3 how many are held, 4 a held pair (1,000,000 × desk + 100,000 × issue + 1,000 × filling + value), 5 to 8
-// how many tables, constraints, fillings and rows, 9 the columns of table 0, 10 those of table 7, 11 the target table of constraint 1, then from 0.0,
-// 12 low of filling 0, 13 a cell's issue, 14 the named desk; any other, nothing.
+// Kinds: 0 a cell, 1 a row table, 2 a mark, 3 how many are held, 4 a held pair (1,000,000 × desk + 100,000 × issue + 1,000 × filling + value), 5 to 7
+// how many tables, constraints and fillings, 8 a row of two columns that goes, with its row table afterwards, 9 the columns of table 0, 10 those of table 7, 11 the target table of constraint 1, then from 0.0,
+// 12 low of filling 0, 13 a cell's issue, 14 the named desk, 15 how many ranges a desk holds, 16 a range, at place 8 × desk + number
+// (1,000,000 × filling + 1,000 × low + high); any other, nothing.
 pub(crate) fn changed(mut s: State, kind: usize, i: usize, v: usize) -> State {
-    if kind < 3 || kind == 13 {
+    if kind < 3 || kind == 8 || kind == 13 {
         return with_row(s, kind, i, v);
     }
-    if kind == 3 || kind == 4 || kind == 14 {
+    if kind == 3 || kind == 4 || (13 < kind && kind < 17) {
         let h = s.held;
         s.held = with_held(h, kind, i, v);
         return s;
@@ -185,7 +169,7 @@ pub(crate) fn changed(mut s: State, kind: usize, i: usize, v: usize) -> State {
         return s;
     }
     let d = s.design;
-    if kind < 9 {
+    if kind < 8 {
         s.design = with_counts(d, kind, v);
     } else {
         s.design = with_item(d, kind, v);
@@ -257,42 +241,6 @@ fn plain_query() -> Query {
     }
 }
 
-// Whether two values are the same, blank ones too. Constant time.
-fn same_value(a: Cell, b: Cell) -> bool {
-    if is_blank(a) {
-        return is_blank(b);
-    }
-    same_cell(a, b)
-}
-
-// Whether two records of held values are the same. One step for each place.
-fn same_held(a: Held, b: Held) -> bool {
-    if a.desk != b.desk {
-        return false;
-    }
-    if a.count != b.count {
-        return false;
-    }
-    let mut i = 0;
-    while i < Held::PLACES {
-        let x = a.values[i];
-        let y = b.values[i];
-        let p = x.pair;
-        let q = y.pair;
-        if x.desk != y.desk {
-            return false;
-        }
-        if p.filling != q.filling {
-            return false;
-        }
-        if !same_value(p.value, q.value) {
-            return false;
-        }
-        i += 1;
-    }
-    true
-}
-
 // An operation's cause, and whether it gave back the held values that it was lent.
 struct Asked {
     cause: u8,
@@ -322,9 +270,9 @@ fn ask(
 
 fn step_4(
     design: Design,
-    cells: &[u32],
-    issues: &[u8],
-    tables: &[u8],
+    cells: &mut [u32],
+    issues: &mut [u8],
+    tables: &mut [u8],
     marks: &mut [u8],
     held: Held,
 ) -> Asked {
@@ -475,9 +423,9 @@ fn four(
 fn reason_and_step(
     mut c: Causes,
     design: Design,
-    cells: &[u32],
-    issues: &[u8],
-    tables: &[u8],
+    cells: &mut [u32],
+    issues: &mut [u8],
+    tables: &mut [u8],
     marks: &mut [u8],
     held: Held,
     words: &mut [u32],
@@ -505,9 +453,9 @@ fn reason_and_step(
 // All seven on one state.
 pub(crate) fn operated(
     design: Design,
-    cells: &[u32],
-    issues: &[u8],
-    tables: &[u8],
+    cells: &mut [u32],
+    issues: &mut [u8],
+    tables: &mut [u8],
     marks: &mut [u8],
     held: Held,
     words: &mut [u32],

@@ -14,6 +14,7 @@
 //   b NAME|CAUSES|KIND   the seven operations on buffers of which one is too short, or on longer ones, and the same
 // Any other line is a comment.
 mod buffers;
+mod held;
 mod lent;
 mod scripts;
 mod text;

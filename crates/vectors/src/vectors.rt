@@ -1,6 +1,7 @@
 // One vector: what it gives, beside what was expected.
 use crate::buffers::are_bytes_left;
 use crate::buffers::are_cells_left;
+use crate::buffers::are_same_cells;
 use crate::buffers::operations;
 use crate::buffers::reading;
 use crate::lent::Causes;
@@ -83,10 +84,13 @@ fn reading_line(script: &[u8], kind: usize) -> Line {
 
 // The seven operations on a state, and whether they left it, the answer words, the text and the buffer to write into as they were.
 fn state_line(s: State) -> Line {
-    let cells = s.cells;
-    let issues = s.issues;
-    let tables = s.tables;
-    let before = s.marks;
+    let cells_before = s.cells;
+    let issues_before = s.issues;
+    let tables_before = s.tables;
+    let marks_before = s.marks;
+    let mut cells = s.cells;
+    let mut issues = s.issues;
+    let mut tables = s.tables;
     let mut marks = s.marks;
     let design = s.design;
     let held = s.held;
@@ -95,16 +99,19 @@ fn state_line(s: State) -> Line {
     let mut out = [9u8; 512];
     let c = operated(
         design,
-        &cells,
-        &issues,
-        &tables,
+        &mut cells,
+        &mut issues,
+        &mut tables,
         &mut marks,
         held,
         &mut words,
         &mut text,
         &mut out,
     );
-    let is_left = check::same(&marks, &before)
+    let is_left = are_same_cells(&cells, &cells_before)
+        && check::same(&issues, &issues_before)
+        && check::same(&tables, &tables_before)
+        && check::same(&marks, &marks_before)
         && are_cells_left(&words, 0)
         && are_bytes_left(&text, 0)
         && are_bytes_left(&out, 0);

@@ -17,15 +17,15 @@ use Rattle.desk.proofs.write_report.Statement.{statement}
 use Rattle.desk.proofs.write_report.Tie as tie
 
 abbrev Inv-loop : tie.InvT-loop
-Inv-loop script cells issues tables marks₀ words₀ text₀ out₀ next first keys heads starts weights₀ sums₀ froms₀ links₀ design p₀ done₀ marks words text out weights sums froms links p
-    done =
+Inv-loop script cells₀ issues₀ tables₀ marks₀ words₀ text₀ out₀ next₀ first₀ keys₀ heads₀ starts₀ weights₀ sums₀ froms₀ links₀ design p₀ done₀ cells issues tables marks words text out next first keys heads starts
+    weights sums froms links p done =
     Standing script (lent design (cellsIn cells issues) tables marks (p .held)) (outputs words text) p out done ×
     (p .more ≡ true → Catalogued design (cellsIn cells issues) tables next first keys heads starts) ×
     (length cells ≡ 4096) × (length issues ≡ 4096) × (length tables ≡ 512) × (length marks ≡ 512) × (length words ≡ 4096) × (length text ≡ 16384) × (length out ≡ 81920)
 
 abbrev μ-loop : tie.MeasureT-loop
-μ-loop script cells issues tables marks₀ words₀ text₀ out₀ next first keys heads starts weights₀ sums₀ froms₀ links₀ design p₀ done₀ marks words text out weights sums froms links p
-    done = turns script p
+μ-loop script cells₀ issues₀ tables₀ marks₀ words₀ text₀ out₀ next₀ first₀ keys₀ heads₀ starts₀ weights₀ sums₀ froms₀ links₀ design p₀ done₀ cells issues tables marks words text out next first keys heads starts
+    weights sums froms links p done = turns script p
 
 slice-aggregate-begin : tie.Need-slice-aggregate-begin Inv-loop μ-loop
 slice-aggregate-begin c = search needs
@@ -105,21 +105,21 @@ next-part-requires c κs =
 
 loop-less : tie.Need-loop-less Inv-loop μ-loop
 loop-less c =
-    let j = c .before .before .before .before .before .before .before .before .before .before .before .before .before .before .before .before .before .before .before .before .before .before .before .before .before .before .before .loop in
-    let f = c .before .before .before .before .next-part .ensures in
-    turns-less _ _ _ (not-false (j .p .more) (c .before .before .before .before .before .before .before .before .before .before .before .before .before .before .before .before .before .before .before .before .before .if2 .left)) (λ k. (f .on k, f .ready k .at))
+    let j = c .before .before .before .before .before .before .before .before .before .before .before .before .before .before .before .before .before .before .before .before .before .before .before .before .before .before .before .before .before .before .loop in
+    let f = c .before .before .before .before .before .before .before .next-part .ensures .0 in
+    turns-less _ _ _ (not-false (j .p .more) (c .before .before .before .before .before .before .before .before .before .before .before .before .before .before .before .before .before .before .before .before .before .before .before .before .if2 .left)) (λ k. (f .on k, f .ready k .at))
 
 loop-again : tie.Need-loop-again Inv-loop μ-loop
 loop-again c =
-    let h = c .before .before .before .before .before .before .before .before .before .before .before .before .before .before .before .before .before .before .before .before .before .before .before .before .before .write-part in
-    let j = c .before .before .before .before .before .before .before .before .before .before .before .before .before .before .before .before .before .before .before .before .before .before .before .before .before .before .before .loop in
-    let more = not-false (j .p .more) (c .before .before .before .before .before .before .before .before .before .before .before .before .before .before .before .before .before .before .before .before .before .if2 .left) in (
-      standing-next _ _ _ _ _ _ (j .inv .0) _ (h .ensures) (not-false (h .result .well) (c .before .before .before .before .before .before .before .before .before .before .before .before .before .before .before .before .before .before .before .before .before .before .before .if1 .left)) more _ _ _ _ (c .before .before .before .before .next-part .ensures)
+    let h = c .before .before .before .before .before .before .before .before .before .before .before .before .before .before .before .before .before .before .before .before .before .before .before .before .before .before .before .before .write-part in
+    let j = c .before .before .before .before .before .before .before .before .before .before .before .before .before .before .before .before .before .before .before .before .before .before .before .before .before .before .before .before .before .before .loop in
+    let more = not-false (j .p .more) (c .before .before .before .before .before .before .before .before .before .before .before .before .before .before .before .before .before .before .before .before .before .before .before .before .if2 .left) in (
+      standing-next _ _ _ _ _ _ (j .inv .0) _ (h .ensures) (not-false (h .result .well) (c .before .before .before .before .before .before .before .before .before .before .before .before .before .before .before .before .before .before .before .before .before .before .before .before .before .before .if1 .left)) more _ _ _ _ (c .before .before .before .before .before .before .before .next-part .ensures .0)
           (omega (arith, j .inv .8, c .out5 .given)),
-      λ e. j .inv .1 more,
-      j .inv .2,
-      j .inv .3,
-      j .inv .4,
+      λ e. c .before .before .before .before .before .before .before .next-part .ensures .1,
+      omega (arith, j .inv .2, c .before .before .before .before .before .before .cells4 .given),
+      omega (arith, j .inv .3, c .before .before .before .before .before .issues4 .given),
+      omega (arith, j .inv .4, c .before .before .before .before .tables4 .given),
       omega (arith, j .inv .5, c .before .before .before .marks4 .given),
       omega (arith, j .inv .6, c .before .before .words2 .given),
       omega (arith, j .inv .7, c .before .text2 .given),

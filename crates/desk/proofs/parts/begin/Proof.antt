@@ -35,7 +35,7 @@ returns c =
             number = λ j. omega (arith, c .before .before .before .before .before .before .before .before .before .before .before .slice-known6 .given j);
             issue = λ j. omega (arith, c .before .before .before .before .before .before .before .before .before .slice-known7 .given j);
           }) (omega (arith, c .before .before .before .before .before .before .before .before .before .before .before .before .before .before .before .before .before .before .before .before .before .before .before .before .before .before .before .before .before .pre)),
-      λ m. let a = accepted-more _ _ _ _ _ _ first m in c .before .before .before .before .before .before .before .before .before .before .before .before .before .read-catalogued .ensures .1 .0 (a .0) (a .1),
+      λ m. let a = accepted-more _ _ _ _ _ _ _ first m in c .before .before .before .before .before .before .before .before .before .before .before .before .before .read-catalogued .ensures .1 .0 (a .0) (a .1),
     )
 
 pub begin-spec : {M : Type 1} → statement M

@@ -28,14 +28,14 @@ same-length c = search needs
 
 returns : tie.Need-returns
 returns c =
-    first-accepted _ _ _ _ _ _ _ (c .before .before .before .before .before .before .verdict .given .1) (c .before .before .before .put-design-line .ensures) refl refl refl (c .none .ensures)
+    first-accepted _ _ _ _ _ _ _ _ (c .before .before .before .before .before .before .verdict .given .1) (c .before .before .before .put-design-line .ensures) refl refl refl (c .none .ensures)
 
 same-length-2 : tie.Need-same-length-2
 same-length-2 c = search needs
 
 returns-2 : tie.Need-returns-2
 returns-2 c =
-    first-refused _ _ _ _ _ _ _ _ (c .before .before .before .before .before .before .verdict2 .given .1) (c .before .before .before .put-refusal-line .ensures) refl refl refl (c .none2 .ensures)
+    first-refused _ _ _ _ _ _ _ _ _ (c .before .before .before .before .before .before .verdict2 .given .1) (c .before .before .before .put-refusal-line .ensures) refl refl refl (c .none2 .ensures)
 
 pub put-first-spec : {M : Type 1} → statement M
 put-first-spec =

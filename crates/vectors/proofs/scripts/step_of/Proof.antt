@@ -8,11 +8,12 @@ use Rattle.vectors.proofs.scripts.step_of.Statement.{statement}
 use Rattle.vectors.proofs.scripts.step_of.Tie as tie
 
 abbrev Inv-loop : tie.InvT-loop
-Inv-loop script at design cells issues tables marks₀ number words₀ text₀ t₀ i₀ marks words text t i =
-    (length marks ≡ length marks₀) × (length words ≡ length words₀) × (length text ≡ length text₀)
+Inv-loop script at design cells₀ issues₀ tables₀ marks₀ number words₀ text₀ t₀ i₀ cells issues tables marks words text t i =
+    (length cells ≡ length cells₀) × (length issues ≡ length issues₀) × (length tables ≡ length tables₀) × (length marks ≡ length marks₀) ×
+    (length words ≡ length words₀) × (length text ≡ length text₀)
 
 abbrev μ-loop : tie.MeasureT-loop
-μ-loop script at design cells issues tables marks₀ number words₀ text₀ t₀ i₀ marks words text t i = 65537 - i
+μ-loop script at design cells₀ issues₀ tables₀ marks₀ number words₀ text₀ t₀ i₀ cells issues tables marks words text t i = 65537 - i
 
 none-requires : tie.Need-none-requires Inv-loop μ-loop
 none-requires c κs = search needs
@@ -21,7 +22,7 @@ step-requires : tie.Need-step-requires Inv-loop μ-loop
 step-requires c κs = search needs
 
 loop-holds : tie.Need-loop-holds Inv-loop μ-loop
-loop-holds c = (refl, refl, refl)
+loop-holds c = (refl, refl, refl, refl, refl, refl)
 
 same-length : tie.Need-same-length Inv-loop μ-loop
 same-length c = omega arith
@@ -31,6 +32,15 @@ same-length-2 c = omega arith
 
 same-length-3 : tie.Need-same-length-3 Inv-loop μ-loop
 same-length-3 c = omega arith
+
+same-length-4 : tie.Need-same-length-4 Inv-loop μ-loop
+same-length-4 c = omega arith
+
+same-length-5 : tie.Need-same-length-5 Inv-loop μ-loop
+same-length-5 c = omega arith
+
+same-length-6 : tie.Need-same-length-6 Inv-loop μ-loop
+same-length-6 c = omega arith
 
 returns : tie.Need-returns Inv-loop μ-loop
 returns c = tt
@@ -45,16 +55,25 @@ loop-less : tie.Need-loop-less Inv-loop μ-loop
 loop-less c = omega arith
 
 loop-again : tie.Need-loop-again Inv-loop μ-loop
-loop-again c = (omega arith, omega arith, omega arith)
+loop-again c = (omega arith, omega arith, omega arith, omega arith, omega arith, omega arith)
 
-same-length-4 : tie.Need-same-length-4 Inv-loop μ-loop
-same-length-4 c = omega arith
+same-length-7 : tie.Need-same-length-7 Inv-loop μ-loop
+same-length-7 c = omega arith
 
-same-length-5 : tie.Need-same-length-5 Inv-loop μ-loop
-same-length-5 c = omega arith
+same-length-8 : tie.Need-same-length-8 Inv-loop μ-loop
+same-length-8 c = omega arith
 
-same-length-6 : tie.Need-same-length-6 Inv-loop μ-loop
-same-length-6 c = omega arith
+same-length-9 : tie.Need-same-length-9 Inv-loop μ-loop
+same-length-9 c = omega arith
+
+same-length-10 : tie.Need-same-length-10 Inv-loop μ-loop
+same-length-10 c = omega arith
+
+same-length-11 : tie.Need-same-length-11 Inv-loop μ-loop
+same-length-11 c = omega arith
+
+same-length-12 : tie.Need-same-length-12 Inv-loop μ-loop
+same-length-12 c = omega arith
 
 returns-2 : tie.Need-returns-2 Inv-loop μ-loop
 returns-2 c = tt
@@ -71,12 +90,18 @@ step-of-spec =
     same-length
     same-length-2
     same-length-3
+    same-length-4
+    same-length-5
+    same-length-6
     returns
     add-i
     step-requires-2
     loop-less
     loop-again
-    same-length-4
-    same-length-5
-    same-length-6
+    same-length-7
+    same-length-8
+    same-length-9
+    same-length-10
+    same-length-11
+    same-length-12
     returns-2)

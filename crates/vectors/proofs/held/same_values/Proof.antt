@@ -1,9 +1,9 @@
--- `vectors::lent::same_held` is safe, and ends. Assumes nothing.
+-- `vectors::held::same_values` is safe, and ends. Assumes nothing.
 use Prim.Native.Nat.{_-_}
 use native.Mathlib.Omega.{arith}
 use borrow.Author.Needs.{needs}
-use Rattle.vectors.proofs.lent.same_held.Statement.{statement}
-use Rattle.vectors.proofs.lent.same_held.Tie as tie
+use Rattle.vectors.proofs.held.same_values.Statement.{statement}
+use Rattle.vectors.proofs.held.same_values.Tie as tie
 
 abbrev Inv-loop : tie.InvT-loop
 Inv-loop a b i₀ i = Unit {0}
@@ -13,9 +13,6 @@ abbrev μ-loop : tie.MeasureT-loop
 
 returns : tie.Need-returns Inv-loop μ-loop
 returns c = tt
-
-returns-2 : tie.Need-returns-2 Inv-loop μ-loop
-returns-2 c = tt
 
 loop-holds : tie.Need-loop-holds Inv-loop μ-loop
 loop-holds c = tt
@@ -32,17 +29,17 @@ mul-y c = search needs
 element-copy-out-y : tie.Need-element-copy-out-y Inv-loop μ-loop
 element-copy-out-y c = search needs
 
+returns-2 : tie.Need-returns-2 Inv-loop μ-loop
+returns-2 c = tt
+
 returns-3 : tie.Need-returns-3 Inv-loop μ-loop
 returns-3 c = tt
-
-returns-4 : tie.Need-returns-4 Inv-loop μ-loop
-returns-4 c = tt
 
 same-value-requires : tie.Need-same-value-requires Inv-loop μ-loop
 same-value-requires c κs = search needs
 
-returns-5 : tie.Need-returns-5 Inv-loop μ-loop
-returns-5 c = tt
+returns-4 : tie.Need-returns-4 Inv-loop μ-loop
+returns-4 c = tt
 
 add-i : tie.Need-add-i Inv-loop μ-loop
 add-i c = omega arith
@@ -53,27 +50,26 @@ loop-less c = omega arith
 loop-again : tie.Need-loop-again Inv-loop μ-loop
 loop-again c = tt
 
-returns-6 : tie.Need-returns-6 Inv-loop μ-loop
-returns-6 c = tt
+returns-5 : tie.Need-returns-5 Inv-loop μ-loop
+returns-5 c = tt
 
-pub same-held-spec : {M : Type 1} → statement M
-same-held-spec =
+pub same-values-spec : {M : Type 1} → statement M
+same-values-spec =
     tie.close
     (tie.spec
     Inv-loop
     μ-loop
     returns
-    returns-2
     loop-holds
     mul-x
     element-copy-out-x
     mul-y
     element-copy-out-y
+    returns-2
     returns-3
-    returns-4
     same-value-requires
-    returns-5
+    returns-4
     add-i
     loop-less
     loop-again
-    returns-6)
+    returns-5)
