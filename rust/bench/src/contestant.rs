@@ -127,6 +127,8 @@ pub enum Answer {
     Knot(Vec<usize>),
     /// The desk that is named from now on.
     Desk(usize),
+    /// The rows that came, and those that went.
+    Rows(usize, usize),
     /// Why a row is cached.
     Reason(String),
     /// The row isn't cached.

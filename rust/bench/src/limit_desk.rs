@@ -40,6 +40,7 @@ impl OpenDesk for Desk {
             LimitAnswer::Even => Answer::Even,
             LimitAnswer::Uneven { i, j } => Answer::Uneven(usize::from(i), usize::from(j)),
             LimitAnswer::Total(total) => Answer::Total(total),
+            LimitAnswer::Rows { came, went } => Answer::Rows(came, went),
             LimitAnswer::Reason(_) => {
                 Answer::Reason(String::from_utf8_lossy(self.text()).into_owned())
             }

@@ -14,10 +14,10 @@ const CELLS: usize = 4_096;
 const ROWS: usize = 512;
 
 /// The words that a design takes in `foreign`'s layout.
-const DESIGN_WORDS: usize = 116;
+const DESIGN_WORDS: usize = 115;
 
 /// The words that the held values take.
-const HELD_WORDS: usize = 258;
+const HELD_WORDS: usize = 358;
 
 /// The catalog's arrays: for each cell, for each row and constraint, for each
 /// different value of a column twice, and for each column.
@@ -66,17 +66,17 @@ extern "C" {
         script: *const u8,
         script_length: usize,
         at: usize,
-        cells: *const u32,
+        cells: *mut u32,
         cells_length: usize,
-        issues: *const u8,
+        issues: *mut u8,
         issues_length: usize,
-        tables: *const u8,
+        tables: *mut u8,
         tables_length: usize,
-        next: &[u16; NEXT],
-        first: &[u16; FIRST],
-        keys: &[u64; KEYS],
-        heads: &[u16; HEADS],
-        starts: &[u16; STARTS],
+        next: &mut [u16; NEXT],
+        first: &mut [u16; FIRST],
+        keys: &mut [u64; KEYS],
+        heads: &mut [u16; HEADS],
+        starts: &mut [u16; STARTS],
         marks: *mut u8,
         marks_length: usize,
         design: *const u32,
@@ -99,17 +99,17 @@ extern "C" {
         script: *const u8,
         script_length: usize,
         at: usize,
-        cells: *const u32,
+        cells: *mut u32,
         cells_length: usize,
-        issues: *const u8,
+        issues: *mut u8,
         issues_length: usize,
-        tables: *const u8,
+        tables: *mut u8,
         tables_length: usize,
-        next: &[u16; NEXT],
-        first: &[u16; FIRST],
-        keys: &[u64; KEYS],
-        heads: &[u16; HEADS],
-        starts: &[u16; STARTS],
+        next: &mut [u16; NEXT],
+        first: &mut [u16; FIRST],
+        keys: &mut [u64; KEYS],
+        heads: &mut [u16; HEADS],
+        starts: &mut [u16; STARTS],
         marks: *mut u8,
         marks_length: usize,
         design: *const u32,
@@ -182,17 +182,17 @@ macro_rules! call {
                 $script.as_ptr(),
                 $script.len(),
                 0,
-                $lent.cells.as_ptr(),
+                $lent.cells.as_mut_ptr(),
                 $lent.cells.len(),
-                $lent.issues.as_ptr(),
+                $lent.issues.as_mut_ptr(),
                 $lent.issues.len(),
-                $lent.tables.as_ptr(),
+                $lent.tables.as_mut_ptr(),
                 $lent.tables.len(),
-                &$lent.next,
-                &$lent.first,
-                &$lent.keys,
-                &$lent.heads,
-                &$lent.starts,
+                &mut $lent.next,
+                &mut $lent.first,
+                &mut $lent.keys,
+                &mut $lent.heads,
+                &mut $lent.starts,
                 $lent.marks.as_mut_ptr(),
                 $lent.marks.len(),
                 $lent.design.as_ptr(),
@@ -309,6 +309,7 @@ impl OpenDesk for Lent {
                 let sentence = &self.text[..number as usize];
                 Answer::Reason(String::from_utf8_lossy(sentence).into_owned())
             }
+            18 => Answer::Rows(number as usize, numbers[1] as usize),
             word => unreachable!("no answer has the word {word}"),
         }
     }

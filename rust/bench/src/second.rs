@@ -61,6 +61,7 @@ fn answered(answer: ReferenceAnswer) -> Answer {
         ReferenceAnswer::Even => Answer::Even,
         ReferenceAnswer::Uneven { i, j } => Answer::Uneven(i, j),
         ReferenceAnswer::Total(total) => Answer::Total(total),
+        ReferenceAnswer::Rows { came, went } => Answer::Rows(came, went),
         ReferenceAnswer::Reason(sentence) => Answer::Reason(sentence),
         ReferenceAnswer::Absent => Answer::Absent,
         ReferenceAnswer::Open => Answer::Open,

@@ -88,6 +88,17 @@ fn all_rows_are_loaded_under_sixteen_constraints() {
 }
 
 #[test]
+fn a_row_goes_and_comes_while_all_are_cached() {
+    for rows in SIZES {
+        let work = grown(rows, "16 constraints: a row goes, a row comes");
+        assert_eq!(work.design.constraints.len(), 16);
+        let loaded = format!("loaded {rows} {}", rows - 1);
+        let expected = [&loaded, "rows 0 1", "rows 1 0", "rows 0 1"];
+        assert_eq!(answers(&work, 3), expected);
+    }
+}
+
+#[test]
 fn drops_leave_nothing() {
     for rows in SIZES {
         let answers = answers(&grown(rows, "16 values: loads, then drops"), 32);

@@ -61,7 +61,9 @@ fn request_of(piece: &Piece) -> u32 {
         Some(0x17) => 7,
         Some(0x18) => 8,
         Some(0x19) => 9,
+        Some(0x1a | 0x1b) => 10,
         Some(0x1c) => 11,
+        Some(0x1d | 0x1e) => 12,
         _ => 0,
     }
 }
@@ -170,11 +172,16 @@ mod tests {
 
     #[test]
     fn reports_are_taken_out_by_their_requests() {
-        let text = "end\neven\nreason 0\nopener 0.0 = 1\nknot\n";
+        let text = "end\neven\nreason 0\nopener 0.0 = 1\nhold 0 1..2\nrelease 0 1..2\nknot\n\
+            put 0 0\ntake 0\n";
+        let before_12 = text.replace("put 0 0\ntake 0\n", "");
+        let before_11 = before_12.replace("knot\n", "");
         let script = assemble(&format!("{text}end\n")).expect("a right text");
         for (request, left) in [
-            (12, text),
-            (11, "end\neven\nreason 0\nopener 0.0 = 1\n"),
+            (13, text),
+            (12, &before_12),
+            (11, &before_11),
+            (10, "end\neven\nreason 0\nopener 0.0 = 1\n"),
             (9, "end\neven\nreason 0\n"),
             (8, "end\neven\n"),
             (1, "end\n"),

@@ -44,7 +44,7 @@ fn a_right_desk_passes_and_everything_is_reached() {
 #[test]
 fn everything_of_a_level_is_reached_too() {
     let desk = altered(|report| report);
-    for request in [1, 2, 3, 4, 6, 7, 8, 9, 11] {
+    for request in [1, 2, 3, 4, 6, 7, 8, 9, 10, 11, 12] {
         let level = Level::before(request);
         let scripts = Scripts { level, ..SCRIPTS };
         let outcome = compare(&sides(&desk), scripts).expect("no failure");
@@ -58,6 +58,8 @@ fn everything_of_a_level_is_reached_too() {
             ("refused 8", 7),
             ("absent", 8),
             ("opener", 9),
+            ("range held", 10),
+            ("rows that came", 12),
             ("knot of 3 constraints", 11),
         ] {
             assert_eq!(now.contains(&name), since >= request, "{request}: {now:?}");
@@ -87,7 +89,7 @@ fn a_wrong_ground_is_found_and_made_small() {
         text.contains("probe") && text.contains("constraint"),
         "{text}"
     );
-    let loads = ["refer", "query", "total"];
+    let loads = ["refer", "query", "total", "hold"];
     assert!(loads.iter().any(|load| text.contains(load)), "{text}");
     assert!(script.len() < 400, "{text}");
 }

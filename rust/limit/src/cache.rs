@@ -8,6 +8,7 @@ use crate::catalog::{Catalog, NO_FILLING};
 use crate::design::{number, Column, Design, Value};
 use crate::desk::Answer;
 use crate::dropping::Doubt;
+use crate::ranges::Ranges;
 use crate::{CELLS, CONSTRAINTS, NO_ROW, ROWS};
 
 /// The number of desks.
@@ -41,6 +42,8 @@ pub struct Cache {
     /// For each group, by its head and column: the desks that hold its value, bit
     /// i for desk i.
     pub(crate) holders: [u8; CELLS * ROWS],
+    /// The ranges that each desk holds.
+    pub(crate) ranges: Ranges,
     pub(crate) doubt: Doubt,
 }
 
@@ -77,12 +80,12 @@ impl Cache {
         self.mark[row] == self.epoch
     }
 
-    /// Whether some desk holds the pair.
+    /// Whether some desk holds the pair, by itself or in a range.
     #[inline(always)]
     pub fn holds(&self, filling: u8, value: Value) -> bool {
         let key = key(filling, value);
         let mut held = self.held[..self.held_count].iter();
-        held.any(|held| held & WITHOUT_DESK == key)
+        held.any(|held| held & WITHOUT_DESK == key) || self.ranges.have(filling, value)
     }
 
     /// The key of a pair that the named desk holds.
@@ -168,7 +171,14 @@ impl Cache {
 
     /// Caches a group and what it demands, round by round.
     fn load(&mut self, design: &Design, catalog: &Catalog, head: u16, place: usize) -> Answer {
-        let (mut from, mut to, mut rounds) = (0, self.reach(catalog, head, place, 0), 0);
+        let end = self.reach(catalog, head, place, 0);
+        self.load_from(design, catalog, end)
+    }
+
+    /// Caches what the first rows of the queue demand, which have been added in round
+    /// 0, round by round.
+    pub(crate) fn load_from(&mut self, design: &Design, catalog: &Catalog, end: usize) -> Answer {
+        let (mut from, mut to, mut rounds) = (0, end, 0);
         loop {
             let mut end = to;
             for at in from..to {

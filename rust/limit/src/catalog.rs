@@ -1,7 +1,7 @@
-//! The groups of a design's columns and the links between them, worked out once
-//! for an accepted design.
+//! The groups of a design's columns and the links between them, worked out for an
+//! accepted design, and again when a row comes or goes.
 
-use crate::design::{Column, Constraint, Design, Value};
+use crate::design::{Column, Constraint, Design, Value, FREE};
 use crate::{CELLS, CONSTRAINTS, NO_ROW, ROWS};
 
 /// Where a filling's number could stand: none.
@@ -83,14 +83,16 @@ struct Order {
 impl Order {
     fn of(design: &Design) -> Order {
         let mut starts = [0; CELLS + 1];
-        for &table in &design.row_table[..design.rows] {
+        let live = |table: &&u8| **table != FREE;
+        for &table in design.row_table[..design.rows].iter().filter(live) {
             starts[usize::from(table) + 1] += 1;
         }
         for table in 0..CELLS {
             starts[table + 1] += starts[table];
         }
         let (mut rows, mut ends) = ([0; ROWS], starts);
-        for (row, &table) in (0..).zip(&design.row_table[..design.rows]) {
+        let numbered = (0..).zip(&design.row_table[..design.rows]);
+        for (row, &table) in numbered.filter(|(_, table)| live(table)) {
             let end = &mut ends[usize::from(table)];
             rows[*end] = row;
             *end += 1;
@@ -106,6 +108,11 @@ impl Order {
 impl Catalog {
     /// Says that there are no groups and links.
     pub fn clear(&mut self) {
+        self.member_count = 0;
+        self.leaving = Default::default();
+        self.entering = Default::default();
+        self.fillings = Default::default();
+        self.ending.fill(0);
         self.next.fill(NO_ROW);
         self.head.fill(NO_ROW);
         self.first.fill(NO_ROW);
@@ -116,6 +123,16 @@ impl Catalog {
     /// The first row that repeats a value of a unique column, if there is one.
     pub fn repeated_row(&mut self, design: &Design) -> Option<usize> {
         self.group(design, design.unique)
+    }
+
+    /// Whether a row that isn't in a group yet repeats a value of a unique column.
+    pub fn repeats(&self, design: &Design, row: usize) -> bool {
+        let table = design.row_table[row];
+        (0..design.columns[usize::from(table)]).any(|place| {
+            let column = Column { table, place };
+            let value = design.value(CELLS * row + usize::from(place));
+            design.is_unique(column) && value != 0 && self.find(column, value) < NO_ROW
+        })
     }
 
     /// Fills a cleared catalog; or gives the first row that repeats a value of a
@@ -267,6 +284,22 @@ impl Catalog {
         };
         let [start, end] = [self.member_starts[group], self.member_starts[group + 1]];
         &self.members[usize::from(start)..usize::from(end)]
+    }
+
+    /// The first rows of the column's groups whose values have issue 0 and lie between
+    /// two, both ends counted.
+    pub fn heads_between(
+        &self,
+        column: Column,
+        low: Value,
+        high: Value,
+    ) -> impl Iterator<Item = u16> + '_ {
+        let (start, end) = self.range(column);
+        let values = &self.values[start..end];
+        let first = start + values.partition_point(|&value| value < low);
+        let groups = (first..end).take_while(move |&group| self.values[group] <= high);
+        let without_issue = groups.filter(move |&group| self.values[group] & 0xff == 0);
+        without_issue.map(move |group| self.heads[group])
     }
 
     /// The number of the column's group that has the value.

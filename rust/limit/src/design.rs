@@ -1,4 +1,5 @@
-//! The design and its backend rows, read from the head of a script.
+//! The design and its backend rows, read from the head of a script; and how rows come
+//! and go.
 //!
 //! Cause 6 isn't looked at here: a repeated value shows when the rows of a
 //! unique column are put into groups ([`crate::catalog`]).
@@ -10,6 +11,12 @@ const FILLINGS: usize = 8;
 
 /// The bytes of a ROW command, up to its issues if it has any.
 const ROW_WIDTH: usize = 34;
+
+/// The bytes of a row that comes.
+const PUT_WIDTH: usize = 44;
+
+/// The table of a free row number.
+pub const FREE: u8 = u8::MAX;
 
 /// A number and an issue as one number, by which values are compared and ordered:
 /// the number comes first, then the issue. A blank is 0.
@@ -89,9 +96,9 @@ pub struct Design {
     pub fillings: usize,
     /// The fillings.
     pub filling: [Filling; FILLINGS],
-    /// How many rows there are.
+    /// A number that is above those of all rows; at first, how many there are.
     pub rows: usize,
-    /// Each row's table.
+    /// Each row's table, and [`FREE`] for free numbers below that.
     pub row_table: [u8; ROWS],
     /// The numbers of the cells, eight for each row.
     pub cells: [u32; CELLS * ROWS],
@@ -99,6 +106,12 @@ pub struct Design {
     pub issues: [u8; CELLS * ROWS],
     /// The place of the first ROW.
     first_row: usize,
+}
+
+/// A u16 of a script.
+#[inline(always)]
+pub fn u16_at(bytes: &[u8], place: usize) -> u16 {
+    u16::from_le_bytes([bytes[place], bytes[place + 1]])
 }
 
 /// A u32 of a script.
@@ -133,7 +146,7 @@ pub fn column_at(bytes: &[u8]) -> Column {
 #[inline]
 pub fn width(command: u8) -> usize {
     match command {
-        0x01 | 0x18 => 3,
+        0x01 | 0x18 | 0x1e => 3,
         0x02 => 5,
         0x03 => 11,
         0x04 => ROW_WIDTH,
@@ -142,11 +155,13 @@ pub fn width(command: u8) -> usize {
         0x07 => ROW_WIDTH + CELLS,
         0x10 | 0x11 => 6,
         0x12 | 0x20 | 0x21 => 7,
+        0x1a | 0x1b => 10,
         0x13 => 16,
         0x15 => 18,
         0x19 | 0x22 => 8,
         0x23 => 17,
         0x25 => 19,
+        0x1d => PUT_WIDTH,
         _ => 0,
     }
 }
@@ -299,35 +314,66 @@ impl Design {
         if self.rows == ROWS {
             return 4;
         }
-        let table = usize::from(bytes[1]);
-        if table >= self.tables {
-            return 5;
-        }
-        let columns = usize::from(self.columns[table]);
-        let cells = &mut self.cells[CELLS * self.rows..][..CELLS];
-        for (place, cell) in cells.iter_mut().enumerate() {
-            *cell = u32_at(bytes, 2 + 4 * place);
-            if place >= columns && *cell != 0 {
-                return 5;
-            }
-        }
         let issues = &bytes[ROW_WIDTH..];
-        if !issues.is_empty() && !self.add_issues(issues) {
+        let is_right = issues.is_empty() || issues.iter().any(|&issue| issue != 0);
+        if !is_right || !self.write_row(self.rows, &bytes[1..]) {
             return 5;
         }
-        self.row_table[self.rows] = bytes[1];
         self.rows += 1;
         0
     }
 
-    /// Adds the issues of a row whose numbers are there, unless none is used or a
-    /// blank has one. Past the columns all numbers are 0.
-    fn add_issues(&mut self, issues: &[u8]) -> bool {
-        let start = CELLS * self.rows;
-        self.issues[start..][..CELLS].copy_from_slice(issues);
-        let numbers = self.cells[start..].iter();
-        let is_used = issues.iter().any(|&issue| issue != 0);
+    /// Whether a row has the number.
+    pub fn has_row(&self, number: usize) -> bool {
+        number < self.rows && self.row_table[number] != FREE
+    }
+
+    /// Puts in a row at a number, or gives the cause of its refusal, or 0. Cause 6 isn't
+    /// looked at.
+    pub fn put_row(&mut self, number: usize, bytes: &[u8]) -> u8 {
+        if number >= ROWS || self.has_row(number) {
+            return 5;
+        }
+        if !self.write_row(number, &bytes[3..]) {
+            self.clear_row(number);
+            return 5;
+        }
+        if self.rows <= number {
+            self.row_table[self.rows..number].fill(FREE);
+            self.rows = number + 1;
+        }
+        0
+    }
+
+    /// Frees a number.
+    pub fn clear_row(&mut self, number: usize) {
+        self.row_table[number] = FREE;
+        self.cells[CELLS * number..][..CELLS].fill(0);
+        self.issues[CELLS * number..][..CELLS].fill(0);
+    }
+
+    /// Writes a row's table, cells and issues, if there are any. Gives whether they are
+    /// right: nothing past the columns, and no blank with an issue.
+    fn write_row(&mut self, number: usize, bytes: &[u8]) -> bool {
+        let table = usize::from(bytes[0]);
+        if table >= self.tables {
+            return false;
+        }
+        let columns = usize::from(self.columns[table]);
+        let cells = &mut self.cells[CELLS * number..][..CELLS];
+        for (place, cell) in cells.iter_mut().enumerate() {
+            *cell = u32_at(bytes, 1 + 4 * place);
+            if place >= columns && *cell != 0 {
+                return false;
+            }
+        }
+        self.row_table[number] = bytes[0];
+        let issues = &bytes[1 + 4 * CELLS..];
         let is_on_a_blank = |(&number, &issue): (&u32, &u8)| number == 0 && issue != 0;
-        is_used && !numbers.zip(issues).any(is_on_a_blank)
+        if cells.iter().zip(issues).any(is_on_a_blank) {
+            return false;
+        }
+        self.issues[CELLS * number..][..issues.len()].copy_from_slice(issues);
+        true
     }
 }

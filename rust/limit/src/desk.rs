@@ -4,11 +4,12 @@ use std::hint::black_box;
 
 use crate::cache::Cache;
 use crate::catalog::Catalog;
-use crate::design::{column_at, value_at, width, Design, Refusal, Value};
+use crate::design::{column_at, u16_at, value_at, width, Design, Refusal, Value};
 use crate::even::Evenness;
 use crate::knot::Knot;
 use crate::opener::Opening;
 use crate::query::Listing;
+use crate::ranges::range_at;
 use crate::reason::Reasons;
 
 /// What a command answers.
@@ -54,6 +55,13 @@ pub enum Answer {
     Knot(u16),
     /// The desk that is named from now on.
     Desk(u8),
+    /// What a row that came or went did to the cache.
+    Rows {
+        /// Rows that came.
+        came: usize,
+        /// Rows that went.
+        went: usize,
+    },
     /// The length of a sentence on a row.
     Reason(usize),
     /// The row isn't cached.
@@ -154,8 +162,10 @@ impl Desk {
                 let value = value_at(bytes, 3);
                 self.cache.probe(design, catalog, column_at(bytes), value)
             }
+            0x1d => self.put(bytes),
+            0x1e => self.take(bytes),
             0x18 => {
-                let row = u16::from_le_bytes([bytes[1], bytes[2]]);
+                let row = u16_at(bytes, 1);
                 self.reasons.reason(design, catalog, &self.cache, row)
             }
             0x19 => {
@@ -166,11 +176,44 @@ impl Desk {
             0x13 | 0x23 => self.listing.query(design, catalog, &mut self.cache, bytes),
             0x14 => self.evenness.of(design),
             0x17 => self.cache.name(bytes[1]),
+            0x1a => self.cache.hold_range(design, catalog, range_at(bytes)),
+            0x1b => self.cache.release_range(design, catalog, range_at(bytes)),
             0x1c => self.knot.of(design),
             0x15 | 0x25 => self.listing.total(design, catalog, &mut self.cache, bytes),
             _ => Answer::Refused(3),
         };
         (answer, width)
+    }
+
+    /// Puts in a row.
+    fn put(&mut self, bytes: &[u8]) -> Answer {
+        let number = usize::from(u16_at(bytes, 1));
+        match self.design.put_row(number, bytes) {
+            0 => {}
+            cause => return Answer::Refused(cause),
+        }
+        if self.catalog.repeats(&self.design, number) {
+            self.design.clear_row(number);
+            return Answer::Refused(6);
+        }
+        self.recache()
+    }
+
+    /// Takes out a row.
+    fn take(&mut self, bytes: &[u8]) -> Answer {
+        let number = usize::from(u16_at(bytes, 1));
+        if !self.design.has_row(number) {
+            return Answer::Refused(5);
+        }
+        self.design.clear_row(number);
+        self.recache()
+    }
+
+    /// Makes the groups again, and loads again what is held.
+    fn recache(&mut self) -> Answer {
+        self.catalog.clear();
+        self.catalog.build(&self.design);
+        self.cache.reload(&self.design, &self.catalog)
     }
 
     /// Carries out all commands from a place of a script on, and leaves their

@@ -1,4 +1,4 @@
-//! How a value is dropped.
+//! How a value is dropped, and how all is loaded again.
 //!
 //! There are two ways. The dropped rows, and what they reach, are put in doubt,
 //! and what something outside of the doubt keeps is taken out of it again: that
@@ -6,7 +6,7 @@
 //! an empty cache, until as many rows are cached as before, since the smallest
 //! set for fewer values lies in the one for more.
 
-use crate::cache::{filling_of, Cache};
+use crate::cache::{filling_of, value_of, Cache};
 use crate::catalog::Catalog;
 use crate::design::{number, Design, Value};
 use crate::desk::Answer;
@@ -63,18 +63,19 @@ impl Cache {
         let place = usize::from(design.filling[usize::from(filling)].column.place);
         let holders = &mut self.holders[CELLS * usize::from(head) + place];
         *holders &= !(1 << self.desk);
-        if *holders != 0 {
+        if *holders != 0 || self.ranges.have(filling, value) {
             return Answer::Dropped(0);
         }
         let before = self.rows;
-        if self.held_count == 0 || !self.settle(design, catalog, head, place) {
+        let is_last = self.held_count == 0 && self.ranges.are_none();
+        if is_last || !self.settle(design, catalog, head, place) {
             self.load_again(design, catalog);
         }
         Answer::Dropped(before - self.rows)
     }
 
-    /// Loads the held values into an empty cache.
-    fn load_again(&mut self, design: &Design, catalog: &Catalog) {
+    /// Loads what is held into an empty cache.
+    pub(crate) fn load_again(&mut self, design: &Design, catalog: &Catalog) {
         self.empty();
         let mut end = 0;
         for at in 0..self.held_count {
@@ -85,12 +86,41 @@ impl Cache {
                 end = self.reach(catalog, head, place, end);
             }
         }
+        let ranges = self.ranges;
+        for &range in ranges.all() {
+            end = self.reach_range(design, catalog, range, end);
+        }
         let mut at = 0;
         while at < end && end < self.rows {
             end = self.follow(design, catalog, at, end);
             at += 1;
         }
         self.rows = end;
+    }
+
+    /// Finds the groups of what is held anew, and loads it into an empty cache: after a
+    /// row has come or gone.
+    pub fn reload(&mut self, design: &Design, catalog: &Catalog) -> Answer {
+        let before: [bool; ROWS] = std::array::from_fn(|row| self.has(row));
+        self.holders.fill(0);
+        for at in 0..self.held_count {
+            let (desk, filling) = (self.held[at] >> 48, filling_of(self.held[at]));
+            let column = design.filling[filling % design.filling.len()].column;
+            let head = catalog.find(column, value_of(self.held[at]));
+            self.held_head[at] = head;
+            if head < NO_ROW {
+                let group = CELLS * usize::from(head) + usize::from(column.place);
+                self.holders[group] |= 1 << desk;
+            }
+        }
+        self.rows = ROWS + 1;
+        self.load_again(design, catalog);
+        let (mut came, mut went) = (0, 0);
+        for (row, before) in before.into_iter().enumerate() {
+            came += usize::from(self.has(row) && !before);
+            went += usize::from(before && !self.has(row));
+        }
+        Answer::Rows { came, went }
     }
 
     /// Takes the rows out of the cache that nothing keeps, if few are in doubt.
@@ -172,7 +202,11 @@ impl Cache {
         catalog.fillings[table].all().iter().any(|link| {
             let place = usize::from(link.place);
             let head = catalog.head[CELLS * row + place];
-            head < NO_ROW && self.holders[CELLS * usize::from(head) + place] != 0
+            head < NO_ROW
+                && (self.holders[CELLS * usize::from(head) + place] != 0
+                    || self
+                        .ranges
+                        .have(link.number, design.value(CELLS * row + place)))
         })
     }
 

@@ -2,15 +2,16 @@
 //! measure of how fast the work can be done.
 //!
 //! The rows of a column that have the same value are a *group*. What a group is
-//! and which group a constraint demands of a row depend on the design alone, so
-//! they are worked out once, when a design has been accepted, and every
-//! operation follows these links and touches the rows that it reaches and no
-//! others.
+//! and which group a constraint demands of a row depend on the design and its rows
+//! alone, so they are worked out when a design has been accepted and when a row comes
+//! or goes, and every other operation follows these links and touches the rows that it
+//! reaches and no others.
 //!
 //! - [`design`] reads a design.
 //! - [`catalog`] has the groups and the links between them.
 //! - [`cache`] has the cached rows and loads values.
 //! - [`dropping`] drops them.
+//! - [`ranges`] holds and drops ranges of them.
 //! - [`probe`], [`query`], [`total`], [`reason`],
 //!   [`opener`], [`even`] and [`knot`] answer.
 //! - [`desk`] carries out a script's commands.
@@ -31,6 +32,7 @@ pub mod knot;
 pub mod opener;
 pub mod probe;
 pub mod query;
+pub mod ranges;
 pub mod reason;
 pub mod report;
 pub mod total;

@@ -3,7 +3,7 @@
 
 use crate::cache::{filling_of, value_of, Cache};
 use crate::catalog::Catalog;
-use crate::design::{number, Design};
+use crate::design::{number, value, Design};
 use crate::desk::Answer;
 use crate::report::put_number;
 use crate::{CELLS, CONSTRAINTS, NO_ROW, ROWS};
@@ -39,7 +39,7 @@ impl Reasons {
         cache: &Cache,
         row: u16,
     ) -> Answer {
-        if usize::from(row) >= design.rows {
+        if !design.has_row(usize::from(row)) {
             return Answer::Refused(5);
         }
         if !cache.has(usize::from(row)) {
@@ -55,7 +55,7 @@ impl Reasons {
             put(&mut text, b" from row ", source as u64);
             row = source;
         }
-        put_value(&mut text, design, cache, row);
+        put_held(&mut text, design, cache, row);
         self.length = text.len();
         self.text[..text.len()].copy_from_slice(&text);
         Answer::Reason(text.len())
@@ -72,6 +72,13 @@ impl Reasons {
                 let filling = filling_of(cache.held[at]) % design.filling.len();
                 let place = usize::from(design.filling[filling].column.place);
                 end = self.reach(catalog, head, place, 0, end);
+            }
+        }
+        for range in cache.ranges.all() {
+            let column = design.filling[usize::from(range.filling)].column;
+            let (low, high) = (value(range.low, 0), value(range.high, 0));
+            for head in catalog.heads_between(column, low, high) {
+                end = self.reach(catalog, head, usize::from(column.place), 0, end);
             }
         }
         let mut at = 0;
@@ -140,21 +147,30 @@ impl Reasons {
     }
 }
 
-/// Puts the lowest held value of a row.
-fn put_value(text: &mut Vec<u8>, design: &Design, cache: &Cache, row: usize) {
-    let held = cache.held[..cache.held_count].iter();
-    let keys = held.map(|&key| (filling_of(key), value_of(key)));
-    let of_row = keys.filter(|&(filling, value)| {
-        let column = design.filling[filling % design.filling.len()].column;
-        design.row_table[row] == column.table
-            && design.value(CELLS * row + usize::from(column.place)) == value
-    });
-    if let Some((filling, value)) = of_row.min() {
-        put(text, b" by value ", u64::from(number(value)));
-        if value & 0xff != 0 {
-            put(text, b" issue ", value & 0xff);
+/// Puts what is held of a row: the lowest filling, and its value if that is held, or
+/// the lowest range that has it.
+fn put_held(text: &mut Vec<u8>, design: &Design, cache: &Cache, row: usize) {
+    for filling in 0..design.fillings {
+        let column = design.filling[filling].column;
+        let own = design.value(CELLS * row + usize::from(column.place));
+        if design.row_table[row] != column.table || own == 0 {
+            continue;
+        }
+        let held = cache.held[..cache.held_count].iter();
+        let mut keys = held.map(|&key| (filling_of(key), value_of(key)));
+        if keys.any(|key| key == (filling, own)) {
+            put(text, b" by value ", u64::from(number(own)));
+            if own & 0xff != 0 {
+                put(text, b" issue ", own & 0xff);
+            }
+        } else if let Some(range) = cache.ranges.lowest(filling as u8, own) {
+            put(text, b" by range ", range.low.into());
+            put(text, b" to ", range.high.into());
+        } else {
+            continue;
         }
         put(text, b" of filling ", filling as u64);
+        return;
     }
 }
 

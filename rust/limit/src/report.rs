@@ -110,6 +110,7 @@ fn put_answer(text: &mut Vec<u8>, answer: Answer, place: u64) {
         Answer::Uneven { i, j } => (b"uneven ", &[u64::from(i), u64::from(j)]),
         Answer::Total(total) => (b"total ", &[total]),
         Answer::Desk(desk) => (b"desk ", &[u64::from(desk)]),
+        Answer::Rows { came, went } => (b"rows ", &[came as u64, went as u64]),
         // Its text follows.
         Answer::Reason(_) => return,
         Answer::Absent => (b"absent", &[]),

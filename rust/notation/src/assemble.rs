@@ -3,8 +3,8 @@
 use std::fmt;
 
 use crate::command::{
-    Column, Command, Constraint, Filling, Join, Pair, Probe, Query, Row, Table, Total, Value,
-    CELLS, PAIRS,
+    Column, Command, Constraint, Filling, Join, Pair, Probe, Put, Query, Range, Row, Table, Total,
+    Value, CELLS, PAIRS,
 };
 use crate::token::{tokens, Token};
 
@@ -91,6 +91,10 @@ impl<'a> Operands<'a> {
             "total" => Command::Total(self.total()?),
             "knot" => Command::Knot,
             "reason" => Command::Reason(self.u16("a row's number")?),
+            "hold" => Command::Hold(self.range()?),
+            "release" => Command::Release(self.range()?),
+            "put" => Command::Put(self.put()?),
+            "take" => Command::Take(self.u16("a row's number")?),
             "opener" => Command::Opener(self.probe()?),
             "desk" => Command::Desk(self.u8("a desk's number")?),
             "bytes" => return self.raw_bytes(),
@@ -145,6 +149,13 @@ impl<'a> Operands<'a> {
         Ok(Row::new(table, &cells))
     }
 
+    fn put(&mut self) -> Result<Put, Fault> {
+        Ok(Put {
+            number: self.u16("a row's number")?,
+            row: self.row()?,
+        })
+    }
+
     fn cell(&mut self) -> Result<Value, Fault> {
         let mut number = 0;
         if !self.take("-") {
@@ -189,6 +200,14 @@ impl<'a> Operands<'a> {
             filling: self.u8("a filling's number")?,
             value: self.value()?,
         })
+    }
+
+    fn range(&mut self) -> Result<Range, Fault> {
+        let filling = self.u8("a filling's number")?;
+        let low = self.u32("the lowest number")?;
+        self.expect("..")?;
+        let high = self.u32("the highest number")?;
+        Ok(Range { filling, low, high })
     }
 
     fn probe(&mut self) -> Result<Probe, Fault> {

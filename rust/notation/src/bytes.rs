@@ -1,8 +1,8 @@
 //! Commands as bytes: the one place that knows command bytes and operand widths.
 
 use crate::command::{
-    Column, Command, Constraint, Filling, Join, Pair, Probe, Query, Row, Table, Total, Value,
-    CELLS, PAIRS,
+    Column, Command, Constraint, Filling, Join, Pair, Probe, Put, Query, Range, Row, Table, Total,
+    Value, CELLS, PAIRS,
 };
 
 const TABLE: u8 = 0x01;
@@ -20,7 +20,11 @@ const ROW_WITH_ISSUES: u8 = 0x07;
 const DESK: u8 = 0x17;
 const REASON: u8 = 0x18;
 const OPENER: u8 = 0x19;
+const HOLD: u8 = 0x1a;
+const RELEASE: u8 = 0x1b;
 const KNOT: u8 = 0x1c;
+const PUT: u8 = 0x1d;
+const TAKE: u8 = 0x1e;
 
 /// The operations that name a value.
 const WITH_VALUE: [u8; 5] = [REFER, DROP, PROBE, QUERY, TOTAL];
@@ -29,7 +33,7 @@ const WITH_VALUE: [u8; 5] = [REFER, DROP, PROBE, QUERY, TOTAL];
 const WITH_ISSUE: u8 = 0x10;
 
 /// The bytes that begin a command.
-pub const COMMAND_BYTES: [u8; 21] = [
+pub const COMMAND_BYTES: [u8; 25] = [
     TABLE,
     CONSTRAINT,
     FILLING,
@@ -50,7 +54,11 @@ pub const COMMAND_BYTES: [u8; 21] = [
     DESK,
     REASON,
     OPENER,
+    HOLD,
+    RELEASE,
     KNOT,
+    PUT,
+    TAKE,
 ];
 
 impl Command {
@@ -83,6 +91,15 @@ impl Command {
             Command::Knot => writer.u8(KNOT),
             Command::Desk(desk) => writer.u8(DESK).u8(*desk),
             Command::Reason(row) => writer.u8(REASON).u16(*row),
+            Command::Hold(range) => writer.u8(HOLD).range(*range),
+            Command::Release(range) => writer.u8(RELEASE).range(*range),
+            Command::Put(Put { number, row }) => {
+                let writer = writer.u8(PUT).u16(*number).u8(row.table);
+                writer
+                    .cells(&row.cells)
+                    .issues(&row.issues.unwrap_or_default())
+            }
+            Command::Take(number) => writer.u8(TAKE).u16(*number),
             Command::Opener(Probe { column, value }) => {
                 let writer = writer.u8(OPENER).column(*column).u32(value.number);
                 writer.u8(value.issue())
@@ -206,15 +223,28 @@ impl Writer {
         self.u8(pair.filling).u32(pair.value.number)
     }
 
+    fn range(&mut self, range: Range) -> &mut Writer {
+        self.u8(range.filling).u32(range.low).u32(range.high)
+    }
+
     fn row(&mut self, row: &Row) -> &mut Writer {
         let byte = match row.issues {
             None => ROW,
             Some(_) => ROW_WITH_ISSUES,
         };
-        let writer = self.u8(byte).u8(row.table);
-        let writer = row.cells.iter().fold(writer, |w, &cell| w.u32(cell));
-        let issues = row.issues.iter().flatten();
-        issues.fold(writer, |writer, &issue| writer.u8(issue))
+        let writer = self.u8(byte).u8(row.table).cells(&row.cells);
+        match &row.issues {
+            None => writer,
+            Some(issues) => writer.issues(issues),
+        }
+    }
+
+    fn cells(&mut self, cells: &[u32; CELLS]) -> &mut Writer {
+        cells.iter().fold(self, |writer, &cell| writer.u32(cell))
+    }
+
+    fn issues(&mut self, issues: &[u8; CELLS]) -> &mut Writer {
+        issues.iter().fold(self, |writer, &issue| writer.u8(issue))
     }
 
     fn query(&mut self, query: &Query) -> &mut Writer {
@@ -278,6 +308,13 @@ impl Reader<'_> {
             KNOT => Command::Knot,
             DESK => Command::Desk(self.u8()?),
             REASON => Command::Reason(self.u16()?),
+            HOLD => Command::Hold(self.range()?),
+            RELEASE => Command::Release(self.range()?),
+            PUT => Command::Put(Put {
+                number: self.u16()?,
+                row: self.row_with_issues()?,
+            }),
+            TAKE => Command::Take(self.u16()?),
             OPENER => Command::Opener(Probe {
                 column: self.column()?,
                 value: Value::new(self.u32()?, self.u8()?),
@@ -318,12 +355,31 @@ impl Reader<'_> {
         })
     }
 
+    fn range(&mut self) -> Option<Range> {
+        Some(Range {
+            filling: self.u8()?,
+            low: self.u32()?,
+            high: self.u32()?,
+        })
+    }
+
     fn cells(&mut self) -> Option<[u32; CELLS]> {
         let mut cells = [0; CELLS];
         for cell in &mut cells {
             *cell = self.u32()?;
         }
         Some(cells)
+    }
+
+    /// A row whose issues have a place. If all are 0, they take none in the row.
+    fn row_with_issues(&mut self) -> Option<Row> {
+        let (table, cells) = (self.u8()?, self.cells()?);
+        let issues = Some(self.issues()?);
+        Some(Row {
+            table,
+            cells,
+            issues: issues.filter(|issues| *issues != [0; CELLS]),
+        })
     }
 
     fn issues(&mut self) -> Option<[u8; CELLS]> {

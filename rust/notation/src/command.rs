@@ -115,6 +115,15 @@ impl Row {
     }
 }
 
+/// A row that comes, with its number.
+#[derive(Clone, Copy, Debug, PartialEq, Eq)]
+pub struct Put {
+    /// The number.
+    pub number: u16,
+    /// The row.
+    pub row: Row,
+}
+
 /// A filling and a value, as REFER and DROP name them.
 #[derive(Clone, Copy, Debug, PartialEq, Eq)]
 pub struct Pair {
@@ -122,6 +131,17 @@ pub struct Pair {
     pub filling: u8,
     /// The value.
     pub value: Value,
+}
+
+/// A filling and a range of numbers, both ends counted, at issue 0.
+#[derive(Clone, Copy, Debug, PartialEq, Eq, PartialOrd, Ord)]
+pub struct Range {
+    /// The filling's number.
+    pub filling: u8,
+    /// The lowest number.
+    pub low: u32,
+    /// The highest number.
+    pub high: u32,
 }
 
 /// A column and a value, as PROBE names them.
@@ -219,6 +239,14 @@ pub enum Command {
     Desk(u8),
     /// Ask why a row is cached.
     Reason(u16),
+    /// Hold a range.
+    Hold(Range),
+    /// Stop holding a range.
+    Release(Range),
+    /// Put in a row. It always has places for issues.
+    Put(Put),
+    /// Take out the row with a number.
+    Take(u16),
     /// Ask for the value whose load would give a ground. It always has an issue
     /// byte.
     Opener(Probe),

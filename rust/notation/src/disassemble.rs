@@ -4,7 +4,8 @@ use std::fmt;
 
 use crate::bytes::{split, Piece};
 use crate::command::{
-    Column, Command, Constraint, Filling, Join, Pair, Probe, Query, Row, Table, Total, Value, CELLS,
+    Column, Command, Constraint, Filling, Join, Pair, Probe, Put, Query, Range, Row, Table, Total,
+    Value, CELLS,
 };
 
 const BYTES_ON_A_LINE: usize = 16;
@@ -36,7 +37,10 @@ impl fmt::Display for Command {
             Command::Filling(Filling { column, low, high }) => {
                 write!(out, "filling {column} {low}..{high}")
             }
-            Command::Row(row) => write_row(out, row),
+            Command::Row(row) => {
+                write!(out, "row ")?;
+                write_row(out, row)
+            }
             Command::End => write!(out, "end"),
             Command::Refer(Pair { filling, value }) => write!(out, "refer {filling} {value}"),
             Command::Drop(Pair { filling, value }) => write!(out, "drop {filling} {value}"),
@@ -60,6 +64,13 @@ impl fmt::Display for Command {
             Command::Knot => write!(out, "knot"),
             Command::Desk(desk) => write!(out, "desk {desk}"),
             Command::Reason(row) => write!(out, "reason {row}"),
+            Command::Hold(range) => write!(out, "hold {range}"),
+            Command::Release(range) => write!(out, "release {range}"),
+            Command::Put(Put { number, row }) => {
+                write!(out, "put {number} ")?;
+                write_row(out, row)
+            }
+            Command::Take(number) => write!(out, "take {number}"),
             Command::Opener(Probe { column, value }) => write!(out, "opener {column} = {value}"),
         }
     }
@@ -71,6 +82,13 @@ impl fmt::Display for Value {
             None => write!(out, "{}", self.number),
             Some(issue) => write!(out, "{}#{issue}", self.number),
         }
+    }
+}
+
+impl fmt::Display for Range {
+    fn fmt(&self, out: &mut fmt::Formatter<'_>) -> fmt::Result {
+        let Range { filling, low, high } = self;
+        write!(out, "{filling} {low}..{high}")
     }
 }
 
@@ -92,10 +110,10 @@ fn write_table(out: &mut fmt::Formatter<'_>, table: &Table) -> fmt::Result {
     Ok(())
 }
 
-/// The cells up to the last that isn't blank. If there are places for issues and
+/// The table and the cells up to the last that isn't blank. If there are places for issues and
 /// all are 0, the first cell says so.
 fn write_row(out: &mut fmt::Formatter<'_>, row: &Row) -> fmt::Result {
-    write!(out, "row {}", row.table)?;
+    write!(out, "{}", row.table)?;
     let blank = Value::new(0, 0);
     let last = (0..CELLS).rposition(|column| row.cell(column) != blank);
     let without_issue = row.issues == Some([0; CELLS]);

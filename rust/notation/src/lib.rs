@@ -21,6 +21,10 @@
 //! knot                                          knot
 //! desk NUMBER                                   desk 1
 //! reason ROW                                    reason 5
+//! hold FILLING LOW..HIGH                        hold 0 10..20
+//! release FILLING LOW..HIGH                     release 0 10..20
+//! put ROW TABLE [CELL ..]                       put 8 1 22 8
+//! take ROW                                      take 8
 //! opener COLUMN = VALUE                         opener 1.1 = 8
 //! bytes BYTE ..                                 bytes 0xff 0x01
 //! ```
@@ -50,8 +54,8 @@ mod token;
 pub use assemble::{assemble, Error};
 pub use bytes::{encode, split, Piece, COMMAND_BYTES};
 pub use command::{
-    Column, Command, Constraint, Filling, Join, Pair, Probe, Query, Row, Table, Total, Value,
-    CELLS, PAIRS,
+    Column, Command, Constraint, Filling, Join, Pair, Probe, Put, Query, Range, Row, Table, Total,
+    Value, CELLS, PAIRS,
 };
 pub use design::Design;
 pub use disassemble::disassemble;

@@ -101,6 +101,28 @@ fn messages() {
             8,
             "a row's number is at most 65535, not 65536",
         ),
+        ("hold 0 1", 9, "expected `..`, found the end of the line"),
+        (
+            "release 0 1..x",
+            14,
+            "expected the highest number, found `x`",
+        ),
+        (
+            "put 1",
+            6,
+            "expected a table's number, found the end of the line",
+        ),
+        (
+            "put 65536 0",
+            5,
+            "a row's number is at most 65535, not 65536",
+        ),
+        ("put 1 0 0", 9, "a blank cell is written `-`"),
+        (
+            "take",
+            5,
+            "expected a row's number, found the end of the line",
+        ),
         ("uneven", 1, "`uneven` is no command"),
         (
             "total 0.0 = 1",

@@ -1,8 +1,8 @@
 //! Bytes to text and back, for short byte strings and damaged commands.
 
 use notation::{
-    assemble, disassemble, encode, Column, Command, Constraint, Filling, Join, Pair, Probe, Query,
-    Row, Table, Total, Value,
+    assemble, disassemble, encode, Column, Command, Constraint, Filling, Join, Pair, Probe, Put,
+    Query, Range, Row, Table, Total, Value,
 };
 
 fn assert_round_trip(script: &[u8]) {
@@ -25,6 +25,11 @@ fn one_of_each() -> Vec<Command> {
     let issued_pair = Pair {
         filling: 1,
         value: issued,
+    };
+    let range = Range {
+        filling: 1,
+        low: 2,
+        high: 70_000,
     };
     let cells = [1, 0, 70_000, 0, u32::MAX];
     let issued_cells = [1, 0, 3].map(|number| Value::new(number, number as u8));
@@ -70,6 +75,13 @@ fn one_of_each() -> Vec<Command> {
         Command::Knot,
         Command::Desk(3),
         Command::Reason(300),
+        Command::Hold(range),
+        Command::Release(range),
+        Command::Put(Put {
+            number: 300,
+            row: Row::new(1, &issued_cells),
+        }),
+        Command::Take(300),
         Command::Opener(Probe {
             column,
             value: issued,

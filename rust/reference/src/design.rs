@@ -1,7 +1,10 @@
-//! The design with its backend rows, and how it is read from a script.
+//! The design with its backend rows, how it is read from a script, and how rows come
+//! and go.
 
 use crate::refusal::{Cause, Refusal};
-use crate::script::{read_command, Column, Command, Constraint, Filling, Row, Value, BLANK, CELLS};
+use crate::script::{
+    read_command, Column, Command, Constraint, Filling, Pair, Row, Value, BLANK, CELLS,
+};
 
 /// The longest script, in bytes.
 pub const LONGEST_SCRIPT: usize = 65_536;
@@ -18,7 +21,7 @@ pub struct Table {
     unique: usize,
 }
 
-/// An accepted design: everything that operations leave as it is.
+/// An accepted design with its backend rows.
 #[derive(Clone, Debug, Default)]
 pub struct Design {
     /// The tables.
@@ -27,8 +30,9 @@ pub struct Design {
     pub constraints: Vec<Constraint>,
     /// The fillings.
     pub fillings: Vec<Filling>,
-    /// The backend rows of all tables.
-    pub rows: Vec<Row>,
+    /// The backend rows of all tables by their numbers. A free number has none, and
+    /// neither have those past the last.
+    pub rows: Vec<Option<Row>>,
 }
 
 impl Design {
@@ -107,6 +111,36 @@ impl Design {
 
     fn add_row(&mut self, row: Row) -> Result<(), Cause> {
         Cause::TooMany.unless(self.rows.len() < MOST_ROWS)?;
+        self.check_row(&row)?;
+        self.rows.push(Some(row));
+        Ok(())
+    }
+
+    /// Puts in a row at a free number.
+    pub fn put_row(&mut self, number: usize, row: Row) -> Result<(), Cause> {
+        Cause::WrongOperand.unless(number < MOST_ROWS && !self.has_row(number))?;
+        self.check_row(&row)?;
+        if self.rows.len() <= number {
+            self.rows.resize(number + 1, None);
+        }
+        self.rows[number] = Some(row);
+        Ok(())
+    }
+
+    /// Takes out the row with a number.
+    pub fn take_row(&mut self, number: usize) -> Result<(), Cause> {
+        Cause::WrongOperand.unless(self.has_row(number))?;
+        self.rows[number] = None;
+        Ok(())
+    }
+
+    /// Whether a row has the number.
+    pub fn has_row(&self, number: usize) -> bool {
+        self.rows.get(number).is_some_and(Option::is_some)
+    }
+
+    /// Looks at a row's operands, and then at unique columns among all rows.
+    fn check_row(&self, row: &Row) -> Result<(), Cause> {
         let table = *self.tables.get(row.table).ok_or(Cause::WrongOperand)?;
         let (used, unused) = row.cells.split_at(table.columns);
         Cause::WrongOperand.unless(unused.iter().all(|&cell| cell == BLANK))?;
@@ -120,9 +154,7 @@ impl Design {
             };
             self.is_unique(column) && self.has_value(column, cell)
         });
-        Cause::ValueTwice.unless(!twice)?;
-        self.rows.push(row);
-        Ok(())
+        Cause::ValueTwice.unless(!twice)
     }
 
     /// Adds a row whose command is used only where an issue isn't 0.
@@ -151,19 +183,32 @@ impl Design {
     /// Whether the row is of the column's table and equals the value there. A
     /// blank equals nothing.
     pub fn equals(&self, row: usize, column: Column, value: Value) -> bool {
-        let row = &self.rows[row];
-        value != BLANK && row.table == column.table && row.cells[column.column] == value
+        value != BLANK && self.cell(row, column) == Some(value)
+    }
+
+    /// The cell of a row in a column of its table.
+    pub fn cell(&self, row: usize, column: Column) -> Option<Value> {
+        let row = self.rows[row].filter(|row| row.table == column.table)?;
+        Some(row.cells[column.column])
+    }
+
+    /// The values that the row has in filling columns, but for blanks.
+    pub fn pairs_of(&self, row: usize) -> impl Iterator<Item = Pair> + '_ {
+        let fillings = self.fillings.iter().enumerate();
+        let pairs = fillings.filter_map(move |(number, filling)| {
+            let value = self.cell(row, filling.column)?;
+            Some(Pair {
+                filling: number,
+                value,
+            })
+        });
+        pairs.filter(|pair| pair.value != BLANK)
     }
 
     /// Whether the constraint demands the row `target` of the row `source`.
     pub fn demands(&self, constraint: Constraint, source: usize, target: usize) -> bool {
-        let row = &self.rows[source];
-        row.table == constraint.source.table
-            && self.equals(
-                target,
-                constraint.target,
-                row.cells[constraint.source.column],
-            )
+        let cell = self.cell(source, constraint.source);
+        cell.is_some_and(|cell| self.equals(target, constraint.target, cell))
     }
 }
 
@@ -195,6 +240,10 @@ impl Stage {
             | Command::Knot
             | Command::Desk(_)
             | Command::Reason(_)
+            | Command::Hold(_)
+            | Command::Release(_)
+            | Command::Put { .. }
+            | Command::Take(_)
             | Command::Opener(_) => None,
         }
     }

@@ -1,12 +1,12 @@
-//! The operations: loads, drops and probes, and how a question refers its value
-//! first (queries and totals are in [`crate::query`], the reports on designs in
-//! [`crate::even`] and [`crate::knot`], what would open a probe in [`crate::opener`], and why a row is cached
-//! in [`crate::reason`]).
+//! The operations: loads, drops, probes, rows that come and go, and how a question
+//! refers its value first (queries and totals are in [`crate::query`], the reports on
+//! designs in [`crate::even`] and [`crate::knot`], what would open a probe in
+//! [`crate::opener`], and why a row is cached in [`crate::reason`]).
 
 use crate::design::Design;
 use crate::held::Holding;
 use crate::refusal::Cause;
-use crate::script::{Column, Command, Pair, Probe, Value};
+use crate::script::{Column, Command, Pair, Probe, Range, Value};
 
 /// The bytes for text that the program lends.
 const TEXT_BYTES: usize = 16_384;
@@ -68,6 +68,13 @@ pub enum Answer {
     Knot(Vec<usize>),
     /// The desk that is named from now on.
     Desk(usize),
+    /// What a row that came or went did to the cache.
+    Rows {
+        /// Rows that came.
+        came: usize,
+        /// Rows that went.
+        went: usize,
+    },
     /// Why a row is cached.
     Reason(String),
     /// The row isn't cached.
@@ -120,14 +127,24 @@ impl Desk {
             Command::Total(total) => self.total(total),
             Command::Knot => Ok(self.knot()),
             Command::Reason(row) => self.reason(*row),
+            Command::Hold(range) => self.hold_range(*range),
+            Command::Release(range) => self.release_range(*range),
+            Command::Put { number, row } => {
+                self.design.put_row(*number, *row)?;
+                Ok(self.recache())
+            }
+            Command::Take(number) => {
+                self.design.take_row(*number)?;
+                Ok(self.recache())
+            }
             Command::Opener(probe) => self.opener(*probe),
             Command::Desk(desk) => self.held.name(*desk).map(|()| Answer::Desk(*desk)),
             _ => Err(Cause::OutOfOrder),
         }
     }
 
-    /// The report on knots, which is worked out once: operations leave the design
-    /// as it is.
+    /// The report on knots, which is worked out once: operations leave the
+    /// constraints as they are.
     fn knot(&mut self) -> Answer {
         let design = &self.design;
         self.knot.get_or_insert_with(|| design.knot()).clone()
@@ -151,13 +168,51 @@ impl Desk {
     fn drop(&mut self, pair: Pair) -> Result<Answer, Cause> {
         self.check_pair(pair)?;
         self.held.remove(pair)?;
-        let before = self.cached_rows();
-        self.cached.fill(false);
-        for owned in self.held.values.clone() {
-            self.load(owned.pair);
-        }
-        let rows = before - self.cached_rows();
+        let (_, rows) = self.reload();
         Ok(Answer::Dropped { rows })
+    }
+
+    fn hold_range(&mut self, range: Range) -> Result<Answer, Cause> {
+        self.check_range(range)?;
+        let filling = self.design.fillings[range.filling];
+        if range.low < filling.low || filling.high < range.high {
+            return Ok(Answer::NoCandidate);
+        }
+        if self.held.covers(range) {
+            return Ok(Answer::Held);
+        }
+        self.held.add_range(range)?;
+        let before = self.cached_rows();
+        let rounds = self.load(|pair| range.has(pair));
+        let rows = self.cached_rows() - before;
+        Ok(Answer::Loaded { rows, rounds })
+    }
+
+    fn release_range(&mut self, range: Range) -> Result<Answer, Cause> {
+        self.check_range(range)?;
+        self.held.remove_range(range)?;
+        let (_, rows) = self.reload();
+        Ok(Answer::Dropped { rows })
+    }
+
+    /// Caches the smallest set for the tables as they now are.
+    fn recache(&mut self) -> Answer {
+        self.cached.resize(self.design.rows.len(), false);
+        let (came, went) = self.reload();
+        Answer::Rows { came, went }
+    }
+
+    /// Caches what is held now and nothing else. Gives how many rows came and how many
+    /// went.
+    fn reload(&mut self) -> (usize, usize) {
+        let before = self.cached.clone();
+        self.cached.fill(false);
+        let held = self.held.clone();
+        self.load(|pair| held.holds(pair));
+        let both = before.iter().zip(&self.cached);
+        let came = both.clone().filter(|(&before, &now)| now && !before);
+        let went = both.clone().filter(|(&before, &now)| before && !now);
+        (came.count(), went.count())
     }
 
     pub(crate) fn probe(&self, probe: Probe) -> Result<Answer, Cause> {
@@ -212,6 +267,11 @@ impl Desk {
         Cause::ValueZero.unless(pair.value.number != 0)
     }
 
+    fn check_range(&self, range: Range) -> Result<(), Cause> {
+        Cause::WrongOperand.unless(range.filling < self.design.fillings.len())?;
+        Cause::WrongOperand.unless(0 < range.low && range.low <= range.high)
+    }
+
     fn cached_rows(&self) -> usize {
         self.cached.iter().filter(|&&cached| cached).count()
     }
@@ -220,14 +280,13 @@ impl Desk {
     /// added a row.
     pub(crate) fn hold(&mut self, pair: Pair) -> usize {
         self.held.add(pair);
-        self.load(pair)
+        self.load(|other| other == pair)
     }
 
-    /// Caches what a held value demands, round by round, and gives the number
-    /// of later rounds that added a row.
-    fn load(&mut self, pair: Pair) -> usize {
-        let column = self.design.fillings[pair.filling].column;
-        let mut added = self.uncached(|design, row| design.equals(row, column, pair.value));
+    /// Caches what the pairs that pass a test demand, round by round, and gives the
+    /// number of later rounds that added a row.
+    fn load(&mut self, test: impl Fn(Pair) -> bool) -> usize {
+        let mut added = self.uncached(|design, row| design.pairs_of(row).any(&test));
         let mut rounds = 0;
         loop {
             for &row in &added {

@@ -24,9 +24,9 @@ impl Desk {
             number: self.design.fillings[filling].low,
             issue: 0,
         };
-        let rows = self.design.rows.iter();
-        let rows = rows.filter(|row| row.table == column.table);
-        let mut values: Vec<Value> = rows.map(|row| row.cells[column.column]).collect();
+        let rows = 0..self.design.rows.len();
+        let cells = rows.filter_map(|row| self.design.cell(row, column));
+        let mut values: Vec<Value> = cells.collect();
         values.extend([probe.value, lowest]);
         values.sort_unstable();
         values.dedup();

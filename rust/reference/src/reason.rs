@@ -1,14 +1,15 @@
 //! The reason for a row in words (document 02, Req 08): a shortest chain of demands
-//! from a held value to the row.
+//! from a held value or range to the row.
+
+use std::fmt;
 
 use crate::desk::{Answer, Desk};
-use crate::held::Owned;
 use crate::refusal::Cause;
-use crate::script::{Pair, Value};
+use crate::script::{Pair, Range, Value};
 
 impl Desk {
     pub(crate) fn reason(&self, row: usize) -> Result<Answer, Cause> {
-        Cause::WrongOperand.unless(row < self.design.rows.len())?;
+        Cause::WrongOperand.unless(self.design.has_row(row))?;
         if !self.cached[row] {
             return Ok(Answer::Absent);
         }
@@ -39,16 +40,22 @@ impl Desk {
     }
 
     fn is_held_row(&self, row: usize) -> bool {
-        self.pairs_of(row).next().is_some()
+        self.design
+            .pairs_of(row)
+            .any(|pair| self.held().holds(pair))
     }
 
-    /// The held pairs whose value the row has in the filling's column.
-    pub fn pairs_of(&self, row: usize) -> impl Iterator<Item = Pair> + '_ {
-        let pairs = self.held().values.iter().map(|&Owned { pair, .. }| pair);
-        pairs.filter(move |pair| {
-            let column = self.design.fillings[pair.filling].column;
-            self.design.equals(row, column, pair.value)
-        })
+    /// What is held of a row: values and ranges of any desk.
+    pub fn held_of(&self, row: usize) -> Vec<Held> {
+        let held = self.held();
+        let mut found = Vec::new();
+        for pair in self.design.pairs_of(row) {
+            let values = held.values.iter().filter(|owned| owned.pair == pair);
+            found.extend(values.map(|owned| Held::value(owned.pair)));
+            let ranges = held.ranges.iter().flatten();
+            found.extend(ranges.filter(|range| range.has(pair)).map(Held::range));
+        }
+        found
     }
 
     /// The lowest constraint that demands one row of another.
@@ -61,11 +68,9 @@ impl Desk {
     fn sentence(&self, distances: &[Option<usize>], row: usize) -> String {
         match distances[row].unwrap_or(0).checked_sub(1) {
             None => {
-                let pair = self
-                    .pairs_of(row)
-                    .min_by_key(|pair| (pair.filling, pair.value));
-                let pair = pair.expect("a cached row at no distance has a held value");
-                format!("row {row} by {}", value_of_filling(pair))
+                let held = self.held_of(row).into_iter().min();
+                let held = held.expect("a cached row at no distance has something held");
+                format!("row {row} by {held}")
             }
             Some(before) => {
                 let sources = (0..distances.len()).filter(|&s| distances[s] == Some(before));
@@ -78,10 +83,46 @@ impl Desk {
     }
 }
 
-fn value_of_filling(pair: Pair) -> String {
-    let Pair { filling, value } = pair;
-    match value {
-        Value { number, issue: 0 } => format!("value {number} of filling {filling}"),
-        Value { number, issue } => format!("value {number} issue {issue} of filling {filling}"),
+/// Something held, in the order in which reasons take it: by filling, and in one
+/// filling values before ranges.
+#[derive(Clone, Copy, Debug, PartialEq, Eq, PartialOrd, Ord)]
+pub struct Held {
+    filling: usize,
+    kind: Kind,
+}
+
+#[derive(Clone, Copy, Debug, PartialEq, Eq, PartialOrd, Ord)]
+enum Kind {
+    Value(Value),
+    Range { low: u32, high: u32 },
+}
+
+impl Held {
+    /// A held value.
+    pub fn value(pair: Pair) -> Held {
+        Held {
+            filling: pair.filling,
+            kind: Kind::Value(pair.value),
+        }
+    }
+
+    /// A held range.
+    pub fn range(range: &Range) -> Held {
+        let Range { filling, low, high } = *range;
+        Held {
+            filling,
+            kind: Kind::Range { low, high },
+        }
+    }
+}
+
+impl fmt::Display for Held {
+    fn fmt(&self, out: &mut fmt::Formatter<'_>) -> fmt::Result {
+        match self.kind {
+            Kind::Value(Value { number, issue: 0 }) => write!(out, "value {number}")?,
+            Kind::Value(Value { number, issue }) => write!(out, "value {number} issue {issue}")?,
+            Kind::Range { low, high } => write!(out, "range {low} to {high}")?,
+        }
+        write!(out, " of filling {}", self.filling)
     }
 }

@@ -20,11 +20,12 @@ pub enum Cause {
     WrongOperand = 5,
     /// A unique column gets a value other than blank twice.
     ValueTwice = 6,
-    /// REFER of a candidate that the desk doesn't hold yet, while it holds 16.
+    /// REFER of a candidate that the desk doesn't hold yet, while it holds 16; or a
+    /// range that would leave it more than 8.
     NoPlaceFree = 8,
     /// Value 0 in an operation.
     ValueZero = 9,
-    /// DROP of a pair that the desk doesn't hold.
+    /// DROP of a pair, or of a range, that the desk doesn't hold.
     NotHeld = 10,
     /// QUERY with a ground, or referred first, whose list needs more words than
     /// are lent; or a reason longer than the lent text.

@@ -78,6 +78,7 @@ impl fmt::Display for Answer {
             Answer::Even => write!(out, "even"),
             Answer::Uneven { i, j } => write!(out, "uneven {i} {j}"),
             Answer::Total(total) => write!(out, "total {total}"),
+            Answer::Rows { came, went } => write!(out, "rows {came} {went}"),
             Answer::Reason(sentence) => write!(out, "{sentence}"),
             Answer::Absent => write!(out, "absent"),
             Answer::Open => write!(out, "open"),

@@ -75,6 +75,17 @@ pub struct Pair {
     pub value: Value,
 }
 
+/// A filling and a range of numbers at issue 0, both ends counted.
+#[derive(Clone, Copy, Debug, PartialEq, Eq, PartialOrd, Ord)]
+pub struct Range {
+    /// The filling's number.
+    pub filling: usize,
+    /// The lowest number.
+    pub low: u32,
+    /// The highest number.
+    pub high: u32,
+}
+
 /// The operands of a PROBE command.
 #[derive(Clone, Copy, Debug)]
 pub struct Probe {
@@ -155,6 +166,19 @@ pub enum Command {
     Desk(usize),
     /// Ask why a row is cached.
     Reason(usize),
+    /// Hold a range.
+    Hold(Range),
+    /// Stop holding a range.
+    Release(Range),
+    /// Put in a row.
+    Put {
+        /// Its number.
+        number: usize,
+        /// The row.
+        row: Row,
+    },
+    /// Take out the row with a number.
+    Take(usize),
     /// Ask for the value whose reference would give a probe a ground.
     Opener(Probe),
 }
@@ -189,7 +213,14 @@ pub fn read_command(script: &[u8], place: usize) -> Result<(Command, usize), Cau
         0x17 => Command::Desk(reader.number()?),
         0x18 => Command::Reason(reader.u16()?.into()),
         0x19 => Command::Opener(reader.with_issue(Reader::probe, |probe| &mut probe.value)?),
+        0x1a => Command::Hold(reader.range()?),
+        0x1b => Command::Release(reader.range()?),
         0x1c => Command::Knot,
+        0x1d => Command::Put {
+            number: reader.u16()?.into(),
+            row: reader.row_with_issues()?,
+        },
+        0x1e => Command::Take(reader.u16()?.into()),
         0x20 => Command::Refer(reader.with_issue(Reader::pair, |pair| &mut pair.value)?),
         0x21 => Command::Drop(reader.with_issue(Reader::pair, |pair| &mut pair.value)?),
         0x22 => Command::Probe(reader.with_issue(Reader::probe, |probe| &mut probe.value)?),
@@ -273,6 +304,14 @@ impl Reader<'_> {
         Ok(Pair {
             filling: self.number()?,
             value: self.value()?,
+        })
+    }
+
+    fn range(&mut self) -> Result<Range, Cause> {
+        Ok(Range {
+            filling: self.number()?,
+            low: self.u32()?,
+            high: self.u32()?,
         })
     }
 

@@ -1,6 +1,7 @@
 //! SQLite in memory as a contestant: loads and drops are recursive common table
-//! expressions, probes, queries and totals are single statements, and every column
-//! has an index. Statements are prepared when a design is opened, and those of
+//! expressions, probes, queries and totals are single statements, a row that comes or
+//! goes is one and what it brings or takes along is another, and every column has an
+//! index. Statements are prepared when a design is opened, and those of
 //! probes, queries and totals off the clock.
 //!
 //! It does what the works need and no more: operands aren't checked, values have no
@@ -15,12 +16,13 @@ mod sql;
 use std::collections::HashMap;
 use std::hint::black_box;
 
-use notation::{Column, Command, Design, Join, Pair, Probe, Query, Total, Value};
+use notation::{Column, Command, Design, Join, Pair, Probe, Put, Query, Row, Total, Value};
 use reference::ANSWER_WORDS;
 
 use crate::contestant::{
     run_one_by_one, Answer, Contestant, OpenDesk, Opening, Operation, Operations,
 };
+use crate::work::MOST_ROWS;
 use database::{Database, OutOfTime, Statement};
 
 /// SQLite with a database in memory.
@@ -53,6 +55,12 @@ struct Desk {
     /// For each filling.
     loads: Vec<Statement>,
     unload: Statement,
+    reload: Statement,
+    /// For each table.
+    inserts: Vec<Statement>,
+    removes: Vec<Statement>,
+    /// The table of each row by its number, 0 for free ones.
+    row_tables: [u8; MOST_ROWS],
     /// For each column.
     grounds: HashMap<Column, Statement>,
     probes: HashMap<Column, Statement>,
@@ -62,17 +70,26 @@ struct Desk {
     database: Database,
 }
 
-/// Inserts the rows in one transaction, with a statement for each table.
-fn insert_rows(database: &Database, design: &Design) {
+/// The statement that inserts a row, for each table.
+fn inserts(database: &Database, design: &Design) -> Vec<Statement> {
     let inserts = (0..design.tables.len()).map(|table| sql::insert_row(design, table));
-    let mut inserts: Vec<_> = inserts.map(|sql| database.prepare(&sql)).collect();
+    inserts.map(|sql| database.prepare(&sql)).collect()
+}
+
+/// A row's number and its cells, as it is inserted.
+fn values(design: &Design, number: i64, row: &Row) -> Vec<i64> {
+    let columns = usize::from(design.tables[usize::from(row.table)].columns);
+    let cells = row.cells[..columns].iter().map(|&cell| i64::from(cell));
+    [number].into_iter().chain(cells).collect()
+}
+
+/// Inserts the rows in one transaction.
+fn insert_rows(database: &Database, design: &Design) {
+    let mut inserts = inserts(database, design);
     database.execute("BEGIN");
     for (number, row) in (0..).zip(&design.rows) {
-        let table = usize::from(row.table);
-        let columns = usize::from(design.tables[table].columns);
-        let cells = row.cells[..columns].iter().map(|&cell| i64::from(cell));
-        let values: Vec<i64> = [number].into_iter().chain(cells).collect();
-        let done = inserts[table].run(&values, |_| true);
+        let insert = &mut inserts[usize::from(row.table)];
+        let done = insert.run(&values(design, number, row), |_| true);
         assert_eq!(done, Ok(()), "rows are inserted in time");
     }
     database.execute("COMMIT");
@@ -117,6 +134,11 @@ impl Desk {
     fn new(design: &Design, database: Database) -> Desk {
         let loads = design.fillings.iter();
         let columns = design.columns().into_iter();
+        let tables = 0..design.tables.len();
+        let mut row_tables = [0; MOST_ROWS];
+        for (table, row) in row_tables.iter_mut().zip(&design.rows) {
+            *table = row.table;
+        }
         Desk {
             hold: database.prepare(sql::HOLD),
             release: database.prepare(sql::RELEASE),
@@ -124,6 +146,12 @@ impl Desk {
                 .map(|filling| database.prepare(&sql::load(design, filling)))
                 .collect(),
             unload: database.prepare(&sql::unload(design)),
+            reload: database.prepare(&sql::reload(design)),
+            inserts: inserts(&database, design),
+            removes: tables
+                .map(|table| database.prepare(&sql::remove_row(table)))
+                .collect(),
+            row_tables,
             grounds: columns
                 .map(|column| (column, database.prepare(&sql::ground(design, column))))
                 .collect(),
@@ -142,6 +170,8 @@ impl Desk {
             Command::Probe(probe) => self.probe(probe),
             Command::Query(query) => self.query(&query),
             Command::Total(total) => self.total(&total),
+            Command::Put(put) => self.put(put),
+            Command::Take(number) => self.take(number),
             command => unreachable!("no work has {command}"),
         }
     }
@@ -166,6 +196,23 @@ impl Desk {
         self.release.run(&parameters, |_| true)?;
         self.unload.run(&[], |_| true)?;
         Ok(Answer::Dropped(self.database.changes()))
+    }
+
+    /// Puts in a row, by which no other can go.
+    fn put(&mut self, Put { number, row }: Put) -> Result<Answer, OutOfTime> {
+        self.row_tables[usize::from(number)] = row.table;
+        let values = values(&self.design, number.into(), &row);
+        self.inserts[usize::from(row.table)].run(&values, |_| true)?;
+        self.reload.run(&[], |_| true)?;
+        Ok(Answer::Rows(self.database.changes(), 0))
+    }
+
+    /// Takes out a row, by which no other can come.
+    fn take(&mut self, number: u16) -> Result<Answer, OutOfTime> {
+        let table = self.row_tables[usize::from(number)];
+        self.removes[usize::from(table)].run(&[number.into()], |_| true)?;
+        self.unload.run(&[], |_| true)?;
+        Ok(Answer::Rows(0, self.database.changes()))
     }
 
     fn probe(&mut self, probe: Probe) -> Result<Answer, OutOfTime> {

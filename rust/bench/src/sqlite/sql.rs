@@ -66,8 +66,24 @@ pub fn load(design: &Design, filling: &Filling) -> String {
     format!("INSERT INTO cached {demanded}")
 }
 
+/// Removes the row `?1` of a table.
+pub fn remove_row(table: usize) -> String {
+    format!("DELETE FROM t{table} WHERE row = ?1")
+}
+
 /// Removes the cached rows that the held values don't demand.
 pub fn unload(design: &Design) -> String {
+    let demanded = all_demanded(design);
+    format!("DELETE FROM cached WHERE row NOT IN ({demanded})")
+}
+
+/// Caches what the held values demand and isn't cached.
+pub fn reload(design: &Design) -> String {
+    format!("INSERT OR IGNORE INTO cached {}", all_demanded(design))
+}
+
+/// The rows that the held values demand.
+fn all_demanded(design: &Design) -> String {
     let starts: Vec<String> = (0..)
         .zip(&design.fillings)
         .map(|(number, filling): (usize, _)| {
@@ -77,8 +93,7 @@ pub fn unload(design: &Design) -> String {
             )
         })
         .collect();
-    let demanded = demanded(design, &starts.join(" UNION "), "");
-    format!("DELETE FROM cached WHERE row NOT IN ({demanded})")
+    demanded(design, &starts.join(" UNION "), "")
 }
 
 /// The rows that `start` gives and all that the constraints demand of them.

@@ -1,7 +1,7 @@
 //! Works that can be made for a number of rows, from 64 to 512, so that their
 //! growth can be seen.
 
-use notation::{Command, Design, Query};
+use notation::{Command, Design, Put, Query};
 
 use super::{
     column, constraint, drop, filling, join, load_and_drop, opener, probe, query, refer, table,
@@ -29,6 +29,7 @@ pub fn works(rows: usize) -> Vec<Work> {
         crowd_beside_a_value(rows),
         one_bucket(rows),
         uncached(rows),
+        a_row_comes_and_goes(rows),
     ]
 }
 
@@ -349,6 +350,32 @@ fn uncached(rows: usize) -> Work {
         design,
         vec![],
         &[probe(column(2, 0), 7)],
+    )
+}
+
+/// Each row demands the next by all of 16 constraints, every column is unique, and all
+/// rows are cached. The last one goes and comes again, and what is left is cached anew.
+fn a_row_comes_and_goes(rows: usize) -> Work {
+    let mut design = Design {
+        tables: vec![table(8, u8::MAX)],
+        fillings: vec![filling(column(0, 0))],
+        ..Design::default()
+    };
+    for source in [1, 3, 5, 7] {
+        for target in [0, 2, 4, 6] {
+            let link = constraint(column(0, source), column(0, target));
+            design.constraints.push(link);
+        }
+    }
+    for number in 1..=rows as u32 {
+        design.add_row(0, &[[number, number + 1]; 4].concat());
+    }
+    let (number, row) = (rows as u16 - 1, design.rows[rows - 1]);
+    Work::repeating(
+        "16 constraints: a row goes, a row comes",
+        design,
+        vec![refer(0, 1)],
+        &[Command::Take(number), Command::Put(Put { number, row })],
     )
 }
 

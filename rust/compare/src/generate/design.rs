@@ -97,6 +97,11 @@ impl Values {
         self.get(random.below(self.count))
     }
 
+    /// One of the values, or of so many that follow them.
+    pub fn any_of_more(&self, random: &mut Random, more: usize) -> Value {
+        self.get(random.below(self.count + more))
+    }
+
     /// The value with the given place in the sequence, even past the count.
     pub fn get(&self, place: usize) -> Value {
         let (number, issue) = ((place / self.issues) as u32, place % self.issues);

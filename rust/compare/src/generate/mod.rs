@@ -11,7 +11,9 @@ mod grounds;
 mod limits;
 mod openings;
 mod operations;
+mod ranges;
 mod reasons;
+mod rows;
 mod spoil;
 mod totals;
 
@@ -25,7 +27,7 @@ use spoil::spoil;
 /// A way to make a script, with its share among all scripts.
 type Kind = (usize, fn(&mut Random) -> Vec<u8>);
 
-const KINDS: [Kind; 31] = [
+const KINDS: [Kind; 37] = [
     (40, |random| ordinary(random, &Shape::SPARSE)),
     (25, |random| ordinary(random, &Shape::DENSE)),
     (15, |random| worked(random, Draft::chain)),
@@ -54,6 +56,12 @@ const KINDS: [Kind; 31] = [
     (16, openings::openers),
     (3, openings::far),
     (16, reasons::rows),
+    (16, ranges::weeks),
+    (6, ranges::full),
+    (20, rows::coming_and_going),
+    (2, rows::hundreds),
+    (4, rows::broken_ring),
+    (2, rows::all_numbers),
     (8, totals::largest),
     (6, totals::crowd),
     (6, totals::beside_a_group),

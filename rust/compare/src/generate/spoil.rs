@@ -2,8 +2,8 @@
 //! may be right as well.
 
 use notation::{
-    Column, Command, Constraint, Design, Filling, Pair, Probe, Query, Row, Table, Total, CELLS,
-    PAIRS,
+    Column, Command, Constraint, Design, Filling, Pair, Probe, Put, Query, Range, Row, Table,
+    Total, CELLS, PAIRS,
 };
 
 use crate::random::Random;
@@ -19,6 +19,10 @@ pub fn spoil(random: &mut Random, design: &Design, command: Command) -> Command 
         Command::Row(row) => Command::Row(spoil_row(random, design, row)),
         Command::End | Command::Even | Command::Knot => command,
         Command::Opener(probe) => Command::Opener(spoil_probe(random, design, probe)),
+        Command::Hold(range) => Command::Hold(spoil_range(random, design, range)),
+        Command::Release(range) => Command::Release(spoil_range(random, design, range)),
+        Command::Put(put) => Command::Put(spoil_put(random, design, put)),
+        Command::Take(_) => Command::Take(spoil_row_number(random, design)),
         Command::Reason(_) => Command::Reason(spoil_row_number(random, design)),
         Command::Desk(_) => Command::Desk(match random.below(2) {
             0 => 4,
@@ -69,7 +73,7 @@ fn spoil_row(random: &mut Random, design: &Design, mut row: Row) -> Row {
     match random.below(7) {
         0 => row.table = design.tables.len() as u8,
         1 => row.cells[random.below(CELLS)] = 1,
-        2 => row = *random.pick(&design.rows),
+        2 => row = random.pick_any(&design.rows).copied().unwrap_or(row),
         3 => row.issues = Some([0; CELLS]),
         4 => {
             // A blank in a column that the table has.
@@ -83,13 +87,25 @@ fn spoil_row(random: &mut Random, design: &Design, mut row: Row) -> Row {
     row
 }
 
-/// The first number that no row has, the first that none can have, or any.
+/// The first number that no row of the design has, the first that none can have, the
+/// largest, or any.
 fn spoil_row_number(random: &mut Random, design: &Design) -> u16 {
-    match random.below(4) {
+    match random.below(5) {
         0 | 1 => design.rows.len() as u16,
         2 => 512,
+        3 => u16::MAX,
         _ => u16::from_le_bytes([random.byte(), random.byte()]),
     }
+}
+
+/// Another number, which may be taken or too large, or another row.
+fn spoil_put(random: &mut Random, design: &Design, mut put: Put) -> Put {
+    match random.below(5) {
+        0 => put.number = random.below(design.rows.len().max(1)) as u16,
+        1 => put.number = spoil_row_number(random, design),
+        _ => put.row = spoil_row(random, design, put.row),
+    }
+    put
 }
 
 fn spoil_pair(random: &mut Random, design: &Design, mut pair: Pair) -> Pair {
@@ -99,6 +115,18 @@ fn spoil_pair(random: &mut Random, design: &Design, mut pair: Pair) -> Pair {
         _ => pair.value.number = 0,
     }
     pair
+}
+
+fn spoil_range(random: &mut Random, design: &Design, mut range: Range) -> Range {
+    match random.below(6) {
+        0 => range.filling = design.fillings.len() as u8,
+        1 => range.filling = random.byte(),
+        2 => range.low = 0,
+        3 => range.low = range.high.wrapping_add(1),
+        4 => range.high = range.high.wrapping_add(1),
+        _ => range.low = range.low.wrapping_sub(1),
+    }
+    range
 }
 
 fn spoil_probe(random: &mut Random, design: &Design, mut probe: Probe) -> Probe {
@@ -142,8 +170,34 @@ fn spoil_total(random: &mut Random, design: &Design, mut total: Total) -> Total 
 fn spoil_column(random: &mut Random, design: &Design, mut column: Column) -> Column {
     match random.below(3) {
         0 => column.table = design.tables.len() as u8,
-        1 => column.column = design.tables[usize::from(column.table)].columns,
+        // The table may be wrong already.
+        1 => {
+            let table = design.tables.get(usize::from(column.table));
+            column.column = table.map_or(0, |table| table.columns);
+        }
         _ => column.column = random.byte(),
     }
     column
+}
+
+#[cfg(test)]
+mod tests {
+    use super::*;
+    use crate::generate::design::{Draft, Shape};
+    use crate::generate::operations::Operator;
+
+    #[test]
+    fn a_spoilt_command_can_be_spoilt_again() {
+        for number in 0..2_000 {
+            let mut random = Random::new(1, number);
+            let draft = Draft::random(&mut random, &Shape::SPARSE);
+            let mut commands = draft.design.commands();
+            commands.push(Operator::new(&draft).operation(&mut random));
+            for mut command in commands {
+                for _ in 0..5 {
+                    command = spoil(&mut random, &draft.design, command);
+                }
+            }
+        }
+    }
 }

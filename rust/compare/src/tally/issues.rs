@@ -105,7 +105,7 @@ fn value_of(command: &Command) -> Option<Value> {
 
 /// The same number with the other issues that it has in rows, and without.
 fn others(design: &Design, value: Value) -> Vec<Value> {
-    let cells = design.rows.iter().flat_map(|row| row.cells);
+    let cells = design.rows.iter().flatten().flat_map(|row| row.cells);
     let mut others: Vec<Value> = cells.filter(|cell| cell.number == value.number).collect();
     if others.iter().any(|cell| cell.issue != 0) {
         others.push(Value { issue: 0, ..value });

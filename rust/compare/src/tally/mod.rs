@@ -7,6 +7,8 @@
 //! - `issues` tells where the issue of a value shows.
 //! - `desks` tells what one desk meets of another.
 //! - `reasons` tells how long the chains of reasons are, and what there was to choose.
+//! - `ranges` tells which ranges meet, and what of values in them.
+//! - `rows` tells what comes of rows that come and go.
 //! - `openers` tells which loads would open a probe, and how.
 //! - `fetching` tells what came of queries and totals that refer.
 //! - `totals` tells what a total shows beside other questions.
@@ -18,7 +20,9 @@ mod issues;
 mod links;
 mod names;
 mod openers;
+mod ranges;
 mod reasons;
+mod rows;
 mod totals;
 
 use std::collections::BTreeMap;
@@ -236,12 +240,15 @@ fn replayed(script: &[u8]) -> Vec<&'static str> {
         return outcomes;
     };
     let mut fetching = fetching::Watch::default();
+    let mut rows = rows::Watch::default();
     while let Some(command) = replay.command() {
         outcomes.extend(totals::outcomes(&replay, &command));
         outcomes.extend(issues::outcomes(&replay, &command));
         outcomes.extend(desks::outcomes(&replay, &command));
         outcomes.extend(openers::outcomes(&replay, &command));
         outcomes.extend(reasons::outcomes(&replay, &command));
+        outcomes.extend(ranges::outcomes(&replay, &command));
+        outcomes.extend(rows.outcomes(&replay, &command));
         outcomes.extend(fetching.perform(&mut replay, &command));
     }
     outcomes

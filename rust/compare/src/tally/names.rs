@@ -11,7 +11,7 @@ use notation::{Command, Piece, Value};
 /// 3. Causes 7 and 12 are about lent memory, which no script can spoil. No
 /// answer needs 4,097 words: that has no divisor from 2 to 5, and 512 rows make
 /// no more than 512 lists of one.
-pub const OUTCOMES: [(u32, &str); 138] = [
+pub const OUTCOMES: [(u32, &str); 191] = [
     (0, "design accepted"),
     (0, "design refused 1"),
     (0, "design refused 2"),
@@ -97,6 +97,59 @@ pub const OUTCOMES: [(u32, &str); 138] = [
     (9, "opener of a full desk"),
     (9, "opener refused 5"),
     (9, "opener refused 9"),
+    (10, "reason by a range"),
+    (10, "reason by a value beside a range"),
+    (10, "range loaded with rows"),
+    (10, "range loaded without rows"),
+    (10, "range held"),
+    (10, "range of no candidate"),
+    (10, "range dropped with rows"),
+    (10, "range refused 5"),
+    (10, "range refused 8"),
+    (10, "range refused 10"),
+    (10, "range refused 10 for a part"),
+    (10, "range that overlaps another"),
+    (10, "range that touches another"),
+    (10, "range that joins two others"),
+    (10, "range that joins others at 8"),
+    (10, "range of what another desk holds"),
+    (10, "range up to 2^32 - 1"),
+    (10, "ground 1 by a range"),
+    (10, "sent for the issue of a value in a range"),
+    (10, "load of a value in a range"),
+    (10, "drop of a value in a range"),
+    (10, "refused 10 for a value in a range"),
+    (12, "rows without change"),
+    (12, "rows that came"),
+    (12, "rows that went"),
+    (12, "row put in, which brings others"),
+    (12, "row put in for a held value"),
+    (12, "row put in for a range"),
+    (12, "row put in for a row"),
+    (12, "row put in, uncached"),
+    (12, "row put in while four desks hold something"),
+    (12, "row put in with an issue"),
+    (12, "row put in at number 511"),
+    (12, "row put in at a number used before"),
+    (12, "row put in past a gap"),
+    (12, "row put in with a value of one that went"),
+    (12, "row taken out with others"),
+    (12, "row taken out, uncached"),
+    (12, "200 rows put in or taken out"),
+    (12, "over 255 rows came"),
+    (12, "over 255 rows went"),
+    (12, "put refused 5 for a taken number"),
+    (12, "put refused 5 for number 512"),
+    (12, "put refused 5 for number 65,535"),
+    (12, "put refused 5 for its table"),
+    (12, "put refused 5 for a cell past the columns"),
+    (12, "put refused 5 for the issue of a blank"),
+    (12, "put refused 6"),
+    (12, "put refused 6 for a row behind it"),
+    (12, "take refused 5 for a free number"),
+    (12, "take refused 5 for number 512"),
+    (12, "take refused 5 for number 65,535"),
+    (12, "reason refused 5 for a row that went"),
     (11, "knot of 1 constraint"),
     (11, "knot of 2 constraints"),
     (11, "knot of 3 constraints"),
@@ -153,7 +206,7 @@ pub const OUTCOMES: [(u32, &str); 138] = [
 ];
 
 /// The kinds of commands, and last what can't be read as one.
-pub const COMMANDS: [&str; 22] = [
+pub const COMMANDS: [&str; 26] = [
     "table",
     "constraint",
     "filling",
@@ -175,6 +228,10 @@ pub const COMMANDS: [&str; 22] = [
     "desk",
     "reason",
     "opener",
+    "hold",
+    "release",
+    "put",
+    "take",
     "no command",
 ];
 
@@ -206,5 +263,9 @@ pub fn kind(piece: &Piece) -> &'static str {
         Command::Desk(_) => "desk",
         Command::Reason(_) => "reason",
         Command::Opener(_) => "opener",
+        Command::Hold(_) => "hold",
+        Command::Release(_) => "release",
+        Command::Put(_) => "put",
+        Command::Take(_) => "take",
     }
 }

@@ -1,6 +1,7 @@
 //! How long the chains of reasons are, and what there was to choose among.
 
 use reference::desk::Answer;
+use reference::reason::Held;
 use reference::refusal::Cause;
 use reference::script::{Command, Pair};
 
@@ -43,13 +44,19 @@ fn choices(replay: &Replay, row: usize) -> Vec<&'static str> {
     let distances = desk.distances();
     let mut outcomes = Vec::new();
     let Some(before) = distances[row].and_then(|distance| distance.checked_sub(1)) else {
-        let mut pairs: Vec<Pair> = desk.pairs_of(row).collect();
-        pairs.sort_by_key(|pair| (pair.filling, pair.value));
-        pairs.dedup();
-        if pairs.len() > 1 {
+        let mut held = desk.held_of(row);
+        held.sort_unstable();
+        held.dedup();
+        if held.len() > 1 {
             outcomes.push("reason with a choice of values");
         }
-        if pairs.first().is_some_and(|&pair| !replay.held().owns(pair)) {
+        let is_lowest = |pair: &Pair| held.first() == Some(&Held::value(*pair));
+        let lowest = design.pairs_of(row).find(is_lowest);
+        let mut ranges = replay.held().ranges.iter().flatten();
+        if lowest.is_some_and(|pair| ranges.any(|range| range.has(pair))) {
+            outcomes.push("reason by a value beside a range");
+        }
+        if lowest.is_some_and(|pair| !replay.held().owns(pair)) {
             outcomes.push("reason by another desk's value");
         }
         return outcomes;

@@ -58,8 +58,8 @@ fn inner_totals(design: &Design, total: &Total) -> Vec<Total> {
         };
     }
     let column = design.constraints[first.constraint].target;
-    let cell = |row: usize| design.rows[row].cells[column.column];
-    let mut values: Vec<Value> = (0..design.rows.len()).map(cell).collect();
+    let cell = |row: usize| design.cell(row, column);
+    let mut values: Vec<Value> = (0..design.rows.len()).filter_map(cell).collect();
     values.sort_unstable();
     values.dedup();
     let rows_with = |value| {

@@ -7,7 +7,9 @@ mod issues;
 mod knots;
 mod openers;
 mod performing;
+mod ranges;
 mod reasons;
+mod rows;
 mod totals;
 
 use compare::level::Level;

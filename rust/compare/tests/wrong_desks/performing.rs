@@ -11,20 +11,22 @@ use reference::refusal::{Cause, Refusal};
 use reference::script::{read_command, Command, Pair, Probe, Query};
 use reference::ANSWER_WORDS;
 
-/// A desk that performs commands in a way of its own, within a report that is
-/// right otherwise.
-fn performing(
-    perform: impl Fn(&Design, &mut Desk, &Command) -> Result<Answer, Cause> + Sync,
+/// A desk that performs commands in a way of its own, with a memory that begins
+/// empty, within a report that is right otherwise.
+fn performing<M: Default>(
+    perform: impl Fn(&mut M, &mut Desk, &Command) -> Result<Answer, Cause> + Sync,
 ) -> impl Fn(&[u8]) -> io::Result<Reply> + Sync {
     move |script| {
         let report = reference::report(script);
         let (head, _) = report.split_once('\n').expect("a line");
         let mut lines = vec![head.to_string()];
         if let Ok((design, mut place)) = Design::read(script) {
-            let mut desk = Desk::new(design.clone(), ANSWER_WORDS);
+            let mut desk = Desk::new(design, ANSWER_WORDS);
+            let mut memory = M::default();
             while place < script.len() {
                 let read = read_command(script, place);
-                let answer = read.and_then(|(command, _)| perform(&design, &mut desk, &command));
+                let answer =
+                    read.and_then(|(command, _)| perform(&mut memory, &mut desk, &command));
                 let line = match answer {
                     Ok(answer) => answer.to_string(),
                     Err(cause) => Refusal { cause, place }.to_string(),
@@ -41,6 +43,17 @@ fn performing(
 pub fn is_found(
     level: Level,
     perform: impl Fn(&Design, &mut Desk, &Command) -> Result<Answer, Cause> + Sync,
+) -> bool {
+    is_found_remembering(level, |(): &mut (), desk, command| {
+        let design = desk.design().clone();
+        perform(&design, desk, command)
+    })
+}
+
+/// The same of a desk that remembers something between commands.
+pub fn is_found_remembering<M: Default>(
+    level: Level,
+    perform: impl Fn(&mut M, &mut Desk, &Command) -> Result<Answer, Cause> + Sync,
 ) -> bool {
     let desk = performing(perform);
     let name = "the desk";

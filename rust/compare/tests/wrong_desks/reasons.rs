@@ -88,9 +88,10 @@ fn a_desk_that_prints_no_issue() {
 
 #[test]
 fn a_desk_that_takes_the_value_that_was_referred_first() {
-    assert!(is_found_with(|_, desk, row, right| {
-        let first = desk.pairs_of(row).next();
-        match first {
+    assert!(is_found_with(|design, desk, row, right| {
+        let of_row = |pair| design.pairs_of(row).any(|other| other == pair);
+        let mut held = desk.held().values.iter().map(|owned| owned.pair);
+        match held.find(|&pair| of_row(pair)) {
             Some(pair) if pair.value.issue == 0 => {
                 let (value, filling) = (pair.value.number, pair.filling);
                 format!("row {row} by value {value} of filling {filling}")

@@ -79,6 +79,38 @@ pub fn desk(number: u8) -> Vec<u8> {
     vec![0x17, number]
 }
 
+/// Holds a range.
+pub fn hold(filling: u8, low: u32, high: u32) -> Vec<u8> {
+    [
+        &[0x1a, filling],
+        &low.to_le_bytes()[..],
+        &high.to_le_bytes(),
+    ]
+    .concat()
+}
+
+/// Drops a range.
+pub fn release(filling: u8, low: u32, high: u32) -> Vec<u8> {
+    [&[0x1b], &hold(filling, low, high)[1..]].concat()
+}
+
+/// Puts in a row without issues.
+pub fn put(number: u16, table: u8, cells: &[u32]) -> Vec<u8> {
+    let cells: Vec<Cell> = cells.iter().map(|&cell| (cell, 0)).collect();
+    put_with_issues(number, table, &cells)
+}
+
+/// Puts in a row.
+pub fn put_with_issues(number: u16, table: u8, cells: &[Cell]) -> Vec<u8> {
+    let row = row_with_issues(table, cells);
+    [&[0x1d], &number.to_le_bytes()[..], &row[1..]].concat()
+}
+
+/// Takes out a row.
+pub fn take(number: u16) -> Vec<u8> {
+    [&[0x1e], &number.to_le_bytes()[..]].concat()
+}
+
 /// Asks why a row is cached.
 pub fn reason(row: u16) -> Vec<u8> {
     [&[0x18], &row.to_le_bytes()[..]].concat()
@@ -138,6 +170,10 @@ pub fn operations() -> Vec<(&'static str, Vec<u8>)> {
         ("desk", desk(1)),
         ("opener", opener((0, 0), 1, 1)),
         ("reason", reason(0)),
+        ("hold", hold(0, 1, 2)),
+        ("release", release(0, 1, 2)),
+        ("put", put(3, 0, &[1])),
+        ("take", take(0)),
         ("refer with an issue", with_issue(1, &refer(0, 1))),
         ("drop with an issue", with_issue(1, &drop(0, 1))),
         ("probe with an issue", with_issue(1, &probe((0, 0), 1))),

@@ -138,8 +138,9 @@ fn loads(random: &mut Random, tables: usize) -> Vec<u8> {
     for _ in 0..12 {
         let filling = random.below(tables) as u8;
         let value = 1 + random.below(VALUES) as u32;
-        script.extend(match random.below(3) {
+        script.extend(match random.below(4) {
             0 => drop(filling, value),
+            1 => hold(filling, value, VALUES as u32),
             _ => refer(filling, value),
         });
     }

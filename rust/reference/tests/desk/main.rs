@@ -18,6 +18,8 @@ mod openers;
 mod operation_refusals;
 mod queries;
 mod random;
+mod ranges;
 mod reasons;
 mod rounds;
+mod rows_that_come;
 mod totals;

@@ -1,7 +1,11 @@
 //! Random operations on a design. Most name something that is there; some are
-//! spoilt on purpose.
+//! spoilt on purpose. Those that move rows are in `rows`.
 
-use notation::{Column, Command, Design, Join, Pair, Probe, Query, Total, Value, PAIRS};
+mod rows;
+
+use notation::{
+    Column, Command, Design, Join, Pair, Probe, Query, Range, Row, Total, Value, PAIRS,
+};
 
 use super::design::{Draft, Values, ISSUES};
 use super::spoil::spoil;
@@ -28,6 +32,10 @@ pub struct Operator<'a> {
     desk: usize,
     /// What each desk referred to.
     referred: [Vec<Pair>; DESKS],
+    /// The ranges of each desk, as they have been joined.
+    ranges: [Vec<Range>; DESKS],
+    /// The rows by their numbers, as they come and go.
+    rows: Vec<Option<Row>>,
 }
 
 impl<'a> Operator<'a> {
@@ -37,6 +45,8 @@ impl<'a> Operator<'a> {
             values: draft.values,
             desk: 0,
             referred: Default::default(),
+            ranges: Default::default(),
+            rows: draft.design.rows.iter().copied().map(Some).collect(),
         }
     }
 
@@ -44,10 +54,14 @@ impl<'a> Operator<'a> {
         if random.percent(MISPLACED) {
             return *random.pick(&self.design.commands());
         }
-        let operation = match random.below(27) {
+        let operation = match random.below(31) {
             24 => self.name(random),
             25 => self.opener(random),
             26 => self.reason(random),
+            27 => Command::Hold(self.hold(random)),
+            28 => Command::Release(self.release(random)),
+            29 => self.put(random),
+            30 => self.take(random),
             0..=6 => Command::Refer(self.refer(random)),
             7..=10 => Command::Drop(self.drop(random)),
             11..=14 => Command::Probe(self.probe(random)),
@@ -79,14 +93,15 @@ impl<'a> Operator<'a> {
 
     /// Why a row is cached, or one that isn't there.
     pub fn reason(&self, random: &mut Random) -> Command {
-        Command::Reason(random.below(self.design.rows.len() + 1) as u16)
+        Command::Reason(self.number(random) as u16)
     }
 
     /// What would open a probe. The second implementation tries every value, so that
     /// there are few of these on large designs.
     pub fn opener(&self, random: &mut Random) -> Command {
         let probe = self.probe(random);
-        if self.design.rows.len() > LARGE && random.percent(95) {
+        let rows = self.rows.iter().flatten().count();
+        if rows > LARGE && random.percent(95) {
             return Command::Probe(probe);
         }
         Command::Opener(probe)
@@ -151,6 +166,83 @@ impl<'a> Operator<'a> {
         own.remove(place)
     }
 
+    /// A range between two values, in half of the cases right beside one that the desk
+    /// holds, or over a part of it.
+    pub fn hold(&mut self, random: &mut Random) -> Range {
+        let own = random.pick_any(&self.ranges[self.desk]).copied();
+        let (one, other) = (self.pair(random), self.values.any(random).number);
+        let number = one.value.number;
+        let mut range = Range {
+            filling: one.filling,
+            low: number.min(other),
+            high: number.max(other),
+        };
+        if let Some(own) = own.filter(|_| random.percent(50)) {
+            range = match random.below(5) {
+                0 => Range {
+                    low: own.high.saturating_add(1),
+                    high: own.high.saturating_add(1),
+                    ..own
+                },
+                1 => Range {
+                    low: own.low.saturating_sub(1),
+                    high: own.low.saturating_sub(1),
+                    ..own
+                },
+                2 => Range {
+                    high: own.high.max(other),
+                    ..own
+                },
+                3 => Range {
+                    low: own.low.min(other),
+                    ..own
+                },
+                _ => Range {
+                    low: own.high,
+                    ..own
+                },
+            };
+        }
+        self.join(range);
+        range
+    }
+
+    /// Remembers a range of the desk, joined to those that it meets.
+    pub fn join(&mut self, range: Range) {
+        let ranges = &mut self.ranges[self.desk];
+        let meets = |own: &Range| {
+            own.filling == range.filling
+                && u64::from(own.low) <= u64::from(range.high) + 1
+                && u64::from(range.low) <= u64::from(own.high) + 1
+        };
+        let mut hull = range;
+        for own in ranges.iter().filter(|own| meets(own)) {
+            hull.low = hull.low.min(own.low);
+            hull.high = hull.high.max(own.high);
+        }
+        ranges.retain(|own| !meets(own));
+        ranges.push(hull);
+    }
+
+    /// A range that the desk may hold, or a part of one.
+    pub fn release(&mut self, random: &mut Random) -> Range {
+        let own = &mut self.ranges[self.desk];
+        if own.is_empty() {
+            let Pair { filling, value } = self.pair(random);
+            let (low, high) = (value.number, value.number);
+            return Range { filling, low, high };
+        }
+        let place = random.below(own.len());
+        if random.percent(15) {
+            let Range { low, .. } = own[place];
+            return Range {
+                high: low,
+                ..own[place]
+            };
+        }
+        own.remove(place)
+    }
+
     /// A pair that some desk referred to.
     fn referred_by_any(&self, random: &mut Random) -> Option<Pair> {
         let desk = random.pick(&self.referred);
@@ -211,7 +303,7 @@ impl<'a> Operator<'a> {
 
     /// A value of a row, in one of the columns that pass a test.
     fn row_probe(&self, random: &mut Random, test: impl Fn(Column) -> bool) -> Option<Probe> {
-        let row = random.pick_any(&self.design.rows)?;
+        let row = self.live_row(random)?;
         let mut columns = self.design.columns();
         columns.retain(|&column| column.table == row.table && test(column));
         let column = *random.pick_any(&columns)?;
@@ -233,7 +325,7 @@ impl<'a> Operator<'a> {
     fn demanded_probe(&self, random: &mut Random) -> Option<Probe> {
         let constraint = random.pick_any(&self.design.constraints)?;
         let Column { table, column } = constraint.source;
-        let row = random.pick_any(&self.design.rows)?;
+        let row = self.live_row(random)?;
         let value = row.cell(usize::from(column));
         (row.table == table && value.number != 0).then_some(Probe {
             column: constraint.target,
