@@ -1,5 +1,5 @@
 //! The proved desk as a contestant, linked from its static library, which
-//! `bench/run` makes of the crate `foreign`.
+//! `bench/run` makes of the crate `wurzsige`.
 //!
 //! Nothing checks the declarations below against the Rattle source. The tests
 //! compare all answers with the second implementation's.
@@ -13,7 +13,7 @@ use crate::contestant::{Answer, Contestant, OpenDesk, Opening, Operation, Operat
 const CELLS: usize = 4_096;
 const ROWS: usize = 512;
 
-/// The words that a design takes in `foreign`'s layout.
+/// The words that a design takes in `wurzsige`'s layout.
 const DESIGN_WORDS: usize = 115;
 
 /// The words that the held values take.
@@ -38,7 +38,7 @@ const TEXT: usize = 16_384;
 
 // A Rattle slice goes across as a pointer and a length, and an array of a fixed
 // size as a pointer, which is what a reference to an array is in Rust.
-#[link(name = "foreign", kind = "static")]
+#[link(name = "wurzsige", kind = "static")]
 extern "C" {
     fn wurzsige_open(
         script: *const u8,
