@@ -42,11 +42,11 @@ read-back absent l = refl
 read-back (explained n) l = refl
 read-back (changed came went) l = refl
 
-module _ (a : Answer) (n : ℕ) (ns : List ℕ) (k : ℕ) (t : Told a n ns k) where
+module _ (a : Answer) (n : ℕ) (ns : List ℕ) (k : ℕ) (t : Told (shown a) n ns k) where
   -- THEOREM: what is told is the answer that a caller reads off it ..
   pub told-read : answerIn n ns k ≡ a
   told-read = (λ x. answerIn (t .number x) (t .numbers x) (t .count x)) ∙ read-back a (t .few)
 
   -- .. so no two answers are told alike
-  pub told-once : (b : Answer) → Told b n ns k → a ≡ b
+  pub told-once : (b : Answer) → Told (shown b) n ns k → a ≡ b
   told-once b u = sym told-read ∙ (λ x. answerIn (u .number x) (u .numbers x) (u .count x)) ∙ read-back b (u .few)

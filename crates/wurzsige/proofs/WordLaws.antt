@@ -225,7 +225,7 @@ module _ (d : Design) (s : List ℕ) (h : Stands s 0 (designWords d)) where
   unfolding designWords
   counts-stand = stands-part s _ [] (countsWords d) _ 0 0 h refl refl
 
-  tables-stand : Stands s 3 (tablesWords (d .table))
+  pub tables-stand : Stands s 3 (tablesWords (d .table))
   unfolding designWords
   tables-stand = stands-part s _ (countsWords d) (tablesWords (d .table)) _ 0 3 h refl refl
 
@@ -237,10 +237,10 @@ module _ (d : Design) (s : List ℕ) (h : Stands s 0 (designWords d)) where
       (stands-part s _ a (b ++ e) [] 0 3 h (ap (λ (l : List ℕ). a ++ l) (sym (append-nil (b ++ e)))) refl)
       (ap (λ (l : List ℕ). b ++ l) (sym (append-nil e))) (omega (arith, length-tables (d .table)))
 
-  constraints-stand : Stands s 19 (constraintsWords (d .constraint))
+  pub constraints-stand : Stands s 19 (constraintsWords (d .constraint))
   constraints-stand = stands-part s _ [] (constraintsWords (d .constraint)) (fillingsWords (d .filling)) 19 19 later refl refl
 
-  fillings-stand : Stands s 83 (fillingsWords (d .filling))
+  pub fillings-stand : Stands s 83 (fillingsWords (d .filling))
   fillings-stand =
       let c = constraintsWords (d .constraint) in let e = fillingsWords (d .filling) in
       stands-part s _ c e [] 19 83 later (ap (λ (l : List ℕ). c ++ l) (sym (append-nil e))) (omega (arith, length-constraints (d .constraint)))
@@ -266,17 +266,33 @@ module _ (d : Design) (s : List ℕ) (h : Stands s 0 (designWords d)) where
         sym (design-is s _ _ _ _ _ _ (count-back 0 (omega arith)) tables-back (count-back 1 (omega arith)) constraints-back (count-back 2 (omega arith))
         fillings-back)
 
+-- and each part of the words of what is held
+module _ (h : Held) (s : List ℕ) (e : Stands s 0 (heldWords h)) where
+  pub desk-stands : Stands s 0 (h .desk ∷ h .count ∷ [])
+  unfolding heldWords
+  desk-stands = stands-part s _ [] (h .desk ∷ h .count ∷ []) (valuesWords (h .values) ++ desksWords (h .ranges)) 0 0 e refl refl
+
+  behind-desk : Stands s 2 (valuesWords (h .values) ++ desksWords (h .ranges))
+  unfolding heldWords
+  behind-desk =
+      let first : List ℕ = h .desk ∷ h .count ∷ [] in let a = valuesWords (h .values) in let b = desksWords (h .ranges) in
+      stands-part s _ first (a ++ b) [] 0 2 e (ap (λ (l : List ℕ). first ++ l) (sym (append-nil (a ++ b)))) refl
+
+  pub values-stand : Stands s 2 (valuesWords (h .values))
+  values-stand = stands-part s _ [] (valuesWords (h .values)) (desksWords (h .ranges)) 2 2 behind-desk refl refl
+
+  pub desks-stand : Stands s 258 (desksWords (h .ranges))
+  desks-stand =
+      let a = valuesWords (h .values) in let b = desksWords (h .ranges) in
+      stands-part s _ a b [] 2 258 behind-desk (ap (λ (l : List ℕ). a ++ l) (sym (append-nil b))) (omega (arith, length-values (h .values)))
+
 module _ (h : Held) (n : NarrowHeld h) where
   held-stands : (s : List ℕ) → Stands s 0 (heldWords h) → wordsHeld s ≡ h
-  unfolding heldWords
   held-stands s e =
-      let first : List ℕ = h .desk ∷ h .count ∷ [] in let a = valuesWords (h .values) in let b = desksWords (h .ranges) in
-      let behind = stands-part s _ first (a ++ b) [] 0 2 e (ap (λ (l : List ℕ). first ++ l) (sym (append-nil (a ++ b)))) refl in
-      let values = stands-part s _ [] a b 2 2 behind refl refl in
-      let ranges = stands-part s _ a b [] 2 258 behind (ap (λ (l : List ℕ). a ++ l) (sym (append-nil b))) (omega (arith, length-values (h .values))) in
-      sym (held-is s _ _ _ _ (byte-back s _ 0 e 0 0 (omega arith) refl (n .desk)) (word-back s _ 0 e 1 1 (omega arith) refl)
-      (places-back 64 2 4 noValue valueWords valueFrom NarrowValue (λ v. refl) value-back s (h .values) values (n .values) (n .value))
-      (places-back 4 258 25 noRanges rangesWords rangesFrom NarrowRanges length-ranges ranges-back s (h .ranges) ranges (n .desks) (n .ranges)))
+      let first = desk-stands h s e in
+      sym (held-is s _ _ _ _ (byte-back s _ 0 first 0 0 (omega arith) refl (n .desk)) (word-back s _ 0 first 1 1 (omega arith) refl)
+      (places-back 64 2 4 noValue valueWords valueFrom NarrowValue (λ v. refl) value-back s (h .values) (values-stand h s e) (n .values) (n .value))
+      (places-back 4 258 25 noRanges rangesWords rangesFrom NarrowRanges length-ranges ranges-back s (h .ranges) (desks-stand h s e) (n .desks) (n .ranges)))
 
   pub held-back : (rest : List ℕ) → wordsHeld (heldWords h ++ rest) ≡ h
   held-back rest = held-stands _ (stands-first (heldWords h) rest)

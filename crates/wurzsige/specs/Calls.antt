@@ -1,52 +1,60 @@
--- What the exported functions give and leave. Assumes nothing.
-use Prim.Native.Nat.{ℕ, _≤_}
+-- What the exported functions give and leave, for whatever is lent: the causes of the lent memory, and each word of it afterwards. Assumes nothing.
+use Prim.Native.Nat.{ℕ}
 use mathlib.Core.Path.{_≡_}
-use mathlib.Core.Bool.{true, cond, _&&_}
-use mathlib.Core.List.{List}
-use lib.Dec.{leb}
+use mathlib.Core.Bool.{Bool, true, false, not, cond, _&&_}
+use mathlib.Core.List.{List, [], _∷_}
+use lib.Dec.{eqb, leb}
 use lib.ListN.{length}
 use lib.Seq.{sets}
+use Rattle.model.specs.Answers.{isRefusal}
 use Rattle.state.specs.Cells.{Cells}
 use Rattle.state.specs.Held.{noneHeld}
-use Rattle.state.specs.Lent.{State, lent, sound}
+use Rattle.state.specs.Lent.{State, lent, longEnough, lawful}
 use Rattle.state.specs.declared.design.Design.{Design}
 use Rattle.catalog.specs.Catalog.{Catalogued}
-use Rattle.format.specs.Reading.{Draft, DesignRead, readInto, cellsAfter, tablesAfter, marksAfter}
+use Rattle.format.specs.declared.verdict.DesignReading.{DesignReading}
+use Rattle.format.specs.Reading.{DesignRead, readInto, verdictOf, designOf, rowsRead, cellsAfter, tablesAfter, marksAfter}
 use Rattle.format.specs.Reading.DesignRead.{accepted, refusedAt}
-use Rattle.script.specs.Step.{Outputs, Stepped}
+use Rattle.script.specs.Step.{Outputs, Stepped, refusing, stepAt}
 use Rattle.script.specs.Runs.{Left}
-use Rattle.wurzsige.specs.Words.{designLength, heldLength, designWords, heldWords, wordsDesign, wordsHeld}
-use Rattle.wurzsige.specs.Told.{Told}
+use Rattle.script.specs.Writing.{bytesOf}
+use Rattle.wurzsige.specs.Words.{designLength, heldLength, designWords, heldWords, wordsDesign, wordsHeld, narrowDesign, narrowHeld}
+use Rattle.wurzsige.specs.Told.{StepTold, OpenTold}
 
--- ---- wurzsige_open
+-- ---- what is lent
 
--- the reading: "Lent buffer too short", for the words as for the rows, before anything else
-unfoldable pub opening : List ℕ → Cells → List ℕ → List ℕ → List ℕ → List ℕ → DesignRead
-opening script cells tables marks design held =
-    cond (leb designLength (length design) && leb heldLength (length held)) (readInto script cells tables marks) (refusedAt 7 0)
+-- the words of a design and of what is held, the rows and the marks
+pub record Memory : Type 0 where
+  pub design : List ℕ
+  pub held : List ℕ
+  pub cells : Cells
+  pub tables : List ℕ
+  pub marks : List ℕ
 
--- the cause of the refusal, or 0
-abbrev pub causeNumber : DesignRead → ℕ
-causeNumber (accepted p i) = 0
-causeNumber (refusedAt c i) = c
+abbrev pub memory : List ℕ → List ℕ → Cells → List ℕ → List ℕ → Memory
+memory design held cells tables marks = record { design = design; held = held; cells = cells; tables = tables; marks = marks }
 
--- the words afterwards: stored only with an accepted design, with nothing held
-abbrev pub designWordsAfter : DesignRead → List ℕ → List ℕ
-designWordsAfter (accepted p i) ws = sets ws 0 (designWords (p .design))
-designWordsAfter (refusedAt c i) ws = ws
+-- the state that it stands for
+abbrev pub stateIn : Memory → State
+stateIn m = lent (wordsDesign (m .design)) (m .cells) (m .tables) (m .marks) (wordsHeld (m .held))
 
-abbrev pub heldWordsAfter : DesignRead → List ℕ → List ℕ
-heldWordsAfter (accepted p i) ws = sets ws 0 (heldWords noneHeld)
-heldWordsAfter (refusedAt c i) ws = ws
+-- cause 7 does not apply: "Lent buffer too short", for the words as for the rows
+abbrev pub longWords : Memory → Bool
+longWords m = leb designLength (length (m .design)) && leb heldLength (length (m .held))
 
--- the number n, and each lent buffer before and after
-pub record Opened (w : DesignRead) (n : ℕ) (cs cs′ : Cells) (ts ts′ ms ms′ ds ds′ hs hs′ : List ℕ) : Type 0 where
-  pub number : n ≡ causeNumber w
-  pub cells : cs′ ≡ cellsAfter w cs
-  pub tables : ts′ ≡ tablesAfter w ts
-  pub marks : ms′ ≡ marksAfter w ms
-  pub design : ds′ ≡ designWordsAfter w ds
-  pub held : hs′ ≡ heldWordsAfter w hs
+unfoldable pub longMemory : Memory → Bool
+longMemory m = longWords m && longEnough (stateIn m)
+
+-- cause 12 does not apply: the words are words of a design and of what is held, and the state that they stand for is lawful
+unfoldable pub lawfulMemory : Memory → Bool
+lawfulMemory m = (narrowDesign (m .design) && narrowHeld (m .held)) && lawful (stateIn m)
+
+abbrev pub soundMemory : Memory → Bool
+soundMemory m = longMemory m && lawfulMemory m
+
+-- cause 7 or 12; 0 if neither applies
+unfoldable pub memoryCause : Memory → ℕ
+memoryCause m = cond (not (longMemory m)) 7 (cond (not (lawfulMemory m)) 12 0)
 
 -- the five arrays of a catalog
 pub record Arrays : Type 0 where
@@ -63,42 +71,89 @@ arrays next first keys heads starts = record { next = next; first = first; keys 
 abbrev pub CatalogIn : Arrays → Design → Cells → List ℕ → Type 0
 CatalogIn k d cells tables = Catalogued d cells tables (k .next) (k .first) (k .keys) (k .heads) (k .starts)
 
--- the arrays before, k, and after, k′: with an accepted design the catalog of its rows, else as they were
-pub record Catalogs (w : DesignRead) (cs′ : Cells) (ts′ : List ℕ) (k k′ : Arrays) : Type 0 where
-  pub made : (p : Draft) (i : ℕ) → w ≡ accepted p i → CatalogIn k′ (p .design) cs′ ts′
-  pub kept : (c i : ℕ) → w ≡ refusedAt c i → k′ ≡ k
+-- what the trusted functions ask for: neither 7 nor 12, and the catalog of the rows. Opening a design leaves such memory, and so does every step (`OpenTaken`,
+-- `StepTaken`, `RunMade`), so it holds from call to call of whoever keeps to memory that only these functions write
+pub record Ready (m : Memory) (k : Arrays) : Type 0 where
+  pub sound : soundMemory m ≡ true
+  pub catalog : CatalogIn k (wordsDesign (m .design)) (m .cells) (m .tables)
 
--- ---- wurzsige_step
+-- the arrays afterwards, k′: as they were with a refusal, else such that m′ is ready
+pub record Catalogs (refused : Bool) (m′ : Memory) (k k′ : Arrays) : Type 0 where
+  pub made : refused ≡ false → Ready m′ k′
+  pub kept : refused ≡ true → k′ ≡ k
 
--- the state that the words and the other buffers stand for
-abbrev pub wordsState : List ℕ → Cells → List ℕ → List ℕ → List ℕ → State
-wordsState design cells tables marks held = lent (wordsDesign design) cells tables marks (wordsHeld held)
+-- the memory with another state in it: its rows and marks, and the words of what it holds
+abbrev pub keeping : Memory → State → Memory
+keeping m s = memory (m .design) (sets (m .held) 0 (heldWords (s .held))) (s .cells) (s .tables) (s .marks)
 
--- what a step asks of its buffers: long enough, a sound state, and the catalog of its rows
-pub record Ready (ds : List ℕ) (cs : Cells) (ts : List ℕ) (k : Arrays) (ms hs : List ℕ) : Type 0 where
-  pub design : designLength ≤ length ds
-  pub held : heldLength ≤ length hs
-  pub sound : sound (wordsState ds cs ts ms hs) ≡ true
-  pub catalog : CatalogIn k (wordsDesign ds) cs ts
+-- ---- opening a design
 
--- the state s, and w of what is lent for answers, are left: the cells cs′, the row tables ts′, the catalog's arrays k′, the marks ms′ and ws′ afterwards, the
--- held words hs before and hs′ after; and the next step can be taken
-pub record Kept (s : State) (w : Outputs) (ds : List ℕ) (cs′ : Cells) (ts′ : List ℕ) (k′ : Arrays) (ms′ : List ℕ) (ws′ : Outputs) (hs hs′ : List ℕ) : Type 0 where
-  pub cells : cs′ ≡ s .cells
-  pub tables : ts′ ≡ s .tables
-  pub marks : ms′ ≡ s .marks
-  pub outputs : ws′ ≡ w
-  pub held : hs′ ≡ sets hs 0 (heldWords (s .held))
-  pub ready : Ready ds cs′ ts′ k′ ms′ hs′
+-- the reading: cause 7 for the words before anything else; 12 is not looked at
+unfoldable pub opening : List ℕ → Memory → DesignRead
+opening script m = cond (longWords m) (readInto script (m .cells) (m .tables) (m .marks)) (refusedAt 7 0)
 
--- the step R was taken: the number n, the buffer ns′ and the count q′ tell its answer, and what it leaves is kept
-pub record StepTaken (R : Stepped) (n : ℕ) (ns′ : List ℕ) (q′ : ℕ) (ds : List ℕ) (cs′ : Cells) (ts′ : List ℕ) (k′ : Arrays) (ms′ : List ℕ)
-    (ws′ : Outputs) (hs hs′ : List ℕ) : Type 0 where
-  pub told : Told (R .answer) n ns′ q′
-  pub kept : Kept (R .state) (R .outputs) ds cs′ ts′ k′ ms′ ws′ hs hs′
+abbrev pub isRefused : DesignRead → Bool
+isRefused (accepted p i) = false
+isRefused (refusedAt c i) = true
 
--- ---- wurzsige_run
+-- the memory afterwards: with an accepted design it, its rows, and nothing held; else as it was
+abbrev pub memoryOpened : DesignRead → Memory → Memory
+memoryOpened (accepted p i) m =
+    memory (sets (m .design) 0 (designWords (p .design))) (sets (m .held) 0 (heldWords noneHeld)) (cellsAfter (accepted p i) (m .cells))
+    (tablesAfter (accepted p i) (m .tables)) (marksAfter (accepted p i) (m .marks))
+memoryOpened (refusedAt c i) m = m
 
--- the run that leaves l was made: that is kept
-abbrev pub RunMade : Left → List ℕ → Cells → List ℕ → Arrays → List ℕ → Outputs → List ℕ → List ℕ → Type 0
-RunMade l = Kept (l .state) (l .outputs)
+-- the reading w gives r, and the memory m and the arrays k become m′ and k′
+pub record Opened (w : DesignRead) (r : DesignReading) (m m′ : Memory) (k k′ : Arrays) : Type 0 where
+  pub verdict : r .verdict ≡ verdictOf w
+  pub design : r .design ≡ designOf w
+  pub count : r .rows ≡ rowsRead w
+  pub memory : m′ ≡ memoryOpened w m
+  pub catalogs : Catalogs (isRefused w) m′ k k′
+
+-- it is told
+pub record OpenTaken (w : DesignRead) (n : ℕ) (ns : List ℕ) (c p q g : ℕ) (m m′ : Memory) (k k′ : Arrays) : Type 0 where
+  pub told : OpenTold w n ns c p q g
+  pub memory : m′ ≡ memoryOpened w m
+  pub catalogs : Catalogs (isRefused w) m′ k k′
+
+-- ---- a step
+
+-- the step at place i: causes 7 and 12 of the memory first
+unfoldable pub stepIn : Memory → Outputs → List ℕ → ℕ → Stepped
+stepIn m out script i =
+    cond (not (longMemory m)) (refusing (stateIn m) out 7 0 i false)
+    (cond (not (lawfulMemory m)) (refusing (stateIn m) out 12 0 i false)
+    (stepAt (stateIn m) out script i))
+
+-- the memory afterwards: as it was with a refusal
+abbrev pub memoryAfter : Memory → Stepped → Memory
+memoryAfter m R = cond (isRefusal (R .answer)) m (keeping m (R .state))
+
+-- the step R is told, and the memory m and what is lent for answers become m′ and out′
+pub record StepTaken (R : Stepped) (n : ℕ) (ns : List ℕ) (c p q g : ℕ) (m m′ : Memory) (out′ : Outputs) : Type 0 where
+  pub told : StepTold R n ns c p q g
+  pub memory : m′ ≡ memoryAfter m R
+  pub outputs : out′ ≡ R .outputs
+
+-- ---- all steps from a place on
+
+pub record RunMade (l : Left) (m m′ : Memory) (k′ : Arrays) (out′ : Outputs) : Type 0 where
+  pub memory : m′ ≡ keeping m (l .state)
+  pub outputs : out′ ≡ l .outputs
+  pub ready : Ready m′ k′
+
+-- ---- writing a design out
+
+-- the cause, or 0: 7 and 12 of the memory, then 7 where `room` bytes are too few
+unfoldable pub writeCause : Memory → ℕ → ℕ
+writeCause m room =
+    cond (not (longMemory m)) 7
+    (cond (not (lawfulMemory m)) 12
+    (cond (leb (length (bytesOf (stateIn m))) room) 0 7))
+
+-- the cause n; the buffer and the number of bytes, which become out′ and z′, are written only where there is none
+pub record DesignWritten (m : Memory) (n : ℕ) (out out′ : List ℕ) (z z′ : ℕ) : Type 0 where
+  pub cause : n ≡ writeCause m (length out)
+  pub bytes : out′ ≡ cond (eqb (writeCause m (length out)) 0) (sets out 0 (bytesOf (stateIn m))) out
+  pub written : z′ ≡ cond (eqb (writeCause m (length out)) 0) (length (bytesOf (stateIn m))) z

@@ -1,12 +1,13 @@
--- A design and held values as lists of u32 words, 115 and 358 of them, and the design and held values that such a list stands for. The words of a
--- design are its three counts, then each table, constraint and filling; those of held values the named desk, the count, each value with
--- its desk, then for each desk the count of its ranges and each of these. Assumes nothing.
+-- A design and held values as lists of u32 words, 115 and 358 of them, the design and held values that such a list stands for, and which lists are
+-- words of one. The words of a design are its three counts, then each table, constraint and filling; those of held values the named desk, the count,
+-- each value with its desk, then for each desk the count of its ranges and each of these. Assumes nothing.
 use Prim.Native.Nat.{ℕ, _+_, _*_, _%_, _<_}
 use mathlib.Core.Path.{_≡_}
-use mathlib.Core.Bool.{true}
+use mathlib.Core.Bool.{Bool, true, _&&_}
 use mathlib.Core.List.{List, [], _∷_, _++_}
+use lib.Dec.{ltb}
 use lib.ListN.{getD, length}
-use Rattle.finite.specs.Finite.{tab, collect}
+use Rattle.finite.specs.Finite.{all, tab, collect}
 use Rattle.state.specs.declared.design.Table.{Table}
 use Rattle.state.specs.declared.design.Column.{Column}
 use Rattle.state.specs.declared.design.Constraint.{Constraint}
@@ -148,6 +149,33 @@ wordsDesign ws =
 
 unfoldable pub wordsHeld : List ℕ → Held
 wordsHeld ws = record { desk = byteOf ws 0; count = wordAt ws 1; values = valuesFrom ws; ranges = desksFrom ws }
+
+-- ---- which words are words of a design, and of held values: one that stands for a u8 is below 256
+
+unfoldable pub isByte : List ℕ → ℕ → Bool
+isByte ws i = ltb (wordAt ws i) 256
+
+-- a table, and a column, with which a filling begins; a constraint; a value's desk and filling, and its issue
+unfoldable pub narrowTwo : List ℕ → ℕ → Bool
+narrowTwo ws i = isByte ws i && isByte ws (i + 1)
+
+unfoldable pub narrowConstraint : List ℕ → ℕ → Bool
+narrowConstraint ws i = narrowTwo ws i && narrowTwo ws (i + 2)
+
+unfoldable pub narrowValue : List ℕ → ℕ → Bool
+narrowValue ws i = narrowTwo ws i && isByte ws (i + 3)
+
+-- a desk's ranges, behind their count: each begins with its filling
+unfoldable pub narrowRanges : List ℕ → ℕ → Bool
+narrowRanges ws i = all 8 (λ j. isByte ws (i + 1 + 3 * j))
+
+unfoldable pub narrowDesign : List ℕ → Bool
+narrowDesign ws =
+    all 8 (λ i. narrowTwo ws (3 + 2 * i)) && (all 16 (λ i. narrowConstraint ws (19 + 4 * i)) && all 8 (λ i. narrowTwo ws (83 + 4 * i)))
+
+-- the named desk, the values and the ranges
+unfoldable pub narrowHeld : List ℕ → Bool
+narrowHeld ws = isByte ws 0 && (all 64 (λ i. narrowValue ws (2 + 4 * i)) && all 4 (λ e. narrowRanges ws (258 + 25 * e)))
 
 -- what the type of a held record says of it: its arrays have their places, and an issue is a byte
 pub record Typed (h : Held) : Type 0 where

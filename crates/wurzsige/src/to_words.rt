@@ -1,12 +1,16 @@
 // A design and held values stored as their u32 words (specs/Words.antt), from the first word on.
 ghost use Prim.Native.Nat.{ℕ, _+_, _≤_, _<_};
 ghost use mathlib.Core.Path.{_≡_};
+ghost use mathlib.Core.Bool.{false, cond};
 ghost use mathlib.Core.List.{[], _∷_};
 ghost use lib.ListN.{length, getD};
 ghost use lib.Seq.{sets};
+ghost use Rattle.model.specs.Answers.{isRefusal};
+ghost use Rattle.state.specs.Meaning.{answerOf};
 ghost use Rattle.state.specs.Held.{noValue, noRanges, Tidy};
 ghost use Rattle.wurzsige.specs.Words.{tableWords, constraintWords, fillingWords, valueWords, countsWords, tablesWords, constraintsWords};
 ghost use Rattle.wurzsige.specs.Words.{fillingsWords, valuesWords, rangeWords, listWords, rangesWords, desksWords, designWords, heldWords, Typed};
+use state::Answer;
 use state::Constraint;
 use state::Design;
 use state::DeskRanges;
@@ -15,6 +19,7 @@ use state::Held;
 use state::OwnedValue;
 use state::Range;
 use state::Table;
+use state::is_refusal;
 
 // Two words, three, and four, from word `at` on. Constant time, as are the next six.
 fn put_two(words: &mut [u32], at: usize, a: u32, b: u32)
@@ -201,4 +206,16 @@ pub(crate) fn put_held(h: Held, words: &mut [u32])
     put_values(values, words);
     let ranges = h.ranges;
     put_desks(ranges, words);
+}
+
+// Stores what is held as `put_held` does, unless the answer is a refusal.
+pub(crate) fn keep_held(answer: Answer, h: Held, words: &mut [u32])
+    requires { ⌜ (358 ≤ length (now words)) × Tidy h ⌝ }
+    ensures { λ _. ⌜ (now (words .exit) ≡ cond (isRefusal (answerOf answer)) (now (words .entry)) (sets (now (words .entry)) 0 (heldWords h)))
+        × (isRefusal (answerOf answer) ≡ false → Typed h) ⌝ }
+{
+    if is_refusal(answer) {
+        return;
+    }
+    put_held(h, words);
 }

@@ -1,0 +1,238 @@
+/*
+ * wurzsige.h: the row cache behind a review desk, for programs in C.
+ *
+ * Everything a desk keeps lies in one struct that the caller lends; the library has no heap, no globals and no threads of its own. A design is opened from
+ * the bytes of its script, and every operation is a step of a script: the bytes of one command, or of many, and the place of the next.
+ *
+ *     static struct wurzsige desk;
+ *     struct wurzsige_answer answer;
+ *     wurzsige_open(&desk, script, length, &answer);          // answer.word is WURZSIGE_DESIGN or WURZSIGE_REFUSED
+ *     while (answer.more && answer.next < length)
+ *         wurzsige_step_trusted(&desk, script, length, answer.next, words, 4096, text, 16384, &answer);
+ *
+ * Plain names can be called with anything: they refuse a desk that no run of these functions leaves (cause 12) and buffers that are too short (cause 7),
+ * and a refused call leaves the desk and all lent buffers as they were. The names that end in _trusted skip these tests. They are for a desk that
+ * wurzsige_open accepted and that only functions of this header have written since; with any other desk they may read and write out of bounds.
+ *
+ * Alignment: a struct wurzsige is aligned as C aligns it (8 bytes). Aliasing: the desk, the script, the words, the text, the written bytes and the answer
+ * of one call must not overlap. Threads: a desk belongs to one thread at a time; calls on different desks are independent. Stack: docs/LIBRARY.md has the
+ * figures; 1 MB is enough for every call.
+ *
+ * A null pointer counts as a buffer of no bytes, for the script, the words, the text and the written bytes. The desk and the answer are never null.
+ */
+#ifndef WURZSIGE_H
+#define WURZSIGE_H
+
+#include <stddef.h>
+#include <stdint.h>
+
+#ifdef __cplusplus
+extern "C" {
+#endif
+
+enum {
+    WURZSIGE_ROWS = 512,          /* numbers of rows */
+    WURZSIGE_CELLS = 4096,        /* cells, eight to a row */
+    WURZSIGE_DESIGN_WORDS = 115,  /* words of a design */
+    WURZSIGE_HELD_WORDS = 358,    /* words of what is held */
+    WURZSIGE_NEXT = 4096,         /* the catalog's arrays */
+    WURZSIGE_FIRST = 8192,
+    WURZSIGE_KEYS = 4096,
+    WURZSIGE_HEADS = 4096,
+    WURZSIGE_STARTS = 65,
+    WURZSIGE_POSITIONS = 2560,    /* the working memory of a query: for each of five positions, each row */
+    WURZSIGE_NUMBERS = 16,        /* numbers that an answer can have */
+    WURZSIGE_MOST_SCRIPT = 65536, /* bytes of a script */
+    WURZSIGE_MOST_DESIGN = 21697, /* bytes that a written design can have */
+    WURZSIGE_MOST_TEXT = 16384    /* bytes of text that always suffice for a reason */
+};
+
+/*
+ * All that a desk keeps. Treat it as opaque: only the functions below write it. Its size is sizeof(struct wurzsige), a constant of this header.
+ *
+ * design: three counts (tables, constraints, fillings), then 8 tables (columns, unique columns), 16 constraints (source table, source column, target table,
+ *     target column) and 8 fillings (table, column, low, high); unused places are 0.
+ * held: the named desk, the count of held values, 64 values (desk, filling, number, issue), then for each of four desks the count of its ranges and 8 of
+ *     them (filling, low, high); unused places are 0. A word that stands for a byte is below 256.
+ * cells, issues, tables, marks: the rows; row r has cells and issues 8 r to 8 r + 7. A number without a row has table 255 and all else 0.
+ * next, first, keys, heads, starts: the catalog of the rows, which follows from the design and the rows.
+ * weights, sums, froms, links: the working memory of a query. What stands there means nothing between two calls; only the _trusted functions write it.
+ */
+struct wurzsige {
+    uint64_t keys[WURZSIGE_KEYS];
+    uint64_t weights[WURZSIGE_POSITIONS];
+    uint64_t sums[WURZSIGE_POSITIONS];
+    uint32_t cells[WURZSIGE_CELLS];
+    uint32_t design[WURZSIGE_DESIGN_WORDS];
+    uint32_t held[WURZSIGE_HELD_WORDS];
+    uint16_t next[WURZSIGE_NEXT];
+    uint16_t first[WURZSIGE_FIRST];
+    uint16_t heads[WURZSIGE_HEADS];
+    uint16_t starts[WURZSIGE_STARTS];
+    uint16_t froms[WURZSIGE_POSITIONS];
+    uint16_t links[WURZSIGE_POSITIONS];
+    uint8_t issues[WURZSIGE_CELLS];
+    uint8_t tables[WURZSIGE_ROWS];
+    uint8_t marks[WURZSIGE_ROWS];
+};
+
+/* The word of an answer, as the desk's report prints it, and the numbers behind it. */
+enum wurzsige_word {
+    WURZSIGE_LOADED = 0,        /* rows, later rounds */
+    WURZSIGE_HELD = 1,
+    WURZSIGE_NO_CANDIDATE = 2,
+    WURZSIGE_DROPPED = 3,       /* rows */
+    WURZSIGE_GROUND = 4,        /* ground, cached rows with the value */
+    WURZSIGE_SENT = 5,
+    WURZSIGE_LISTS = 6,         /* lists; their row numbers are in the lent words, one list behind the other */
+    WURZSIGE_REFUSED = 7,       /* cause */
+    WURZSIGE_EVEN = 8,
+    WURZSIGE_UNEVEN = 9,        /* constraint i, constraint j */
+    WURZSIGE_TOTAL = 10,        /* total */
+    WURZSIGE_KNOT = 11,         /* constraints, rising; answer.count of them */
+    WURZSIGE_DESK = 12,         /* desk */
+    WURZSIGE_OPEN = 13,
+    WURZSIGE_OPENER = 14,       /* filling, number, issue */
+    WURZSIGE_NO_OPENER = 15,
+    WURZSIGE_ABSENT = 16,
+    WURZSIGE_REASON = 17,       /* bytes; the sentence is in the lent text */
+    WURZSIGE_CHANGED = 18,      /* rows that came, rows that went */
+    WURZSIGE_DESIGN = 19        /* tables, constraints, fillings, rows: a design was opened */
+};
+
+/* What a call tells. */
+struct wurzsige_answer {
+    uint64_t numbers[WURZSIGE_NUMBERS]; /* the numbers behind the word, 0 behind the last of them */
+    size_t place;                       /* of a refusal: where the faulty command begins; 0 with any other answer */
+    size_t next;                        /* the place after the command; after a refusal that stops, the place that was given */
+    uint8_t word;                       /* one of enum wurzsige_word */
+    uint8_t count;                      /* how many numbers there are */
+    uint8_t more;                       /* 1 if reading goes on at next, 0 if it stops: after causes 1, 2, 7 and 12, and 4 for the script's length */
+};
+
+/* How much is to be lent. */
+struct wurzsige_sizes {
+    uint64_t bytes; /* that the written design has */
+    uint64_t words; /* that the step's lists have; 0 if it answers none */
+    uint64_t text;  /* bytes that the step's reason has; 0 if it gives none */
+};
+
+/* ---- the proved functions, which take each part of a desk by itself: a buffer as a pointer and a length, an array of a fixed length as a pointer ---- */
+
+uint8_t wurzsige_parts_open(const uint8_t *script, size_t script_length, uint32_t *cells, size_t cells_length, uint8_t *issues, size_t issues_length,
+    uint8_t *tables, size_t tables_length, uint16_t *next, uint16_t *first, uint64_t *keys, uint16_t *heads, uint16_t *starts, uint8_t *marks,
+    size_t marks_length, uint32_t *design, size_t design_length, uint32_t *held, size_t held_length, uint64_t *numbers, uint8_t *count, size_t *place,
+    size_t *after, uint8_t *more);
+
+uint8_t wurzsige_parts_step(const uint8_t *script, size_t script_length, size_t at, uint32_t *cells, size_t cells_length, uint8_t *issues,
+    size_t issues_length, uint8_t *tables, size_t tables_length, uint16_t *next, uint16_t *first, uint64_t *keys, uint16_t *heads, uint16_t *starts,
+    uint8_t *marks, size_t marks_length, const uint32_t *design, size_t design_length, uint32_t *held, size_t held_length, uint32_t *words,
+    size_t words_length, uint8_t *text, size_t text_length, uint64_t *numbers, uint8_t *count, size_t *place, size_t *after, uint8_t *more);
+
+uint8_t wurzsige_parts_step_trusted(const uint8_t *script, size_t script_length, size_t at, uint32_t *cells, size_t cells_length, uint8_t *issues,
+    size_t issues_length, uint8_t *tables, size_t tables_length, uint16_t *next, uint16_t *first, uint64_t *keys, uint16_t *heads, uint16_t *starts,
+    uint8_t *marks, size_t marks_length, const uint32_t *design, size_t design_length, uint32_t *held, size_t held_length, uint32_t *words,
+    size_t words_length, uint8_t *text, size_t text_length, uint64_t *weights, uint64_t *sums, uint16_t *froms, uint16_t *links, uint64_t *numbers,
+    uint8_t *count, size_t *place, size_t *after, uint8_t *more);
+
+void wurzsige_parts_run_trusted(const uint8_t *script, size_t script_length, size_t at, uint32_t *cells, size_t cells_length, uint8_t *issues,
+    size_t issues_length, uint8_t *tables, size_t tables_length, uint16_t *next, uint16_t *first, uint64_t *keys, uint16_t *heads, uint16_t *starts,
+    uint8_t *marks, size_t marks_length, const uint32_t *design, size_t design_length, uint32_t *held, size_t held_length, uint32_t *words,
+    size_t words_length, uint8_t *text, size_t text_length, uint64_t *weights, uint64_t *sums, uint16_t *froms, uint16_t *links);
+
+uint8_t wurzsige_parts_write(const uint32_t *cells, size_t cells_length, const uint8_t *issues, size_t issues_length, const uint8_t *tables,
+    size_t tables_length, const uint8_t *marks, size_t marks_length, const uint32_t *design, size_t design_length, const uint32_t *held,
+    size_t held_length, uint8_t *out, size_t out_length, size_t *written);
+
+uint8_t wurzsige_parts_sizes(const uint8_t *script, size_t script_length, size_t at, const uint32_t *cells, size_t cells_length, const uint8_t *issues,
+    size_t issues_length, const uint8_t *tables, size_t tables_length, const uint8_t *marks, size_t marks_length, const uint32_t *design,
+    size_t design_length, const uint32_t *held, size_t held_length, uint64_t *sizes);
+
+/* ---- the same on a desk ---- */
+
+/*
+ * Opens the design that stands at the start of a script: WURZSIGE_DESIGN, or WURZSIGE_REFUSED with a cause of the design, which leaves the desk as it was.
+ * What the desk held before is free. answer->next is the place behind END, where the operations begin.
+ */
+static inline void wurzsige_open(struct wurzsige *desk, const uint8_t *script, size_t length, struct wurzsige_answer *answer) {
+    static const uint8_t nothing = 0;
+    answer->word = wurzsige_parts_open(script ? script : &nothing, script ? length : 0, desk->cells, WURZSIGE_CELLS, desk->issues, WURZSIGE_CELLS,
+        desk->tables, WURZSIGE_ROWS, desk->next, desk->first, desk->keys, desk->heads, desk->starts, desk->marks, WURZSIGE_ROWS, desk->design,
+        WURZSIGE_DESIGN_WORDS, desk->held, WURZSIGE_HELD_WORDS, answer->numbers, &answer->count, &answer->place, &answer->next, &answer->more);
+}
+
+/*
+ * Takes the step at place `at` of a script on whatever desk is lent: causes 7 and 12 first, which cost a look at every row and a load of everything held.
+ * A desk that is not refused with 7 or 12 can be used with the _trusted functions afterwards.
+ */
+static inline void wurzsige_step(struct wurzsige *desk, const uint8_t *script, size_t length, size_t at, uint32_t *words, size_t words_length,
+    uint8_t *text, size_t text_length, struct wurzsige_answer *answer) {
+    static const uint8_t nothing = 0;
+    uint32_t no_word = 0;
+    uint8_t no_text = 0;
+    answer->word = wurzsige_parts_step(script ? script : &nothing, script ? length : 0, at, desk->cells, WURZSIGE_CELLS, desk->issues, WURZSIGE_CELLS,
+        desk->tables, WURZSIGE_ROWS, desk->next, desk->first, desk->keys, desk->heads, desk->starts, desk->marks, WURZSIGE_ROWS, desk->design,
+        WURZSIGE_DESIGN_WORDS, desk->held, WURZSIGE_HELD_WORDS, words ? words : &no_word, words ? words_length : 0, text ? text : &no_text,
+        text ? text_length : 0, answer->numbers, &answer->count, &answer->place, &answer->next, &answer->more);
+}
+
+/* The same without the tests for causes 7 and 12, for a desk that only functions of this header have written: the cost of the operation alone. */
+static inline void wurzsige_step_trusted(struct wurzsige *desk, const uint8_t *script, size_t length, size_t at, uint32_t *words, size_t words_length,
+    uint8_t *text, size_t text_length, struct wurzsige_answer *answer) {
+    static const uint8_t nothing = 0;
+    uint32_t no_word = 0;
+    uint8_t no_text = 0;
+    answer->word = wurzsige_parts_step_trusted(script ? script : &nothing, script ? length : 0, at, desk->cells, WURZSIGE_CELLS, desk->issues,
+        WURZSIGE_CELLS, desk->tables, WURZSIGE_ROWS, desk->next, desk->first, desk->keys, desk->heads, desk->starts, desk->marks, WURZSIGE_ROWS,
+        desk->design, WURZSIGE_DESIGN_WORDS, desk->held, WURZSIGE_HELD_WORDS, words ? words : &no_word, words ? words_length : 0,
+        text ? text : &no_text, text ? text_length : 0, desk->weights, desk->sums, desk->froms, desk->links, answer->numbers, &answer->count,
+        &answer->place, &answer->next, &answer->more);
+}
+
+/*
+ * Takes all steps from place `at` on, until the script ends or a step stops, and tells no answers: the words are the last query's, the text is the last
+ * reason's. For a desk that only functions of this header have written.
+ */
+static inline void wurzsige_run_trusted(struct wurzsige *desk, const uint8_t *script, size_t length, size_t at, uint32_t *words, size_t words_length,
+    uint8_t *text, size_t text_length) {
+    static const uint8_t nothing = 0;
+    uint32_t no_word = 0;
+    uint8_t no_text = 0;
+    wurzsige_parts_run_trusted(script ? script : &nothing, script ? length : 0, at, desk->cells, WURZSIGE_CELLS, desk->issues, WURZSIGE_CELLS,
+        desk->tables, WURZSIGE_ROWS, desk->next, desk->first, desk->keys, desk->heads, desk->starts, desk->marks, WURZSIGE_ROWS, desk->design,
+        WURZSIGE_DESIGN_WORDS, desk->held, WURZSIGE_HELD_WORDS, words ? words : &no_word, words ? words_length : 0, text ? text : &no_text,
+        text ? text_length : 0, desk->weights, desk->sums, desk->froms, desk->links);
+}
+
+/*
+ * Writes the design with its rows from out[0] on, as a script that reads as it: 0 and *written bytes, or the cause of a refusal, which leaves out and
+ * *written as they were: 7 or 12 for the desk, then 7 if it has more bytes than `room`.
+ */
+static inline uint8_t wurzsige_write(const struct wurzsige *desk, uint8_t *out, size_t room, size_t *written) {
+    uint8_t no_byte = 0;
+    return wurzsige_parts_write(desk->cells, WURZSIGE_CELLS, desk->issues, WURZSIGE_CELLS, desk->tables, WURZSIGE_ROWS, desk->marks, WURZSIGE_ROWS,
+        desk->design, WURZSIGE_DESIGN_WORDS, desk->held, WURZSIGE_HELD_WORDS, out ? out : &no_byte, out ? room : 0, written);
+}
+
+/*
+ * Tells how many bytes the written design has, and how many words and bytes of text the step at place `at` would write if they were lent; it changes
+ * nothing. 0, or cause 7 or 12, which leaves *sizes as it was.
+ */
+static inline uint8_t wurzsige_sizes(const struct wurzsige *desk, const uint8_t *script, size_t length, size_t at, struct wurzsige_sizes *sizes) {
+    static const uint8_t nothing = 0;
+    uint64_t told[3] = {0, 0, 0};
+    uint8_t cause = wurzsige_parts_sizes(script ? script : &nothing, script ? length : 0, at, desk->cells, WURZSIGE_CELLS, desk->issues, WURZSIGE_CELLS,
+        desk->tables, WURZSIGE_ROWS, desk->marks, WURZSIGE_ROWS, desk->design, WURZSIGE_DESIGN_WORDS, desk->held, WURZSIGE_HELD_WORDS, told);
+    if (cause == 0) {
+        sizes->bytes = told[0];
+        sizes->words = told[1];
+        sizes->text = told[2];
+    }
+    return cause;
+}
+
+#ifdef __cplusplus
+}
+#endif
+
+#endif
