@@ -1,4 +1,4 @@
--- SumLaws, Hops, Chains, CapLaws: lists of rows, counted and pruned by weights, over any tests. WeightLaws, PartLaws, Weighing: the tables that
+-- SumLaws, Hops, Chains, CapLaws: lists of rows, counted and pruned by weights, over any tests. Counts: how many lists there can be. WeightLaws, PartLaws, Weighing: the tables that
 -- elimination leaves. Stages, EntryLaws, MemoLaws, FindLaws, WayLaws, Turns, Visited, Found: their entries one at a time, kept where a walk comes.
 -- Writing, ListLaws, Walking: what the lister writes from them. OperandLaws, OperandTests, PositionLaws, PlanLaws, Bridge, Planned, Answering, Totals: from a query's
 -- operands to its lists, their count and their totals. MarkedRows, ListTheorems, TotalTheorems: what is
@@ -17,6 +17,7 @@ pub mod Planned
 pub mod OperandLaws
 pub mod Bridge
 pub mod PlanLaws
+pub mod Counts
 pub mod Answering
 pub mod OperandTests
 pub mod PositionLaws
