@@ -1,13 +1,14 @@
--- A row's sentence, link by link: one link more, the row that the links lead back to, and the whole. Assumes nothing.
-use Prim.Native.Nat.{ℕ, zero, suc, _+_, _-_, _≤_, _<_}
+-- A row's sentence, link by link: one link more, the row that the links lead back to, the whole, and how long it is. Assumes nothing.
+use Prim.Native.Nat.{ℕ, zero, suc, _+_, _*_, _-_, _≤_, _<_}
 use native.Mathlib.Omega.{arith}
 use mathlib.Core.Path.{_≡_, refl, sym, ap, ap₂, subst, _∙_}
 use mathlib.Core.Bool.{true, false}
 use mathlib.Core.List.{List, _++_}
-use lib.ListN.{length}
+use lib.ListN.{length, length-append}
 use Rattle.finite.specs.Finite.{any}
-use Rattle.finite.specs.Decimal.{spaced}
+use Rattle.finite.specs.Decimal.{decimal, spaced}
 use Rattle.finite.specs.Writing.{Wrote}
+use Rattle.finite.proofs.Decimals.{decimal-within}
 use Rattle.finite.proofs.Writing.{behind, wrote-as, wrote-none}
 use Rattle.model.specs.Scheme.{Scheme}
 use Rattle.model.specs.Database.{Database}
@@ -19,7 +20,7 @@ use Rattle.model.specs.Sentence.{row-word, linkText, originText, chainText, sen
 use Rattle.model.proofs.ReasonLaws.{reload-levels, constraint-within, row-within, row-level, cached-level}
 use Rattle.model.proofs.RoundsLaws.{levels-length}
 use Rattle.reason.specs.Links.{Graded, rootBy, linksText}
-use Rattle.reason.proofs.WordingLaws.{chain-parts}
+use Rattle.reason.proofs.WordingLaws.{link-short, origin-short, chain-parts}
 
 -- ---- the levels of a reload
 
@@ -98,6 +99,16 @@ module _ (S : Scheme) (D : Database) (L : List ℕ) (g : Graded S D L) where
   pub root-held : (n r : ℕ) → level L r ≡ n + 2 → level L (rootBy S D L n r) ≡ 2
   root-held n r e = root-level n r (omega arith)
 
+  -- how long the links are in words
+  links-short : S .constraints ≤ 16 → D .size ≡ 512 → (n r : ℕ) → level L r ≡ suc (suc n) → length (linksText S D L n r) ≤ 30 * n
+  unfolding linksText
+  links-short few z zero r e = omega arith
+  links-short few z (suc n) r e =
+      let some = g .link r n e in
+      let a = link-short (lastConstraint S D L n r) (lastRow S D L n r) (omega (arith, constraint-within S D L n r some)) (omega (arith, row-within S D L n r some)) in
+      let b = links-short few z n (lastRow S D L n r) (row-level S D L n r some) in
+      omega (arith, length-append (linkText (lastConstraint S D L n r) (lastRow S D L n r)) (linksText S D L n (lastRow S D L n r)))
+
 -- ---- the whole: L are the levels of a reload, and row r is cached
 
 module _ (S : Scheme) (D : Database) (h : Holding) (L : List ℕ) (f : L ≡ reloadLevels S D h) (r : ℕ) (c : cachedFor S D h r ≡ true) where
@@ -140,3 +151,29 @@ module _ (S : Scheme) (D : Database) (h : Holding) (L : List ℕ) (f : L ≡ rel
           ap (λ (xs : List ℕ). linksText S D L n r ++ xs) (d ∙ ap (λ (x : ℕ). originText (lowestHeld S D h x)) q) ∙
           sym (chain-parts S D L (lowestHeld S D h) n r) ∙
           ap₂ (λ (K : List ℕ) (x : ℕ). chainText (chainBy S D K (lowestHeld S D h) x r)) f m
+
+-- ---- how long it is
+
+-- the sentence of a cached row, of a design with no more constraints than the largest count
+pub reason-short : (S : Scheme) (D : Database) (h : Holding) (r : ℕ) → cachedFor S D h r ≡ true → D .size ≡ 512 → S .constraints ≤ 16 →
+    length (reasonText S D h r) ≤ 16384
+unfolding reasonText sentence reasonFor
+reason-short S D h r c z few =
+    let L = reloadLevels S D h in
+    let n = distance S D h r in
+    let g = graded-reload S D h L z refl in
+    let e = at-level S D h L refl r c in
+    let o = lowestHeld S D h in
+    let l = linksText S D L n r in
+    let t = originText (o (rootBy S D L n r)) in
+    let live = D .finite r (g .rows r (omega (arith, e))) in
+    rw (chain-parts S D L o n r)
+    (omega (
+      arith,
+      length-append (decimal r) (l ++ t),
+      length-append l t,
+      decimal-within 2 r (omega arith),
+      links-short S D L g few z n r e,
+      few-links S D h L refl r c z n (omega (arith, e)),
+      origin-short (o (rootBy S D L n r)),
+    ))

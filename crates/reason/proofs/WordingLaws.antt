@@ -48,7 +48,7 @@ issue-short k = ⊎-elim
 pub issue-reach : (o o′ : List ℕ) (n z k : ℕ) → Wrote o o′ n z (issueText k) → z ≤ n + 27
 issue-reach o o′ n z k = reach o o′ n z (issueText k) 27 (issue-short k)
 
-origin-short : (q : Origin) → length (originText q) ≤ 89
+pub origin-short : (q : Origin) → length (originText q) ≤ 89
 unfolding originText cellText
 origin-short (byValue p) = simp length-append (omega (arith, decimal-short (p .value .number), issue-short (p .value .issue), decimal-short (p .filling)))
 origin-short (byRange q) = simp length-append (omega (arith, decimal-short (q .low), decimal-short (q .high), decimal-short (q .filling)))
