@@ -36,10 +36,13 @@ module _ (s : State) (h : sound s ≡ true) (q : Query) (fit : operandsFit (sche
   sound-place = sound-column s h (q .column) (fits-column (scheme s) (queryOf q) fit (four-pairs q))
 
   -- where the probe has a ground, the lists of marked rows are those of the full tables
+  pub lists-full : Stored (s .cells) → (queryGround (scheme s) (database s) (cache s) (queryOf q) ≡ 0 → ⊥) →
+      markedLists (s .design) (s .cells) (s .tables) (s .marks) q ≡ fullLists (scheme s) (database s) (queryOf q)
+  lists-full u g =
+      let l = lawful-says s u (and-eq-true-iff (longEnough s) (lawful s) .0 h .1) in
+      lists-front (s .design) (s .cells) (s .tables) (s .marks) q ∙ query-lists (l .rows .database) (cache s) (l .smallest) (queryOf q) fit g
+
   pub sound-lists : Stored (s .cells) → (queryGround (scheme s) (database s) (cache s) (queryOf q) ≡ 0 → ⊥) → (out : Output) (w w′ : List ℕ) (a : Answer) →
       Drawn (database s) (markedLists (s .design) (s .cells) (s .tables) (s .marks) q) out w w′ a →
       Drawn (database s) (fullLists (scheme s) (database s) (queryOf q)) out w w′ a
-  sound-lists u g out w w′ a =
-      let l = lawful-says s u (and-eq-true-iff (longEnough s) (lawful s) .0 h .1) in
-      subst (λ (ls : List (List ℕ)). Drawn (database s) ls out w w′ a)
-      (lists-front (s .design) (s .cells) (s .tables) (s .marks) q ∙ query-lists (l .rows .database) (cache s) (l .smallest) (queryOf q) fit g)
+  sound-lists u g out w w′ a = subst (λ (ls : List (List ℕ)). Drawn (database s) ls out w w′ a) (lists-full u g)

@@ -51,12 +51,15 @@ module _ (s : State) (e : sound s ≡ true) (x c : List ℕ) (none : x ≡ []) (
     unfolding databaseOf
     marks-long = ap length marks-are ∙ length-marks (database s) _
 
+    -- their lists are those of the full tables
+    pub lists-full : markedLists (s .design) (s .cells) (s .tables) m q ≡ fullLists (scheme s) (database s) (queryOf q)
+    lists-full =
+        ap (λ (x : List ℕ). markedLists (s .design) (s .cells) (s .tables) x q) marks-are ∙
+        referred-lists s e u (queryOf q) (fits-operands (scheme s) (queryOf q) out (r .fit)) (r .full) takes
+
     module _ (w w′ : List ℕ) (a : Answer) (lists : Drawn (database s) (markedLists (s .design) (s .cells) (s .tables) m q) out w w′ a) where
       all-lists : Drawn (database s) (fullLists (scheme s) (database s) (queryOf q)) out w w′ a
-      all-lists =
-          subst (λ (ls : List (List ℕ)). Drawn (database s) ls out w w′ a)
-          (ap (λ (x : List ℕ). markedLists (s .design) (s .cells) (s .tables) x q) marks-are ∙ referred-lists s e u (queryOf q) (fits-operands (scheme s) (queryOf q) out (r .fit)) (r .full) takes)
-          lists
+      all-lists = subst (λ (ls : List (List ℕ)). Drawn (database s) ls out w w′ a) lists-full lists
 
       -- a held record has as many places as its type says
       pub left-alone : HeldSized (s .held) → isRefusal a ≡ true → Worded s w (query (queryOf q) out) a s w′

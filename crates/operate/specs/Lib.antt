@@ -1,2 +1,4 @@
--- Queries: what a query is asked for, what it draws from lists, and what one that is referred first stands on.
+-- Queries: what a query is asked for, what it draws from lists, and what one that is referred first stands on. Sizes: how much an operation writes where
+-- enough is lent.
 pub mod Queries
+pub mod Sizes
