@@ -5,7 +5,7 @@
 -- any list of calls, of each probe among them, of a whole run, and of every point of one. StepCode, RunCode, RanLaws, WritingCases: from what the parts of the code
 -- give to what a step, the loop over a script, a run and writing give. ProbedLaws: a probe behind a run. Refusals: a refused operation or change leaves the state
 -- as it was and writes neither words nor text. Theorems: what holds of every step and of every run. Refused, Rewriting, Demand2: of the entry points, that a refused
--- call leaves everything as it was, that writing and reading undo each other, and demand 2. Seeing: columns where seeing a value is enough.
+-- call leaves everything as it was, that writing and reading undo each other, and demand 2. Seeing: columns where seeing a value is enough. Sizes: how much a step takes.
 pub mod SameRows
 pub mod LongerRows
 pub mod Places
@@ -27,3 +27,4 @@ pub mod Refused
 pub mod Rewriting
 pub mod Demand2
 pub mod Seeing
+pub mod Sizes
