@@ -7,14 +7,12 @@ use mathlib.Core.Logic.{⊎-elim}
 use mathlib.Core.Bool.{Bool, true, false, not, _||_}
 use mathlib.Core.List.{List, []}
 use borrow.Author.Tests.{eq-eqb, ne-eqb, le-leb, lt-leb}
-use lib.Dec.{leb}
 use lib.ListN.{length}
 use Rattle.finite.proofs.Bools.{dec}
 use Rattle.model.specs.Cell.{numberless}
 use Rattle.model.specs.Database.{Database}
 use Rattle.model.specs.Cache.{RowSet}
 use Rattle.model.specs.Query.{joinsOf, operandsFit, fitting, fullLists, wordsOf}
-use Rattle.model.specs.Runs as Runs
 use Rattle.model.specs.Runs.{asLists, query, taken, pairFor, outputFits, withinLimit}
 use Rattle.model.specs.Answers.{Answer, refused, sent, lists, shown, hasLists, queryGround, isAnswered, fullAnswer, queryAnswer, queryWords, writtenWith, answer, written}
 use Rattle.model.proofs.ListLaws.{fitting-words}

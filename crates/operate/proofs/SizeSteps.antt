@@ -7,7 +7,7 @@ use lib.ListN.{length}
 use Rattle.model.specs.Cell.{numberless}
 use Rattle.model.specs.Holding.{Pair}
 use Rattle.model.specs.Query.{operandsFit, wordsOf}
-use Rattle.model.specs.Runs.{asLists, taken, fillingFor, pairFor, outputFits}
+use Rattle.model.specs.Runs.{asLists, taken, fillingFor, outputFits}
 use Rattle.model.specs.Answers.{queryGround, isAnswered}
 use Rattle.state.specs.declared.operation.Query.{Query}
 use Rattle.state.specs.Meaning.{cellOf, columnOf, holdingOf, queryOf}

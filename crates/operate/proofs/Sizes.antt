@@ -3,6 +3,7 @@ use Prim.Native.Nat.{ℕ, _≤_, _<_}
 use Prim.{tt}
 use native.Mathlib.Omega.{arith}
 use mathlib.Core.Path.{_≡_, refl, sym, ap, _∙_}
+use mathlib.Core.Logic.{_⊎_, ⊎-elim}
 use mathlib.Core.Bool.{Bool, true, false, not}
 use mathlib.Core.List.{List, [], _∷_}
 use denote.Enum.Declared.{tagOf}
@@ -14,7 +15,7 @@ use Rattle.model.specs.Database.{Database}
 use Rattle.model.specs.Query as Model
 use Rattle.model.specs.Runs as Runs
 use Rattle.model.specs.Runs.{Cache, asLists, asTotal, outputFits, withinLimit}
-use Rattle.model.specs.Answers.{Answer, refused, sent, total, unless, orAnswer, shown, hasLists, isAnswered, fullAnswer, queryAnswer, queryWords, writtenWith, questionText, written, textOf}
+use Rattle.model.specs.Answers.{refused, sent, total, unless, orAnswer, shown, hasLists, isAnswered, fullAnswer, queryAnswer, queryWords, writtenWith, questionText, written, textOf}
 use Rattle.state.specs.declared.operation.Query.{Query}
 use Rattle.state.specs.declared.operation.Operation.{Operation}
 use Rattle.state.specs.declared.operation.Operation.the-variants as O
@@ -134,21 +135,16 @@ module _ (s : State) (e : sound s ≡ true) (op : Operation) (room bytes : ℕ) 
           rw k (record { answer = h .0; words = ask-words s e _ ∙ sym (ask-words s e _); text = h .1 })
       go (plain p) = let h = p .same room bytes in record { answer = ap (answerAt s) h; words = ap (wordsAt s) h; text = ap (textAt s) h }
 
-  -- THEOREM: fewer words, or fewer bytes, are refused with cause 11
-  pub sizes-needed-words : room < wordsTaken s op → answerAt s (operationOf op room bytes) ≡ refused 11
-  unfolding wordsTaken
-  sizes-needed-words w = go (kind s e op)
+  -- THEOREM: with fewer words, or fewer bytes, it is refused with cause 11
+  pub sizes-needed : (room < wordsTaken s op) ⊎ (bytes < textTaken s op) → answerAt s (operationOf op room bytes) ≡ refused 11
+  unfolding wordsTaken textTaken
+  sizes-needed h = go (kind s e op)
     where
       go : Kind s op → answerAt s (operationOf op room bytes) ≡ refused 11
-      go (lists q k) = rw k (lends-needed _ _ _ (query-lends s e q) ample (omega arith) room (rw k at w))
-      go (sentence r k) = absurd (omega (arith, rw k at w, ap length (ask-words s e (Runs.reason r ample))))
-      go (plain p) = absurd (omega (arith, ap length (p .words)))
-
-  pub sizes-needed-text : bytes < textTaken s op → answerAt s (operationOf op room bytes) ≡ refused 11
-  unfolding textTaken
-  sizes-needed-text t = go (kind s e op)
-    where
-      go : Kind s op → answerAt s (operationOf op room bytes) ≡ refused 11
-      go (lists q k) = absurd (omega (arith, rw k at t, ap length (query-text s e q (asLists ample))))
-      go (sentence r k) = rw k (lends-needed _ _ _ (reason-lends s e r) ample (omega arith) bytes (rw k at t))
-      go (plain p) = absurd (omega (arith, ap length (p .text)))
+      go (lists q k) =
+          ⊎-elim (λ w. rw k (lends-needed _ _ _ (query-lends s e q) ample (omega arith) room (rw k at w)))
+          (λ t. absurd (omega (arith, rw k at t, ap length (query-text s e q (asLists ample))))) h
+      go (sentence r k) =
+          ⊎-elim (λ w. absurd (omega (arith, rw k at w, ap length (ask-words s e (Runs.reason r ample)))))
+          (λ t. rw k (lends-needed _ _ _ (reason-lends s e r) ample (omega arith) bytes (rw k at t))) h
+      go (plain p) = absurd (⊎-elim (λ w. omega (arith, ap length (p .words))) (λ t. omega (arith, ap length (p .text))) h)

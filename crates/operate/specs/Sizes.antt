@@ -19,6 +19,6 @@ wordsTaken s op = length (wordsAt s (operationOf op ample ample))
 unfoldable pub textTaken : State → Operation → ℕ
 textTaken s op = length (textAt s (operationOf op ample ample))
 
--- the length of the text that an answer tells of: a reason's, which "answers the length of the text", and 0 with any other
+-- the length of the text that an answer tells of: a reason's number, and 0 with any other
 unfoldable pub bytesIn : Answer → ℕ
 bytesIn a = cond (hasText a) (getD (shown a .numbers) 0 0) 0

@@ -23,7 +23,7 @@ use Rattle.format.specs.Commands.{commandAt, widthOf}
 use Rattle.format.specs.Reading.{mostBytes}
 use Rattle.format.proofs.command.Command.{the-type}
 use Rattle.operate.specs.Sizes.{ample, wordsTaken, textTaken}
-use Rattle.operate.proofs.Sizes.{sizes-enough, sizes-needed-words, sizes-needed-text}
+use Rattle.operate.proofs.Sizes.{sizes-enough, sizes-needed}
 use Rattle.script.specs.Step.{Outputs, roomsOf, operationIn, Stepped, operated, changing, carried, stepAt}
 use Rattle.script.specs.Sizes.{ofOperation, ofStep, wordsTakenAt, textTakenAt}
 use Rattle.script.proofs.StepLaws.{step-overlong, step-carried}
@@ -121,8 +121,7 @@ module _ (s : State) (e : sound s ≡ true) (script : List ℕ) (i : ℕ) where
       short-answer : (out : Outputs) → TooLittle s script i out → answerOn out ≡ refused 11
       short-answer out h =
           operation-answer out ∙
-          ⊎-elim (λ w. sizes-needed-words s e op (length (out .words)) (length (out .text)) (omega (arith, words-is)))
-          (λ t. sizes-needed-text s e op (length (out .words)) (length (out .text)) (omega (arith, text-is))) h
+          sizes-needed s e op (length (out .words)) (length (out .text)) (⊎-elim (λ w. inl (omega (arith, words-is))) (λ t. inr (omega (arith, text-is))) h)
 
   -- THEOREM: whatever is lent, if it is enough, the answer is the same
   pub step-enough : (out out′ : Outputs) → Enough s script i out → Enough s script i out′ → answerOn out ≡ answerOn out′

@@ -1,12 +1,9 @@
 -- `operate::sizing::query_words` meets its contract: causes 5 and 9, then the lists, "sent", or the reference. Assumes nothing.
 use native.Mathlib.Omega.{arith}
 use mathlib.Core.Path.{sym, ap, _∙_}
-use mathlib.Core.List.{List}
 use borrow.Author.Needs.{needs}
 use borrow.Author.Tests.{not-true, not-false}
-use Prim.Native.Nat.{ℕ}
 use lib.ListN.{length}
-use Rattle.model.specs.Query.{wordsOf}
 use Rattle.state.proofs.Arrays.{sized, held-sized}
 use Rattle.lawful.proofs.Asked.{sound-range, sound-backed, sound-marks, sound-tidy, sound-bounded, sound-fillings}
 use Rattle.query.proofs.PlanLaws.{column-fits}
