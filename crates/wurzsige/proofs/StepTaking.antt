@@ -10,7 +10,7 @@ use borrow.Author.Tests.{eqb-true, eq-eqb, ne-eqb}
 use lib.Dec.{eqb}
 use lib.ListN.{length, getD}
 use lib.Seq.{sets, length-sets}
-use Rattle.finite.proofs.Bools.{dec, clash, cond-true, cond-false}
+use Rattle.finite.proofs.Bools.{dec, clash, same-number, cond-true, cond-false}
 use Rattle.finite.proofs.Tables.{length-tab, tab-at}
 use Rattle.model.specs.Answers.{Answer, refused, Shown, shown, isRefusal}
 use Rattle.state.specs.Cells.{Cells}
@@ -36,7 +36,7 @@ use Rattle.wurzsige.proofs.WordLaws.{held-stored}
 use Rattle.wurzsige.proofs.Narrow.{narrow-held}
 use Rattle.wurzsige.proofs.NarrowWords.{held-narrow}
 use Rattle.wurzsige.proofs.ToldLaws.{told-read}
-use Rattle.wurzsige.proofs.Memories.{words-state, Parts, memory-parts, from-parts, step-caused, step-uncaused}
+use Rattle.wurzsige.proofs.Memories.{words-state, Parts, memory-parts, from-parts, cause-sound, step-caused, step-uncaused}
 
 -- ---- causes 7 and 12 of the memory
 
@@ -225,3 +225,22 @@ module _ (ds hs : List ℕ) (cs : Cells) (ts ms : List ℕ) (k : Arrays) (d : De
             outputs = ap (λ (x : Left). x .outputs) run-left;
             ready = kept-ready cs′ ts′ ms′ kept l-sound typed k′ catalog hs′ stored;
           }
+
+-- ---- what a refusal leaves
+
+refused-outputs : (m : Memory) (out : Outputs) (script : List ℕ) (i : ℕ) (n : ℕ) → stepIn m out script i .answer ≡ refused n → stepIn m out script i .outputs ≡ out
+refused-outputs m out script i n e =
+    ⊎-elim
+    (λ (z : memoryCause m ≡ 0). let r = step-uncaused m out script i (cause-sound m z) in
+    ap (λ (Q : Stepped). Q .outputs) r ∙
+    refused-unchanged (stateIn m) (words-sized (m .held)) out script i n (sym (ap (λ (Q : Stepped). Q .answer) r) ∙ e) .outputs)
+    (λ (z : memoryCause m ≡ 0 → ⊥). ap (λ (Q : Stepped). Q .outputs) (step-caused m out script i z))
+    (same-number (memoryCause m) 0)
+
+-- THEOREM: a refused step leaves the memory and what is lent for answers as they were; that it leaves the arrays is `Catalogs`
+pub refused-leaves : (m m′ : Memory) (out out′ : Outputs) (script : List ℕ) (i n : ℕ) (ns : List ℕ) (c p q g : ℕ) →
+    StepTaken (stepIn m out script i) n ns c p q g m m′ out′ → n ≡ 7 → (m′ ≡ m) × (out′ ≡ out)
+refused-leaves m m′ out out′ script i n ns c p q g t e =
+    let R = stepIn m out script i in
+    let r : isRefusal (R .answer) ≡ true = word-refused R n ns c p q g m m′ out′ t ∙ eq-eqb n 7 e in
+    (t .memory ∙ cond-true _ m (keeping m (R .state)) r, t .outputs ∙ refused-outputs m out script i (getD ns 0 0) (told-refused (R .answer) n ns c (t .told .told) r))

@@ -1,10 +1,10 @@
--- Writing a design out from lent memory, case by case: a cause of the memory, too few bytes, the bytes stored; and what the design that is read off the words
--- has for the code that writes it. Assumes nothing.
+-- Writing a design out from lent memory, and how much is to be lent, case by case: a cause of the memory, too few bytes, the bytes stored or the numbers told;
+-- and what the design that is read off the words has for the code that writes it. Assumes nothing.
 use Prim.Native.Nat.{ℕ, _≤_, _<_}
 use native.Mathlib.Omega.{arith}
 use mathlib.Core.Path.{_≡_, sym, ap, subst, _∙_}
 use mathlib.Core.Bool.{true, false, cond}
-use mathlib.Core.List.{List}
+use mathlib.Core.List.{List, [], _∷_}
 use borrow.Author.Tests.{le-leb, lt-leb, eq-eqb, ne-eqb}
 use lib.Dec.{eqb, leb}
 use lib.ListN.{length}
@@ -17,9 +17,10 @@ use Rattle.state.specs.Design.{Backed, InRange}
 use Rattle.state.proofs.Arrays.{Sized}
 use Rattle.lawful.proofs.Asked.{sound-range, sound-backed}
 use Rattle.format.specs.Writing.{designBytes}
+use Rattle.script.specs.Sizes.{wordsTakenAt, textTakenAt}
 use Rattle.script.specs.Writing.{bytesOf}
 use Rattle.wurzsige.specs.Words.{wordsDesign}
-use Rattle.wurzsige.specs.Calls.{Memory, memory, stateIn, soundMemory, memoryCause, writeCause, DesignWritten}
+use Rattle.wurzsige.specs.Calls.{Memory, memory, stateIn, soundMemory, memoryCause, writeCause, DesignWritten, sizesIn, SizesTold}
 use Rattle.wurzsige.proofs.Memories.{memory-parts, write-caused, write-uncaused}
 
 -- ---- the cases
@@ -60,3 +61,15 @@ module _ (ds hs : List ℕ) (cs : Cells) (ts ms : List ℕ) (d : Design) (dis : 
 
   pub written-bytes : designBytes d cs ts ≡ bytesOf (stateIn (memory ds hs cs ts ms))
   written-bytes = ap (λ (x : Design). designBytes x cs ts) dis
+
+-- ---- how much is to be lent
+
+module _ (m : Memory) (script : List ℕ) (i : ℕ) (z : List ℕ) where
+  pub caused-sizes : (c : ℕ) → c ≡ memoryCause m → (c ≡ 0 → ⊥) → SizesTold m script i c z z
+  caused-sizes c is n =
+      record { cause = is; sizes = sym (cond-false _ (sizesIn m script i) z (ap (λ (x : ℕ). eqb x 0) (sym is) ∙ ne-eqb c 0 n)) }
+
+  pub told-sizes : memoryCause m ≡ 0 → (a b c : ℕ) → a ≡ length (bytesOf (stateIn m)) → b ≡ wordsTakenAt (stateIn m) script i →
+      c ≡ textTakenAt (stateIn m) script i → SizesTold m script i 0 z (a ∷ b ∷ c ∷ [])
+  told-sizes e a b c p q r =
+      record { cause = sym e; sizes = (λ x. p x ∷ q x ∷ r x ∷ []) ∙ sym (cond-true _ (sizesIn m script i) z (eq-eqb _ 0 e)) }

@@ -17,6 +17,7 @@ use Rattle.format.specs.Reading.{DesignRead, readInto, verdictOf, designOf, row
 use Rattle.format.specs.Reading.DesignRead.{accepted, refusedAt}
 use Rattle.script.specs.Step.{Outputs, Stepped, refusing, stepAt}
 use Rattle.script.specs.Runs.{Left}
+use Rattle.script.specs.Sizes.{wordsTakenAt, textTakenAt}
 use Rattle.script.specs.Writing.{bytesOf}
 use Rattle.wurzsige.specs.Words.{designLength, heldLength, designWords, heldWords, wordsDesign, wordsHeld, narrowDesign, narrowHeld}
 use Rattle.wurzsige.specs.Told.{StepTold, OpenTold}
@@ -157,3 +158,14 @@ pub record DesignWritten (m : Memory) (n : ℕ) (out out′ : List ℕ) (z z′ 
   pub cause : n ≡ writeCause m (length out)
   pub bytes : out′ ≡ cond (eqb (writeCause m (length out)) 0) (sets out 0 (bytesOf (stateIn m))) out
   pub written : z′ ≡ cond (eqb (writeCause m (length out)) 0) (length (bytesOf (stateIn m))) z
+
+-- ---- how much is to be lent
+
+abbrev pub sizesIn : Memory → List ℕ → ℕ → List ℕ
+sizesIn m script i = length (bytesOf (stateIn m)) ∷ wordsTakenAt (stateIn m) script i ∷ textTakenAt (stateIn m) script i ∷ []
+
+-- the cause n; the three numbers, which become z′, are told only where there is none: the bytes that the written design has, and the words and the bytes of text
+-- that the step at place i takes
+pub record SizesTold (m : Memory) (script : List ℕ) (i n : ℕ) (z z′ : List ℕ) : Type 0 where
+  pub cause : n ≡ memoryCause m
+  pub sizes : z′ ≡ cond (eqb (memoryCause m) 0) (sizesIn m script i) z

@@ -10,6 +10,7 @@ mod causes;
 mod from_words;
 mod opening;
 mod running;
+mod sizing;
 mod stepping;
 mod telling;
 mod to_words;
