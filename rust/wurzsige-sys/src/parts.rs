@@ -1,0 +1,208 @@
+//! The exported functions, which take each part of a desk by itself. A Rattle slice goes
+//! across as a pointer and a length, and an array of a fixed length as a pointer, which
+//! is what a reference to an array is in Rust.
+//!
+//! Every call asks that each pointer goes with a buffer of the length behind it, aligned
+//! for its type, and that the buffers and arrays of one call don't overlap. A buffer of
+//! no bytes has a pointer too, which isn't null.
+
+use crate::memory::{FIRST, HEADS, KEYS, NEXT, POSITIONS, STARTS};
+use crate::told::NUMBERS;
+
+extern "C" {
+    /// Opens the design at the start of a script in memory that may hold anything.
+    ///
+    /// # Safety
+    ///
+    /// What every call here asks.
+    pub fn wurzsige_parts_open(
+        script: *const u8,
+        script_length: usize,
+        cells: *mut u32,
+        cells_length: usize,
+        issues: *mut u8,
+        issues_length: usize,
+        tables: *mut u8,
+        tables_length: usize,
+        next: &mut [u16; NEXT],
+        first: &mut [u16; FIRST],
+        keys: &mut [u64; KEYS],
+        heads: &mut [u16; HEADS],
+        starts: &mut [u16; STARTS],
+        marks: *mut u8,
+        marks_length: usize,
+        design: *mut u32,
+        design_length: usize,
+        held: *mut u32,
+        held_length: usize,
+        numbers: &mut [u64; NUMBERS],
+        count: &mut u8,
+        place: &mut usize,
+        after: &mut usize,
+        more: &mut u8,
+    ) -> u8;
+
+    /// Takes the step at place `at` on whatever is lent: causes 7 and 12 first.
+    ///
+    /// # Safety
+    ///
+    /// What every call here asks.
+    pub fn wurzsige_parts_step(
+        script: *const u8,
+        script_length: usize,
+        at: usize,
+        cells: *mut u32,
+        cells_length: usize,
+        issues: *mut u8,
+        issues_length: usize,
+        tables: *mut u8,
+        tables_length: usize,
+        next: &mut [u16; NEXT],
+        first: &mut [u16; FIRST],
+        keys: &mut [u64; KEYS],
+        heads: &mut [u16; HEADS],
+        starts: &mut [u16; STARTS],
+        marks: *mut u8,
+        marks_length: usize,
+        design: *const u32,
+        design_length: usize,
+        held: *mut u32,
+        held_length: usize,
+        words: *mut u32,
+        words_length: usize,
+        text: *mut u8,
+        text_length: usize,
+        numbers: &mut [u64; NUMBERS],
+        count: &mut u8,
+        place: &mut usize,
+        after: &mut usize,
+        more: &mut u8,
+    ) -> u8;
+
+    /// The same without the tests for causes 7 and 12.
+    ///
+    /// # Safety
+    ///
+    /// Beside what every call here asks: the parts are a desk that these functions
+    /// have opened and alone have written since, or that [`wurzsige_parts_step`]
+    /// didn't refuse with 7 or 12.
+    pub fn wurzsige_parts_step_trusted(
+        script: *const u8,
+        script_length: usize,
+        at: usize,
+        cells: *mut u32,
+        cells_length: usize,
+        issues: *mut u8,
+        issues_length: usize,
+        tables: *mut u8,
+        tables_length: usize,
+        next: &mut [u16; NEXT],
+        first: &mut [u16; FIRST],
+        keys: &mut [u64; KEYS],
+        heads: &mut [u16; HEADS],
+        starts: &mut [u16; STARTS],
+        marks: *mut u8,
+        marks_length: usize,
+        design: *const u32,
+        design_length: usize,
+        held: *mut u32,
+        held_length: usize,
+        words: *mut u32,
+        words_length: usize,
+        text: *mut u8,
+        text_length: usize,
+        weights: &mut [u64; POSITIONS],
+        sums: &mut [u64; POSITIONS],
+        froms: &mut [u16; POSITIONS],
+        links: &mut [u16; POSITIONS],
+        numbers: &mut [u64; NUMBERS],
+        count: &mut u8,
+        place: &mut usize,
+        after: &mut usize,
+        more: &mut u8,
+    ) -> u8;
+
+    /// Takes all steps from place `at` on, until the script ends or a step stops.
+    ///
+    /// # Safety
+    ///
+    /// As for [`wurzsige_parts_step_trusted`].
+    pub fn wurzsige_parts_run_trusted(
+        script: *const u8,
+        script_length: usize,
+        at: usize,
+        cells: *mut u32,
+        cells_length: usize,
+        issues: *mut u8,
+        issues_length: usize,
+        tables: *mut u8,
+        tables_length: usize,
+        next: &mut [u16; NEXT],
+        first: &mut [u16; FIRST],
+        keys: &mut [u64; KEYS],
+        heads: &mut [u16; HEADS],
+        starts: &mut [u16; STARTS],
+        marks: *mut u8,
+        marks_length: usize,
+        design: *const u32,
+        design_length: usize,
+        held: *mut u32,
+        held_length: usize,
+        words: *mut u32,
+        words_length: usize,
+        text: *mut u8,
+        text_length: usize,
+        weights: &mut [u64; POSITIONS],
+        sums: &mut [u64; POSITIONS],
+        froms: &mut [u16; POSITIONS],
+        links: &mut [u16; POSITIONS],
+    );
+
+    /// Writes the design with its rows as a script: 0, or a cause.
+    ///
+    /// # Safety
+    ///
+    /// What every call here asks.
+    pub fn wurzsige_parts_write(
+        cells: *const u32,
+        cells_length: usize,
+        issues: *const u8,
+        issues_length: usize,
+        tables: *const u8,
+        tables_length: usize,
+        marks: *const u8,
+        marks_length: usize,
+        design: *const u32,
+        design_length: usize,
+        held: *const u32,
+        held_length: usize,
+        out: *mut u8,
+        out_length: usize,
+        written: &mut usize,
+    ) -> u8;
+
+    /// Tells how many bytes the written design has, and how many words and bytes of
+    /// text the step at place `at` would write: 0, or a cause.
+    ///
+    /// # Safety
+    ///
+    /// What every call here asks.
+    pub fn wurzsige_parts_sizes(
+        script: *const u8,
+        script_length: usize,
+        at: usize,
+        cells: *const u32,
+        cells_length: usize,
+        issues: *const u8,
+        issues_length: usize,
+        tables: *const u8,
+        tables_length: usize,
+        marks: *const u8,
+        marks_length: usize,
+        design: *const u32,
+        design_length: usize,
+        held: *const u32,
+        held_length: usize,
+        sizes: &mut [u64; 3],
+    ) -> u8;
+}

@@ -1,0 +1,44 @@
+//! What calls tell.
+
+/// Numbers that an answer can have.
+pub const NUMBERS: usize = 16;
+
+/// Bytes of a script.
+pub const MOST_SCRIPT: usize = 65_536;
+
+/// Bytes that a written design can have.
+pub const MOST_DESIGN: usize = 21_697;
+
+/// Bytes of text that always suffice for a reason.
+pub const MOST_TEXT: usize = 16_384;
+
+/// What a step or an opening tells: C's `struct wurzsige_answer`.
+#[repr(C)]
+#[derive(Clone, Copy, Debug, Default, PartialEq, Eq)]
+pub struct Told {
+    /// The numbers behind the word, 0 behind the last of them.
+    pub numbers: [u64; NUMBERS],
+    /// Of a refusal: where the faulty command begins; 0 with any other answer.
+    pub place: usize,
+    /// The place after the command; after a refusal that stops, the place that was
+    /// given.
+    pub next: usize,
+    /// One of [`crate::word`].
+    pub word: u8,
+    /// How many numbers there are.
+    pub count: u8,
+    /// 1 if reading goes on at `next`, 0 if it stops.
+    pub more: u8,
+}
+
+/// How much is to be lent: C's `struct wurzsige_sizes`.
+#[repr(C)]
+#[derive(Clone, Copy, Debug, Default, PartialEq, Eq)]
+pub struct Sizes {
+    /// Bytes that the written design has.
+    pub bytes: u64,
+    /// Words that the step's lists have; 0 if it answers none.
+    pub words: u64,
+    /// Bytes that the step's reason has; 0 if it gives none.
+    pub text: u64,
+}
