@@ -1,0 +1,314 @@
+//! What any operation answers.
+
+use std::fmt;
+use std::ops::Index;
+use std::slice::ChunksExact;
+
+use wurzsige_sys::{word, Told};
+
+use crate::operand::Value;
+use crate::refusal::{Cause, Refusal};
+
+/// How much of each kind there is.
+#[derive(Clone, Copy, Debug, PartialEq, Eq)]
+pub struct Design {
+    /// Tables.
+    pub tables: usize,
+    /// Constraints.
+    pub constraints: usize,
+    /// Fillings.
+    pub fillings: usize,
+    /// Backend rows.
+    pub rows: usize,
+}
+
+impl fmt::Display for Design {
+    fn fmt(&self, out: &mut fmt::Formatter<'_>) -> fmt::Result {
+        let Design {
+            tables,
+            constraints,
+            fillings,
+            rows,
+        } = self;
+        write!(out, "design {tables} {constraints} {fillings} {rows}")
+    }
+}
+
+/// Why a value is known to be complete in a column.
+#[derive(Clone, Copy, Debug, PartialEq, Eq, Hash)]
+#[repr(u8)]
+pub enum Ground {
+    /// The value is held by a filling of the column.
+    Held = 1,
+    /// A constraint ends at the column, and a cached row has the value in its source
+    /// column.
+    Linked = 2,
+    /// The column is unique, and a cached row of the table has the value there.
+    Unique = 3,
+}
+
+impl Ground {
+    /// The number, from 1 to 3.
+    pub fn number(self) -> u8 {
+        self as u8
+    }
+
+    fn with_number(number: u64) -> Ground {
+        match number {
+            1 => Ground::Held,
+            2 => Ground::Linked,
+            3 => Ground::Unique,
+            number => unreachable!("there is no ground {number}"),
+        }
+    }
+}
+
+/// The lists of row numbers that fit a query, in rising order of the first number, then
+/// the second, and so on. Each has a number for each of the query's positions.
+#[derive(Clone, Debug, PartialEq, Eq)]
+pub struct Lists {
+    positions: usize,
+    rows: Vec<u16>,
+}
+
+impl Lists {
+    /// The lists in the words that were lent.
+    fn in_words(positions: usize, lists: usize, words: &[u32]) -> Lists {
+        let words = &words[..lists * positions];
+        let row = |&word: &u32| u16::try_from(word).expect("a row number is below 512");
+        Lists {
+            positions,
+            rows: words.iter().map(row).collect(),
+        }
+    }
+
+    /// How many lists there are.
+    pub fn len(&self) -> usize {
+        self.rows.len() / self.positions
+    }
+
+    /// Whether there is none, which is certain then.
+    pub fn is_empty(&self) -> bool {
+        self.rows.is_empty()
+    }
+
+    /// How many row numbers each list has.
+    pub fn positions(&self) -> usize {
+        self.positions
+    }
+
+    /// The lists one after another.
+    pub fn iter(&self) -> ChunksExact<'_, u16> {
+        self.rows.chunks_exact(self.positions)
+    }
+}
+
+/// The list with a number.
+impl Index<usize> for Lists {
+    type Output = [u16];
+
+    fn index(&self, list: usize) -> &[u16] {
+        &self.rows[list * self.positions..][..self.positions]
+    }
+}
+
+impl<'a> IntoIterator for &'a Lists {
+    type Item = &'a [u16];
+    type IntoIter = ChunksExact<'a, u16>;
+
+    fn into_iter(self) -> ChunksExact<'a, u16> {
+        self.iter()
+    }
+}
+
+/// What an operation answers, whichever it is. Its text is what the desk's report has
+/// behind the number of the operation; lists stand on lines after it.
+#[derive(Clone, Debug, PartialEq, Eq)]
+pub enum Answer {
+    /// The value or range is held now.
+    Loaded {
+        /// Rows added.
+        rows: usize,
+        /// Later rounds that added a row.
+        rounds: usize,
+    },
+    /// The desk held it already.
+    Held,
+    /// The filling doesn't have it among its candidates.
+    NoCandidate,
+    /// The value or range isn't held any more.
+    Dropped {
+        /// Rows that went.
+        rows: usize,
+    },
+    /// A probe's yes.
+    Ground {
+        /// Why.
+        ground: Ground,
+        /// Cached rows of the table that have the value in the column.
+        rows: usize,
+    },
+    /// The backend has to be asked.
+    Sent,
+    /// A query's lists.
+    Lists(Lists),
+    /// The operation was refused, and changed nothing.
+    Refused(Refusal),
+    /// The design is even.
+    Even,
+    /// The design is uneven, by two constraints or one.
+    Uneven {
+        /// The constraint that ends at a table.
+        i: u8,
+        /// The constraint that starts at another column of it.
+        j: u8,
+    },
+    /// The sum of a cell over a query's lists.
+    Total(u64),
+    /// The fewest constraints that are uneven without the others, rising.
+    Knot(Vec<u8>),
+    /// The desk that is named from now on.
+    Desk(u8),
+    /// The probe has a ground already.
+    Open,
+    /// What would give it one.
+    Opener {
+        /// The filling.
+        filling: u8,
+        /// The value.
+        value: Value,
+    },
+    /// Nothing would.
+    NoOpener,
+    /// The row isn't cached.
+    Absent,
+    /// Why the row is cached.
+    Reason(String),
+    /// A row was put in or removed.
+    Changed {
+        /// Rows that came to the cache.
+        came: usize,
+        /// Rows that went from it.
+        went: usize,
+    },
+}
+
+impl Answer {
+    /// The answer that was told, with lists of so many positions in the lent words, or a
+    /// sentence in the lent text.
+    pub(crate) fn told(told: &Told, positions: usize, words: &[u32], text: &[u8]) -> Answer {
+        let [first, second, third, ..] = told.numbers;
+        match told.word {
+            word::LOADED => Answer::Loaded {
+                rows: count(first),
+                rounds: count(second),
+            },
+            word::HELD => Answer::Held,
+            word::NO_CANDIDATE => Answer::NoCandidate,
+            word::DROPPED => Answer::Dropped { rows: count(first) },
+            word::GROUND => Answer::Ground {
+                ground: Ground::with_number(first),
+                rows: count(second),
+            },
+            word::SENT => Answer::Sent,
+            word::LISTS => Answer::Lists(Lists::in_words(positions, count(first), words)),
+            word::REFUSED => Answer::Refused(refusal(told)),
+            word::EVEN => Answer::Even,
+            word::UNEVEN => Answer::Uneven {
+                i: number(first),
+                j: number(second),
+            },
+            word::TOTAL => Answer::Total(first),
+            word::KNOT => {
+                let constraints = &told.numbers[..usize::from(told.count)];
+                Answer::Knot(constraints.iter().copied().map(number).collect())
+            }
+            word::DESK => Answer::Desk(number(first)),
+            word::OPEN => Answer::Open,
+            word::OPENER => Answer::Opener {
+                filling: number(first),
+                value: Value {
+                    number: u32::try_from(second).expect("a cell's number"),
+                    issue: number(third),
+                },
+            },
+            word::NO_OPENER => Answer::NoOpener,
+            word::ABSENT => Answer::Absent,
+            word::REASON => {
+                let sentence = text[..count(first)].to_vec();
+                Answer::Reason(String::from_utf8(sentence).expect("words and numbers"))
+            }
+            word::CHANGED => Answer::Changed {
+                came: count(first),
+                went: count(second),
+            },
+            word => unreachable!("no operation has the word {word}"),
+        }
+    }
+}
+
+/// The refusal that was told.
+pub(crate) fn refusal(told: &Told) -> Refusal {
+    let cause = Cause::with_number(number(told.numbers[0]));
+    Refusal {
+        cause: cause.expect("one of thirteen causes"),
+        place: told.place,
+    }
+}
+
+fn count(number: u64) -> usize {
+    usize::try_from(number).expect("a count of what lies in memory")
+}
+
+fn number(number: u64) -> u8 {
+    u8::try_from(number).expect("a number of a design's part")
+}
+
+impl fmt::Display for Answer {
+    fn fmt(&self, out: &mut fmt::Formatter<'_>) -> fmt::Result {
+        match self {
+            Answer::Loaded { rows, rounds } => write!(out, "loaded {rows} {rounds}"),
+            Answer::Held => write!(out, "held"),
+            Answer::NoCandidate => write!(out, "no candidate"),
+            Answer::Dropped { rows } => write!(out, "dropped {rows}"),
+            Answer::Ground { ground, rows } => write!(out, "ground {} {rows}", ground.number()),
+            Answer::Sent => write!(out, "sent"),
+            Answer::Lists(lists) => {
+                write!(out, "answer {}", lists.len())?;
+                for list in lists {
+                    out.write_str("\n")?;
+                    write_numbers(out, list)?;
+                }
+                Ok(())
+            }
+            Answer::Refused(Refusal { cause, place }) => {
+                write!(out, "refused {} {place}", cause.number())
+            }
+            Answer::Even => write!(out, "even"),
+            Answer::Uneven { i, j } => write!(out, "uneven {i} {j}"),
+            Answer::Total(total) => write!(out, "total {total}"),
+            Answer::Knot(constraints) => {
+                write!(out, "knot ")?;
+                write_numbers(out, constraints)
+            }
+            Answer::Desk(desk) => write!(out, "desk {desk}"),
+            Answer::Open => write!(out, "open"),
+            Answer::Opener { filling, value } => {
+                write!(out, "{filling} {} {}", value.number, value.issue)
+            }
+            Answer::NoOpener => write!(out, "none"),
+            Answer::Absent => write!(out, "absent"),
+            Answer::Reason(sentence) => write!(out, "{sentence}"),
+            Answer::Changed { came, went } => write!(out, "rows {came} {went}"),
+        }
+    }
+}
+
+/// Numbers with blanks between them.
+fn write_numbers<N: fmt::Display>(out: &mut fmt::Formatter<'_>, numbers: &[N]) -> fmt::Result {
+    for (place, number) in numbers.iter().enumerate() {
+        let blank = if place == 0 { "" } else { " " };
+        write!(out, "{blank}{number}")?;
+    }
+    Ok(())
+}

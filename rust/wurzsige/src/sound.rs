@@ -1,0 +1,57 @@
+//! Memory that is known to be a desk: the one file that calls what asks for that.
+
+#![allow(unsafe_code)]
+
+use wurzsige_sys::{word, Memory, Told};
+
+use crate::answer::refusal;
+use crate::command::Command;
+use crate::refusal::Refusal;
+
+/// Memory in which a design was opened, or that has passed the test for cause 12, and
+/// that only the library has written since: nothing here lends it out to be written.
+#[derive(Debug)]
+pub(crate) struct Sound(Box<Memory>);
+
+impl Sound {
+    /// Opens the design at the start of a script, and gives the place behind it too.
+    pub fn open(script: &[u8]) -> Result<(Sound, usize), Refusal> {
+        let mut memory = Memory::boxed();
+        let told = memory.open(script);
+        match told.word {
+            word::REFUSED => Err(refusal(&told)),
+            _ => Ok((Sound(memory), told.next)),
+        }
+    }
+
+    /// Tests memory that may hold anything, by a step that every desk answers and that
+    /// changes none.
+    pub fn tested(mut memory: Box<Memory>) -> Result<Sound, Refusal> {
+        let told = memory.step(Command::even().bytes(), 0, &mut [], &mut []);
+        match told.word {
+            word::REFUSED => Err(refusal(&told)),
+            _ => Ok(Sound(memory)),
+        }
+    }
+
+    /// Takes a step.
+    pub fn step(&mut self, script: &[u8], at: usize, words: &mut [u32], text: &mut [u8]) -> Told {
+        // SAFETY: it is a desk, by `open` or `tested`, and the library's functions keep
+        // it so.
+        unsafe { self.0.step_trusted(script, at, words, text) }
+    }
+
+    pub fn memory(&self) -> &Memory {
+        &self.0
+    }
+
+    pub fn into_memory(self) -> Box<Memory> {
+        self.0
+    }
+}
+
+impl Clone for Sound {
+    fn clone(&self) -> Sound {
+        Sound(self.0.boxed_copy())
+    }
+}
