@@ -7,6 +7,8 @@
 //! - [`measure`] takes the times, by the [`clock`] for processor time, and
 //!   [`table`] sets them out. [`process`] takes those of whole programs.
 //! - [`slowest`] looks for the slowest scripts.
+//! - `steps`, with the feature `proved`, has the library's figures: what a checked and
+//!   a trusted step cost, and how much stack a call takes.
 
 #![deny(unsafe_code)]
 
@@ -21,6 +23,8 @@ pub mod second;
 pub mod slowest;
 #[cfg(feature = "sqlite")]
 pub mod sqlite;
+#[cfg(feature = "proved")]
+pub mod steps;
 pub mod table;
 pub mod work;
 

@@ -43,7 +43,7 @@ pub fn questions(rows: usize) -> Vec<Work> {
 }
 
 /// Each row demands the next, so that a load takes a round for each row.
-fn chain_design(rows: usize) -> Design {
+pub(crate) fn chain_design(rows: usize) -> Design {
     let mut design = Design {
         tables: vec![table(2, 0b01)],
         constraints: vec![constraint(column(0, 1), column(0, 0))],

@@ -8,11 +8,12 @@ use super::{
     MOST_ROWS,
 };
 
-const WARDS: u32 = 16;
+/// The wards, of which a design with few subjects has fewer.
+pub const WARDS: u32 = 16;
 
 /// The work: 65,536 bytes exactly.
 pub fn full_script() -> Work {
-    let design = laboratory();
+    let design = laboratory(MOST_ROWS);
     let mut room = LONGEST_SCRIPT - encode(&design.commands()).len();
     let mut timed = Vec::new();
     for ward in (1..=WARDS).cycle() {
@@ -34,10 +35,10 @@ pub fn full_script() -> Work {
 }
 
 /// Subjects (number, ward), recordings (number, subject) and events (recording,
-/// kind).
-fn laboratory() -> Design {
-    const SUBJECTS: u32 = 64;
-    const RECORDINGS: u32 = 128;
+/// kind), with so many rows in all: an eighth of them subjects, a quarter recordings.
+pub fn laboratory(rows: usize) -> Design {
+    let rows = rows as u32;
+    let (subjects, recordings) = (rows / 8, rows / 4);
     let mut design = Design {
         tables: vec![table(2, 0b01), table(2, 0b01), table(2, 0)],
         constraints: vec![
@@ -47,14 +48,14 @@ fn laboratory() -> Design {
         fillings: vec![filling(column(0, 1)), filling(column(1, 0))],
         rows: Vec::new(),
     };
-    for subject in 0..SUBJECTS {
+    for subject in 0..subjects {
         design.add_row(0, &[1 + subject, 1 + subject % WARDS]);
     }
-    for recording in 0..RECORDINGS {
-        design.add_row(1, &[1 + recording, 1 + recording % SUBJECTS]);
+    for recording in 0..recordings {
+        design.add_row(1, &[1 + recording, 1 + recording % subjects]);
     }
-    for event in 0..MOST_ROWS as u32 - SUBJECTS - RECORDINGS {
-        design.add_row(2, &[1 + event % RECORDINGS, 1 + event % 4]);
+    for event in 0..rows - subjects - recordings {
+        design.add_row(2, &[1 + event % recordings, 1 + event % 4]);
     }
     design
 }

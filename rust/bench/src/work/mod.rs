@@ -78,7 +78,7 @@ fn table(columns: u8, unique: u8) -> Table {
     Table { columns, unique }
 }
 
-fn column(table: u8, column: u8) -> Column {
+pub(crate) fn column(table: u8, column: u8) -> Column {
     Column { table, column }
 }
 
@@ -95,12 +95,12 @@ fn filling(column: Column) -> Filling {
     }
 }
 
-fn refer(filling: u8, value: u32) -> Command {
+pub(crate) fn refer(filling: u8, value: u32) -> Command {
     let value = value.into();
     Command::Refer(Pair { filling, value })
 }
 
-fn drop(filling: u8, value: u32) -> Command {
+pub(crate) fn drop(filling: u8, value: u32) -> Command {
     let value = value.into();
     Command::Drop(Pair { filling, value })
 }
@@ -113,17 +113,17 @@ fn load_and_drop(filling: u8, values: impl IntoIterator<Item = u32>) -> Vec<Comm
         .collect()
 }
 
-fn probe(column: Column, value: u32) -> Command {
+pub(crate) fn probe(column: Column, value: u32) -> Command {
     let value = value.into();
     Command::Probe(Probe { column, value })
 }
 
-fn opener(column: Column, value: u32) -> Command {
+pub(crate) fn opener(column: Column, value: u32) -> Command {
     let value = value.into();
     Command::Opener(Probe { column, value })
 }
 
-fn query(column: Column, value: u32, joins: &[Join]) -> Command {
+pub(crate) fn query(column: Column, value: u32, joins: &[Join]) -> Command {
     Command::Query(Query::new(column, value, joins))
 }
 
@@ -136,7 +136,7 @@ fn total(query: Query, position: u8, column: u8) -> Command {
     })
 }
 
-fn join(position: u8, constraint: u8) -> Join {
+pub(crate) fn join(position: u8, constraint: u8) -> Join {
     Join {
         position,
         constraint,
