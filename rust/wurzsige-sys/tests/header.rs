@@ -20,14 +20,25 @@ fn parameters(text: &str) -> impl Iterator<Item = &str> {
     parameters.filter(|parameter| !parameter.is_empty())
 }
 
+/// A text in C without its comments.
+fn without_comments(text: &str) -> String {
+    let mut pieces = text.split("/*");
+    let first = pieces.next().unwrap_or_default().to_string();
+    pieces.fold(first, |text, piece| {
+        let (_, behind) = piece.split_once("*/").expect("an end of the comment");
+        text + behind
+    })
+}
+
 /// The functions that the header declares and doesn't define.
 fn in_the_header() -> Vec<Function> {
-    let text = read("../../include/wurzsige.h");
-    let declared = text.split("\n\n").filter_map(|piece| {
-        let (head, rest) = piece.split_once('(')?;
+    let text = without_comments(&read("../../include/wurzsige.h"));
+    let declared = text.split(';').filter_map(|piece| {
+        let (head, rest) = piece.trim().split_once('(')?;
         let (gives, name) = head.split_once(' ')?;
-        name.starts_with("wurzsige_parts_")
-            .then_some((gives, name, rest))
+        // The functions on a whole desk, which are defined there, call these.
+        let declared = name.starts_with("wurzsige_parts_") && gives != "return";
+        declared.then_some((gives, name, rest))
     });
     let function = |(gives, name, rest): (&str, &str, &str)| {
         let parameter = |parameter: &str| {
