@@ -3,22 +3,31 @@
 
 use crate::refusal::{Cause, Refusal};
 use crate::script::{
-    read_command, Column, Command, Constraint, Filling, Pair, Row, Value, BLANK, CELLS,
+    read_command, Column, Command, Constraint, Filling, Pair, Range, Row, Value, BLANK, CELLS,
 };
 
 /// The longest script, in bytes.
 pub const LONGEST_SCRIPT: usize = 65_536;
 
-const MOST_TABLES: usize = 8;
-const MOST_CONSTRAINTS: usize = 16;
-const MOST_FILLINGS: usize = 8;
-const MOST_ROWS: usize = 512;
+/// The most tables.
+pub const MOST_TABLES: usize = 8;
+
+/// The most constraints.
+pub const MOST_CONSTRAINTS: usize = 16;
+
+/// The most fillings.
+pub const MOST_FILLINGS: usize = 8;
+
+/// The most rows of all tables together.
+pub const MOST_ROWS: usize = 512;
 
 /// A table's column count and its unique columns, bit i for column i.
 #[derive(Clone, Copy, Debug)]
 pub struct Table {
-    columns: usize,
-    unique: usize,
+    /// The column count.
+    pub columns: usize,
+    /// The unique columns.
+    pub unique: usize,
 }
 
 /// An accepted design with its backend rows.
@@ -82,7 +91,7 @@ impl Design {
         }
     }
 
-    fn add_table(&mut self, table: Table) -> Result<(), Cause> {
+    pub(crate) fn add_table(&mut self, table: Table) -> Result<(), Cause> {
         Cause::TooMany.unless(self.tables.len() < MOST_TABLES)?;
         Cause::WrongOperand.unless((1..=CELLS).contains(&table.columns))?;
         Cause::WrongOperand.unless(table.unique >> table.columns == 0)?;
@@ -90,7 +99,7 @@ impl Design {
         Ok(())
     }
 
-    fn add_constraint(&mut self, constraint: Constraint) -> Result<(), Cause> {
+    pub(crate) fn add_constraint(&mut self, constraint: Constraint) -> Result<(), Cause> {
         Cause::TooMany.unless(self.constraints.len() < MOST_CONSTRAINTS)?;
         Cause::WrongOperand.unless(self.has(constraint.source))?;
         Cause::WrongOperand.unless(self.has(constraint.target))?;
@@ -99,7 +108,7 @@ impl Design {
         Ok(())
     }
 
-    fn add_filling(&mut self, filling: Filling) -> Result<(), Cause> {
+    pub(crate) fn add_filling(&mut self, filling: Filling) -> Result<(), Cause> {
         let taken = self.fillings.iter().any(|f| f.column == filling.column);
         Cause::TooMany.unless(self.fillings.len() < MOST_FILLINGS)?;
         Cause::WrongOperand.unless(self.has(filling.column))?;
@@ -184,6 +193,19 @@ impl Design {
     /// blank equals nothing.
     pub fn equals(&self, row: usize, column: Column, value: Value) -> bool {
         value != BLANK && self.cell(row, column) == Some(value)
+    }
+
+    /// Whether the pair's value is a candidate of its filling. Candidates go by number
+    /// alone.
+    pub fn is_candidate(&self, pair: Pair) -> bool {
+        let filling = self.fillings[pair.filling];
+        (filling.low..=filling.high).contains(&pair.value.number)
+    }
+
+    /// Whether the range is wholly of candidates of its filling.
+    pub fn are_candidates(&self, range: Range) -> bool {
+        let filling = self.fillings[range.filling];
+        filling.low <= range.low && range.high <= filling.high
     }
 
     /// The cell of a row in a column of its table.

@@ -106,6 +106,28 @@ impl Desk {
         Desk { text_bytes, ..self }
     }
 
+    /// The desk with other numbers of answer words and of bytes for text.
+    pub fn lending(self, answer_words: usize, text_bytes: usize) -> Desk {
+        Desk {
+            answer_words,
+            text_bytes,
+            ..self
+        }
+    }
+
+    /// The desk with other held values and ranges, and the smallest set of rows for
+    /// them cached.
+    pub fn holding(self, held: Holding) -> Desk {
+        let mut desk = Desk { held, ..self };
+        desk.reload();
+        desk
+    }
+
+    /// For each number of a row up to the last, whether the row is cached.
+    pub fn cached(&self) -> &[bool] {
+        &self.cached
+    }
+
     /// The design.
     pub fn design(&self) -> &Design {
         &self.design
@@ -152,7 +174,7 @@ impl Desk {
 
     fn refer(&mut self, pair: Pair) -> Result<Answer, Cause> {
         self.check_pair(pair)?;
-        if !self.is_candidate(pair) {
+        if !self.design.is_candidate(pair) {
             return Ok(Answer::NoCandidate);
         }
         if self.held.owns(pair) {
@@ -174,8 +196,7 @@ impl Desk {
 
     fn hold_range(&mut self, range: Range) -> Result<Answer, Cause> {
         self.check_range(range)?;
-        let filling = self.design.fillings[range.filling];
-        if range.low < filling.low || filling.high < range.high {
+        if !self.design.are_candidates(range) {
             return Ok(Answer::NoCandidate);
         }
         if self.held.covers(range) {
@@ -253,13 +274,7 @@ impl Desk {
         let mut fillings = self.design.fillings.iter();
         let filling = fillings.position(|filling| filling.column == column)?;
         let pair = Pair { filling, value };
-        (self.is_candidate(pair) && self.held.has_room()).then_some(pair)
-    }
-
-    /// Candidates go by number alone.
-    pub(crate) fn is_candidate(&self, pair: Pair) -> bool {
-        let filling = self.design.fillings[pair.filling];
-        (filling.low..=filling.high).contains(&pair.value.number)
+        (self.design.is_candidate(pair) && self.held.has_room()).then_some(pair)
     }
 
     fn check_pair(&self, pair: Pair) -> Result<(), Cause> {

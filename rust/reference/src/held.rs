@@ -10,6 +10,9 @@ pub const DESKS: usize = 4;
 /// The most values that a desk can hold.
 pub const MOST_VALUES: usize = 16;
 
+/// The most values that all desks together can hold.
+pub const MOST_VALUES_OF_ALL: usize = DESKS * MOST_VALUES;
+
 /// The most ranges that a desk can hold.
 pub const MOST_RANGES: usize = 8;
 
@@ -120,7 +123,7 @@ impl Range {
     }
 
     /// Whether the ranges are of one filling and overlap or touch.
-    fn meets(&self, other: Range) -> bool {
+    pub(crate) fn meets(&self, other: Range) -> bool {
         let next = |high: u32| u64::from(high) + 1;
         self.filling == other.filling
             && u64::from(self.low) <= next(other.high)

@@ -3,6 +3,7 @@
 //! It exists to be compared with the proved desk: bytes in, report text out.
 //! It is kept as plain as the rules allow, shares no code with the proved part
 //! or with the script notation, and looks up rows by walking over all of them.
+//! What callers lend is looked at in [`lent`], and carried out on a desk of its own.
 //! Its one refinement is in [`query`]: lists are counted before they are
 //! written, and a total without writing them, so that neither takes exponential
 //! time. A knot is looked for among all sets of constraints, but once only.
@@ -14,6 +15,7 @@ pub mod desk;
 pub mod even;
 pub mod held;
 pub mod knot;
+pub mod lent;
 pub mod opener;
 pub mod query;
 pub mod reason;

@@ -31,7 +31,9 @@ impl Desk {
         values.sort_unstable();
         values.dedup();
         let pairs = values.into_iter().map(|value| Pair { filling, value });
-        pairs.filter(|&pair| self.is_candidate(pair)).collect()
+        pairs
+            .filter(|&pair| self.design.is_candidate(pair))
+            .collect()
     }
 
     /// Whether the probe has a ground once the pair is referred. Whether there is room

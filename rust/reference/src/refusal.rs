@@ -1,7 +1,7 @@
 //! Causes of refusal, by their numbers in document 01.
 //!
-//! Causes 7 and 12 are about lent memory. This implementation owns its memory,
-//! so it has neither.
+//! Causes 7 and 12 are about lent memory: only [`crate::lent`] has them. A desk that
+//! owns its memory has neither.
 
 use std::fmt;
 
@@ -20,6 +20,8 @@ pub enum Cause {
     WrongOperand = 5,
     /// A unique column gets a value other than blank twice.
     ValueTwice = 6,
+    /// A lent buffer too short for rows or words, or for the written design.
+    TooShort = 7,
     /// REFER of a candidate that the desk doesn't hold yet, while it holds 16; or a
     /// range that would leave it more than 8.
     NoPlaceFree = 8,
@@ -30,6 +32,8 @@ pub enum Cause {
     /// QUERY with a ground, or referred first, whose list needs more words than
     /// are lent; or a reason longer than the lent text.
     AnswerTooLong = 11,
+    /// Lent state unlawful.
+    Unlawful = 12,
     /// A total above 2^64 - 1.
     TotalTooLarge = 13,
 }

@@ -1,5 +1,5 @@
 //! Whole scripts through the second implementation, with reports that were
-//! worked out by hand from documents 01 and 02.
+//! worked out by hand from documents 01 and 02; and calls that lend it their memory.
 
 mod bytes;
 mod cases;
@@ -12,6 +12,7 @@ mod grounds;
 mod inward;
 mod issues;
 mod knots;
+mod lent;
 mod limits;
 mod lines;
 mod openers;
