@@ -1,38 +1,42 @@
 //! A design's words: three counts, then the tables, the constraints and the fillings.
 
-use std::ops::Range;
-
 use super::flaw::Flaw;
-use super::words::{byte, put, used};
-use crate::design::{Design, Table, MOST_CONSTRAINTS, MOST_FILLINGS, MOST_TABLES};
+use super::layout::{CONSTRAINTS, FILLINGS, TABLES};
+use super::words::{byte, put, used, Flaws};
+use crate::design::{Design, Table};
 use crate::script::{Column, Constraint, Filling, CELLS};
 
-const TABLES: Range<usize> = 3..19;
-const CONSTRAINTS: Range<usize> = 19..83;
-const FILLINGS: Range<usize> = 83..115;
+const OF_TABLES: Flaws = Flaws {
+    byte: Flaw::DesignByte,
+    many: Flaw::ManyTables,
+    unused: Flaw::UnusedTable,
+};
+
+const OF_CONSTRAINTS: Flaws = Flaws {
+    byte: Flaw::DesignByte,
+    many: Flaw::ManyConstraints,
+    unused: Flaw::UnusedConstraint,
+};
+
+const OF_FILLINGS: Flaws = Flaws {
+    byte: Flaw::DesignByte,
+    many: Flaw::ManyFillings,
+    unused: Flaw::UnusedFilling,
+};
 
 /// The tables, constraints and fillings, if some script gives them.
 pub fn design_from(words: &[u32]) -> Result<Design, Flaw> {
-    let tables = count(words[0], MOST_TABLES, Flaw::ManyTables)?;
-    let constraints = count(words[1], MOST_CONSTRAINTS, Flaw::ManyConstraints)?;
-    let fillings = count(words[2], MOST_FILLINGS, Flaw::ManyFillings)?;
     let mut design = Design::default();
-    for table in used(&words[TABLES], 2, tables, Flaw::UnusedTable)? {
+    for table in used(words, TABLES, &OF_TABLES)? {
         add_table(&mut design, table)?;
     }
-    for constraint in used(&words[CONSTRAINTS], 4, constraints, Flaw::UnusedConstraint)? {
+    for constraint in used(words, CONSTRAINTS, &OF_CONSTRAINTS)? {
         add_constraint(&mut design, constraint)?;
     }
-    for filling in used(&words[FILLINGS], 4, fillings, Flaw::UnusedFilling)? {
+    for filling in used(words, FILLINGS, &OF_FILLINGS)? {
         add_filling(&mut design, filling)?;
     }
     Ok(design)
-}
-
-fn count(word: u32, most: usize, many: Flaw) -> Result<usize, Flaw> {
-    let count = byte(word, Flaw::DesignByte)?;
-    many.unless(count <= most)?;
-    Ok(count)
 }
 
 fn add_table(design: &mut Design, words: &[u32]) -> Result<(), Flaw> {
@@ -71,25 +75,22 @@ fn column(words: &[u32]) -> Result<Column, Flaw> {
 
 /// Lays out the tables, constraints and fillings.
 pub fn put_design(design: &Design, words: &mut [u32]) {
-    words[0] = design.tables.len() as u32;
-    words[1] = design.constraints.len() as u32;
-    words[2] = design.fillings.len() as u32;
-    let tables = design.tables.iter();
-    put(
-        &mut words[TABLES],
-        tables.map(|table| [table.columns as u32, table.unique as u32]),
-    );
-    let constraints = design.constraints.iter().map(|constraint| {
-        let ([table, column], [target, ending]) =
-            (pair(constraint.source), pair(constraint.target));
-        [table, column, target, ending]
+    let tables = design.tables.iter().map(|table| {
+        let Table { columns, unique } = *table;
+        [columns as u32, unique as u32]
     });
-    put(&mut words[CONSTRAINTS], constraints);
+    put(words, TABLES, tables);
+    let constraints = design.constraints.iter().map(|constraint| {
+        let [source_table, source] = pair(constraint.source);
+        let [target_table, target] = pair(constraint.target);
+        [source_table, source, target_table, target]
+    });
+    put(words, CONSTRAINTS, constraints);
     let fillings = design.fillings.iter().map(|filling| {
         let [table, column] = pair(filling.column);
         [table, column, filling.low, filling.high]
     });
-    put(&mut words[FILLINGS], fillings);
+    put(words, FILLINGS, fillings);
 }
 
 fn pair(column: Column) -> [u32; 2] {

@@ -2,31 +2,34 @@
 //! then for each desk the count of its ranges and the ranges.
 
 use super::flaw::Flaw;
-use super::words::{byte, put, used};
+use super::layout::{self, NAMED_DESK, VALUES};
+use super::words::{byte, put, used, Flaws};
 use crate::design::Design;
-use crate::held::{Holding, DESKS, MOST_RANGES, MOST_VALUES_OF_ALL};
+use crate::held::{Holding, DESKS};
 use crate::script::{Pair, Range, Value};
 
-/// The words of all held values, and where the ranges begin.
-const VALUES: std::ops::Range<usize> = 2..RANGES;
-const RANGES: usize = 2 + 4 * MOST_VALUES_OF_ALL;
+const OF_VALUES: Flaws = Flaws {
+    byte: Flaw::HeldByte,
+    many: Flaw::ManyValues,
+    unused: Flaw::UnusedValue,
+};
 
-/// The words of a desk's ranges with their count.
-const DESK: usize = 1 + 3 * MOST_RANGES;
+const OF_RANGES: Flaws = Flaws {
+    byte: Flaw::HeldByte,
+    many: Flaw::ManyRanges,
+    unused: Flaw::UnusedRange,
+};
 
 /// What is held, if some run holds it.
 pub fn holding_from(design: &Design, words: &[u32]) -> Result<Holding, Flaw> {
-    let named = byte(words[0], Flaw::HeldByte)?;
+    let named = byte(words[NAMED_DESK], Flaw::HeldByte)?;
     Flaw::NamedDesk.unless(named < DESKS)?;
     let mut held = Holding::default();
-    let count = byte(words[1], Flaw::HeldByte)?;
-    Flaw::ManyValues.unless(count <= MOST_VALUES_OF_ALL)?;
-    for value in used(&words[VALUES], 4, count, Flaw::UnusedValue)? {
+    for value in used(words, VALUES, &OF_VALUES)? {
         add_value(design, &mut held, value)?;
     }
     for desk in 0..DESKS {
-        let from = RANGES + DESK * desk;
-        held.ranges[desk] = ranges_from(design, &words[from..from + DESK])?;
+        held.ranges[desk] = ranges_from(design, words, desk)?;
     }
     held.desk = named;
     Ok(held)
@@ -49,11 +52,9 @@ fn add_value(design: &Design, held: &mut Holding, words: &[u32]) -> Result<(), F
     Ok(())
 }
 
-fn ranges_from(design: &Design, words: &[u32]) -> Result<Vec<Range>, Flaw> {
-    let count = byte(words[0], Flaw::HeldByte)?;
-    Flaw::ManyRanges.unless(count <= MOST_RANGES)?;
+fn ranges_from(design: &Design, words: &[u32], desk: usize) -> Result<Vec<Range>, Flaw> {
     let mut ranges = Vec::new();
-    for range in used(&words[1..], 3, count, Flaw::UnusedRange)? {
+    for range in used(words, layout::ranges(desk), &OF_RANGES)? {
         let filling = byte(range[0], Flaw::HeldByte)?;
         let (low, high) = (range[1], range[2]);
         let range = Range { filling, low, high };
@@ -82,21 +83,18 @@ fn check_order(last: Range, range: Range) -> Result<(), Flaw> {
 
 /// Lays out what is held.
 pub fn put_holding(held: &Holding, words: &mut [u32]) {
-    words[0] = held.desk as u32;
-    words[1] = held.values.len() as u32;
+    words[NAMED_DESK] = held.desk as u32;
     let values = held.values.iter().map(|owned| {
         let Pair { filling, value } = owned.pair;
         let Value { number, issue } = value;
         [owned.desk as u32, filling as u32, number, issue.into()]
     });
-    put(&mut words[VALUES], values);
+    put(words, VALUES, values);
     for (desk, ranges) in held.ranges.iter().enumerate() {
-        let from = RANGES + DESK * desk;
-        words[from] = ranges.len() as u32;
-        let ranges = ranges.iter();
-        put(
-            &mut words[from + 1..from + DESK],
-            ranges.map(|range| [range.filling as u32, range.low, range.high]),
-        );
+        let ranges = ranges.iter().map(|range| {
+            let Range { filling, low, high } = *range;
+            [filling as u32, low, high]
+        });
+        put(words, layout::ranges(desk), ranges);
     }
 }

@@ -5,6 +5,7 @@
 //! A call takes the memory apart into a desk of its own, carries out what is asked on that,
 //! and lays it out again. So a refused call has written nothing.
 //!
+//! - [`layout`] says where things stand in the words.
 //! - `flaw` names all that makes lent memory unlawful or too short.
 //! - `design`, `held` and `rows` take the parts out of their words and lay them out.
 //! - `written` is a design as the bytes of a script.
@@ -13,6 +14,7 @@
 mod design;
 mod flaw;
 mod held;
+pub mod layout;
 mod rows;
 mod told;
 mod words;
@@ -135,6 +137,33 @@ pub fn step(script: &[u8], at: usize, lent: &mut Lent, words: &mut [u32], text: 
         Ok(desk) => desk.lending(words.len(), text.len()),
         Err(flaw) => return Told::stopped(flaw.cause(), 0, at),
     };
+    let told = take(&mut desk, script, at, words, text);
+    if told.cause().is_none() {
+        lent.keep(&desk);
+    }
+    told
+}
+
+/// Takes all steps from a place on, until the script ends or a step stops, and tells no
+/// answers. An unlawful state stops the first.
+pub fn run(script: &[u8], at: usize, lent: &mut Lent, words: &mut [u32], text: &mut [u8]) {
+    let Ok(desk) = lent.desk() else {
+        return;
+    };
+    let mut desk = desk.lending(words.len(), text.len());
+    let mut place = at;
+    while place < script.len() {
+        let told = take(&mut desk, script, place, words, text);
+        if told.more == 0 {
+            break;
+        }
+        place = told.next;
+    }
+    lent.keep(&desk);
+}
+
+/// Takes a step on a desk that is lawful.
+fn take(desk: &mut Desk, script: &[u8], at: usize, words: &mut [u32], text: &mut [u8]) -> Told {
     if script.len() > LONGEST_SCRIPT {
         return Told::stopped(Cause::TooMany, 0, at);
     }
@@ -145,7 +174,6 @@ pub fn step(script: &[u8], at: usize, lent: &mut Lent, words: &mut [u32], text: 
     match desk.perform(&command) {
         Err(cause) => Told::refused(cause, at, next),
         Ok(answer) => {
-            lent.keep(&desk);
             hand_over(&answer, words, text);
             Told::answered(&answer, next)
         }

@@ -1,6 +1,6 @@
 //! What the calls write and tell, and in which order they look at what is wrong.
 
-use reference::lent::{open, step, write, Lent, Told, Word};
+use reference::lent::{open, run, step, write, Lent, Told, Word};
 use reference::refusal::Cause;
 
 use super::{after, design, sound, stepped};
@@ -170,6 +170,29 @@ fn a_reason_writes_its_text_and_no_more() {
     assert_eq!(told.numbers[0], sentence.len() as u64);
     assert!(text.starts_with(sentence));
     assert!(text[sentence.len()..].iter().all(|&byte| byte == b'.'));
+}
+
+#[test]
+fn a_run_leaves_what_its_steps_leave() {
+    let queries = [
+        query((0, 1), 3, &[(0, 0), (1, 1)]),
+        query((0, 1), 4, &[]),
+        refer(9, 1),
+        reason(2),
+        hold(1, 5, 6),
+    ];
+    let script = [queries.concat(), vec![0xff], drop(0, 3)].concat();
+    let (mut lent, mut words, mut text) = (sound(), [9; 7], [9; 40]);
+    run(&script, 0, &mut lent, &mut words, &mut text);
+    assert_eq!(words, [2, 3, 5, 0, 3, 6, 9]);
+    assert!(text.starts_with(b"row 2 by value 4 of filling 0\x09"));
+    let mut stepped = sound();
+    let mut place = 0;
+    for _ in 0..5 {
+        place = step(&script, place, &mut stepped, &mut [0; 7], &mut [0; 40]).next;
+    }
+    assert_eq!(lent, stepped);
+    assert_eq!(lent.marks[..8], [1; 8]);
 }
 
 #[test]
