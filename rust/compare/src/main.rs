@@ -22,11 +22,12 @@ use std::io;
 use std::path::{Path, PathBuf};
 use std::process::ExitCode;
 use std::str::FromStr;
-use std::time::{Duration, Instant, SystemTime, UNIX_EPOCH};
+use std::time::{Duration, Instant};
 
 use compare::desk::{Program, Reply};
 use compare::examples::examples;
 use compare::level::Level;
+use compare::random::seeds;
 use compare::run::{compare, Scripts, Side, Sides, SECOND_IMPLEMENTATION};
 use compare::tally::Tally;
 
@@ -93,17 +94,6 @@ fn number<N: FromStr>(argument: Option<OsString>) -> Result<N, String> {
     number.ok_or(USAGE.into())
 }
 
-/// The first seed, and others from the clock.
-fn seeds(options: &Options) -> Vec<u64> {
-    let clock = SystemTime::now().duration_since(UNIX_EPOCH);
-    let clock = clock.map_or(0, |time| time.as_nanos() as u64);
-    let seed = |number| match number {
-        0 => options.seed,
-        number => clock.wrapping_add(number),
-    };
-    (0..options.seeds.max(1)).map(seed).collect()
-}
-
 /// Compares, prints what came of it, and tells whether all was well.
 fn run(options: &Options) -> Result<bool, String> {
     let level = options.level;
@@ -145,7 +135,7 @@ fn run_both(options: &Options, sides: &Sides) -> Result<bool, String> {
             return Ok(false);
         }
     }
-    for seed in seeds(options) {
+    for seed in seeds(options.seed, options.seeds) {
         let scripts = Scripts {
             seed,
             count: options.scripts,

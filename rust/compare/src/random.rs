@@ -2,6 +2,18 @@
 //! script can be made again.
 
 use std::ops::RangeInclusive;
+use std::time::{SystemTime, UNIX_EPOCH};
+
+/// So many seeds, one at least: the first is given, the others are from the clock.
+pub fn seeds(first: u64, count: u64) -> Vec<u64> {
+    let clock = SystemTime::now().duration_since(UNIX_EPOCH);
+    let clock = clock.map_or(0, |time| time.as_nanos() as u64);
+    let seed = |number| match number {
+        0 => first,
+        number => clock.wrapping_add(number),
+    };
+    (0..count.max(1)).map(seed).collect()
+}
 
 /// A stream of random numbers.
 #[derive(Clone, Debug)]

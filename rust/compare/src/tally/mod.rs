@@ -34,9 +34,7 @@ use reference::ANSWER_WORDS;
 use crate::answers::{answers, number, Answer};
 use crate::level::Level;
 use crate::replay::Replay;
-use names::{kind, COMMANDS};
-
-pub use names::OUTCOMES;
+pub use names::{kind, COMMANDS, OUTCOMES};
 
 /// The fewest words that are too many.
 const TOO_MANY_WORDS: usize = ANSWER_WORDS + 2;
