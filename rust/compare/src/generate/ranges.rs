@@ -84,12 +84,15 @@ pub fn full(random: &mut Random) -> Vec<u8> {
     for _ in 0..random.within(3..=12) {
         let low = first + step * random.below(11) as u32;
         let value = Value::from(low + random.below(step as usize) as u32);
+        // Behind all others. Past 2^32 - 1 it begins again at 0, on purpose: there it stands
+        // below all candidates, and builds with and without tests for overflow make the same.
+        let apart = low.wrapping_add(step * 10);
         commands.push(match random.below(11) {
             0 => Command::Hold(range(low + length, low + length)),
             1 => Command::Hold(range(low, low + length - 1)),
             2 => Command::Hold(range(low + length, low + step)),
             3 => Command::Hold(range(low, low + 2 * step)),
-            4 => Command::Hold(range(low + step * 10, (low + step * 10).saturating_add(1))),
+            4 => Command::Hold(range(apart, apart.saturating_add(1))),
             5 => Command::Release(range(low, low + length - 1)),
             6 => Command::Release(range(low, low + step + length - 1)),
             7 => Command::Refer(Pair { filling: 0, value }),
