@@ -1,183 +1,14 @@
-//! The proved library through its C boundary, linked from its static library.
+//! The proved library through its C boundary, by the declarations of `wurzsige-sys`.
 //!
-//! The declarations are those of `include/wurzsige.h`, by hand. This file has all unsafe
-//! code of the package.
+//! This file has all unsafe code of the package.
 
 #![allow(unsafe_code)]
 
-use reference::lent::{Told, NUMBERS};
+use reference::lent::Told;
+use wurzsige_sys::{parts, NUMBERS, POSITIONS};
 
 use crate::library::Library;
-use crate::memory::Memory;
-
-#[link(name = "wurzsige", kind = "static")]
-extern "C" {
-    fn wurzsige_parts_open(
-        script: *const u8,
-        script_length: usize,
-        cells: *mut u32,
-        cells_length: usize,
-        issues: *mut u8,
-        issues_length: usize,
-        tables: *mut u8,
-        tables_length: usize,
-        next: *mut u16,
-        first: *mut u16,
-        keys: *mut u64,
-        heads: *mut u16,
-        starts: *mut u16,
-        marks: *mut u8,
-        marks_length: usize,
-        design: *mut u32,
-        design_length: usize,
-        held: *mut u32,
-        held_length: usize,
-        numbers: *mut u64,
-        count: *mut u8,
-        place: *mut usize,
-        after: *mut usize,
-        more: *mut u8,
-    ) -> u8;
-
-    fn wurzsige_parts_step(
-        script: *const u8,
-        script_length: usize,
-        at: usize,
-        cells: *mut u32,
-        cells_length: usize,
-        issues: *mut u8,
-        issues_length: usize,
-        tables: *mut u8,
-        tables_length: usize,
-        next: *mut u16,
-        first: *mut u16,
-        keys: *mut u64,
-        heads: *mut u16,
-        starts: *mut u16,
-        marks: *mut u8,
-        marks_length: usize,
-        design: *const u32,
-        design_length: usize,
-        held: *mut u32,
-        held_length: usize,
-        words: *mut u32,
-        words_length: usize,
-        text: *mut u8,
-        text_length: usize,
-        numbers: *mut u64,
-        count: *mut u8,
-        place: *mut usize,
-        after: *mut usize,
-        more: *mut u8,
-    ) -> u8;
-
-    fn wurzsige_parts_step_trusted(
-        script: *const u8,
-        script_length: usize,
-        at: usize,
-        cells: *mut u32,
-        cells_length: usize,
-        issues: *mut u8,
-        issues_length: usize,
-        tables: *mut u8,
-        tables_length: usize,
-        next: *mut u16,
-        first: *mut u16,
-        keys: *mut u64,
-        heads: *mut u16,
-        starts: *mut u16,
-        marks: *mut u8,
-        marks_length: usize,
-        design: *const u32,
-        design_length: usize,
-        held: *mut u32,
-        held_length: usize,
-        words: *mut u32,
-        words_length: usize,
-        text: *mut u8,
-        text_length: usize,
-        weights: *mut u64,
-        sums: *mut u64,
-        froms: *mut u16,
-        links: *mut u16,
-        numbers: *mut u64,
-        count: *mut u8,
-        place: *mut usize,
-        after: *mut usize,
-        more: *mut u8,
-    ) -> u8;
-
-    fn wurzsige_parts_run_trusted(
-        script: *const u8,
-        script_length: usize,
-        at: usize,
-        cells: *mut u32,
-        cells_length: usize,
-        issues: *mut u8,
-        issues_length: usize,
-        tables: *mut u8,
-        tables_length: usize,
-        next: *mut u16,
-        first: *mut u16,
-        keys: *mut u64,
-        heads: *mut u16,
-        starts: *mut u16,
-        marks: *mut u8,
-        marks_length: usize,
-        design: *const u32,
-        design_length: usize,
-        held: *mut u32,
-        held_length: usize,
-        words: *mut u32,
-        words_length: usize,
-        text: *mut u8,
-        text_length: usize,
-        weights: *mut u64,
-        sums: *mut u64,
-        froms: *mut u16,
-        links: *mut u16,
-    );
-
-    fn wurzsige_parts_write(
-        cells: *const u32,
-        cells_length: usize,
-        issues: *const u8,
-        issues_length: usize,
-        tables: *const u8,
-        tables_length: usize,
-        marks: *const u8,
-        marks_length: usize,
-        design: *const u32,
-        design_length: usize,
-        held: *const u32,
-        held_length: usize,
-        out: *mut u8,
-        out_length: usize,
-        written: *mut usize,
-    ) -> u8;
-
-    fn wurzsige_parts_sizes(
-        script: *const u8,
-        script_length: usize,
-        at: usize,
-        cells: *const u32,
-        cells_length: usize,
-        issues: *const u8,
-        issues_length: usize,
-        tables: *const u8,
-        tables_length: usize,
-        marks: *const u8,
-        marks_length: usize,
-        design: *const u32,
-        design_length: usize,
-        held: *const u32,
-        held_length: usize,
-        sizes: *mut u64,
-    ) -> u8;
-}
-
-/// The items of each array of a query's working memory.
-const POSITIONS: usize = 2_560;
+use crate::memory::{Fenced, Memory};
 
 /// What stands where the library is to write an answer, and in the working memory: neither
 /// means anything before a call.
@@ -209,10 +40,10 @@ impl Working {
 /// memory, and what it is given behind the state.
 macro_rules! call {
     ($function:ident($($before:expr),*), $memory:expr, ($($behind:expr),*)) => {
-        // SAFETY: each pointer goes with its buffer's length, each array has the length of
-        // the boundary, and no two overlap. A trusted step's state is as a call left it.
+        // SAFETY: each pointer goes with its buffer's length, and no two buffers overlap. A
+        // trusted step's state is as an opening or a step that wasn't refused has left it.
         unsafe {
-            $function(
+            parts::$function(
                 $($before,)*
                 $memory.cells.lent_mut().as_mut_ptr(),
                 $memory.cells.length(),
@@ -220,11 +51,11 @@ macro_rules! call {
                 $memory.issues.length(),
                 $memory.tables.lent_mut().as_mut_ptr(),
                 $memory.tables.length(),
-                $memory.catalog.next.lent_mut().as_mut_ptr(),
-                $memory.catalog.first.lent_mut().as_mut_ptr(),
-                $memory.catalog.keys.lent_mut().as_mut_ptr(),
-                $memory.catalog.heads.lent_mut().as_mut_ptr(),
-                $memory.catalog.starts.lent_mut().as_mut_ptr(),
+                array(&mut $memory.catalog.next),
+                array(&mut $memory.catalog.first),
+                array(&mut $memory.catalog.keys),
+                array(&mut $memory.catalog.heads),
+                array(&mut $memory.catalog.starts),
                 $memory.marks.lent_mut().as_mut_ptr(),
                 $memory.marks.length(),
                 $memory.design.lent_mut().as_mut_ptr(),
@@ -246,7 +77,7 @@ macro_rules! tell {
             $memory,
             (
                 $($behind,)*
-                told.numbers.as_mut_ptr(),
+                &mut told.numbers,
                 &mut told.count,
                 &mut told.place,
                 &mut told.next,
@@ -263,7 +94,7 @@ macro_rules! read {
         // SAFETY: each pointer goes with its buffer's length, and what is written doesn't
         // overlap anything.
         unsafe {
-            $function(
+            parts::$function(
                 $($before,)*
                 $memory.cells.lent().as_ptr(),
                 $memory.cells.length(),
@@ -319,10 +150,10 @@ impl Library for Proved {
                 memory.words.length(),
                 memory.text.lent_mut().as_mut_ptr(),
                 memory.text.length(),
-                working.weights.as_mut_ptr(),
-                working.sums.as_mut_ptr(),
-                working.froms.as_mut_ptr(),
-                working.links.as_mut_ptr()
+                &mut working.weights,
+                &mut working.sums,
+                &mut working.froms,
+                &mut working.links
             )
         )
     }
@@ -337,10 +168,10 @@ impl Library for Proved {
                 memory.words.length(),
                 memory.text.lent_mut().as_mut_ptr(),
                 memory.text.length(),
-                working.weights.as_mut_ptr(),
-                working.sums.as_mut_ptr(),
-                working.froms.as_mut_ptr(),
-                working.links.as_mut_ptr()
+                &mut working.weights,
+                &mut working.sums,
+                &mut working.froms,
+                &mut working.links
             )
         );
     }
@@ -361,9 +192,15 @@ impl Library for Proved {
         read!(
             wurzsige_parts_sizes(script.as_ptr(), script.len(), at),
             memory,
-            (memory.sizes.as_mut_ptr())
+            (&mut memory.sizes)
         )
     }
+}
+
+/// A buffer of a fixed length.
+fn array<T: Copy + From<u8>, const LENGTH: usize>(buffer: &mut Fenced<T>) -> &mut [T; LENGTH] {
+    let array = buffer.lent_mut().try_into();
+    array.unwrap_or_else(|_| panic!("the boundary takes {LENGTH} items"))
 }
 
 /// An answer that no call has told yet: each part of it has to be written.

@@ -4,17 +4,11 @@
 use std::fmt::Display;
 
 use reference::lent::Lent;
+use wurzsige_sys::{FIRST, HEADS, KEYS, NEXT, STARTS};
 
 /// How many items a fence has, and what each of them is.
 const FENCE: usize = 8;
 const STAKE: u8 = 0xa5;
-
-/// The lengths of the catalog's arrays.
-const NEXT: usize = 4_096;
-const FIRST: usize = 8_192;
-const KEYS: usize = 4_096;
-const HEADS: usize = 4_096;
-const STARTS: usize = 65;
 
 /// A buffer with its fence.
 #[derive(Clone, Debug, PartialEq, Eq)]
