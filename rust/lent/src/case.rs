@@ -27,8 +27,8 @@ pub struct Case {
     pub runs: bool,
     /// The step that is taken on it.
     pub step: Step,
-    /// The trusted step after that one.
-    pub further: Step,
+    /// The steps after that one: a trusted one, a plain one and a trusted one.
+    pub further: [Step; 3],
     /// How much is lent for the answer words, the text and the written design.
     pub lending: [Lending; 3],
     /// The byte that all else is filled with.
@@ -83,7 +83,7 @@ impl Case {
             opening: opening(random, &sound),
             runs: random.percent(40),
             step: Step::random(random, &sound),
-            further: Step::random(random, &sound),
+            further: [(); 3].map(|()| Step::random(random, &sound)),
             lending: [(); 3].map(|()| Lending::random(random)),
             byte,
             sound,

@@ -68,8 +68,9 @@ impl<T: Copy + PartialEq + Display> Fenced<T> {
     }
 }
 
-/// The catalog's arrays. The second implementation has no catalog, so that only what
-/// leaves it as it was can be compared.
+/// The catalog's arrays. The second implementation has no catalog, so that they can be
+/// compared only where they are left as they were; elsewhere it shows in trusted steps
+/// whether the catalog is right.
 #[derive(Clone, Debug, PartialEq, Eq)]
 pub struct Catalog {
     /// For each cell.

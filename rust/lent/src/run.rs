@@ -4,7 +4,7 @@
 use std::fmt::{self, Debug};
 
 use notation::disassemble;
-use reference::lent::{Told, Word};
+use reference::lent::Told;
 
 use crate::case::Case;
 use crate::library::{Library, SecondImplementation};
@@ -70,7 +70,8 @@ impl Comparing<'_> {
         Ok(if same.told == 0 { sizes } else { [3; 3] })
     }
 
-    /// A step, and then a trusted one if the state is ready for it.
+    /// A step where the catalog's arrays mean nothing. If it is refused, with whatever
+    /// cause, they are as they were; if it is answered, they have the catalog.
     fn step(&self, sizes: [u64; 3], tally: &mut Tally) -> Compared<()> {
         let case = self.case;
         let Step { script, at } = &case.step;
@@ -82,28 +83,49 @@ impl Comparing<'_> {
             "{}, {words} words, {text} bytes of text",
             shown(script, *at)
         );
-        let same = self.call("step", &given, before, call, is_looked_at)?;
+        let same = self.call("step", &given, before, call, is_answered)?;
         tally.add_step(&case.step, &same.told);
-        if !is_looked_at(&same.told) {
+        if !is_answered(&same.told) {
             return Ok(());
         }
-        self.trusted_step("a trusted step after it", &case.further, same.memory, tally)
+        self.further_steps(same.memory, tally)
     }
 
+    /// Steps where the arrays have the catalog: a trusted one, a plain one, and a trusted
+    /// one again, for which a refusal has left the catalog too.
+    fn further_steps(&self, memory: Memory, tally: &mut Tally) -> Compared<()> {
+        let [first, second, third] = &self.case.further;
+        let memory = self.trusted_step("a trusted step after it", first, memory, tally)?;
+        let Step { script, at } = second;
+        let before = memory.answering(self.case.byte, 64, 200);
+        let call = |library: &dyn Library, memory: &mut Memory| library.step(script, *at, memory);
+        let name = "a step after a trusted one";
+        let same = self.call(name, &shown(script, *at), before, call, is_answered)?;
+        tally.add_further_step(&same.told);
+        let name = if is_answered(&same.told) {
+            "a trusted step after an answered one"
+        } else {
+            "a trusted step after a refused one"
+        };
+        self.trusted_step(name, third, same.memory, tally)?;
+        Ok(())
+    }
+
+    /// A trusted step, and the memory that it leaves.
     fn trusted_step(
         &self,
         name: &'static str,
         step: &Step,
         memory: Memory,
         tally: &mut Tally,
-    ) -> Compared<()> {
+    ) -> Compared<Memory> {
         let Step { script, at } = step;
         let before = memory.answering(self.case.byte, 64, 200);
         let call =
             |library: &dyn Library, memory: &mut Memory| library.step_trusted(script, *at, memory);
         let same = self.call(name, &shown(script, *at), before, call, |_| true)?;
         tally.add_trusted_step(&same.told);
-        Ok(())
+        Ok(same.memory)
     }
 
     fn write(&self, sizes: [u64; 3], tally: &mut Tally) -> Compared<()> {
@@ -122,9 +144,9 @@ impl Comparing<'_> {
         let script = &self.case.opening;
         let before = self.case.memory.clone().answering(self.case.byte, 5, 5);
         let call = |library: &dyn Library, memory: &mut Memory| library.open(script, memory);
-        let same = self.call("open", &shown(script, 0), before, call, is_opened)?;
+        let same = self.call("open", &shown(script, 0), before, call, is_answered)?;
         tally.add_open(script, &same.told);
-        if !is_opened(&same.told) {
+        if !is_answered(&same.told) {
             return Ok(());
         }
         let step = Step {
@@ -134,7 +156,8 @@ impl Comparing<'_> {
         if self.case.runs && script.len() <= RUN {
             return self.run(&step, same.memory, tally);
         }
-        self.trusted_step("a trusted step after opening", &step, same.memory, tally)
+        self.trusted_step("a trusted step after opening", &step, same.memory, tally)?;
+        Ok(())
     }
 
     fn run(&self, step: &Step, memory: Memory, tally: &mut Tally) -> Compared<()> {
@@ -186,13 +209,9 @@ impl Comparing<'_> {
     }
 }
 
-/// Whether a step's state was looked at and found lawful.
-fn is_looked_at(told: &Told) -> bool {
-    !matches!(told.cause(), Some(7 | 12))
-}
-
-fn is_opened(told: &Told) -> bool {
-    told.word == Word::Design as u8
+/// Whether a step or an opening wasn't refused.
+fn is_answered(told: &Told) -> bool {
+    told.cause().is_none()
 }
 
 /// A script in the notation, as far as it is short, and a place.

@@ -39,7 +39,7 @@ const OF_STEPS: [u8; 13] = [1, 2, 3, 4, 5, 6, 7, 8, 9, 10, 11, 12, 13];
 const OF_TRUSTED_STEPS: [u8; 11] = [1, 2, 3, 4, 5, 6, 8, 9, 10, 11, 13];
 
 /// The other outcomes.
-const OTHERS: [&str; 20] = [
+const OTHERS: [&str; 22] = [
     "open: design",
     "open: refused 1",
     "open: refused 2",
@@ -50,6 +50,8 @@ const OTHERS: [&str; 20] = [
     "open: refused 6",
     "open: refused 7",
     "a trusted run",
+    "step after a trusted one: answered",
+    "step after a trusted one: refused",
     "write: written",
     "write: written into just enough room",
     "write: refused 7 for a buffer",
@@ -107,6 +109,12 @@ impl Tally {
     /// Counts a trusted step.
     pub fn add_trusted_step(&mut self, told: &Told) {
         self.count(format!("trusted step: {}", outcome(told)));
+    }
+
+    /// Counts a step where the arrays have the catalog.
+    pub fn add_further_step(&mut self, told: &Told) {
+        let outcome = told.cause().map_or("answered", |_| "refused");
+        self.count(format!("step after a trusted one: {outcome}"));
     }
 
     /// Counts a trusted run.

@@ -248,24 +248,6 @@ fn the_count_of_numbers_is_always_2() {
 }
 
 #[test]
-fn the_catalog_is_built_before_12_is_looked_at() {
-    assert_answers_are_found(|given, told, memory| {
-        if given.call == Call::Step && told.cause() == Some(12) {
-            memory.catalog.heads.lent_mut()[4_000] = 3;
-        }
-    });
-}
-
-#[test]
-fn a_refused_opening_builds_a_catalog() {
-    assert_answers_are_found(|given, told, memory| {
-        if given.call == Call::Open && told.cause() == Some(6) {
-            memory.catalog.keys.lent_mut()[0] = 3;
-        }
-    });
-}
-
-#[test]
 fn writing_changes_the_state() {
     assert_causes_are_found(|given, _, memory| {
         if given.call == Call::Write {

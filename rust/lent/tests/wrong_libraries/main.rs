@@ -1,6 +1,7 @@
 //! Libraries that are right but for one thing: the comparison has to find it.
 
 mod answers;
+mod catalogs;
 mod states;
 mod wrong;
 

@@ -1,4 +1,7 @@
-//! The second implementation with a fault, in the place of the library.
+//! The second implementation with a fault, in the place of the library. Its catalog is a
+//! sum over the design and the rows: a trusted step that finds another one answers wrongly.
+
+use std::hash::{DefaultHasher, Hash, Hasher};
 
 use lent::case::Case;
 use lent::library::{Library, SecondImplementation};
@@ -28,6 +31,9 @@ pub struct Given<'a> {
     pub before: &'a Memory,
 }
 
+/// Whether something is done, by what went into a call and what it tells.
+pub type Test = dyn Fn(&Given, &Told) -> bool;
+
 /// A library with a fault.
 pub struct Wrong {
     /// What it overlooks: it takes each lent state for another one.
@@ -38,6 +44,8 @@ pub struct Wrong {
     pub causes: fn(&Given, &mut u8, &mut Memory),
     /// What it does to memory in a run.
     pub runs: fn(&mut Memory),
+    /// Where it makes the catalog of the rows.
+    pub catalogs: Box<Test>,
 }
 
 impl Default for Wrong {
@@ -47,6 +55,7 @@ impl Default for Wrong {
             answers: |_, _, _| (),
             causes: |_, _, _| (),
             runs: |_| (),
+            catalogs: Box::new(|_, told| told.cause().is_none()),
         }
     }
 }
@@ -121,11 +130,18 @@ impl Wrong {
 
     fn answer(&self, given: Given, memory: &mut Memory) -> Told {
         let (script, at) = (given.script, given.at);
+        let is_lost = given.call == Call::TrustedStep && *key(memory) != sum(memory);
         let mut told = self.see(memory, |memory| match given.call {
             Call::Open => SecondImplementation.open(script, memory),
             _ => SecondImplementation.step(script, at, memory),
         });
+        if is_lost {
+            told.numbers[0] += 1;
+        }
         (self.answers)(&given, &mut told, memory);
+        if (self.catalogs)(&given, &told) {
+            *key(memory) = sum(memory);
+        }
         told
     }
 
@@ -138,6 +154,21 @@ impl Wrong {
         (self.causes)(&given, &mut cause, memory);
         cause
     }
+}
+
+/// Where the catalog stands.
+fn key(memory: &mut Memory) -> &mut u64 {
+    &mut memory.catalog.keys.lent_mut()[0]
+}
+
+/// The catalog of the design and the rows.
+fn sum(memory: &Memory) -> u64 {
+    let mut sum = DefaultHasher::new();
+    memory.design.lent().hash(&mut sum);
+    memory.cells.lent().hash(&mut sum);
+    memory.issues.lent().hash(&mut sum);
+    memory.tables.lent().hash(&mut sum);
+    sum.finish()
 }
 
 /// Changes a buffer where the seen one was changed.
