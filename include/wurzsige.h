@@ -12,7 +12,8 @@
  *
  * Plain names can be called with anything: they refuse a desk that no run of these functions leaves (cause 12) and buffers that are too short (cause 7),
  * and a refused call leaves the desk and all lent buffers as they were. The names that end in _trusted skip these tests. They are for a desk that
- * wurzsige_open accepted and that only functions of this header have written since; with any other desk they may read and write out of bounds.
+ * wurzsige_open accepted, or on which wurzsige_step took a step that was not refused, and that only functions of this header have written since; with any
+ * other desk they may read and write out of bounds.
  *
  * Alignment: a struct wurzsige is aligned as C aligns it (8 bytes). Aliasing: the desk, the script, the words, the text, the written bytes and the answer
  * of one call must not overlap. Threads: a desk belongs to one thread at a time; calls on different desks are independent. Stack: docs/LIBRARY.md has the
@@ -104,10 +105,11 @@ enum wurzsige_word {
 struct wurzsige_answer {
     uint64_t numbers[WURZSIGE_NUMBERS]; /* the numbers behind the word, 0 behind the last of them */
     size_t place;                       /* of a refusal: where the faulty command begins; 0 with any other answer */
-    size_t next;                        /* the place after the command; after a refusal that stops, the place that was given */
+    size_t next;                        /* the place after the command; after a refusal that stops, the place that was given: 0 for an opening */
     uint8_t word;                       /* one of enum wurzsige_word */
     uint8_t count;                      /* how many numbers there are */
-    uint8_t more;                       /* 1 if reading goes on at next, 0 if it stops: after causes 1, 2, 7 and 12, and 4 for the script's length */
+    uint8_t more;                       /* 1 if reading goes on at next, 0 if it stops: after a refused opening, after causes 1, 2, 7 and 12, and after 4
+                                           for the script's length */
 };
 
 /* How much is to be lent. */
@@ -152,7 +154,7 @@ uint8_t wurzsige_parts_sizes(const uint8_t *script, size_t script_length, size_t
 
 /*
  * Opens the design that stands at the start of a script: WURZSIGE_DESIGN, or WURZSIGE_REFUSED with a cause of the design, which leaves the desk as it was.
- * What the desk held before is free. answer->next is the place behind END, where the operations begin.
+ * What the desk held before is free. answer->next is the place behind END, where the operations begin; after a refusal next and more are 0.
  */
 static inline void wurzsige_open(struct wurzsige *desk, const uint8_t *script, size_t length, struct wurzsige_answer *answer) {
     static const uint8_t nothing = 0;
@@ -163,7 +165,8 @@ static inline void wurzsige_open(struct wurzsige *desk, const uint8_t *script, s
 
 /*
  * Takes the step at place `at` of a script on whatever desk is lent: causes 7 and 12 first, which cost a look at every row and a load of everything held.
- * A desk that is not refused with 7 or 12 can be used with the _trusted functions afterwards.
+ * A refusal, whatever its cause, leaves everything as it was, the catalog's arrays included, which may hold anything before the call.
+ * A desk whose step is not refused can be used with the _trusted functions afterwards.
  */
 static inline void wurzsige_step(struct wurzsige *desk, const uint8_t *script, size_t length, size_t at, uint32_t *words, size_t words_length,
     uint8_t *text, size_t text_length, struct wurzsige_answer *answer) {
@@ -215,8 +218,9 @@ static inline uint8_t wurzsige_write(const struct wurzsige *desk, uint8_t *out, 
 }
 
 /*
- * Tells how many bytes the written design has, and how many words and bytes of text the step at place `at` would write if they were lent; it changes
- * nothing. 0, or cause 7 or 12, which leaves *sizes as it was.
+ * Tells how many bytes the written design has, and how many words and bytes of text the step at place `at` would write if they were lent: none for what is
+ * no operation, is sent, is refused for another cause than 11, or stands in a script of over 65,536 bytes. It changes nothing. 0, or cause 7 or 12, which
+ * leaves *sizes as it was.
  */
 static inline uint8_t wurzsige_sizes(const struct wurzsige *desk, const uint8_t *script, size_t length, size_t at, struct wurzsige_sizes *sizes) {
     static const uint8_t nothing = 0;

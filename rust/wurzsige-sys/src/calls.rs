@@ -78,7 +78,8 @@ impl Memory {
     }
 
     /// Takes the step at place `at` of a script on whatever stands here: causes 7 and 12
-    /// first. If it is refused with neither, this is a desk from then on.
+    /// first. If it isn't refused, this is a desk from then on. A refusal, whatever its
+    /// cause, leaves everything as it was.
     pub fn step(&mut self, script: &[u8], at: usize, words: &mut [u32], text: &mut [u8]) -> Told {
         let mut told = Told::default();
         // SAFETY: as in `open`.
@@ -104,9 +105,9 @@ impl Memory {
     ///
     /// # Safety
     ///
-    /// This is a desk: [`Memory::open`] has accepted a design here, or [`Memory::step`]
-    /// hasn't refused it with 7 or 12, and since then only functions of this crate have
-    /// written it.
+    /// This is a desk: [`Memory::open`] has accepted a design here, or [`Memory::step`] has
+    /// taken a step here that wasn't refused, and since then only functions of this crate
+    /// have written it.
     pub unsafe fn step_trusted(
         &mut self,
         script: &[u8],
@@ -199,7 +200,9 @@ impl Memory {
     }
 
     /// Tells how many bytes the written design has, and how many words and bytes of text
-    /// the step at place `at` would write if they were lent; or cause 7 or 12.
+    /// the step at place `at` would write if they were lent; or cause 7 or 12. There are
+    /// none for what is no operation, is sent, is refused for another cause than 11, or
+    /// stands in a script of over 65,536 bytes.
     pub fn sizes(&self, script: &[u8], at: usize) -> Result<Sizes, u8> {
         let mut told = [0; 3];
         // SAFETY: as in `open`.

@@ -10,7 +10,8 @@ use crate::memory::{FIRST, HEADS, KEYS, NEXT, POSITIONS, STARTS};
 use crate::told::NUMBERS;
 
 extern "C" {
-    /// Opens the design at the start of a script in memory that may hold anything.
+    /// Opens the design at the start of a script in memory that may hold anything. A
+    /// refusal leaves it as it was.
     ///
     /// # Safety
     ///
@@ -42,7 +43,9 @@ extern "C" {
         more: &mut u8,
     ) -> u8;
 
-    /// Takes the step at place `at` on whatever is lent: causes 7 and 12 first.
+    /// Takes the step at place `at` on whatever is lent: causes 7 and 12 first. A refusal,
+    /// whatever its cause, leaves everything as it was, the catalog's arrays included.
+    /// Without one they have the catalog of the rows, whatever stood there before.
     ///
     /// # Safety
     ///
@@ -83,9 +86,9 @@ extern "C" {
     ///
     /// # Safety
     ///
-    /// Beside what every call here asks: the parts are a desk that these functions
-    /// have opened and alone have written since, or that [`wurzsige_parts_step`]
-    /// didn't refuse with 7 or 12.
+    /// Beside what every call here asks: the parts are a desk. [`wurzsige_parts_open`] has
+    /// accepted a design there, or [`wurzsige_parts_step`] has taken a step there that
+    /// wasn't refused, and since then these functions alone have written them.
     pub fn wurzsige_parts_step_trusted(
         script: *const u8,
         script_length: usize,
@@ -158,7 +161,8 @@ extern "C" {
         links: &mut [u16; POSITIONS],
     );
 
-    /// Writes the design with its rows as a script: 0, or a cause.
+    /// Writes the design with its rows as a script: 0, or a cause, which leaves `out` and
+    /// `written` as they were.
     ///
     /// # Safety
     ///
@@ -182,7 +186,8 @@ extern "C" {
     ) -> u8;
 
     /// Tells how many bytes the written design has, and how many words and bytes of
-    /// text the step at place `at` would write: 0, or a cause.
+    /// text the step at place `at` would write: 0, or a cause, which leaves `sizes` as it
+    /// was.
     ///
     /// # Safety
     ///

@@ -21,13 +21,14 @@ pub struct Told {
     /// Of a refusal: where the faulty command begins; 0 with any other answer.
     pub place: usize,
     /// The place after the command; after a refusal that stops, the place that was
-    /// given.
+    /// given: 0 for an opening.
     pub next: usize,
     /// One of [`crate::word`].
     pub word: u8,
     /// How many numbers there are.
     pub count: u8,
-    /// 1 if reading goes on at `next`, 0 if it stops.
+    /// 1 if reading goes on at `next`, 0 if it stops: after a refused opening, after causes
+    /// 1, 2, 7 and 12, and after 4 for the script's length.
     pub more: u8,
 }
 

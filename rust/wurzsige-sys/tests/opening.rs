@@ -37,7 +37,8 @@ fn a_refused_design_leaves_everything_and_stops() {
             let told = memory.open(script);
             assert_eq!((told.word, told.count), (word::REFUSED, 1), "{cause}");
             assert_eq!((told.numbers[0], told.place), (*cause, *place));
-            assert_eq!(told.more, 0, "cause {cause}");
+            assert_eq!(told.numbers[1..], [0; 15]);
+            assert_eq!((told.more, told.next), (0, 0), "cause {cause}");
             assert!(memory == before, "cause {cause}");
         }
     }

@@ -8,8 +8,8 @@ use crate::answer::refusal;
 use crate::command::Command;
 use crate::refusal::Refusal;
 
-/// Memory in which a design was opened, or that has passed the test for cause 12, and
-/// that only the library has written since: nothing here lends it out to be written.
+/// Memory in which a design was opened, or a step by the plain name was answered, and that
+/// only the library has written since: nothing here lends it out to be written.
 #[derive(Debug)]
 pub(crate) struct Sound(Box<Memory>);
 
@@ -25,7 +25,7 @@ impl Sound {
     }
 
     /// Tests memory that may hold anything, by a step that every desk answers and that
-    /// changes none.
+    /// changes none. The answer leaves the catalog, whatever stood in its place.
     pub fn tested(mut memory: Box<Memory>) -> Result<Sound, Refusal> {
         let told = memory.step(Command::even().bytes(), 0, &mut [], &mut []);
         match told.word {
