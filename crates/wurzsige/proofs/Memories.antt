@@ -15,7 +15,7 @@ use Rattle.state.specs.declared.held.Held.{Held}
 use Rattle.state.specs.Lent.{lent, longEnough, lawful, sound, causeAt}
 use Rattle.script.specs.Step.{Outputs, refusing, stepAt}
 use Rattle.script.specs.Writing.{bytesOf}
-use Rattle.wurzsige.specs.Words.{designLength, heldLength, wordsDesign, wordsHeld, narrowDesign, narrowHeld}
+use Rattle.words.specs.Words.{designLength, heldLength, wordsDesign, wordsHeld, narrowDesign, narrowHeld}
 use Rattle.wurzsige.specs.Calls.{Memory, memory, stateIn, longWords, longMemory, lawfulMemory, soundMemory, memoryCause, Arrays, CatalogIn, stepIn, writeCause}
 
 -- the design and held values that are read off the words make the state that the memory stands for, and the catalog is of that design

@@ -33,12 +33,12 @@ use Rattle.script.specs.Step.{outputs}
 use Rattle.script.specs.Runs.{Buffers, buffers, justRead, beginning}
 use Rattle.script.proofs.JustRead.{into-parts, begun, none-held, none-lawful}
 use Rattle.script.proofs.Tracking.{Tracks}
-use Rattle.wurzsige.specs.Words.{designLength, heldLength, designWords, heldWords, wordsDesign, wordsHeld, narrowDesign, narrowHeld, Typed}
+use Rattle.words.specs.Words.{designLength, heldLength, designWords, heldWords, wordsDesign, wordsHeld, narrowDesign, narrowHeld, Typed}
 use Rattle.wurzsige.specs.Told.{OpenTold}
 use Rattle.wurzsige.specs.Calls.{Memory, memory, longWords, Arrays, CatalogIn, Ready, opening, memoryOpened, Opened, OpenTaken}
-use Rattle.wurzsige.proofs.WordLaws.{design-stored, held-stored}
-use Rattle.wurzsige.proofs.Narrow.{narrow-design, narrow-held}
-use Rattle.wurzsige.proofs.NarrowWords.{design-narrow, held-narrow}
+use Rattle.words.proofs.WordLaws.{design-stored, held-stored}
+use Rattle.words.proofs.Narrow.{narrow-design, narrow-held}
+use Rattle.words.proofs.NarrowWords.{design-narrow, held-narrow}
 use Rattle.wurzsige.proofs.Memories.{from-parts, long-words, short-design, short-held}
 
 -- nothing is held

@@ -29,12 +29,12 @@ use Rattle.script.specs.Runs.{Left, leaving, leftFrom}
 use Rattle.script.proofs.StepLaws.{step-sound}
 use Rattle.script.proofs.RunLaws.{left-sound}
 use Rattle.script.proofs.Theorems.{Unchanged, refused-unchanged}
-use Rattle.wurzsige.specs.Words.{heldWords, wordsDesign, wordsHeld, narrowHeld, Typed}
+use Rattle.words.specs.Words.{heldWords, wordsDesign, wordsHeld, narrowHeld, Typed}
 use Rattle.wurzsige.specs.Told.{Told, Placed, StepTold, answerIn}
 use Rattle.wurzsige.specs.Calls.{Memory, memory, stateIn, soundMemory, memoryCause, Arrays, CatalogIn, Ready, Catalogs, keeping, stepIn, memoryAfter, StepTaken, RunMade}
-use Rattle.wurzsige.proofs.WordLaws.{held-stored}
-use Rattle.wurzsige.proofs.Narrow.{narrow-held}
-use Rattle.wurzsige.proofs.NarrowWords.{held-narrow}
+use Rattle.words.proofs.WordLaws.{held-stored}
+use Rattle.words.proofs.Narrow.{narrow-held}
+use Rattle.words.proofs.NarrowWords.{held-narrow}
 use Rattle.wurzsige.proofs.ToldLaws.{told-read}
 use Rattle.wurzsige.proofs.Memories.{words-state, Parts, memory-parts, from-parts, cause-sound, step-caused, step-uncaused}
 

@@ -19,7 +19,7 @@ use Rattle.lawful.proofs.Asked.{sound-range, sound-backed}
 use Rattle.format.specs.Writing.{designBytes}
 use Rattle.script.specs.Sizes.{wordsTakenAt, textTakenAt}
 use Rattle.script.specs.Writing.{bytesOf}
-use Rattle.wurzsige.specs.Words.{wordsDesign}
+use Rattle.words.specs.Words.{wordsDesign}
 use Rattle.wurzsige.specs.Calls.{Memory, memory, stateIn, soundMemory, memoryCause, writeCause, DesignWritten, sizesIn, SizesTold}
 use Rattle.wurzsige.proofs.Memories.{memory-parts, write-caused, write-uncaused}
 

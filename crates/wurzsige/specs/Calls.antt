@@ -19,7 +19,7 @@ use Rattle.script.specs.Step.{Outputs, Stepped, refusing, stepAt}
 use Rattle.script.specs.Runs.{Left}
 use Rattle.script.specs.Sizes.{wordsTakenAt, textTakenAt}
 use Rattle.script.specs.Writing.{bytesOf}
-use Rattle.wurzsige.specs.Words.{designLength, heldLength, designWords, heldWords, wordsDesign, wordsHeld, narrowDesign, narrowHeld}
+use Rattle.words.specs.Words.{designLength, heldLength, designWords, heldWords, wordsDesign, wordsHeld, narrowDesign, narrowHeld}
 use Rattle.wurzsige.specs.Told.{StepTold, OpenTold}
 
 -- ---- what is lent

@@ -1,15 +1,15 @@
 // Causes 7 and 12 of lent memory: too few words or rows, words that are no design's or nobody's held values, and a state that is unlawful.
 ghost use mathlib.Core.Path.{_≡_};
 ghost use Rattle.state.specs.Cells.{cellsIn};
-ghost use Rattle.wurzsige.specs.Words.{wordsDesign};
+ghost use Rattle.words.specs.Words.{wordsDesign};
 ghost use Rattle.wurzsige.specs.Calls.{memory, memoryCause, arrays, CatalogIn};
-use crate::DESIGN_WORDS;
-use crate::HELD_WORDS;
-use crate::from_words::design_from;
-use crate::from_words::held_from;
-use crate::word_tests::design_narrow;
-use crate::word_tests::held_narrow;
 use cache::cause;
+use words::DESIGN_WORDS;
+use words::HELD_WORDS;
+use words::design_from;
+use words::design_narrow;
+use words::held_from;
+use words::held_narrow;
 
 // Cause 7 or 12, and 0 if neither applies; then the arrays have the catalog of the rows, whatever stood there. One look at each word, and the cost of
 // `cache::cause`.

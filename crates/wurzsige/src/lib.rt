@@ -1,26 +1,18 @@
 // The desk for programs in C or Rust, which lend it all of its memory: opening a design, one step of a script, all steps from a place on, writing a design
 // out, and how much a step and the written design take. A design and the held values are structs in Rattle, so they go across as lists of u32 words
-// (specs/Words.antt), and an answer as the number of its word, with the numbers behind the word in a lent buffer (specs/Told.antt). `include/wurzsige.h`
+// (crate `words`), and an answer as the number of its word, with the numbers behind the word in a lent buffer (specs/Told.antt). `include/wurzsige.h`
 // declares these functions and puts all that they are lent into one struct.
 //
 // Functions with a plain name take whatever is lent and test it for causes 7 and 12. Those that end in `_trusted` ask for memory that is ready
 // (specs/Calls.antt `Ready`), which opening and every step leave, and test nothing.
 
 mod causes;
-mod from_words;
 mod opening;
 mod running;
 mod sizing;
 mod stepping;
 mod telling;
-mod to_words;
-mod word_tests;
 mod writing;
-
-// How many words a design takes, and held values.
-const DESIGN_WORDS: usize = 115;
-
-const HELD_WORDS: usize = 358;
 
 // The number of a refusal's word.
 const REFUSED: u8 = 7;

@@ -4,16 +4,16 @@ ghost use Rattle.state.specs.Cells.{cellsIn};
 ghost use Rattle.state.specs.Design.{emptyDesign};
 ghost use Rattle.format.specs.declared.verdict.Verdict.the-variants as Verdicts;
 ghost use Rattle.wurzsige.specs.Calls.{memory, arrays, opening, Opened, OpenTaken};
-use crate::DESIGN_WORDS;
-use crate::HELD_WORDS;
 use crate::telling::tell_reading;
-use crate::to_words::put_design;
-use crate::to_words::put_held;
 use format::DesignReading;
 use format::Verdict;
 use format::read_catalogued;
 use state::Design;
 use state::Held;
+use words::DESIGN_WORDS;
+use words::HELD_WORDS;
+use words::put_design;
+use words::put_held;
 
 // A refusal with cause 7. Constant time.
 fn short() -> DesignReading

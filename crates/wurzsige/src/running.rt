@@ -4,10 +4,10 @@ ghost use Rattle.state.specs.Cells.{cellsIn};
 ghost use Rattle.script.specs.Step.{outputs};
 ghost use Rattle.script.specs.Runs.{leftFrom};
 ghost use Rattle.wurzsige.specs.Calls.{memory, arrays, stateIn, Ready, RunMade};
-use crate::from_words::design_from;
-use crate::from_words::held_from;
-use crate::to_words::put_held;
 use script::run_lawful;
+use words::design_from;
+use words::held_from;
+use words::put_held;
 
 // The steps from place `at` on, until the script ends or cause 1, 2 or 4 stops it; no answer is told, the answer words are the last query's, and the text is
 // the last reason's. The arrays behind `text` are working memory. The cost of the operations, and one copy of the design's and the held values' words.

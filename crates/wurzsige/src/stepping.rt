@@ -1,18 +1,39 @@
 // One step of a script on lent memory.
+ghost use Prim.Native.Nat.{_≤_};
 ghost use mathlib.Core.Path.{_≡_};
+ghost use mathlib.Core.Bool.{false, cond};
+ghost use lib.ListN.{length};
+ghost use lib.Seq.{sets};
 ghost use Rattle.model.specs.Answers.{isRefusal};
 ghost use Rattle.state.specs.Cells.{cellsIn};
+ghost use Rattle.state.specs.Held.{Tidy};
+ghost use Rattle.state.specs.Meaning.{answerOf};
 ghost use Rattle.script.specs.Step.{outputs};
+ghost use Rattle.words.specs.Words.{heldWords, Typed};
 ghost use Rattle.wurzsige.specs.Calls.{memory, arrays, Ready, Catalogs, stepIn, StepTaken};
 use crate::REFUSED;
 use crate::causes::memory_cause;
-use crate::from_words::design_from;
-use crate::from_words::held_from;
 use crate::telling::tell;
 use crate::telling::tell_places;
-use crate::to_words::keep_held;
 use script::step_lawful;
 use state::Answer;
+use state::Held;
+use state::is_refusal;
+use words::design_from;
+use words::held_from;
+use words::put_held;
+
+// Stores what is held as `put_held` does, unless the answer is a refusal.
+fn keep_held(answer: Answer, h: Held, words: &mut [u32])
+    requires { ⌜ (358 ≤ length (now words)) × Tidy h ⌝ }
+    ensures { λ _. ⌜ (now (words .exit) ≡ cond (isRefusal (answerOf answer)) (now (words .entry)) (sets (now (words .entry)) 0 (heldWords h)))
+        × (isRefusal (answerOf answer) ≡ false → Typed h) ⌝ }
+{
+    if is_refusal(answer) {
+        return;
+    }
+    put_held(h, words);
+}
 
 // The step at place `at` of a script on memory that is ready: the number of the answer's word, with what is told beside it; the arrays behind `text` are
 // working memory, whatever stands in them before, and nothing is said of them after. A reason's sentence stands in `text`, from its first byte on. The cost of
