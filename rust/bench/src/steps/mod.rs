@@ -1,4 +1,4 @@
-//! The library's figures for `docs/LIBRARY.md`: its sizes, what a step costs that tests
+//! The library's figures for `docs/BENCHMARKS.md`: its sizes, what a step costs that tests
 //! its desk and one that trusts it, and how much stack a call takes.
 
 #![allow(unsafe_code)]

@@ -45,7 +45,7 @@ mod tests {
 
     #[test]
     fn the_library_s_page_has_a_place_for_figures() {
-        let path = concat!(env!("CARGO_MANIFEST_DIR"), "/../../docs/LIBRARY.md");
+        let path = concat!(env!("CARGO_MANIFEST_DIR"), "/../../docs/BENCHMARKS.md");
         let page = std::fs::read_to_string(path).expect("the page");
         assert!(filled(&page, "").is_some());
     }
