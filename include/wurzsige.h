@@ -16,8 +16,8 @@
  * other desk they may read and write out of bounds.
  *
  * Alignment: a struct wurzsige is aligned as C aligns it (8 bytes). Aliasing: the desk, the script, the words, the text, the written bytes and the answer
- * of one call must not overlap. Threads: a desk belongs to one thread at a time; calls on different desks are independent. Stack: docs/LIBRARY.md has the
- * figures; 1 MB is enough for every call.
+ * of one call must not overlap. Threads: a desk belongs to one thread at a time; calls on different desks are independent. Stack: docs/BENCHMARKS.md has the
+ * figures, and 1 MB is meant to be enough for every call.
  *
  * A null pointer counts as a buffer of no bytes, for the script, the words, the text and the written bytes. The desk and the answer are never null.
  */
