@@ -1,7 +1,7 @@
 -- Rows that stand are lawful exactly if no row has a next row in a unique column. Assumes nothing.
 use Prim.Native.Nat.{ℕ, _+_, _≤_, _<_}
 use native.Mathlib.Omega.{arith}
-use mathlib.Core.Path.{_≡_, sym, ap, subst, _∙_}
+use mathlib.Core.Path.{_≡_, refl, sym, ap, subst, _∙_}
 use mathlib.Core.Logic.{⊎-elim}
 use mathlib.Core.Bool.{true, false, not, _&&_, and-eq-true-iff}
 use mathlib.Core.List.{List}
@@ -23,12 +23,12 @@ use Rattle.state.specs.Lawful.{lawfulRows}
 use Rattle.lawful.specs.Parts.{rowsStand}
 use Rattle.lawful.proofs.RowsLaws.{cell-past, unique-says, stand-lawful}
 use Rattle.finite.specs.Finite.{firstFrom}
-use Rattle.catalog.specs.Catalog.{columnAt, nextOf, nexts}
+use Rattle.catalog.specs.Catalog.{columnAt, nextOf}
 use Rattle.finite.proofs.First.{first-from}
-use Rattle.catalog.proofs.CatalogLaws.{next-at, next-has}
+use Rattle.catalog.proofs.CatalogLaws.{next-has}
 use Rattle.cache.specs.Distinct.{linkedAt, distinct}
 
-module _ (d : Design) (cells : Cells) (tables next : List ℕ) (n : next ≡ nexts (databaseOf cells tables)) where
+module _ (d : Design) (cells : Cells) (tables : List ℕ) where
   abbrev D : Database
   D = databaseOf cells tables
 
@@ -37,10 +37,10 @@ module _ (d : Design) (cells : Cells) (tables next : List ℕ) (n : next ≡ nex
   row-low r e = D .finite r e
 
   -- what the link of a cell says
-  linked-at : (r c : ℕ) → r < 512 → c < 8 →
-      linkedAt (tableAt d (getD tables r 0) .unique) next r c ≡ schemeOf d .unique (columnAt D r c) && ltb (nextOf D r c) 512
+  linked-at : (r c : ℕ) →
+      linkedAt (tableAt d (getD tables r 0) .unique) D r c ≡ schemeOf d .unique (columnAt D r c) && ltb (nextOf D r c) 512
   unfolding schemeOf databaseOf
-  linked-at r c l m = ap (λ (x : ℕ). bit (tableAt d (getD tables r 0) .unique) c && ltb x 512) (next-at D next n r c l m)
+  linked-at r c = refl
 
   -- row r has a value in its column c, and so has a later row
   abbrev Later : ℕ → ℕ → Type 0
@@ -62,16 +62,16 @@ module _ (d : Design) (cells : Cells) (tables next : List ℕ) (n : next ≡ nex
           (s, omega (arith, f .start), has-Has D _ _ r t, has-Has D _ _ s (f .here (omega (arith, e, h))))
 
   -- lawful rows have none
-  lawful-distinct : lawfulRows d cells tables ≡ true → distinct d tables next ≡ true
+  lawful-distinct : lawfulRows d cells tables ≡ true → distinct d tables D ≡ true
   unfolding distinct
   lawful-distinct e = all-true 512 _ (λ r l. ap not (refute _ (λ t.
-      let f = any-found 8 (linkedAt (tableAt d (getD tables r 0) .unique) next r) t in
-      let b = and-eq-true-iff (schemeOf d .unique (columnAt D r (f .0))) _ .0 (sym (linked-at r (f .0) l (f .1)) ∙ f .2) in
+      let f = any-found 8 (linkedAt (tableAt d (getD tables r 0) .unique) D r) t in
+      let b = and-eq-true-iff (schemeOf d .unique (columnAt D r (f .0))) _ .0 (sym (linked-at r (f .0)) ∙ f .2) in
       let s = next-row r (f .0) l (ltb-true _ _ (b .1)) in
       let same = unique-says d cells tables e (columnAt D r (f .0)) _ r (s .0) (b .0) (s .2) (s .3) in
       omega (arith, s .1))))
 
-  module _ (q : distinct d tables next ≡ true) where
+  module _ (q : distinct d tables D ≡ true) where
     -- of two rows with one value in a unique column the earlier has a next row
     never : (k : Model.Column) (v : Cell) (r s : ℕ) → schemeOf d .unique k ≡ true → Has D k v r → Has D k v s → r < s → ⊥
     unfolding distinct
@@ -92,8 +92,8 @@ module _ (d : Design) (cells : Cells) (tables next : List ℕ) (n : next ≡ nex
             clash (Has-has b) (f .none s (omega arith) (ltb-true _ _ w))) (λ (w : ltb s (firstFrom 512 (has D k v) (r + 1)) ≡ false). ltb-false _ _ w)
             (dec (ltb s (firstFrom 512 (has D k v) (r + 1)))) in
             let z = row-low s (b .live) in
-            clash (any-true 8 (linkedAt (tableAt d (getD tables r 0) .unique) next r) (k .place) (ltb-true _ _ p)
-            (linked-at r (k .place) l (ltb-true _ _ p) ∙
+            clash (any-true 8 (linkedAt (tableAt d (getD tables r 0) .unique) D r) (k .place) (ltb-true _ _ p)
+            (linked-at r (k .place) ∙
             both (subst (λ (j : Model.Column). schemeOf d .unique j ≡ true) here u) (lt-ltb (nextOf D r (k .place)) 512 (omega (arith, e, m, z)))))
             (not-true _ (all-at 512 _ q r l))
 
@@ -103,5 +103,5 @@ module _ (d : Design) (cells : Cells) (tables next : List ℕ) (n : next ≡ nex
         (λ o. ⊎-elim (λ (e : r ≡ s). e) (λ (p : s < r). absurd (never k v s r u b a p)) o) (order r s)
 
   -- rows that stand
-  pub distinct-is : rowsStand d cells tables ≡ true → distinct d tables next ≡ lawfulRows d cells tables
+  pub distinct-is : rowsStand d cells tables ≡ true → distinct d tables D ≡ lawfulRows d cells tables
   distinct-is e = bool-ext _ _ (λ q. stand-lawful d cells tables e (unique q)) lawful-distinct

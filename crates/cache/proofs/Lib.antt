@@ -1,11 +1,14 @@
--- HeldRecord, RangeRecord: the record and what it holds. TakenLaws: whether a REFER takes a pair. LoadLaws: the levels of a load over lent rows. Covered: why a drop adds no row.
+-- HeldRecord, RangeRecord: the record and what it holds. HeldShifts: its words when a value comes or goes. RecordWords: a record stored as words, and read. TakenLaws: whether a REFER takes a pair. LoadLaws: the levels of a load over lent rows. Covered: why a drop adds no row. CauseWords: causes 7 and 12 of lent words.
 -- DistinctLaws: when rows have no value twice in a unique column. Answering, RangeAnswers: the answers along the order of causes. Steps, RangeSteps, ProbeSteps,
 -- NameSteps: what the code's tests say of the answer and of the state afterwards. ThinForm, Thin: the wrappers over a record that is lent.
 pub mod HeldRecord
+pub mod HeldShifts
+pub mod RecordWords
 pub mod RangeRecord
 pub mod TakenLaws
 pub mod LoadLaws
 pub mod Covered
+pub mod CauseWords
 pub mod DistinctLaws
 pub mod Answering
 pub mod RangeAnswers

@@ -1,7 +1,7 @@
 -- What the load's functions give over lent rows, in the words of specs/Loads.antt. Assumes nothing.
 use Prim.Native.Nat.{ℕ, zero, suc, _+_, _-_, _≤_, _<_}
 use native.Mathlib.Omega.{arith}
-use mathlib.Core.Path.{_≡_, refl, ap, ap₂, _∙_}
+use mathlib.Core.Path.{_≡_, refl, sym, ap, ap₂, _∙_}
 use mathlib.Core.Bool.{Bool, true, false, not, cond, _&&_}
 use mathlib.Core.List.{List, _++_}
 use lib.Dec.{eqb}
@@ -53,64 +53,69 @@ count-rest (suc n) p q h = go (p n) (q n) (h n) (count-rest n p q h)
 pub within-count : {S : Scheme} {D : Database} {seed X : RowSet} {n : ℕ} → n ≡ count 512 X → Covers S D seed X → Within S D seed n
 within-count {X} e c = record { set = X; covers = c; few = omega arith }
 
-module _ (d : Design) (cells : Cells) (tables : List ℕ) where
+module _ (d : Design) (D : Database) (z : D .size ≡ 512) where
   -- ---- a load of one value more
 
   pub value-is : (m : List ℕ) (k : Column) (v : Cell) (K : List ℕ) →
-      K ≡ load (schemeOf d) (databaseOf cells tables) (marked m) (has (databaseOf cells tables) (columnOf k) (cellOf v)) → K ≡ valueLevels d cells tables m k v
+      K ≡ load (schemeOf d) D (marked m) (has D (columnOf k) (cellOf v)) → K ≡ valueLevels d D m k v
   unfolding valueLevels
   value-is m k v K e = e
 
   -- and of one range more
   pub span-is : (m : List ℕ) (k : Column) (q : Range) (K : List ℕ) →
-      K ≡ load (schemeOf d) (databaseOf cells tables) (marked m) (hasRange (databaseOf cells tables) (columnOf k) (rangeOf q)) → K ≡ spanLevels d cells tables m k q
+      K ≡ load (schemeOf d) D (marked m) (hasRange D (columnOf k) (rangeOf q)) → K ≡ spanLevels d D m k q
   unfolding spanLevels
   span-is m k q K e = e
 
-  pub load-long : (m : List ℕ) (seed : RowSet) (K : List ℕ) → K ≡ load (schemeOf d) (databaseOf cells tables) (marked m) seed → length K ≡ 512
-  unfolding load databaseOf
-  load-long m seed K e = ap length e ∙ levels-length (schemeOf d) (databaseOf cells tables) _ _ 512
+  pub load-long : (m : List ℕ) (seed : RowSet) (K : List ℕ) → K ≡ load (schemeOf d) D (marked m) seed → length K ≡ 512
+  unfolding load
+  load-long m seed K e = ap length e ∙ levels-length (schemeOf d) D _ _ _ ∙ z
 
-  pub loaded-is : (K L : List ℕ) (rows rounds : ℕ) → K ≡ L → rows ≡ addedRows (databaseOf cells tables) K → rounds ≡ laterRounds (databaseOf cells tables) K →
-      Answers.loaded rows rounds ≡ Answers.loaded (addedRows (databaseOf cells tables) L) (laterRounds (databaseOf cells tables) L)
+  pub loaded-is : (K L : List ℕ) (rows rounds : ℕ) → K ≡ L → rows ≡ addedRows D K → rounds ≡ laterRounds D K →
+      Answers.loaded rows rounds ≡ Answers.loaded (addedRows D L) (laterRounds D L)
   loaded-is K L rows rounds e f g =
-      ap₂ Answers.loaded (f ∙ ap (addedRows (databaseOf cells tables)) e) (g ∙ ap (laterRounds (databaseOf cells tables)) e)
+      ap₂ Answers.loaded (f ∙ ap (addedRows D) e) (g ∙ ap (laterRounds D) e)
 
   -- ---- what is read off levels K that reach the rows that the levels L do
 
   module _ (K L : List ℕ) (same : (r : ℕ) → r < 512 → reached K r ≡ reached L r) where
-    pub settled-is : (m new : List ℕ) → new ≡ tab 512 (λ r. cond (reached K r) 1 0) ++ drop 512 m → new ≡ settled (databaseOf cells tables) L m
-    unfolding settled marks databaseOf
-    settled-is m new f = f ∙ ap (λ (xs : List ℕ). xs ++ drop 512 m) (tab-same 512 _ _ (λ r l. ap (λ (b : Bool). cond b 1 0) (same r l)))
+    pub settled-is : (m new : List ℕ) → new ≡ tab 512 (λ r. cond (reached K r) 1 0) ++ drop 512 m → new ≡ settled D L m
+    unfolding settled marks
+    settled-is m new f =
+        f ∙ ap (λ (xs : List ℕ). xs ++ drop 512 m) (tab-same 512 _ _ (λ r l. ap (λ (b : Bool). cond b 1 0) (same r l))) ∙
+        ap (λ (n : ℕ). tab n (λ r. cond (reached L r) 1 0) ++ drop 512 m) (sym z)
 
-    gone-is : (m : List ℕ) → Inside (reached L) (marked m) → count 512 (reached K) + goneRows (databaseOf cells tables) L m ≡ count 512 (marked m)
-    unfolding goneRows databaseOf
+    gone-is : (m : List ℕ) → Inside (reached L) (marked m) → count 512 (reached K) + goneRows D L m ≡ count 512 (marked m)
+    unfolding goneRows
     gone-is m i =
+        ap (λ (n : ℕ). count 512 (reached K) + count n (λ r. marked m r && not (reached L r))) z ∙
         ap (λ (n : ℕ). n + count 512 (λ r. marked m r && not (reached L r))) (count-same 512 (reached K) (reached L) same) ∙
         count-rest 512 (marked m) (reached L) i
 
   -- ---- the load of all held values
 
-  module _ (h : Held) (K : List ℕ) (rows : ℕ) (u : Reaches K (reloadLevels (schemeOf d) (databaseOf cells tables) (holdingOf h)) rows) where
-    pub held-same : (r : ℕ) → r < 512 → reached K r ≡ reached (heldLevels d cells tables h) r
+  module _ (h : Held) (K : List ℕ) (rows : ℕ) (u : Reaches K (reloadLevels (schemeOf d) D (holdingOf h)) rows) where
+    pub held-same : (r : ℕ) → r < 512 → reached K r ≡ reached (heldLevels d D h) r
     unfolding heldLevels
     held-same r l = ap (λ (J : List ℕ). reached J r) (u .levels)
 
-    pub agree-is : (m : List ℕ) → all 512 (λ r. eqb (getD m r 0) (cond (reached K r) 1 0)) ≡ lawfulMarks d cells tables h m
-    unfolding lawfulMarks
-    agree-is m = all-same 512 _ _ (λ r l. ap (λ (J : List ℕ). eqb (getD m r 0) (cond (reached J r) 1 0)) (u .levels))
-
-    module _ (m : List ℕ) (cached : ℕ) (e : cached ≡ count 512 (marked m)) (c : Covers (schemeOf d) (databaseOf cells tables) (wanted (schemeOf d)
-        (databaseOf cells tables) (holdingOf h)) (marked m)) where
-      all-marked : Inside (reached (heldLevels d cells tables h)) (marked m)
+    module _ (m : List ℕ) (cached : ℕ) (e : cached ≡ count 512 (marked m)) (c : Covers (schemeOf d) D (wanted (schemeOf d)
+        D (holdingOf h)) (marked m)) where
+      all-marked : Inside (reached (heldLevels d D h)) (marked m)
       unfolding heldLevels reloadLevels
-      all-marked = load-covered (schemeOf d) (databaseOf cells tables) _ (marked m) c
+      all-marked = load-covered (schemeOf d) D _ (marked m) c
 
-      gone : count 512 (reached K) + goneRows (databaseOf cells tables) (heldLevels d cells tables h) m ≡ count 512 (marked m)
+      gone : count 512 (reached K) + goneRows D (heldLevels d D h) m ≡ count 512 (marked m)
       gone = gone-is K _ held-same m all-marked
 
       pub rows-fewer : rows ≤ cached
       rows-fewer = omega (arith, gone, u .size)
 
-      pub dropped-is : Answers.dropped (cached - rows) ≡ Answers.dropped (goneRows (databaseOf cells tables) (heldLevels d cells tables h) m)
+      pub dropped-is : Answers.dropped (cached - rows) ≡ Answers.dropped (goneRows D (heldLevels d D h) m)
       dropped-is = ap Answers.dropped (omega (arith, gone, u .size))
+
+-- whether marks are those of the rows that are reached
+pub agree-is : (d : Design) (cells : Cells) (tables : List ℕ) (h : Held) (K : List ℕ) (rows : ℕ) → Reaches K (reloadLevels (schemeOf d) (databaseOf cells tables) (holdingOf h)) rows →
+    (m : List ℕ) → all 512 (λ r. eqb (getD m r 0) (cond (reached K r) 1 0)) ≡ lawfulMarks d cells tables h m
+unfolding lawfulMarks
+agree-is d cells tables h K rows u m = all-same 512 _ _ (λ r l. ap (λ (J : List ℕ). eqb (getD m r 0) (cond (reached J r) 1 0)) (u .levels))

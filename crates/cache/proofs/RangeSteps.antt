@@ -95,14 +95,14 @@ module _ (s : State) (e : sound s ≡ true) where
             range-8 m = stays s e z _ _ (range-full _ _ _ (rangeOf q) f k covers-not (room-is ∙ lt-leb _ _ m))
 
             -- the load beside all marks is the load beside the first 512
-            levels-same : spanLevels (s .design) (s .cells) (s .tables) (s .marks) (fillingAt (s .design) (q .filling) .column) q ≡
+            levels-same : spanLevels (s .design) (database s) (s .marks) (fillingAt (s .design) (q .filling) .column) q ≡
                 rangeLevels (scheme s) (database s) (marked (take 512 (s .marks))) (rangeOf q)
             unfolding spanLevels rangeLevels schemeOf databaseOf
             levels-same = load-same (scheme s) (database s) _ _ _ _ (λ r l. marked-front (s .marks) 512 r l) (λ r l. refl)
 
             pub range-load : t .count ≤ 8 → (a : Answer) (h : Held) (m : List ℕ) →
                 (let D = databaseOf (s .cells) (s .tables) in
-                let L = spanLevels (s .design) (s .cells) (s .tables) (s .marks) (fillingAt (s .design) (q .filling) .column) q in
+                let L = spanLevels (s .design) (database s) (s .marks) (fillingAt (s .design) (q .filling) .column) q in
                 (a ≡ loaded (addedRows D L) (laterRounds D L)) × (m ≡ settled D L (s .marks))) →
                 h ≡ record { desk = s .held .desk; count = s .held .count; values = s .held .values; ranges = set (s .held .ranges) (s .held .desk) t } →
                 Answered s (referRange (rangeOf q)) a (lent (s .design) (s .cells) (s .tables) m h)
@@ -160,7 +160,7 @@ module _ (s : State) (e : sound s ≡ true) where
 
         pub range-drop : (a : Answer) (m : List ℕ) →
             (let D = databaseOf (s .cells) (s .tables) in
-            let L = heldLevels (s .design) (s .cells) (s .tables) h in
+            let L = heldLevels (s .design) (database s) h in
             (a ≡ dropped (goneRows D L (s .marks))) × (m ≡ settled D L (s .marks))) →
             Answered s (dropRange (rangeOf q)) a (lent (s .design) (s .cells) (s .tables) m h)
         unfolding settled
@@ -172,7 +172,7 @@ module _ (s : State) (e : sound s ≡ true) where
             (w .1 ∙ ap (λ (L : List ℕ). marks (database s) (reached L) ++ past 512 (s .marks)) same ∙
             sym (ap (λ (c : Cache). c .marks ++ past 512 (s .marks)) left))
           where
-            same : heldLevels (s .design) (s .cells) (s .tables) h ≡ reloadLevels (scheme s) (database s) rest
+            same : heldLevels (s .design) (database s) h ≡ reloadLevels (scheme s) (database s) rest
             same = reload-of s e rest rest-fits h left-is
 
             left : after s (dropRange (rangeOf q)) ≡ reloaded (scheme s) (database s) rest

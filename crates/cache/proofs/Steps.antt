@@ -67,7 +67,7 @@ module _ (s : State) (e : sound s ≡ true) where
     left-of-holding = ap holdingOf q ∙ holding-back rest fits
 
     -- a load of what it holds is the reload of what is left
-    pub reload-of : heldLevels (s .design) (s .cells) (s .tables) h ≡ reloadLevels (scheme s) (database s) rest
+    pub reload-of : heldLevels (s .design) (database s) h ≡ reloadLevels (scheme s) (database s) rest
     unfolding heldLevels
     reload-of = ap (reloadLevels (scheme s) (database s)) left-of-holding
 
@@ -110,14 +110,14 @@ module _ (s : State) (e : sound s ≡ true) where
             refer-8 r = stays l _ _ (refer-full _ _ _ (pairOf v) (exists v f) b k n r)
 
             -- the load beside all marks is the load beside the first 512
-            levels-same : valueLevels (s .design) (s .cells) (s .tables) (s .marks) (fillingAt (s .design) (v .filling) .column) (v .value) ≡
+            levels-same : valueLevels (s .design) (database s) (s .marks) (fillingAt (s .design) (v .filling) .column) (v .value) ≡
                 referLevels (scheme s) (database s) (marked (take 512 (s .marks))) (pairOf v)
             unfolding valueLevels referLevels schemeOf databaseOf
             levels-same = load-same (scheme s) (database s) _ _ _ _ (λ r l. marked-front (s .marks) 512 r l) (λ r l. refl)
 
             pub refer-load : hasRoom (holdingOf (s .held)) ≡ true → (a : Answer) (h : Held) (m : List ℕ) →
                 (let D = databaseOf (s .cells) (s .tables) in
-                let L = valueLevels (s .design) (s .cells) (s .tables) (s .marks) (fillingAt (s .design) (v .filling) .column) (v .value) in
+                let L = valueLevels (s .design) (database s) (s .marks) (fillingAt (s .design) (v .filling) .column) (v .value) in
                 (a ≡ loaded (addedRows D L) (laterRounds D L)) × (m ≡ settled D L (s .marks))) →
                 h ≡ heldOf (withPair (holdingOf (s .held)) (pairOf v)) → Answered s (refer (pairOf v)) a (lent (s .design) (s .cells) (s .tables) m h)
             unfolding schemeOf settled
@@ -173,12 +173,12 @@ module _ (s : State) (e : sound s ≡ true) where
               subst (λ (g : Holding). Covers (scheme s) (database s) (wanted (scheme s) (database s) g) (marked (s .marks)))
               (sym (left-of-holding rest rest-fits h q)) (sound-covers s e (pairOf v))
 
-          reload-same : heldLevels (s .design) (s .cells) (s .tables) h ≡ reloadLevels (scheme s) (database s) rest
+          reload-same : heldLevels (s .design) (database s) h ≡ reloadLevels (scheme s) (database s) rest
           reload-same = reload-of rest rest-fits h q
 
           pub drop-load : (a : Answer) (m : List ℕ) →
               (let D = databaseOf (s .cells) (s .tables) in
-              let L = heldLevels (s .design) (s .cells) (s .tables) h in
+              let L = heldLevels (s .design) (database s) h in
               (a ≡ dropped (goneRows D L (s .marks))) × (m ≡ settled D L (s .marks))) →
               Answered s (drop (pairOf v)) a (lent (s .design) (s .cells) (s .tables) m h)
           unfolding schemeOf settled

@@ -1,73 +1,49 @@
 // DROP over a sound state.
-ghost use mathlib.Core.Bool.{true};
-ghost use mathlib.Core.Path.{_≡_};
+ghost use Prim.Native.Nat.{ℕ};
+ghost use mathlib.Core.List.{List};
 ghost use Rattle.model.specs.Runs as Runs;
-ghost use Rattle.state.specs.Cells.{cellsIn};
+ghost use Rattle.state.specs.Cells.{Cells};
+ghost use Rattle.state.specs.HeldWords.{wordsHeld, Whole};
 ghost use Rattle.state.specs.Meaning.{pairOf, answerOf};
-ghost use Rattle.state.specs.Lent.{lent, sound, Answered};
-ghost use Rattle.catalog.specs.Catalog.{Catalogued};
+ghost use Rattle.state.specs.Lent.{lent, Answered};
+ghost use Rattle.cache.specs.Ready.{Ready};
 use crate::loads::mark_held;
-use crate::outcome::Outcome;
-use crate::values::closed;
+use crate::values::close_gap;
 use crate::values::place;
 use state::Answer;
 use state::Design;
-use state::Held;
 use state::HeldValue;
 use state::is_numberless;
+use state::value_count;
 
 // Lets the named desk's value go, and the cached rows become the smallest set for the values left. One look at each held value, then one reload: a
 // step for each row that is reached and each constraint.
 pub fn drop_lawful(
     design: Design,
-    cells: &[u32],
-    issues: &[u8],
-    tables: &[u8],
-    next: &[u16; 4096],
-    first: &[u16; 8192],
+    catalog: &[u16; 16449],
     keys: &[u64; 4096],
-    heads: &[u16; 4096],
-    starts: &[u16; 65],
     marks: &mut [u8],
-    held: Held,
+    held: &mut [u32; 358],
     v: HeldValue,
-) -> Outcome
-    requires { ⌜ (sound (lent design (cellsIn (now cells) (now issues)) (now tables) (now marks) held) ≡ true)
-        × Catalogued design (cellsIn (now cells) (now issues)) (now tables) (now next) (now first) (now keys) (now heads) (now starts) ⌝ }
-    ensures { λ o. ⌜ Answered (lent design (cellsIn (now (cells .entry)) (now (issues .entry))) (now (tables .entry)) (now (marks .entry)) held)
-        (Runs.drop (pairOf v)) (answerOf (o .answer))
-        (lent design (cellsIn (now (cells .entry)) (now (issues .entry))) (now (tables .entry)) (now (marks .exit)) (o .held)) ⌝ }
+) -> Answer
+    requires { ⌜ Whole (now held) ⌝ }
+    requires { ⌜ ((cells : Cells) × (tables : List ℕ) × Ready design cells tables (now marks) (wordsHeld (now held)) (now catalog) (now keys)) ⌝ }
+    ensures { λ a. ⌜ Whole (now (held .exit))
+        × ((cells : Cells) (tables : List ℕ) → Ready design cells tables (now (marks .entry)) (wordsHeld (now (held .entry))) (now (catalog .entry)) (now (keys .entry))
+        → Answered (lent design cells tables (now (marks .entry)) (wordsHeld (now (held .entry)))) (Runs.drop (pairOf v)) (answerOf a)
+        (lent design cells tables (now (marks .exit)) (wordsHeld (now (held .exit))))) ⌝ }
 {
     let f = v.filling as usize;
     if design.fillings <= f {
-        let answer = Answer::Refused(5);
-        return Outcome { held, answer };
+        return Answer::Refused(5);
     }
     if is_numberless(v.value) {
-        let answer = Answer::Refused(9);
-        return Outcome { held, answer };
+        return Answer::Refused(9);
     }
     let gap = place(held, v);
-    if held.count <= gap {
-        let answer = Answer::Refused(10);
-        return Outcome { held, answer };
+    if value_count(held) <= gap {
+        return Answer::Refused(10);
     }
-    let fewer = closed(held, gap);
-    let answer = mark_held(
-        design,
-        cells,
-        issues,
-        tables,
-        next,
-        first,
-        keys,
-        heads,
-        starts,
-        marks,
-        fewer,
-    );
-    Outcome {
-        held: fewer,
-        answer: answer,
-    }
+    close_gap(held, gap);
+    mark_held(design, catalog, keys, marks, held)
 }

@@ -1,94 +1,54 @@
 // The held values lent by `&mut`: REFER and DROP over a sound state, as thin functions that store the record whole.
-ghost use mathlib.Core.Bool.{true};
-ghost use mathlib.Core.Path.{_≡_};
+ghost use Prim.Native.Nat.{ℕ};
+ghost use mathlib.Core.List.{List};
 ghost use Rattle.model.specs.Runs as Runs;
-ghost use Rattle.state.specs.Cells.{cellsIn};
+ghost use Rattle.state.specs.Cells.{Cells};
 ghost use Rattle.state.specs.Meaning.{pairOf, answerOf};
-ghost use Rattle.state.specs.Lent.{lent, sound, Answered};
-ghost use Rattle.catalog.specs.Catalog.{Catalogued};
-use crate::dropping::drop_lawful;
-use crate::referring::refer_lawful;
+ghost use Rattle.state.specs.Lent.{lent, Answered};
+ghost use Rattle.cache.specs.Ready.{Ready};
+use crate::records::drop_record;
+use crate::records::refer_record;
 use state::Answer;
 use state::Design;
 use state::Held;
 use state::HeldValue;
 
-// REFER with the held values lent. The cost of `refer_lawful`.
+// REFER with the held values lent. The cost of `refer_record`.
 pub fn refer(
     design: Design,
-    cells: &[u32],
-    issues: &[u8],
-    tables: &[u8],
-    next: &[u16; 4096],
-    first: &[u16; 8192],
+    catalog: &[u16; 16449],
     keys: &[u64; 4096],
-    heads: &[u16; 4096],
-    starts: &[u16; 65],
     marks: &mut [u8],
     held: &mut Held,
     v: HeldValue,
 ) -> Answer
-    requires { ⌜ (sound (lent design (cellsIn (now cells) (now issues)) (now tables) (now marks) (now held)) ≡ true)
-        × Catalogued design (cellsIn (now cells) (now issues)) (now tables) (now next) (now first) (now keys) (now heads) (now starts) ⌝ }
-    ensures { λ a. ⌜ Answered (lent design (cellsIn (now (cells .entry)) (now (issues .entry))) (now (tables .entry)) (now (marks .entry)) (now (held .entry)))
-        (Runs.refer (pairOf v)) (answerOf a)
-        (lent design (cellsIn (now (cells .entry)) (now (issues .entry))) (now (tables .entry)) (now (marks .exit)) (now (held .exit))) ⌝ }
+    requires { ⌜ ((cells : Cells) × (tables : List ℕ) × Ready design cells tables (now marks) (now held) (now catalog) (now keys)) ⌝ }
+    ensures { λ a. ⌜ ((cells : Cells) (tables : List ℕ) → Ready design cells tables (now (marks .entry)) (now (held .entry)) (now (catalog .entry)) (now (keys .entry))
+        → Answered (lent design cells tables (now (marks .entry)) (now (held .entry))) (Runs.refer (pairOf v)) (answerOf a)
+        (lent design cells tables (now (marks .exit)) (now (held .exit)))) ⌝ }
 {
     let h = *held;
-    let o = refer_lawful(
-        design,
-        cells,
-        issues,
-        tables,
-        next,
-        first,
-        keys,
-        heads,
-        starts,
-        marks,
-        h,
-        v,
-    );
+    let o = refer_record(design, catalog, keys, marks, h, v);
     *held = o.held;
     o.answer
 }
 
-// DROP with the held values lent. The cost of `drop_lawful`.
+// DROP with the held values lent. The cost of `drop_record`.
 pub fn drop(
     design: Design,
-    cells: &[u32],
-    issues: &[u8],
-    tables: &[u8],
-    next: &[u16; 4096],
-    first: &[u16; 8192],
+    catalog: &[u16; 16449],
     keys: &[u64; 4096],
-    heads: &[u16; 4096],
-    starts: &[u16; 65],
     marks: &mut [u8],
     held: &mut Held,
     v: HeldValue,
 ) -> Answer
-    requires { ⌜ (sound (lent design (cellsIn (now cells) (now issues)) (now tables) (now marks) (now held)) ≡ true)
-        × Catalogued design (cellsIn (now cells) (now issues)) (now tables) (now next) (now first) (now keys) (now heads) (now starts) ⌝ }
-    ensures { λ a. ⌜ Answered (lent design (cellsIn (now (cells .entry)) (now (issues .entry))) (now (tables .entry)) (now (marks .entry)) (now (held .entry)))
-        (Runs.drop (pairOf v)) (answerOf a)
-        (lent design (cellsIn (now (cells .entry)) (now (issues .entry))) (now (tables .entry)) (now (marks .exit)) (now (held .exit))) ⌝ }
+    requires { ⌜ ((cells : Cells) × (tables : List ℕ) × Ready design cells tables (now marks) (now held) (now catalog) (now keys)) ⌝ }
+    ensures { λ a. ⌜ ((cells : Cells) (tables : List ℕ) → Ready design cells tables (now (marks .entry)) (now (held .entry)) (now (catalog .entry)) (now (keys .entry))
+        → Answered (lent design cells tables (now (marks .entry)) (now (held .entry))) (Runs.drop (pairOf v)) (answerOf a)
+        (lent design cells tables (now (marks .exit)) (now (held .exit)))) ⌝ }
 {
     let h = *held;
-    let o = drop_lawful(
-        design,
-        cells,
-        issues,
-        tables,
-        next,
-        first,
-        keys,
-        heads,
-        starts,
-        marks,
-        h,
-        v,
-    );
+    let o = drop_record(design, catalog, keys, marks, h, v);
     *held = o.held;
     o.answer
 }

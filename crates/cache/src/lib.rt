@@ -8,6 +8,7 @@ mod outcome;
 mod probing;
 mod ranges;
 mod ranging;
+mod records;
 mod referring;
 mod taking;
 mod tests;

@@ -4,15 +4,19 @@ ghost use Prim.Native.Nat.{_+_, _≤_, _<_, max, min};
 ghost use mathlib.Core.Bool.{not, cond, _&&_};
 ghost use mathlib.Core.List.{List, [], _∷_, _++_};
 ghost use mathlib.Core.Path.{_≡_};
-ghost use lib.ListN.{drop, set};
+ghost use lib.ListN.{drop};
 ghost use Rattle.finite.specs.Sameness.{listed, remove};
 ghost use Rattle.model.specs.Ranges as Model;
 ghost use Rattle.state.specs.Held.{rangesAt};
+ghost use Rattle.state.specs.HeldWords.{wordsHeld, Whole, Holds, withRangesAt};
 ghost use Rattle.state.specs.Meaning.{listBack, listOf, rangeOf};
 use state::DeskRanges;
 use state::Held;
 use state::Range;
+use state::named_desk;
+use state::ranges_at;
 use state::same_range;
+use state::set_ranges;
 use state::stands_before;
 
 // Whether r lies inside q. Constant time.
@@ -190,33 +194,18 @@ pub(crate) fn removed(s: DeskRanges, r: Range) -> DeskRanges
 }
 
 // The named desk's ranges. A copy of them.
-pub(crate) fn own_ranges(held: Held) -> DeskRanges
-    requires { ⌜ held .desk < 4 ⌝ }
-    ensures { λ s. ⌜ s ≡ rangesAt held (held .desk) ⌝ }
+pub(crate) fn own_ranges(held: &[u32; 358]) -> DeskRanges
+    requires { ⌜ wordsHeld (now held) .desk < 4 ⌝ }
+    ensures { λ s. ⌜ s ≡ rangesAt (wordsHeld (now (held .entry))) (wordsHeld (now (held .entry)) .desk) ⌝ }
 {
-    let ranges = held.ranges;
-    let d = held.desk as usize;
-    ranges[d]
+    ranges_at(held, named_desk(held) as usize)
 }
 
-// The record with other ranges for the named desk. A copy of the record.
-pub(crate) fn with_own(held: Held, s: DeskRanges) -> Held
-    requires { ⌜ held .desk < 4 ⌝ }
-    ensures { λ h. ⌜ h ≡ record {
-      desk = held .desk;
-      count = held .count;
-      values = held .values;
-      ranges = set (held .ranges) (held .desk) s;
-    } ⌝ }
+// Stores other ranges for the named desk. One step for each place.
+pub(crate) fn set_own(held: &mut [u32; 358], s: DeskRanges)
+    requires { ⌜ (wordsHeld (now held) .desk < 4) × (s .count ≤ 8) × Whole (now held) ⌝ }
+    ensures { λ _. ⌜ Holds (now (held .exit)) (withRangesAt (wordsHeld (now (held .entry))) (wordsHeld (now (held .entry)) .desk) s) ⌝ }
 {
-    let mut ranges = held.ranges;
-    let d = held.desk as usize;
-    ranges[d] = s;
-    let values = held.values;
-    Held {
-        desk: held.desk,
-        count: held.count,
-        values: values,
-        ranges: ranges,
-    }
+    let d = named_desk(held) as usize;
+    set_ranges(held, d, s);
 }

@@ -1,20 +1,20 @@
 // Holding and dropping a range for the named desk, over a sound state.
-ghost use mathlib.Core.Bool.{true};
-ghost use mathlib.Core.Path.{_≡_};
+ghost use Prim.Native.Nat.{ℕ};
+ghost use mathlib.Core.List.{List};
 ghost use Rattle.model.specs.Runs as Runs;
-ghost use Rattle.state.specs.Cells.{cellsIn};
+ghost use Rattle.state.specs.Cells.{Cells};
+ghost use Rattle.state.specs.HeldWords.{wordsHeld, Whole};
 ghost use Rattle.state.specs.Meaning.{rangeOf, answerOf};
-ghost use Rattle.state.specs.Lent.{lent, sound, Answered};
-ghost use Rattle.catalog.specs.Catalog.{Catalogued};
+ghost use Rattle.state.specs.Lent.{lent, Answered};
+ghost use Rattle.cache.specs.Ready.{Ready};
 use crate::loads::mark_held;
 use crate::loads::mark_range;
-use crate::outcome::Outcome;
 use crate::ranges::covers;
 use crate::ranges::has_range;
 use crate::ranges::joined;
 use crate::ranges::own_ranges;
 use crate::ranges::removed;
-use crate::ranges::with_own;
+use crate::ranges::set_own;
 use lawful::is_range;
 use lawful::only_candidates;
 use state::Answer;
@@ -26,114 +26,66 @@ use state::Range;
 // the desk's ranges, then one load: the walk of the range's values, and a step for each row that is added and each constraint.
 pub fn refer_range_lawful(
     design: Design,
-    cells: &[u32],
-    issues: &[u8],
-    tables: &[u8],
-    next: &[u16; 4096],
-    first: &[u16; 8192],
+    catalog: &[u16; 16449],
     keys: &[u64; 4096],
-    heads: &[u16; 4096],
-    starts: &[u16; 65],
     marks: &mut [u8],
-    held: Held,
+    held: &mut [u32; 358],
     r: Range,
-) -> Outcome
-    requires { ⌜ (sound (lent design (cellsIn (now cells) (now issues)) (now tables) (now marks) held) ≡ true)
-        × Catalogued design (cellsIn (now cells) (now issues)) (now tables) (now next) (now first) (now keys) (now heads) (now starts) ⌝ }
-    ensures { λ o. ⌜ Answered (lent design (cellsIn (now (cells .entry)) (now (issues .entry))) (now (tables .entry)) (now (marks .entry)) held)
-        (Runs.referRange (rangeOf r)) (answerOf (o .answer))
-        (lent design (cellsIn (now (cells .entry)) (now (issues .entry))) (now (tables .entry)) (now (marks .exit)) (o .held)) ⌝ }
+) -> Answer
+    requires { ⌜ Whole (now held) ⌝ }
+    requires { ⌜ ((cells : Cells) × (tables : List ℕ) × Ready design cells tables (now marks) (wordsHeld (now held)) (now catalog) (now keys)) ⌝ }
+    ensures { λ a. ⌜ Whole (now (held .exit))
+        × ((cells : Cells) (tables : List ℕ) → Ready design cells tables (now (marks .entry)) (wordsHeld (now (held .entry))) (now (catalog .entry)) (now (keys .entry))
+        → Answered (lent design cells tables (now (marks .entry)) (wordsHeld (now (held .entry)))) (Runs.referRange (rangeOf r)) (answerOf a)
+        (lent design cells tables (now (marks .exit)) (wordsHeld (now (held .exit))))) ⌝ }
 {
     if !is_range(design, r) {
-        let answer = Answer::Refused(5);
-        return Outcome { held, answer };
+        return Answer::Refused(5);
     }
     if !only_candidates(design, r) {
-        let answer = Answer::NoCandidate;
-        return Outcome { held, answer };
+        return Answer::NoCandidate;
     }
     let own = own_ranges(held);
     if covers(own, r) {
-        let answer = Answer::Held;
-        return Outcome { held, answer };
+        return Answer::Held;
     }
     let more = joined(own, r);
     if Held::RANGES < more.count {
-        let answer = Answer::Refused(8);
-        return Outcome { held, answer };
+        return Answer::Refused(8);
     }
     let f = r.filling as usize;
     let filling = design.filling[f];
     let column = filling.column;
-    let answer = mark_range(
-        design,
-        cells,
-        issues,
-        tables,
-        next,
-        first,
-        keys,
-        heads,
-        starts,
-        marks,
-        column,
-        r,
-    );
-    let after = with_own(held, more);
-    Outcome {
-        held: after,
-        answer: answer,
-    }
+    let answer = mark_range(design, catalog, keys, marks, column, r);
+    set_own(held, more);
+    answer
 }
 
 // Lets a range of the named desk go, and the cached rows become the smallest set for what is left. Two looks at each of the desk's ranges, then one reload: a step
 // for each row that is reached and each constraint.
 pub fn drop_range_lawful(
     design: Design,
-    cells: &[u32],
-    issues: &[u8],
-    tables: &[u8],
-    next: &[u16; 4096],
-    first: &[u16; 8192],
+    catalog: &[u16; 16449],
     keys: &[u64; 4096],
-    heads: &[u16; 4096],
-    starts: &[u16; 65],
     marks: &mut [u8],
-    held: Held,
+    held: &mut [u32; 358],
     r: Range,
-) -> Outcome
-    requires { ⌜ (sound (lent design (cellsIn (now cells) (now issues)) (now tables) (now marks) held) ≡ true)
-        × Catalogued design (cellsIn (now cells) (now issues)) (now tables) (now next) (now first) (now keys) (now heads) (now starts) ⌝ }
-    ensures { λ o. ⌜ Answered (lent design (cellsIn (now (cells .entry)) (now (issues .entry))) (now (tables .entry)) (now (marks .entry)) held)
-        (Runs.dropRange (rangeOf r)) (answerOf (o .answer))
-        (lent design (cellsIn (now (cells .entry)) (now (issues .entry))) (now (tables .entry)) (now (marks .exit)) (o .held)) ⌝ }
+) -> Answer
+    requires { ⌜ Whole (now held) ⌝ }
+    requires { ⌜ ((cells : Cells) × (tables : List ℕ) × Ready design cells tables (now marks) (wordsHeld (now held)) (now catalog) (now keys)) ⌝ }
+    ensures { λ a. ⌜ Whole (now (held .exit))
+        × ((cells : Cells) (tables : List ℕ) → Ready design cells tables (now (marks .entry)) (wordsHeld (now (held .entry))) (now (catalog .entry)) (now (keys .entry))
+        → Answered (lent design cells tables (now (marks .entry)) (wordsHeld (now (held .entry)))) (Runs.dropRange (rangeOf r)) (answerOf a)
+        (lent design cells tables (now (marks .exit)) (wordsHeld (now (held .exit))))) ⌝ }
 {
     if !is_range(design, r) {
-        let answer = Answer::Refused(5);
-        return Outcome { held, answer };
+        return Answer::Refused(5);
     }
     let own = own_ranges(held);
     if !has_range(own, r) {
-        let answer = Answer::Refused(10);
-        return Outcome { held, answer };
+        return Answer::Refused(10);
     }
     let left = removed(own, r);
-    let fewer = with_own(held, left);
-    let answer = mark_held(
-        design,
-        cells,
-        issues,
-        tables,
-        next,
-        first,
-        keys,
-        heads,
-        starts,
-        marks,
-        fewer,
-    );
-    Outcome {
-        held: fewer,
-        answer: answer,
-    }
+    set_own(held, left);
+    mark_held(design, catalog, keys, marks, held)
 }

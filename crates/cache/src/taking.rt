@@ -2,13 +2,13 @@
 ghost use mathlib.Core.Path.{_≡_};
 ghost use Prim.Native.Nat.{_≤_};
 ghost use Rattle.model.specs.Runs.{fillingFor, taken};
+ghost use Rattle.state.specs.HeldWords.{wordsHeld};
 ghost use Rattle.state.specs.Meaning.{columnOf, holdingOf, pairOf, schemeOf};
 use crate::values::has_room;
 use crate::values::listed;
 use lawful::is_candidate;
 use state::Column;
 use state::Design;
-use state::Held;
 use state::HeldValue;
 use state::same_column;
 
@@ -31,9 +31,9 @@ pub fn filling_for(design: Design, k: Column) -> usize
 
 // Whether a REFER takes the pair: the filling exists, the value is a candidate, and the named desk doesn't hold it already and has room. Two looks at each
 // held value.
-pub fn takes(design: Design, held: Held, v: HeldValue) -> bool
-    requires { ⌜ (design .fillings ≤ 8) × (held .count ≤ 64) ⌝ }
-    ensures { λ b. ⌜ b ≡ taken (schemeOf design) (holdingOf held) (pairOf v) ⌝ }
+pub fn takes(design: Design, held: &[u32; 358], v: HeldValue) -> bool
+    requires { ⌜ (design .fillings ≤ 8) × (wordsHeld (now held) .count ≤ 64) ⌝ }
+    ensures { λ b. ⌜ b ≡ taken (schemeOf design) (holdingOf (wordsHeld (now (held .entry)))) (pairOf v) ⌝ }
 {
     let f = v.filling as usize;
     if design.fillings <= f {

@@ -1,13 +1,15 @@
 // Causes 7 and 12: whether the lent buffers are long enough, and whether the lent state is lawful.
 ghost use Prim.Native.Nat.{_≤_};
-ghost use mathlib.Core.Bool.{true};
+ghost use mathlib.Core.Bool.{true, _&&_};
 ghost use mathlib.Core.Path.{_≡_};
 ghost use lib.ListN.{length};
 ghost use Rattle.state.specs.Cells.{cellsIn};
 ghost use Rattle.state.specs.declared.design.Design.{Design};
 ghost use Rattle.state.specs.declared.held.Held.{Held};
 ghost use Rattle.state.specs.Design.{Backed};
-ghost use Rattle.state.specs.Lent.{lent, longEnough, lawful, causeAt};
+ghost use Rattle.state.specs.HeldWords.{wordsHeld, narrowHeld};
+ghost use Rattle.state.specs.Lent.{lent, longEnough, lawful, causeOf};
+ghost use Rattle.state.specs.Meaning.{schemeOf, databaseOf};
 ghost use Rattle.catalog.specs.Catalog.{Catalogued};
 use crate::distinct::is_distinct;
 use catalog::build;
@@ -17,7 +19,6 @@ use lawful::rows_stand;
 use load::load_held;
 use load::marks_agree;
 use state::Design;
-use state::Held;
 
 // Whether the buffers have room for 512 rows. Constant time.
 fn is_long_enough(cells: &[u32], issues: &[u8], tables: &[u8], marks: &[u8]) -> bool
@@ -42,18 +43,15 @@ fn is_lawful_catalog(
     cells: &[u32],
     issues: &[u8],
     tables: &[u8],
-    next: &mut [u16; 4096],
-    first: &mut [u16; 8192],
+    catalog: &mut [u16; 16449],
     keys: &mut [u64; 4096],
-    heads: &mut [u16; 4096],
-    starts: &mut [u16; 65],
     marks: &[u8],
-    held: Held,
+    held: &[u32; 358],
 ) -> bool
     requires { ⌜ Backed (cellsIn (now cells) (now issues)) (now tables) × (512 ≤ length (now marks)) ⌝ }
-    ensures { λ b. ⌜ (b ≡ lawful (lent design (cellsIn (now (cells .entry)) (now (issues .entry))) (now (tables .entry)) (now (marks .entry)) held))
-        × (b ≡ true → Catalogued design (cellsIn (now (cells .entry)) (now (issues .entry))) (now (tables .entry)) (now (next .exit)) (now (first .exit)) (now (keys .exit))
-        (now (heads .exit)) (now (starts .exit))) ⌝ }
+    ensures { λ b. ⌜ (b ≡ narrowHeld (now (held .entry)) && lawful (lent design (cellsIn (now (cells .entry)) (now (issues .entry))) (now (tables .entry)) (now (marks .entry)) (wordsHeld (now (held .entry)))))
+        × (b ≡ true → Catalogued (schemeOf design) (databaseOf (cellsIn (now (cells .entry)) (now (issues .entry))) (now (tables .entry)))
+        (now (catalog .exit)) (now (keys .exit))) ⌝ }
 {
     if !lawful_design(design) {
         return false;
@@ -64,35 +62,12 @@ fn is_lawful_catalog(
     if !lawful_held(design, held) {
         return false;
     }
-    build(
-        design,
-        cells,
-        issues,
-        tables,
-        next,
-        first,
-        keys,
-        heads,
-        starts,
-    );
-    if !is_distinct(design, tables, next) {
+    build(design, cells, issues, tables, catalog, keys);
+    if !is_distinct(design, tables, catalog) {
         return false;
     }
     let mut levels = [0u16; 512];
-    load_held(
-        design,
-        cells,
-        issues,
-        tables,
-        next,
-        first,
-        keys,
-        heads,
-        starts,
-        held,
-        Design::ROWS,
-        &mut levels,
-    );
+    load_held(design, catalog, keys, held, Design::ROWS, &mut levels);
     marks_agree(marks, &levels)
 }
 
@@ -103,34 +78,19 @@ pub fn cause(
     cells: &[u32],
     issues: &[u8],
     tables: &[u8],
-    next: &mut [u16; 4096],
-    first: &mut [u16; 8192],
+    catalog: &mut [u16; 16449],
     keys: &mut [u64; 4096],
-    heads: &mut [u16; 4096],
-    starts: &mut [u16; 65],
     marks: &[u8],
-    held: Held,
+    held: &[u32; 358],
 ) -> u8
-    ensures { λ c. ⌜ (c ≡ causeAt (lent design (cellsIn (now (cells .entry)) (now (issues .entry))) (now (tables .entry)) (now (marks .entry)) held))
-        × (c ≡ 0 → Catalogued design (cellsIn (now (cells .entry)) (now (issues .entry))) (now (tables .entry)) (now (next .exit)) (now (first .exit)) (now (keys .exit))
-        (now (heads .exit)) (now (starts .exit))) ⌝ }
+    ensures { λ c. ⌜ (c ≡ causeOf (lent design (cellsIn (now (cells .entry)) (now (issues .entry))) (now (tables .entry)) (now (marks .entry)) (wordsHeld (now (held .entry)))) (now (held .entry)))
+        × (c ≡ 0 → Catalogued (schemeOf design) (databaseOf (cellsIn (now (cells .entry)) (now (issues .entry))) (now (tables .entry)))
+        (now (catalog .exit)) (now (keys .exit))) ⌝ }
 {
     if !is_long_enough(cells, issues, tables, marks) {
         return 7;
     }
-    if !is_lawful_catalog(
-        design,
-        cells,
-        issues,
-        tables,
-        next,
-        first,
-        keys,
-        heads,
-        starts,
-        marks,
-        held,
-    ) {
+    if !is_lawful_catalog(design, cells, issues, tables, catalog, keys, marks, held) {
         return 12;
     }
     0

@@ -1,10 +1,11 @@
-// The held values as a record by value: looking for a pair of the named desk, whether that has room, putting one at the end, and taking one out so that
+// The held values as lent words: looking for a pair of the named desk, whether that has room, putting one at the end, and taking one out so that
 // the gap closes.
 ghost use Prim.Native.Nat.{_<_, _≤_};
 ghost use mathlib.Core.Path.{_≡_};
 ghost use Rattle.finite.specs.Sameness.{placeOf};
 ghost use Rattle.model.specs.Holding.{mine, sameOwned, hasRoom, holds, withPair};
 ghost use Rattle.state.specs.Held.{Tidy};
+ghost use Rattle.state.specs.HeldWords.{wordsHeld, Whole, Holds};
 ghost use Rattle.state.specs.Meaning.{pairOf, valuesOf, holdingOf, heldOf};
 ghost use Rattle.cache.specs.Places.{without};
 use lawful::own_count;
@@ -12,22 +13,25 @@ use state::Cell;
 use state::Held;
 use state::HeldValue;
 use state::OwnedValue;
+use state::named_desk;
 use state::same_owned;
+use state::set_count;
+use state::set_value;
+use state::value_at;
+use state::value_count;
 
 // The place of the named desk's value; the count where the desk doesn't hold it. One look at each held value.
-pub(crate) fn place(held: Held, v: HeldValue) -> usize
-    requires { ⌜ held .count ≤ 64 ⌝ }
-    ensures { λ i. ⌜ i ≡ placeOf sameOwned (mine (holdingOf held) (pairOf v)) (valuesOf held) ⌝ }
+pub(crate) fn place(held: &[u32; 358], v: HeldValue) -> usize
+    requires { ⌜ wordsHeld (now held) .count ≤ 64 ⌝ }
+    ensures { λ i. ⌜ i ≡ placeOf sameOwned (mine (holdingOf (wordsHeld (now (held .entry)))) (pairOf v)) (valuesOf (wordsHeld (now (held .entry)))) ⌝ }
 {
-    let n = held.count;
+    let n = value_count(held);
     let own = OwnedValue {
-        desk: held.desk,
+        desk: named_desk(held),
         pair: v,
     };
-    // read from here, so that the compiler copies a value and not all of them
-    let values = held.values;
     for i in 0..n {
-        if same_owned(values[i], own) {
+        if same_owned(value_at(held, i), own) {
             return i;
         }
     }
@@ -35,53 +39,46 @@ pub(crate) fn place(held: Held, v: HeldValue) -> usize
 }
 
 // Whether the named desk holds the value. One look at each held value.
-pub(crate) fn listed(held: Held, v: HeldValue) -> bool
-    requires { ⌜ held .count ≤ 64 ⌝ }
-    ensures { λ b. ⌜ b ≡ holds (holdingOf held) (pairOf v) ⌝ }
+pub(crate) fn listed(held: &[u32; 358], v: HeldValue) -> bool
+    requires { ⌜ wordsHeld (now held) .count ≤ 64 ⌝ }
+    ensures { λ b. ⌜ b ≡ holds (holdingOf (wordsHeld (now (held .entry)))) (pairOf v) ⌝ }
 {
-    place(held, v) < held.count
+    place(held, v) < value_count(held)
 }
 
 // Whether the named desk has room for one value more. One look at each held value.
-pub(crate) fn has_room(held: Held) -> bool
-    requires { ⌜ held .count ≤ 64 ⌝ }
-    ensures { λ b. ⌜ b ≡ hasRoom (holdingOf held) ⌝ }
+pub(crate) fn has_room(held: &[u32; 358]) -> bool
+    requires { ⌜ wordsHeld (now held) .count ≤ 64 ⌝ }
+    ensures { λ b. ⌜ b ≡ hasRoom (holdingOf (wordsHeld (now (held .entry)))) ⌝ }
 {
-    own_count(held, held.desk) < Held::SHARE
+    own_count(held, named_desk(held)) < Held::SHARE
 }
 
-// The record with the named desk's value at the end. Constant time, and a copy of the record.
-pub(crate) fn appended(held: Held, v: HeldValue) -> Held
-    requires { ⌜ Tidy held × (held .count < 64) ⌝ }
-    ensures { λ h. ⌜ h ≡ heldOf (withPair (holdingOf held) (pairOf v)) ⌝ }
+// Puts the named desk's value at the end. Constant time.
+pub(crate) fn append(held: &mut [u32; 358], v: HeldValue)
+    requires { ⌜ Tidy (wordsHeld (now held)) × (wordsHeld (now held) .count < 64) × Whole (now held) ⌝ }
+    ensures { λ _. ⌜ Holds (now (held .exit)) (heldOf (withPair (holdingOf (wordsHeld (now (held .entry)))) (pairOf v))) ⌝ }
 {
-    let n = held.count;
-    let mut values = held.values;
-    values[n] = OwnedValue {
-        desk: held.desk,
+    let n = value_count(held);
+    let own = OwnedValue {
+        desk: named_desk(held),
         pair: v,
     };
-    let count = n + 1;
-    let ranges = held.ranges;
-    Held {
-        desk: held.desk,
-        count: count,
-        values: values,
-        ranges: ranges,
-    }
+    set_value(held, n, own);
+    set_count(held, n + 1);
 }
 
-// The record without the value at place `gap`: those behind it move up. One step for each place behind it.
-pub(crate) fn closed(held: Held, gap: usize) -> Held
-    requires { ⌜ (0 < held .count) × (gap < 64) ⌝ }
-    ensures { λ h. ⌜ h ≡ without held gap ⌝ }
+// Takes the value at place `gap` out: those behind it move up. One step for each place behind it.
+pub(crate) fn close_gap(held: &mut [u32; 358], gap: usize)
+    requires { ⌜ (0 < wordsHeld (now held) .count) × (wordsHeld (now held) .count ≤ 64) × (gap < 64) × Whole (now held) ⌝ }
+    ensures { λ _. ⌜ Holds (now (held .exit)) (without (wordsHeld (now (held .entry))) gap) ⌝ }
 {
-    let mut values = held.values;
+    let n = value_count(held);
     for i in gap..Held::PLACES - 1 {
-        let v = values[i + 1];
-        values[i] = v;
+        let v = value_at(held, i + 1);
+        set_value(held, i, v);
     }
-    values[Held::PLACES - 1] = OwnedValue {
+    let none = OwnedValue {
         desk: 0,
         pair: HeldValue {
             filling: 0,
@@ -91,12 +88,6 @@ pub(crate) fn closed(held: Held, gap: usize) -> Held
             },
         },
     };
-    let count = held.count - 1;
-    let ranges = held.ranges;
-    Held {
-        desk: held.desk,
-        count: count,
-        values: values,
-        ranges: ranges,
-    }
+    set_value(held, Held::PLACES - 1, none);
+    set_count(held, n - 1);
 }

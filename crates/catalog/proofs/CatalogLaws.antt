@@ -1,19 +1,16 @@
 -- A row that has a value, and its link: the next row that has the value. Assumes nothing.
-use Prim.Native.Nat.{ℕ, _+_, _*_, _<_}
-use mathlib.Core.Path.{_≡_, ap₂, _∙_}
+use Prim.Native.Nat.{ℕ, _+_, _<_}
+use mathlib.Core.Path.{_≡_, refl, sym, ap₂, subst, _∙_}
 use mathlib.Core.Bool.{true, false}
-use mathlib.Core.List.{List}
-use lib.ListN.{getD}
 use Rattle.finite.specs.Finite.{firstFrom}
-use Rattle.finite.proofs.Bools.{cond-true, refute, clash}
-use Rattle.finite.proofs.First.{first-same}
+use Rattle.finite.proofs.Bools.{cond-true, cond-case, refute, clash}
+use Rattle.finite.proofs.First.{first-same, first-after}
 use Rattle.model.specs.Cell.{Cell, isBlank}
 use Rattle.model.specs.Scheme as Model
 use Rattle.model.specs.Database.{Database, has}
 use Rattle.model.proofs.CellLaws.{equal-same}
 use Rattle.model.proofs.DatabaseLaws.{has-Has, has-full}
-use Rattle.catalog.specs.Catalog.{columnAt, nextOf, nexts}
-pub use Rattle.catalog.proofs.Entries.{next-at}
+use Rattle.catalog.specs.Catalog.{columnAt, nextOf}
 
 module _ (D : Database) (k : Model.Column) (v : Cell) (r : ℕ) (h : has D k v r ≡ true) where
   -- it is a row of the table
@@ -33,9 +30,16 @@ module _ (D : Database) (k : Model.Column) (v : Cell) (r : ℕ) (h : has D k v r
   unfolding nextOf
   next-has = cond-true _ _ 512 (same-rows r ∙ h) ∙ first-same 512 _ _ (r + 1) (λ s _ _. same-rows s)
 
-  -- so the list of links has it
-  pub next-from : (next : List ℕ) → next ≡ nexts D → r < 512 → k .place < 8 → getD next (8 * r + k .place) 0 ≡ firstFrom 512 (has D k v) (r + 1)
-  next-from next e l p = next-at D next e r (k .place) l p ∙ next-has
+  -- ... as it is read
+  pub next-from : (n : ℕ) → n ≡ nextOf D r (k .place) → n ≡ firstFrom 512 (has D k v) (r + 1)
+  next-from n e = e ∙ next-has
+
+-- links rise, so that every walk ends
+pub next-rises : (D : Database) (r c n : ℕ) → r < 512 → n ≡ nextOf D r c → r < n
+unfolding nextOf
+next-rises D r c n l e =
+    subst (λ (x : ℕ). r < x) (sym e)
+    (cond-case (λ x. r < x) (has D (columnAt D r c) (D .cell r c) r) _ 512 (λ _. first-after 512 (has D (columnAt D r c) (D .cell r c)) r _ l refl) (λ _. l))
 
 -- nothing has a blank
 pub has-no-blank : (D : Database) (k : Model.Column) (v : Cell) → isBlank v ≡ true → (r : ℕ) → has D k v r ≡ false

@@ -7,15 +7,13 @@ use mathlib.Core.Bool.{true, cond}
 use mathlib.Core.List.{List}
 use lib.Dec.{ltb}
 use lib.ListN.{length, getD}
+use lib.Seq.{sets}
 use Rattle.finite.specs.Finite.{tab, firstFrom}
 use Rattle.model.specs.Cell.{Cell, issued}
 use Rattle.model.specs.Scheme as Model
 use Rattle.model.specs.Scheme.{Scheme}
 use Rattle.model.specs.Database.{Database, has}
 use Rattle.model.specs.Rounds.{leads}
-use Rattle.state.specs.Cells.{Cells}
-use Rattle.state.specs.declared.design.Design.{Design}
-use Rattle.state.specs.Meaning.{databaseOf, schemeOf}
 
 -- row r's column c
 abbrev pub columnAt : Database → ℕ → ℕ → Model.Column
@@ -70,8 +68,48 @@ pub record Directory (D : Database) (keys heads starts : List ℕ) : Type 0 wher
   pub starts-long : length starts ≡ 65
   pub column : (t c : ℕ) → t < 8 → c < 8 → Lists D (record { table = t; place = c }) (getD starts (8 * t + c) 0) (getD starts (8 * t + c + 1) 0) keys heads
 
--- the catalog of a design with lent rows, whatever they are
-pub record Catalogued (d : Design) (cells : Cells) (tables next first keys heads starts : List ℕ) : Type 0 where
-  pub next-is : next ≡ nexts (databaseOf cells tables)
-  pub first-is : first ≡ firsts (schemeOf d) (databaseOf cells tables)
-  pub directory : Directory (databaseOf cells tables) keys heads starts
+-- ---- where it stands: `catalog` has the parts next, first, heads and starts one behind the other, and `keys` stands apart
+
+-- the n elements from place a on
+unfoldable pub part : ℕ → ℕ → List ℕ → List ℕ
+part a n xs = tab n (λ i. getD xs (a + i) 0)
+
+-- ys is xs with the elements of vs from place a on
+pub record Stored (a : ℕ) (vs xs ys : List ℕ) : Type 0 where
+  pub is : ys ≡ sets xs a vs
+  pub long : length ys ≡ length xs
+
+abbrev pub nextIn : List ℕ → List ℕ
+nextIn catalog = part 0 4096 catalog
+
+abbrev pub firstIn : List ℕ → List ℕ
+firstIn catalog = part 4096 8192 catalog
+
+abbrev pub headsIn : List ℕ → List ℕ
+headsIn catalog = part 12288 4096 catalog
+
+abbrev pub startsIn : List ℕ → List ℕ
+startsIn catalog = part 16384 65 catalog
+
+-- ---- of which database it is the catalog, in as many steps as there are kinds of readers: none of these names the rows' buffers
+
+-- the links of a database that has 512 row numbers: for those who go from row to row of a value
+pub record Links (D : Database) (catalog : List ℕ) : Type 0 where
+  pub long : length catalog ≡ 16449
+  pub size-is : D .size ≡ 512
+  pub next-is : nextIn catalog ≡ nexts D
+
+-- ... and the rows that a scheme's constraints demand: for those who load
+pub record Demands (S : Scheme) (D : Database) (catalog : List ℕ) : Type 0 where
+  pub links : Links D catalog
+  pub first-is : firstIn catalog ≡ firsts S D
+
+-- ... or the directory: for those who look a value up
+pub record Indexed (D : Database) (catalog keys : List ℕ) : Type 0 where
+  pub links : Links D catalog
+  pub directory : Directory D keys (headsIn catalog) (startsIn catalog)
+
+-- all of it
+pub record Catalogued (S : Scheme) (D : Database) (catalog keys : List ℕ) : Type 0 where
+  pub demands : Demands S D catalog
+  pub index : Indexed D catalog keys

@@ -7,8 +7,10 @@ ghost use lib.ListN.{getD};
 ghost use Rattle.model.specs.Database.{Database, has};
 ghost use Rattle.state.specs.Meaning.{cellOf, columnOf};
 ghost use Rattle.finite.specs.Finite.{firstFrom};
-ghost use Rattle.catalog.specs.Catalog.{keyOf, Falls, Directory};
+ghost use Rattle.catalog.specs.Catalog.{keyOf, Falls, headsIn, startsIn, Directory};
 ghost use Rattle.catalog.specs.Listing.{Searched};
+use crate::reading::head_at;
+use crate::reading::start_at;
 use state::Cell;
 use state::Column;
 use state::Design;
@@ -51,35 +53,22 @@ pub(crate) fn stands(keys: &[u64; 4096], to: usize, a: usize, x: u64) -> bool
     keys[a] == x
 }
 
-// A u16 as a usize.
-pub(crate) fn wide(x: u16) -> usize
-    ensures { λ r. ⌜ r ≡ x ⌝ }
-{
-    x as usize
-}
-
 // The first row that has the value v in column k, in any database whose directory this is; 512 if none has, as for a blank. A step for each halving
 // of the column's values: at most 10.
-pub fn find(
-    keys: &[u64; 4096],
-    heads: &[u16; 4096],
-    starts: &[u16; 65],
-    k: Column,
-    v: Cell,
-) -> usize
+pub fn find(catalog: &[u16; 16449], keys: &[u64; 4096], k: Column, v: Cell) -> usize
     requires { ⌜ (k .table < 8) × (k .place < 8) ⌝ }
-    ensures { λ r. ⌜ ((D : Database) → Directory D (now (keys .entry)) (now (heads .entry)) (now (starts .entry))
+    ensures { λ r. ⌜ ((D : Database) → Directory D (now (keys .entry)) (headsIn (now (catalog .entry))) (startsIn (now (catalog .entry)))
         → r ≡ firstFrom 512 (has D (columnOf k) (cellOf v)) 0) ⌝ }
 {
     let i = 8 * k.table as usize + k.place as usize;
-    let to = wide(starts[i + 1]);
+    let to = start_at(catalog, i + 1);
     if Design::CELLS < to {
         return Design::ROWS;
     }
     let x = key_of(v);
-    let a = seat(keys, wide(starts[i]), to, x);
+    let a = seat(keys, start_at(catalog, i), to, x);
     if stands(keys, to, a, x) {
-        return wide(heads[a]);
+        return head_at(catalog, a);
     }
     Design::ROWS
 }

@@ -1,19 +1,23 @@
 // The catalog of a design's rows, built once when a design is read, so that loads, probes and queries walk just the rows they are about.
-// `next` has for each cell the next row that has the same value in the same column, `first` for each constraint and row the first row that the
-// constraint demands of it, and `keys`, `heads` and `starts` are the directory: for each column its values, by their keys falling, with the first row
-// of each.
+// It is two arrays. `catalog` has four parts: for each cell the next row that has the same value in the same column, for each constraint and row the first
+// row that the constraint demands of it, and of the directory the first row of each value and where each column's values begin; `keys` has the keys of the
+// directory's values, falling in each column. They are read by `next_row`, `first_row`, `find`, `find_range` and `first_of` alone.
 mod columns;
 mod finding;
 mod firsts;
 mod linking;
 mod listing;
 mod making;
+mod reading;
 mod scanning;
 mod spanning;
+mod storing;
 
 pub use finding::find;
 pub use firsts::make_firsts;
 pub use making::build;
+pub use reading::first_row;
+pub use reading::next_row;
 pub use spanning::Span;
 pub use spanning::find_range;
 pub use spanning::first_of;

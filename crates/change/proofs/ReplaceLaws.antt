@@ -9,16 +9,16 @@ use lib.Seq.{getD-take}
 use Rattle.finite.specs.Finite.{count, tab}
 use Rattle.finite.proofs.Counting.{count-same}
 use Rattle.model.specs.Scheme.{Scheme}
+use Rattle.model.specs.Database.{Database}
 use Rattle.model.specs.Rounds.{reached}
 use Rattle.model.specs.Runs.{marks, marked, reloadLevels}
 use Rattle.model.specs.Answers.{Answer, changed, refused}
-use Rattle.state.specs.Cells.{Cells}
 use Rattle.state.specs.declared.design.Design.{Design}
 use Rattle.state.specs.declared.held.Held.{Held}
 use Rattle.state.specs.declared.rows.Row.{Row}
 use Rattle.state.specs.Design.{InRange, Backed}
 use Rattle.state.specs.Held.{Bounded}
-use Rattle.state.specs.Meaning.{databaseOf, holdingOf, schemeOf}
+use Rattle.state.specs.Meaning.{holdingOf, schemeOf}
 use Rattle.state.specs.Lent.{State, lent, scheme, sound}
 use Rattle.state.specs.Changes.{Change, Rows, rows, tablesOf, numberOf, rowOf, stored, changeCause, changedAnswer, changedWith, Changed}
 use Rattle.state.proofs.Arrays.{Sized, HeldSized}
@@ -33,18 +33,20 @@ unfolding marked
 marked-take m r l = ap (λ (n : ℕ). eqb n 1) (sym (getD-take 512 m r 0 l))
 
 -- the levels K of the load from nothing, the rows that come and go by them, and the marks that they leave
-pub remarked : (S : Scheme) (cells : Cells) (tables : List ℕ) (h : Held) (m K m′ : List ℕ) (came went : ℕ) →
-    K ≡ reloadLevels S (databaseOf cells tables) (holdingOf h) → came ≡ count 512 (λ r. reached K r && not (marked m r)) →
+pub remarked : (S : Scheme) (D : Database) → D .size ≡ 512 → (h : Held) (m K m′ : List ℕ) (came went : ℕ) →
+    K ≡ reloadLevels S D (holdingOf h) → came ≡ count 512 (λ r. reached K r && not (marked m r)) →
     went ≡ count 512 (λ r. marked m r && not (reached K r)) → m′ ≡ tab 512 (λ r. cond (reached K r) 1 0) ++ drop 512 m →
-    Remarked S (databaseOf cells tables) h m (changed came went) m′
-unfolding changedAnswer marks databaseOf
-remarked S cells tables h m K m′ came went e f g k =
+    Remarked S D h m (changed came went) m′
+unfolding changedAnswer marks
+remarked S D z h m K m′ came went e f g k =
     record {
       answer =
           ap₂ changed
           (f ∙ count-same 512 _ _ (λ r l. ap₂ (λ (L : List ℕ) (b : Bool). reached L r && not b) e (marked-take m r l)))
           (g ∙ count-same 512 _ _ (λ r l. ap₂ (λ (L : List ℕ) (b : Bool). b && not (reached L r)) e (marked-take m r l)));
-      marks = k ∙ ap (λ (L : List ℕ). tab 512 (λ r. cond (reached L r) 1 0) ++ drop 512 m) e;
+      marks =
+          k ∙ ap (λ (L : List ℕ). tab 512 (λ r. cond (reached L r) 1 0) ++ drop 512 m) e ∙
+          ap (λ (n : ℕ). tab n (λ r. cond (reached (reloadLevels S D (holdingOf h)) r) 1 0) ++ drop 512 m) (sym z);
     }
 
 -- the rows with one stored, and marked anew

@@ -1,17 +1,19 @@
 -- What the steps of a change that isn't refused answer and leave: the marks of a load from nothing, and a row stored before it. Assumes nothing.
 use Prim.Native.Nat.{ℕ}
 use mathlib.Core.Path.{_≡_}
+use mathlib.Core.Bool.{true, false}
 use mathlib.Core.List.{List, _++_}
 use lib.ListN.{drop}
 use Rattle.model.specs.Scheme.{Scheme}
 use Rattle.model.specs.Database.{Database}
 use Rattle.model.specs.Runs.{marks, cachedFor}
-use Rattle.model.specs.Answers.{Answer}
+use Rattle.model.specs.Answers.{Answer, refused}
 use Rattle.state.specs.declared.held.Held.{Held}
 use Rattle.state.specs.declared.rows.Row.{Row}
 use Rattle.state.specs.Meaning.{holdingOf, cacheOf}
-use Rattle.state.specs.Lent.{State, scheme, cache}
-use Rattle.state.specs.Changes.{rows, tablesOf, stored, changedAnswer, changedWith}
+use Rattle.state.specs.HeldWords.{narrowHeld}
+use Rattle.state.specs.Lent.{State, scheme, cache, causeOf}
+use Rattle.state.specs.Changes.{rows, tablesOf, stored, changedAnswer, changedWith, Change, Changed}
 
 -- D are the tables as they now are: the marks m become m′, those of the smallest set, and a tells how many rows came and went
 pub record Remarked (S : Scheme) (D : Database) (h : Held) (m : List ℕ) (a : Answer) (m′ : List ℕ) : Type 0 where
@@ -22,3 +24,9 @@ pub record Remarked (S : Scheme) (D : Database) (h : Held) (m : List ℕ) (a : A
 pub record Replaced (s : State) (r : ℕ) (x : Row) (a : Answer) (s′ : State) : Type 0 where
   pub answer : a ≡ changedAnswer (scheme s) (tablesOf (stored (rows s) r x)) (cache s)
   pub state : s′ ≡ changedWith s (stored (rows s) r x)
+
+-- the change x of a state s whose held values are lent as words: where they are the words of a record, as of the record; otherwise it is refused by cause 7
+-- or 12, and all stays
+pub record ChangedWords (s : State) (words : List ℕ) (x : Change) (a : Answer) (s′ : State) : Type 0 where
+  pub changed : narrowHeld words ≡ true → Changed s x a s′
+  pub refused : narrowHeld words ≡ false → (a ≡ refused (causeOf s words)) × (s′ ≡ s)

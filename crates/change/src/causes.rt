@@ -9,7 +9,7 @@ ghost use Rattle.state.specs.Lawful.{stoodBelow};
 ghost use Rattle.state.specs.Meaning.{schemeOf};
 ghost use Rattle.state.specs.Changes.{put, remove, rowCell, rowsIn, tablesOf, changeCause};
 ghost use Rattle.finite.specs.Finite.{any};
-ghost use Rattle.catalog.specs.Catalog.{Directory};
+ghost use Rattle.catalog.specs.Catalog.{Indexed};
 use catalog::find;
 use lawful::is_unique;
 use lawful::operand_cell;
@@ -20,16 +20,9 @@ use state::Row;
 use state::is_live;
 
 // Whether column c of x's table is unique and a row has x's value there. The search of a column's values.
-fn stands_at(
-    d: Design,
-    keys: &[u64; 4096],
-    heads: &[u16; 4096],
-    starts: &[u16; 65],
-    x: Row,
-    c: u8,
-) -> bool
+fn stands_at(d: Design, catalog: &[u16; 16449], keys: &[u64; 4096], x: Row, c: u8) -> bool
     requires { ⌜ (x .table < 8) × (c < 8) ⌝ }
-    ensures { λ b. ⌜ ((D : Database) → Directory D (now (keys .entry)) (now (heads .entry)) (now (starts .entry))
+    ensures { λ b. ⌜ ((D : Database) → Indexed D (now (catalog .entry)) (now (keys .entry))
         → b ≡ stoodBelow (schemeOf d) D 512 (record { table = x .table; place = c }) (rowCell x c)) ⌝ }
 {
     let k = Column {
@@ -40,17 +33,17 @@ fn stands_at(
         return false;
     }
     let v = operand_cell(x, c as usize);
-    find(keys, heads, starts, k, v) < Design::ROWS
+    find(catalog, keys, k, v) < Design::ROWS
 }
 
 // Whether a row has one of x's values in a unique column. Eight such searches at the most.
-fn stands(d: Design, keys: &[u64; 4096], heads: &[u16; 4096], starts: &[u16; 65], x: Row) -> bool
+fn stands(d: Design, catalog: &[u16; 16449], keys: &[u64; 4096], x: Row) -> bool
     requires { ⌜ x .table < 8 ⌝ }
-    ensures { λ b. ⌜ ((D : Database) → Directory D (now (keys .entry)) (now (heads .entry)) (now (starts .entry))
+    ensures { λ b. ⌜ ((D : Database) → Indexed D (now (catalog .entry)) (now (keys .entry))
         → b ≡ any 8 (λ c. stoodBelow (schemeOf d) D 512 (record { table = x .table; place = c }) (rowCell x c))) ⌝ }
 {
     for c in 0..8u8 {
-        if stands_at(d, keys, heads, starts, x, c) {
+        if stands_at(d, catalog, keys, x, c) {
             return true;
         }
     }
@@ -61,14 +54,13 @@ fn stands(d: Design, keys: &[u64; 4096], heads: &[u16; 4096], starts: &[u16; 65]
 pub(crate) fn put_cause(
     d: Design,
     tables: &[u8],
+    catalog: &[u16; 16449],
     keys: &[u64; 4096],
-    heads: &[u16; 4096],
-    starts: &[u16; 65],
     r: usize,
     x: Row,
 ) -> u8
     requires { ⌜ InRange d × (512 ≤ length (now tables)) ⌝ }
-    ensures { λ n. ⌜ ((cells : Cells) → Directory (tablesOf (rowsIn cells (now (tables .entry)))) (now (keys .entry)) (now (heads .entry)) (now (starts .entry))
+    ensures { λ n. ⌜ ((cells : Cells) → Indexed (tablesOf (rowsIn cells (now (tables .entry)))) (now (catalog .entry)) (now (keys .entry))
         → n ≡ changeCause (schemeOf d) (rowsIn cells (now (tables .entry))) (put r x)) ⌝ }
 {
     if Design::ROWS <= r {
@@ -80,7 +72,7 @@ pub(crate) fn put_cause(
     if !operands_fit(d, x) {
         return 5;
     }
-    if stands(d, keys, heads, starts, x) {
+    if stands(d, catalog, keys, x) {
         return 6;
     }
     0

@@ -4,9 +4,11 @@ ghost use mathlib.Core.Bool.{true};
 ghost use mathlib.Core.Path.{_≡_};
 ghost use Prim.Native.Nat.{_≤_, _<_};
 ghost use lib.ListN.{length};
+ghost use Rattle.model.specs.Database.{Database};
 ghost use Rattle.state.specs.Cells.{cellsIn};
 ghost use Rattle.state.specs.Design.{Backed, InRange};
 ghost use Rattle.state.specs.Held.{Bounded};
+ghost use Rattle.state.specs.HeldWords.{wordsHeld};
 ghost use Rattle.state.specs.Meaning.{answerOf, databaseOf, schemeOf};
 ghost use Rattle.state.specs.Lent.{lent, sound};
 ghost use Rattle.state.specs.Changes.{put, remove, Changed};
@@ -23,44 +25,24 @@ use load::load_held;
 use load::settle;
 use state::Answer;
 use state::Design;
-use state::Held;
 use state::Row;
 
 // Marks the smallest set for the tables as they now are, and counts the rows that come and go. A load of all that is held from nothing, and three passes over
 // the marks.
 fn remark(
     design: Design,
-    cells: &[u32],
-    issues: &[u8],
-    tables: &[u8],
-    next: &[u16; 4096],
-    first: &[u16; 8192],
+    catalog: &[u16; 16449],
     keys: &[u64; 4096],
-    heads: &[u16; 4096],
-    starts: &[u16; 65],
     marks: &mut [u8],
-    held: Held,
+    held: &[u32; 358],
 ) -> Answer
-    requires { ⌜ InRange design × Bounded held × (512 ≤ length (now marks)) ⌝ }
-    requires { ⌜ Catalogued design (cellsIn (now cells) (now issues)) (now tables) (now next) (now first) (now keys) (now heads) (now starts) ⌝ }
-    ensures { λ a. ⌜ Remarked (schemeOf design) (databaseOf (cellsIn (now (cells .entry)) (now (issues .entry))) (now (tables .entry))) held (now (marks .entry))
-        (answerOf a) (now (marks .exit)) ⌝ }
+    requires { ⌜ InRange design × Bounded (wordsHeld (now held)) × (512 ≤ length (now marks)) ⌝ }
+    requires { ⌜ ((D : Database) × Catalogued (schemeOf design) D (now catalog) (now keys)) ⌝ }
+    ensures { λ a. ⌜ ((D : Database) → Catalogued (schemeOf design) D (now (catalog .entry)) (now (keys .entry))
+        → Remarked (schemeOf design) D (wordsHeld (now (held .entry))) (now (marks .entry)) (answerOf a) (now (marks .exit))) ⌝ }
 {
     let mut levels = [0u16; 512];
-    load_held(
-        design,
-        cells,
-        issues,
-        tables,
-        next,
-        first,
-        keys,
-        heads,
-        starts,
-        held,
-        Design::ROWS,
-        &mut levels,
-    );
+    load_held(design, catalog, keys, held, Design::ROWS, &mut levels);
     let came = rows_came(marks, &levels);
     let went = rows_went(marks, &levels);
     settle(marks, &levels);
@@ -73,48 +55,22 @@ fn replace(
     cells: &mut [u32],
     issues: &mut [u8],
     tables: &mut [u8],
-    next: &mut [u16; 4096],
-    first: &mut [u16; 8192],
+    catalog: &mut [u16; 16449],
     keys: &mut [u64; 4096],
-    heads: &mut [u16; 4096],
-    starts: &mut [u16; 65],
     marks: &mut [u8],
-    held: Held,
+    held: &[u32; 358],
     r: usize,
     x: Row,
 ) -> Answer
-    requires { ⌜ (r < 512) × InRange design × Bounded held × Backed (cellsIn (now cells) (now issues)) (now tables) × (512 ≤ length (now marks)) ⌝ }
-    ensures { λ a. ⌜ Replaced (lent design (cellsIn (now (cells .entry)) (now (issues .entry))) (now (tables .entry)) (now (marks .entry)) held)
+    requires { ⌜ (r < 512) × InRange design × Bounded (wordsHeld (now held)) × Backed (cellsIn (now cells) (now issues)) (now tables) × (512 ≤ length (now marks)) ⌝ }
+    ensures { λ a. ⌜ Replaced (lent design (cellsIn (now (cells .entry)) (now (issues .entry))) (now (tables .entry)) (now (marks .entry)) (wordsHeld (now (held .entry))))
         r x (answerOf a)
-        (lent design (cellsIn (now (cells .exit)) (now (issues .exit))) (now (tables .exit)) (now (marks .exit)) held) ⌝ }
-    ensures { λ _. ⌜ Catalogued design (cellsIn (now (cells .exit)) (now (issues .exit))) (now (tables .exit)) (now (next .exit)) (now (first .exit))
-        (now (keys .exit)) (now (heads .exit)) (now (starts .exit)) ⌝ }
+        (lent design (cellsIn (now (cells .exit)) (now (issues .exit))) (now (tables .exit)) (now (marks .exit)) (wordsHeld (now (held .entry)))) ⌝ }
+    ensures { λ _. ⌜ Catalogued (schemeOf design) (databaseOf (cellsIn (now (cells .exit)) (now (issues .exit))) (now (tables .exit))) (now (catalog .exit)) (now (keys .exit)) ⌝ }
 {
     store_row(cells, issues, tables, r, x);
-    build(
-        design,
-        cells,
-        issues,
-        tables,
-        next,
-        first,
-        keys,
-        heads,
-        starts,
-    );
-    remark(
-        design,
-        cells,
-        issues,
-        tables,
-        next,
-        first,
-        keys,
-        heads,
-        starts,
-        marks,
-        held,
-    )
+    build(design, cells, issues, tables, catalog, keys);
+    remark(design, catalog, keys, marks, held)
 }
 
 // Puts the row x in at number r.
@@ -123,26 +79,22 @@ pub fn put_lawful(
     cells: &mut [u32],
     issues: &mut [u8],
     tables: &mut [u8],
-    next: &mut [u16; 4096],
-    first: &mut [u16; 8192],
+    catalog: &mut [u16; 16449],
     keys: &mut [u64; 4096],
-    heads: &mut [u16; 4096],
-    starts: &mut [u16; 65],
     marks: &mut [u8],
-    held: Held,
+    held: &[u32; 358],
     r: u16,
     x: Row,
 ) -> Answer
-    requires { ⌜ (sound (lent design (cellsIn (now cells) (now issues)) (now tables) (now marks) held) ≡ true)
-        × Catalogued design (cellsIn (now cells) (now issues)) (now tables) (now next) (now first) (now keys) (now heads) (now starts) ⌝ }
-    ensures { λ a. ⌜ Changed (lent design (cellsIn (now (cells .entry)) (now (issues .entry))) (now (tables .entry)) (now (marks .entry)) held)
+    requires { ⌜ (sound (lent design (cellsIn (now cells) (now issues)) (now tables) (now marks) (wordsHeld (now held))) ≡ true)
+        × Catalogued (schemeOf design) (databaseOf (cellsIn (now cells) (now issues)) (now tables)) (now catalog) (now keys) ⌝ }
+    ensures { λ a. ⌜ Changed (lent design (cellsIn (now (cells .entry)) (now (issues .entry))) (now (tables .entry)) (now (marks .entry)) (wordsHeld (now (held .entry))))
         (put r x) (answerOf a)
-        (lent design (cellsIn (now (cells .exit)) (now (issues .exit))) (now (tables .exit)) (now (marks .exit)) held) ⌝ }
-    ensures { λ _. ⌜ Catalogued design (cellsIn (now (cells .exit)) (now (issues .exit))) (now (tables .exit)) (now (next .exit)) (now (first .exit))
-        (now (keys .exit)) (now (heads .exit)) (now (starts .exit)) ⌝ }
+        (lent design (cellsIn (now (cells .exit)) (now (issues .exit))) (now (tables .exit)) (now (marks .exit)) (wordsHeld (now (held .entry)))) ⌝ }
+    ensures { λ _. ⌜ Catalogued (schemeOf design) (databaseOf (cellsIn (now (cells .exit)) (now (issues .exit))) (now (tables .exit))) (now (catalog .exit)) (now (keys .exit)) ⌝ }
 {
     let n = r as usize;
-    let why = put_cause(design, tables, keys, heads, starts, n, x);
+    let why = put_cause(design, tables, catalog, keys, n, x);
     if why != 0 {
         return Answer::Refused(why);
     }
@@ -151,11 +103,8 @@ pub fn put_lawful(
         cells,
         issues,
         tables,
-        next,
-        first,
+        catalog,
         keys,
-        heads,
-        starts,
         marks,
         held,
         n,
@@ -169,22 +118,18 @@ pub fn remove_lawful(
     cells: &mut [u32],
     issues: &mut [u8],
     tables: &mut [u8],
-    next: &mut [u16; 4096],
-    first: &mut [u16; 8192],
+    catalog: &mut [u16; 16449],
     keys: &mut [u64; 4096],
-    heads: &mut [u16; 4096],
-    starts: &mut [u16; 65],
     marks: &mut [u8],
-    held: Held,
+    held: &[u32; 358],
     r: u16,
 ) -> Answer
-    requires { ⌜ (sound (lent design (cellsIn (now cells) (now issues)) (now tables) (now marks) held) ≡ true)
-        × Catalogued design (cellsIn (now cells) (now issues)) (now tables) (now next) (now first) (now keys) (now heads) (now starts) ⌝ }
-    ensures { λ a. ⌜ Changed (lent design (cellsIn (now (cells .entry)) (now (issues .entry))) (now (tables .entry)) (now (marks .entry)) held)
+    requires { ⌜ (sound (lent design (cellsIn (now cells) (now issues)) (now tables) (now marks) (wordsHeld (now held))) ≡ true)
+        × Catalogued (schemeOf design) (databaseOf (cellsIn (now cells) (now issues)) (now tables)) (now catalog) (now keys) ⌝ }
+    ensures { λ a. ⌜ Changed (lent design (cellsIn (now (cells .entry)) (now (issues .entry))) (now (tables .entry)) (now (marks .entry)) (wordsHeld (now (held .entry))))
         (remove r) (answerOf a)
-        (lent design (cellsIn (now (cells .exit)) (now (issues .exit))) (now (tables .exit)) (now (marks .exit)) held) ⌝ }
-    ensures { λ _. ⌜ Catalogued design (cellsIn (now (cells .exit)) (now (issues .exit))) (now (tables .exit)) (now (next .exit)) (now (first .exit))
-        (now (keys .exit)) (now (heads .exit)) (now (starts .exit)) ⌝ }
+        (lent design (cellsIn (now (cells .exit)) (now (issues .exit))) (now (tables .exit)) (now (marks .exit)) (wordsHeld (now (held .entry)))) ⌝ }
+    ensures { λ _. ⌜ Catalogued (schemeOf design) (databaseOf (cellsIn (now (cells .exit)) (now (issues .exit))) (now (tables .exit))) (now (catalog .exit)) (now (keys .exit)) ⌝ }
 {
     let n = r as usize;
     let why = remove_cause(design, tables, n);
@@ -196,11 +141,8 @@ pub fn remove_lawful(
         cells,
         issues,
         tables,
-        next,
-        first,
+        catalog,
         keys,
-        heads,
-        starts,
         marks,
         held,
         n,

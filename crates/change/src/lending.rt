@@ -1,15 +1,16 @@
 // Putting a row in and removing one, for whatever is lent: causes 7 and 12 first. The test for cause 12 (one look at the design, at each cell and at all that
 // is held, the catalog, and a reload), then the cost of the change.
 ghost use Rattle.state.specs.Cells.{cellsIn};
+ghost use Rattle.state.specs.HeldWords.{wordsHeld};
 ghost use Rattle.state.specs.Meaning.{answerOf};
 ghost use Rattle.state.specs.Lent.{lent};
-ghost use Rattle.state.specs.Changes.{put, remove, Changed};
+ghost use Rattle.state.specs.Changes.{put, remove};
+ghost use Rattle.change.specs.Replacing.{ChangedWords};
 use crate::changing::put_lawful;
 use crate::changing::remove_lawful;
 use cache::cause;
 use state::Answer;
 use state::Design;
-use state::Held;
 use state::Row;
 
 // Puts the row x in at number r.
@@ -19,29 +20,23 @@ pub fn put_row(
     issues: &mut [u8],
     tables: &mut [u8],
     marks: &mut [u8],
-    held: Held,
+    held: &[u32; 358],
     r: u16,
     x: Row,
 ) -> Answer
-    ensures { λ a. ⌜ Changed (lent design (cellsIn (now (cells .entry)) (now (issues .entry))) (now (tables .entry)) (now (marks .entry)) held)
+    ensures { λ a. ⌜ ChangedWords (lent design (cellsIn (now (cells .entry)) (now (issues .entry))) (now (tables .entry)) (now (marks .entry)) (wordsHeld (now (held .entry)))) (now (held .entry))
         (put r x) (answerOf a)
-        (lent design (cellsIn (now (cells .exit)) (now (issues .exit))) (now (tables .exit)) (now (marks .exit)) held) ⌝ }
+        (lent design (cellsIn (now (cells .exit)) (now (issues .exit))) (now (tables .exit)) (now (marks .exit)) (wordsHeld (now (held .entry)))) ⌝ }
 {
-    let mut next = [512u16; 4096];
-    let mut first = [512u16; 8192];
+    let mut catalog = [0u16; 16449];
     let mut keys = [0u64; 4096];
-    let mut heads = [512u16; 4096];
-    let mut starts = [0u16; 65];
     let why = cause(
         design,
         cells,
         issues,
         tables,
-        &mut next,
-        &mut first,
+        &mut catalog,
         &mut keys,
-        &mut heads,
-        &mut starts,
         marks,
         held,
     );
@@ -53,11 +48,8 @@ pub fn put_row(
         cells,
         issues,
         tables,
-        &mut next,
-        &mut first,
+        &mut catalog,
         &mut keys,
-        &mut heads,
-        &mut starts,
         marks,
         held,
         r,
@@ -72,28 +64,22 @@ pub fn remove_row(
     issues: &mut [u8],
     tables: &mut [u8],
     marks: &mut [u8],
-    held: Held,
+    held: &[u32; 358],
     r: u16,
 ) -> Answer
-    ensures { λ a. ⌜ Changed (lent design (cellsIn (now (cells .entry)) (now (issues .entry))) (now (tables .entry)) (now (marks .entry)) held)
+    ensures { λ a. ⌜ ChangedWords (lent design (cellsIn (now (cells .entry)) (now (issues .entry))) (now (tables .entry)) (now (marks .entry)) (wordsHeld (now (held .entry)))) (now (held .entry))
         (remove r) (answerOf a)
-        (lent design (cellsIn (now (cells .exit)) (now (issues .exit))) (now (tables .exit)) (now (marks .exit)) held) ⌝ }
+        (lent design (cellsIn (now (cells .exit)) (now (issues .exit))) (now (tables .exit)) (now (marks .exit)) (wordsHeld (now (held .entry)))) ⌝ }
 {
-    let mut next = [512u16; 4096];
-    let mut first = [512u16; 8192];
+    let mut catalog = [0u16; 16449];
     let mut keys = [0u64; 4096];
-    let mut heads = [512u16; 4096];
-    let mut starts = [0u16; 65];
     let why = cause(
         design,
         cells,
         issues,
         tables,
-        &mut next,
-        &mut first,
+        &mut catalog,
         &mut keys,
-        &mut heads,
-        &mut starts,
         marks,
         held,
     );
@@ -105,11 +91,8 @@ pub fn remove_row(
         cells,
         issues,
         tables,
-        &mut next,
-        &mut first,
+        &mut catalog,
         &mut keys,
-        &mut heads,
-        &mut starts,
         marks,
         held,
         r,

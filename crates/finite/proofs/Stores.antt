@@ -69,6 +69,9 @@ module _ {A : Type 0} where
   pub stored-three : (l : List A) (i : ℕ) (x y z : A) → set (set (set l i x) (i + 1) y) (i + 2) z ≡ sets l i (x ∷ y ∷ z ∷ [])
   stored-three l i x y z = rw (add-one i, add-two i)
 
+  pub stored-four : (l : List A) (i : ℕ) (w x y z : A) → set (set (set (set l i w) (i + 1) x) (i + 2) y) (i + 3) z ≡ sets l i (w ∷ x ∷ y ∷ z ∷ [])
+  stored-four l i w x y z = rw (add-one i, add-two i, add-three i)
+
   pub stored-five : (l : List A) (i : ℕ) (v w x y z : A) → set (set (set (set (set l i v) (i + 1) w) (i + 2) x) (i + 3) y) (i + 4) z ≡ sets l i (v ∷ w ∷ x ∷ y ∷ z ∷ [])
   stored-five l i v w x y z = rw (add-one i, add-two i, add-three i, add-four i)
 

@@ -2,7 +2,7 @@
 use Prim.Native.Nat.{ℕ, _+_, _*_, _/_, _%_, _≤_, _<_}
 use native.Mathlib.Decide.{decLt}
 use native.Mathlib.Omega.{arith}
-use mathlib.Core.Path.{_≡_, sym, ap, ap₂, _∙_}
+use mathlib.Core.Path.{_≡_, refl, sym, ap, ap₂, _∙_}
 use mathlib.Core.Bool.{Bool, true, false, not, cond, _&&_}
 use mathlib.Core.List.{List, _++_}
 use borrow.Author.Tests.{le-ltb}
@@ -19,7 +19,7 @@ use Rattle.state.specs.Cells.{Cells, cellsIn}
 use Rattle.state.specs.declared.design.Design.{Design}
 use Rattle.state.specs.Meaning.{freeTable, cellIn, schemeOf, databaseOf}
 use Rattle.finite.specs.Finite.{firstFrom}
-use Rattle.catalog.specs.Catalog.{columnAt, nextOf, demandedFirst, keyOf, valueOf, Listed, Directory, Catalogued}
+use Rattle.catalog.specs.Catalog.{columnAt, nextOf, demandedFirst, keyOf, valueOf, Listed, Directory, headsIn, startsIn, Links, Catalogued}
 use Rattle.format.proofs.CellsLaws.{same-cell}
 use Rattle.format.proofs.LawfulLaws.{SameRow, same-row, live-same}
 
@@ -96,15 +96,17 @@ module _ (D E : Database) (live : (r : ℕ) → D .live r ≡ E .live r) (dead :
           there s h (no l) = clash h (has-none k (E .cell s (k .place)) s (omega arith))
 
 -- the first 512 rows of both are the same
-pub catalogued-as : (d : Design) (cells : Cells) (tables : List ℕ) (cells′ : Cells) (tables′ next first keys heads starts : List ℕ)
+pub catalogued-as : (d : Design) (cells : Cells) (tables : List ℕ) (cells′ : Cells) (tables′ catalog keys : List ℕ)
     → ((x : ℕ) → x < 4096 → cellIn cells′ x ≡ cellIn cells x) → ((r : ℕ) → r < 512 → getD tables′ r 0 ≡ getD tables r 0)
-    → Catalogued d cells tables next first keys heads starts → Catalogued d cells′ tables′ next first keys heads starts
+    → Catalogued (schemeOf d) (databaseOf cells tables) catalog keys → Catalogued (schemeOf d) (databaseOf cells′ tables′) catalog keys
 unfolding databaseOf
-catalogued-as d cells tables cells′ tables′ next first keys heads starts a b f =
+catalogued-as d cells tables cells′ tables′ catalog keys a b f =
     record {
-      next-is = f .next-is ∙ tab-same 4096 _ _ (λ x l. next-alike D E live (dead tables) same (x / 8) (x % 8) (omega arith));
-      first-is = f .first-is ∙ tab-same 8192 _ _ (λ x l. first-alike D E live (dead tables) same (schemeOf d) (x / 512) (x % 512) (omega arith));
-      directory = directory-alike D E live (dead tables) same keys heads starts (f .directory);
+      demands = record {
+        links = links;
+        first-is = f .demands .first-is ∙ tab-same 8192 _ _ (λ x l. first-alike D E live (dead tables) same (schemeOf d) (x / 512) (x % 512) (omega arith));
+      };
+      index = record { links = links; directory = directory-alike D E live (dead tables) same keys (headsIn catalog) (startsIn catalog) (f .index .directory) };
     }
   where
     D : Database
@@ -126,12 +128,19 @@ catalogued-as d cells tables cells′ tables′ next first keys heads starts a b
     same : (r : ℕ) → r < 512 → SameRow D E r
     same r l = same-row cells cells′ tables tables′ r (sym (b r l)) (λ c h. sym (a (8 * r + c) (omega arith)))
 
+    links : Links E catalog
+    links = record {
+      long = f .demands .links .long;
+      size-is = refl;
+      next-is = f .demands .links .next-is ∙ tab-same 4096 _ _ (λ x l. next-alike D E live (dead tables) same (x / 8) (x % 8) (omega arith));
+    }
+
 -- what is copied out
-pub catalogued-copied : (d : Design) (cells : Cells) (tables more others rest next first keys heads starts : List ℕ)
-    → length (cells .numbers) ≡ 4096 → length (cells .issues) ≡ 4096 → length tables ≡ 512 → Catalogued d cells tables next first keys heads starts
-    → Catalogued d (cellsIn (cells .numbers ++ more) (cells .issues ++ others)) (tables ++ rest) next first keys heads starts
-catalogued-copied d cells tables more others rest next first keys heads starts a c b f =
-    catalogued-as d cells tables (cellsIn (cells .numbers ++ more) (cells .issues ++ others)) (tables ++ rest) next first keys heads starts
+pub catalogued-copied : (d : Design) (cells : Cells) (tables more others rest catalog keys : List ℕ)
+    → length (cells .numbers) ≡ 4096 → length (cells .issues) ≡ 4096 → length tables ≡ 512 → Catalogued (schemeOf d) (databaseOf cells tables) catalog keys
+    → Catalogued (schemeOf d) (databaseOf (cellsIn (cells .numbers ++ more) (cells .issues ++ others)) (tables ++ rest)) catalog keys
+catalogued-copied d cells tables more others rest catalog keys a c b f =
+    catalogued-as d cells tables (cellsIn (cells .numbers ++ more) (cells .issues ++ others)) (tables ++ rest) catalog keys
     (λ x l. same-cell (cellsIn (cells .numbers ++ more) (cells .issues ++ others)) cells x x
     (List·getD-append (cells .numbers) more 0 x (omega arith)) (List·getD-append (cells .issues) others 0 x (omega arith)))
     (λ r l. List·getD-append tables rest 0 r (omega arith)) f

@@ -24,7 +24,8 @@ use Rattle.format.proofs.AdvancedLaws.{adds-table, adds-constraint, add
 use Rattle.format.proofs.ReadingLaws.{readAll, all-on, all-complete}
 use Rattle.format.proofs.Reached.{Sizes}
 use Rattle.format.proofs.Drafts.{withTables, withConstraints, withFillings, withAllRows, draft-start, all-tables, all-constraints, all-fillings, all-rows, next-table, next-constraint, next-filling, next-row}
-use Rattle.format.proofs.Standing.{Stands, stands-part, piece-at, stands-piece, reads-table, reads-constraint, reads-filling, reads-row, reads-end, row-table, row-cells, row-issues, row-needed}
+use Rattle.finite.proofs.Standing.{Stands, stands-part, piece-at, stands-piece}
+use Rattle.format.proofs.Standing.{reads-table, reads-constraint, reads-filling, reads-row, reads-end, row-table, row-cells, row-issues, row-needed}
 
 -- ---- a kind of items read one after the other
 

@@ -209,7 +209,8 @@ module _ (d : Design) (n : ℕ) (cells : Cells) (tables next : List ℕ) (few : 
               sym (next-unique d tables next (8 * j + c)
               (ap₂ (λ (m n : ℕ). S .unique (record { table = getD tables m 0; place = n })) y z ∙
               ap (λ (m : ℕ). S .unique (record { table = m; place = c })) t ∙ a .0)) ∙
-              next-from D (columnAt D q c) (D .cell q c) j has-j next e (omega (arith, below)) ab
+              next-from D (columnAt D q c) (D .cell q c) j has-j _
+              (ap (λ (xs : List ℕ). getD xs (8 * j + c) 0) e ∙ tab-at 0 4096 (λ y. nextOf D (y / 8) (y % 8)) (8 * j + c) (omega (arith, below, ab)) ∙ ap₂ (nextOf D) y z)
 
   pub found-none : (r : ℕ) → r ≡ found → n ≤ r → None n (again d cells tables)
   found-none r f h q l = none-before q l (omega arith)

@@ -24,7 +24,7 @@ use Rattle.format.proofs.WritingLaws.{length-most, bytes-dense, length-
 use Rattle.format.proofs.LawfulLaws.{parts, row-parts}
 use Rattle.format.proofs.ReadingLaws.{readAll}
 use Rattle.format.proofs.Reached.{Sizes, reads-lawful}
-use Rattle.format.proofs.Standing.{Stands, stands-first}
+use Rattle.finite.proofs.Standing.{Stands, stands-first}
 use Rattle.format.proofs.Small.{Small, small-design}
 use Rattle.format.proofs.ReadBack.{Numbers, reading}
 use Rattle.format.proofs.Compact.{left-small, compact-dense, compact-lawful, compact-written}

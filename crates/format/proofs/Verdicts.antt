@@ -1,13 +1,14 @@
 -- What is answered where the first pass has stopped: its verdict, or cause 6; and the catalog. Assumes nothing.
 use Prim.Native.Nat.{ℕ, _*_, _≤_, _<_}
 use native.Mathlib.Omega.{arith}
-use mathlib.Core.Path.{_≡_, sym, ap, ap₂, subst, _∙_}
+use mathlib.Core.Path.{_≡_, refl, sym, ap, ap₂, subst, _∙_}
 use mathlib.Core.List.{List, _++_}
 use lib.ListN.{length}
 use Rattle.state.specs.Cells.{Cells, cellsIn}
 use Rattle.state.specs.declared.design.Design.{Design}
 use Rattle.state.specs.Design.{emptyDesign}
-use Rattle.catalog.specs.Catalog.{Catalogued}
+use Rattle.state.specs.Meaning.{schemeOf, databaseOf}
+use Rattle.catalog.specs.Catalog.{nexts, Catalogued}
 use Rattle.format.specs.declared.verdict.DesignReading.{DesignReading}
 use Rattle.format.specs.declared.verdict.Verdict.{Verdict}
 use Rattle.format.specs.declared.verdict.Verdict.the-variants.{Accepted, Refused}
@@ -25,30 +26,23 @@ use Rattle.format.proofs.RepeatLaws.{found-none, found-first}
 not-both : (n i j : ℕ) → Refused n i ≡ Accepted j → ⊥
 not-both n i j e = let z : _≡_ {A = ℕ} 0 1 = cc in omega arith
 
-pub opens-refused : (v : Verdict) (d : Design) (n i : ℕ) → v ≡ Refused n i → (cells : Cells) (tables next first keys heads starts : List ℕ)
-    → Opens (record { verdict = v; design = d; rows = 0 }) cells tables next first keys heads starts
-opens-refused v d n i e cells tables next first keys heads starts j f = absurd (not-both n i j (sym e ∙ f))
+pub opens-refused : (v : Verdict) (d : Design) (n i : ℕ) → v ≡ Refused n i → (cells : Cells) (tables catalog keys : List ℕ)
+    → Opens (record { verdict = v; design = d; rows = 0 }) cells tables catalog keys
+opens-refused v d n i e cells tables catalog keys j f = absurd (not-both n i j (sym e ∙ f))
 
-pub keeps-accepted : (x : DesignReading) (j : ℕ) → x .verdict ≡ Accepted j → (n n′ f f′ k k′ h h′ s s′ : List ℕ) → Keeps x n n′ f f′ k k′ h h′ s s′
-keeps-accepted x j e n n′ f f′ k k′ h h′ s s′ =
-    record {
-      next = λ c i g. absurd (not-both c i j (sym g ∙ e));
-      first = λ c i g. absurd (not-both c i j (sym g ∙ e));
-      keys = λ c i g. absurd (not-both c i j (sym g ∙ e));
-      heads = λ c i g. absurd (not-both c i j (sym g ∙ e));
-      starts = λ c i g. absurd (not-both c i j (sym g ∙ e));
-    }
+pub keeps-accepted : (x : DesignReading) (j : ℕ) → x .verdict ≡ Accepted j → (a a′ k k′ : List ℕ) → Keeps x a a′ k k′
+keeps-accepted x j e a a′ k k′ = record { catalog = λ c i g. absurd (not-both c i j (sym g ∙ e)); keys = λ c i g. absurd (not-both c i j (sym g ∙ e)) }
 
 -- what is copied out is catalogued
-pub opens-copied : (v : Verdict) (d : Design) (cells : Cells) (tables next first keys heads starts : List ℕ)
-    → Opens (record { verdict = v; design = d; rows = 0 }) cells tables next first keys heads starts
+pub opens-copied : (v : Verdict) (d : Design) (cells : Cells) (tables catalog keys : List ℕ)
+    → Opens (record { verdict = v; design = d; rows = 0 }) cells tables catalog keys
     → length (cells .numbers) ≡ 4096 → length (cells .issues) ≡ 4096 → length tables ≡ 512 → (cs is ts more others rest : List ℕ)
     → cs ≡ cells .numbers ++ more → is ≡ cells .issues ++ others → ts ≡ tables ++ rest
-    → Opens (record { verdict = v; design = d; rows = 0 }) (cellsIn cs is) ts next first keys heads starts
-opens-copied v d cells tables next first keys heads starts o a c b cs is ts more others rest e g f i y =
-    subst (λ (ys : List ℕ). Catalogued d (cellsIn cs is) ys next first keys heads starts) (sym f)
-    (subst (λ (xs : Cells). Catalogued d xs (tables ++ rest) next first keys heads starts) (sym (ap₂ cellsIn e g))
-    (catalogued-copied d cells tables more others rest next first keys heads starts a c b (o i y)))
+    → Opens (record { verdict = v; design = d; rows = 0 }) (cellsIn cs is) ts catalog keys
+opens-copied v d cells tables catalog keys o a c b cs is ts more others rest e g f i y =
+    subst (λ (ys : List ℕ). Catalogued (schemeOf d) (databaseOf (cellsIn cs is) ys) catalog keys) (sym f)
+    (subst (λ (xs : Cells). Catalogued (schemeOf d) (databaseOf xs (tables ++ rest)) catalog keys) (sym (ap₂ cellsIn e g))
+    (catalogued-copied d cells tables more others rest catalog keys a c b (o i y)))
 
 -- a refusal with the place where row r's command begins
 pub refusal-at : (x : DesignReading) (i j : ℕ) → x ≡ record { verdict = Refused 6 i; design = emptyDesign; rows = 0 } → i ≡ j → x ≡ record { verdict = Refused 6 j; design = emptyDesign; rows = 0 }
@@ -82,33 +76,33 @@ read-accepted w v d n cells tables j g e =
 
 -- ---- the first pass has stopped, the rows read are catalogued, and the lowest next row in a unique column is r
 
-module _ (w : DesignRead) (p : Stop) (cells : Cells) (tables next first keys heads starts : List ℕ) (h : Stopped w p cells tables)
-    (k : Catalogued (p .design) cells tables next first keys heads starts) (r : ℕ)
-    (f : r ≡ lowest (8 * p .rows) (uniqueNext (p .design) tables next)) where
+module _ (w : DesignRead) (p : Stop) (cells : Cells) (tables catalog keys : List ℕ) (h : Stopped w p cells tables)
+    (k : Catalogued (schemeOf (p .design)) (databaseOf cells tables) catalog keys) (r : ℕ)
+    (f : r ≡ lowest (8 * p .rows) (uniqueNext (p .design) tables (nexts (databaseOf cells tables)))) where
   earliest : r < p .rows → Earliest (p .rows) (again (p .design) cells tables) r
-  earliest l = found-first (p .design) (p .rows) cells tables next (h .most) (k .next-is) r f l
+  earliest l = found-first (p .design) (p .rows) cells tables _ (h .most) refl r f l
 
   -- row r repeats a value
   pub rows-twice : r < p .rows → (x : DesignReading) → x ≡ record { verdict = Refused 6 (rowPlace (p .design) cells r); design = emptyDesign; rows = 0 }
-      → Read w x cells tables × Opens x cells tables next first keys heads starts
+      → Read w x cells tables × Opens x cells tables catalog keys
   rows-twice l x e = (
     read-refused w x cells tables 6 _ (h .twice r (earliest l)) e,
-    opens-refused (x .verdict) (x .design) 6 _ (ap (λ y. y .verdict) e) cells tables next first keys heads starts,
+    opens-refused (x .verdict) (x .design) 6 _ (ap (λ y. y .verdict) e) cells tables catalog keys,
   )
 
   -- no row does: the verdict stands
   module _ (l : p .rows ≤ r) where
     once : (v : Verdict) → p .verdict ≡ v → w ≡ readAs v (draft (p .design) (p .rows) cells tables)
-    once v e = h .once (found-none (p .design) (p .rows) cells tables next (h .most) (k .next-is) r f l) ∙
+    once v e = h .once (found-none (p .design) (p .rows) cells tables _ (h .most) refl r f l) ∙
         ap (λ (y : Verdict). readAs y (draft (p .design) (p .rows) cells tables)) e
 
     pub rows-refused : (n i : ℕ) → p .verdict ≡ Refused n i → (d : Design) → d ≡ emptyDesign → let x : DesignReading = record { verdict = p .verdict; design = d; rows = 0 } in
-        Read w x cells tables × Opens x cells tables next first keys heads starts
+        Read w x cells tables × Opens x cells tables catalog keys
     rows-refused n i e d g = (
       read-refused w (record { verdict = p .verdict; design = d; rows = 0 }) cells tables n i (once (Refused n i) e) (ap₂ (λ a b. let z : DesignReading = record { verdict = a; design = b; rows = 0 } in z) e g),
-      opens-refused (p .verdict) d n i e cells tables next first keys heads starts,
+      opens-refused (p .verdict) d n i e cells tables catalog keys,
     )
 
     pub rows-accepted : (j : ℕ) → p .verdict ≡ Accepted j → let x : DesignReading = record { verdict = p .verdict; design = p .design; rows = p .rows } in
-        Read w x cells tables × Opens x cells tables next first keys heads starts
+        Read w x cells tables × Opens x cells tables catalog keys
     rows-accepted j e = (read-accepted w (p .verdict) (p .design) (p .rows) cells tables j e (once (Accepted j) e), λ i _. k)

@@ -114,13 +114,10 @@ lowest (suc n) f = lower (lowest n f) (f n)
 -- ---- the catalog of an accepted design
 
 -- the rows of an accepted design are catalogued
-abbrev pub Opens : DesignReading → Cells → List ℕ → List ℕ → List ℕ → List ℕ → List ℕ → List ℕ → Type 0
-Opens r cells tables next first keys heads starts = (i : ℕ) → r .verdict ≡ Accepted i → Catalogued (r .design) cells tables next first keys heads starts
+abbrev pub Opens : DesignReading → Cells → List ℕ → List ℕ → List ℕ → Type 0
+Opens r cells tables catalog keys = (i : ℕ) → r .verdict ≡ Accepted i → Catalogued (schemeOf (r .design)) (databaseOf cells tables) catalog keys
 
--- ... and a refused one leaves the catalog's arrays as they were: n, f, k, h and s before
-pub record Keeps (r : DesignReading) (n n′ f f′ k k′ h h′ s s′ : List ℕ) : Type 0 where
-  pub next : (c i : ℕ) → r .verdict ≡ Refused c i → n′ ≡ n
-  pub first : (c i : ℕ) → r .verdict ≡ Refused c i → f′ ≡ f
+-- ... and a refused one leaves the catalog's arrays as they were: a and k before
+pub record Keeps (r : DesignReading) (a a′ k k′ : List ℕ) : Type 0 where
+  pub catalog : (c i : ℕ) → r .verdict ≡ Refused c i → a′ ≡ a
   pub keys : (c i : ℕ) → r .verdict ≡ Refused c i → k′ ≡ k
-  pub heads : (c i : ℕ) → r .verdict ≡ Refused c i → h′ ≡ h
-  pub starts : (c i : ℕ) → r .verdict ≡ Refused c i → s′ ≡ s

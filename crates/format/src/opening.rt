@@ -37,23 +37,19 @@ fn read_rows(
     cells: &mut [u32],
     issues: &mut [u8],
     tables: &mut [u8],
-    next: &mut [u16; 4096],
-    first: &mut [u16; 8192],
+    catalog: &mut [u16; 16449],
     keys: &mut [u64; 4096],
-    heads: &mut [u16; 4096],
-    starts: &mut [u16; 65],
 ) -> DesignReading
     requires { ⌜ (length (now cells) ≡ 4096) × (length (now issues) ≡ 4096) × (length (now tables) ≡ 512) ⌝ }
     ensures { λ r. ⌜ Read (readFrom (suc (length (now (script .entry)))) (now (script .entry))
         (draft emptyDesign 0 (cellsIn (now (cells .entry)) (now (issues .entry))) (now (tables .entry))) 0) r (cellsIn (now (cells .exit)) (now (issues .exit))) (now (tables .exit)) ⌝ }
-    ensures { λ r. ⌜ Opens r (cellsIn (now (cells .exit)) (now (issues .exit))) (now (tables .exit)) (now (next .exit)) (now (first .exit)) (now (keys .exit)) (now (heads .exit))
-        (now (starts .exit)) ⌝ }
+    ensures { λ r. ⌜ Opens r (cellsIn (now (cells .exit)) (now (issues .exit))) (now (tables .exit)) (now (catalog .exit)) (now (keys .exit)) ⌝ }
 {
     let stop = read_commands(script, cells, issues, tables);
     let d = stop.design;
-    catalog::build(d, cells, issues, tables, next, first, keys, heads, starts);
+    catalog::build(d, cells, issues, tables, catalog, keys);
     let n = stop.rows;
-    let r = first_repeat(d, n, tables, next);
+    let r = first_repeat(d, n, tables, catalog);
     if r < n {
         return refusal(6, row_place(d, issues, r));
     }
@@ -91,33 +87,19 @@ fn read_into(
     issues: &mut [u8],
     tables: &mut [u8],
     marks: &mut [u8],
-    next: &mut [u16; 4096],
-    first: &mut [u16; 8192],
+    catalog: &mut [u16; 16449],
     keys: &mut [u64; 4096],
-    heads: &mut [u16; 4096],
-    starts: &mut [u16; 65],
 ) -> DesignReading
     requires { ⌜ (4096 ≤ length (now cells)) × (4096 ≤ length (now issues)) × (512 ≤ length (now tables)) × (512 ≤ length (now marks)) ⌝ }
     ensures { λ r. ⌜ Leaves (readFrom (suc (length (now (script .entry)))) (now (script .entry)) emptyDraft 0) r (cellsIn (now (cells .entry)) (now (issues .entry))) (cellsIn (now (cells .exit)) (now (issues .exit)))
         (now (tables .entry)) (now (tables .exit)) (now (marks .entry)) (now (marks .exit)) ⌝ }
-    ensures { λ r. ⌜ Opens r (cellsIn (now (cells .exit)) (now (issues .exit))) (now (tables .exit)) (now (next .exit)) (now (first .exit)) (now (keys .exit)) (now (heads .exit))
-        (now (starts .exit)) ⌝ }
+    ensures { λ r. ⌜ Opens r (cellsIn (now (cells .exit)) (now (issues .exit))) (now (tables .exit)) (now (catalog .exit)) (now (keys .exit)) ⌝ }
 {
     let mut x = [0u32; 4096];
     let mut v = [0u8; 4096];
     let mut y = [Design::FREE; 512];
     let z = [0u8; 512];
-    let r = read_rows(
-        script,
-        &mut x,
-        &mut v,
-        &mut y,
-        next,
-        first,
-        keys,
-        heads,
-        starts,
-    );
+    let r = read_rows(script, &mut x, &mut v, &mut y, catalog, keys);
     let read = r.verdict;
     let Verdict::Accepted(_) = read else {
         return r;
@@ -136,16 +118,12 @@ fn read_lent(
     issues: &mut [u8],
     tables: &mut [u8],
     marks: &mut [u8],
-    next: &mut [u16; 4096],
-    first: &mut [u16; 8192],
+    catalog: &mut [u16; 16449],
     keys: &mut [u64; 4096],
-    heads: &mut [u16; 4096],
-    starts: &mut [u16; 65],
 ) -> DesignReading
     ensures { λ r. ⌜ Leaves (readInto (now (script .entry)) (cellsIn (now (cells .entry)) (now (issues .entry))) (now (tables .entry)) (now (marks .entry))) r (cellsIn (now (cells .entry)) (now (issues .entry)))
         (cellsIn (now (cells .exit)) (now (issues .exit))) (now (tables .entry)) (now (tables .exit)) (now (marks .entry)) (now (marks .exit)) ⌝ }
-    ensures { λ r. ⌜ Opens r (cellsIn (now (cells .exit)) (now (issues .exit))) (now (tables .exit)) (now (next .exit)) (now (first .exit)) (now (keys .exit)) (now (heads .exit))
-        (now (starts .exit)) ⌝ }
+    ensures { λ r. ⌜ Opens r (cellsIn (now (cells .exit)) (now (issues .exit))) (now (tables .exit)) (now (catalog .exit)) (now (keys .exit)) ⌝ }
 {
     if cells.len() < Design::CELLS {
         return refusal(7, 0);
@@ -162,18 +140,7 @@ fn read_lent(
     if MOST_BYTES < script.len() {
         return refusal(4, 0);
     }
-    read_into(
-        script,
-        cells,
-        issues,
-        tables,
-        marks,
-        next,
-        first,
-        keys,
-        heads,
-        starts,
-    )
+    read_into(script, cells, issues, tables, marks, catalog, keys)
 }
 
 // Reads a design with its rows into lent buffers, and leaves the catalog of the rows: the verdict, with the place after the END or the cause and
@@ -185,45 +152,23 @@ pub fn read_catalogued(
     issues: &mut [u8],
     tables: &mut [u8],
     marks: &mut [u8],
-    next: &mut [u16; 4096],
-    first: &mut [u16; 8192],
+    catalog: &mut [u16; 16449],
     keys: &mut [u64; 4096],
-    heads: &mut [u16; 4096],
-    starts: &mut [u16; 65],
 ) -> DesignReading
     ensures { λ r. ⌜ Leaves (readInto (now (script .entry)) (cellsIn (now (cells .entry)) (now (issues .entry))) (now (tables .entry)) (now (marks .entry))) r (cellsIn (now (cells .entry)) (now (issues .entry)))
         (cellsIn (now (cells .exit)) (now (issues .exit))) (now (tables .entry)) (now (tables .exit)) (now (marks .entry)) (now (marks .exit)) ⌝ }
-    ensures { λ r. ⌜ Opens r (cellsIn (now (cells .exit)) (now (issues .exit))) (now (tables .exit)) (now (next .exit)) (now (first .exit)) (now (keys .exit)) (now (heads .exit))
-        (now (starts .exit)) ⌝ }
-    ensures { λ r. ⌜ Keeps r (now (next .entry)) (now (next .exit)) (now (first .entry)) (now (first .exit)) (now (keys .entry)) (now (keys .exit))
-        (now (heads .entry)) (now (heads .exit)) (now (starts .entry)) (now (starts .exit)) ⌝ }
+    ensures { λ r. ⌜ Opens r (cellsIn (now (cells .exit)) (now (issues .exit))) (now (tables .exit)) (now (catalog .exit)) (now (keys .exit)) ⌝ }
+    ensures { λ r. ⌜ Keeps r (now (catalog .entry)) (now (catalog .exit)) (now (keys .entry)) (now (keys .exit)) ⌝ }
 {
-    let mut a = [0u16; 4096];
-    let mut b = [0u16; 8192];
+    let mut a = [0u16; 16449];
     let mut k = [0u64; 4096];
-    let mut h = [0u16; 4096];
-    let mut s = [0u16; 65];
-    let r = read_lent(
-        script,
-        cells,
-        issues,
-        tables,
-        marks,
-        &mut a,
-        &mut b,
-        &mut k,
-        &mut h,
-        &mut s,
-    );
+    let r = read_lent(script, cells, issues, tables, marks, &mut a, &mut k);
     let answer = r.verdict;
     let Verdict::Accepted(_) = answer else {
         return r;
     };
-    *next = a;
-    *first = b;
+    *catalog = a;
     *keys = k;
-    *heads = h;
-    *starts = s;
     r
 }
 
@@ -238,21 +183,7 @@ pub fn read_design(
     ensures { λ r. ⌜ Leaves (readInto (now (script .entry)) (cellsIn (now (cells .entry)) (now (issues .entry))) (now (tables .entry)) (now (marks .entry))) r (cellsIn (now (cells .entry)) (now (issues .entry)))
         (cellsIn (now (cells .exit)) (now (issues .exit))) (now (tables .entry)) (now (tables .exit)) (now (marks .entry)) (now (marks .exit)) ⌝ }
 {
-    let mut a = [0u16; 4096];
-    let mut b = [0u16; 8192];
+    let mut a = [0u16; 16449];
     let mut k = [0u64; 4096];
-    let mut h = [0u16; 4096];
-    let mut s = [0u16; 65];
-    read_lent(
-        script,
-        cells,
-        issues,
-        tables,
-        marks,
-        &mut a,
-        &mut b,
-        &mut k,
-        &mut h,
-        &mut s,
-    )
+    read_lent(script, cells, issues, tables, marks, &mut a, &mut k)
 }

@@ -3,7 +3,9 @@ ghost use mathlib.Core.Path.{_≡_};
 ghost use Prim.Native.Nat.{_≤_, _<_};
 ghost use Rattle.finite.specs.Finite.{any};
 ghost use Rattle.model.specs.Holding.{sameOwned};
+ghost use mathlib.Core.Bool.{_&&_};
 ghost use Rattle.state.specs.Held.{heldAt};
+ghost use Rattle.state.specs.HeldWords.{wordsHeld, narrowHeld};
 ghost use Rattle.state.specs.Meaning.{ownedOf};
 ghost use Rattle.state.specs.Lawful.{heldFits, lawfulHeld, ownCount, zeroHeld};
 ghost use Rattle.lawful.specs.Parts.{heldLawful, rangesLawful, sharesKept};
@@ -13,20 +15,24 @@ use state::Design;
 use state::Held;
 use state::OwnedValue;
 use state::filling_at;
+use state::held_narrow;
 use state::is_blank;
+use state::named_desk;
+use state::ranges_at;
 use state::same_owned;
+use state::value_at;
+use state::value_count;
 
 // How many values the desk holds. One look at each.
-pub fn own_count(held: Held, desk: u8) -> usize
-    requires { ⌜ held .count ≤ 64 ⌝ }
-    ensures { λ n. ⌜ n ≡ ownCount held desk ⌝ }
+pub fn own_count(held: &[u32; 358], desk: u8) -> usize
+    requires { ⌜ wordsHeld (now held) .count ≤ 64 ⌝ }
+    ensures { λ n. ⌜ n ≡ ownCount (wordsHeld (now (held .entry))) desk ⌝ }
 {
-    // read from here, so that the compiler copies an element and not all of them
-    let values = held.values;
-    let count = held.count;
+    let count = value_count(held);
     let mut n: usize = 0;
     for i in 0..count {
-        if values[i].desk == desk {
+        let v = value_at(held, i);
+        if v.desk == desk {
             n += 1;
         }
     }
@@ -34,9 +40,9 @@ pub fn own_count(held: Held, desk: u8) -> usize
 }
 
 // Whether no desk has more than its share. One look at each held value for each desk.
-fn shares_kept(held: Held) -> bool
-    requires { ⌜ held .count ≤ 64 ⌝ }
-    ensures { λ b. ⌜ b ≡ sharesKept held ⌝ }
+fn shares_kept(held: &[u32; 358]) -> bool
+    requires { ⌜ wordsHeld (now held) .count ≤ 64 ⌝ }
+    ensures { λ b. ⌜ b ≡ sharesKept (wordsHeld (now (held .entry))) ⌝ }
 {
     for desk in 0..Held::DESKS {
         if Held::SHARE < own_count(held, desk) {
@@ -47,14 +53,12 @@ fn shares_kept(held: Held) -> bool
 }
 
 // Whether one of the first n held values is v. One look at each.
-fn held_before(held: Held, n: usize, v: OwnedValue) -> bool
+fn held_before(held: &[u32; 358], n: usize, v: OwnedValue) -> bool
     requires { ⌜ n ≤ 64 ⌝ }
-    ensures { λ b. ⌜ b ≡ any n (λ i. sameOwned (ownedOf (heldAt held i)) (ownedOf v)) ⌝ }
+    ensures { λ b. ⌜ b ≡ any n (λ i. sameOwned (ownedOf (heldAt (wordsHeld (now (held .entry))) i)) (ownedOf v)) ⌝ }
 {
-    // read from here, as above
-    let values = held.values;
     for i in 0..n {
-        if same_owned(values[i], v) {
+        if same_owned(value_at(held, i), v) {
             return true;
         }
     }
@@ -63,9 +67,9 @@ fn held_before(held: Held, n: usize, v: OwnedValue) -> bool
 
 // Whether v can stand as held value n: its desk and its filling exist, it is a candidate, and its desk doesn't hold it before. One look at each held
 // value before it.
-fn held_fits(d: Design, held: Held, n: usize, v: OwnedValue) -> bool
+fn held_fits(d: Design, held: &[u32; 358], n: usize, v: OwnedValue) -> bool
     requires { ⌜ n ≤ 64 ⌝ }
-    ensures { λ b. ⌜ b ≡ heldFits d held n v ⌝ }
+    ensures { λ b. ⌜ b ≡ heldFits d (wordsHeld (now (held .entry))) n v ⌝ }
 {
     if Held::DESKS <= v.desk {
         return false;
@@ -94,39 +98,41 @@ fn zero_held(v: OwnedValue) -> bool
 }
 
 // Whether place i of the held values is lawful: a held value that fits there, or unused and 0. One look at each held value before it.
-fn held_lawful(d: Design, held: Held, i: usize) -> bool
+fn held_lawful(d: Design, held: &[u32; 358], i: usize) -> bool
     requires { ⌜ i < 64 ⌝ }
-    ensures { λ b. ⌜ b ≡ heldLawful d held i ⌝ }
+    ensures { λ b. ⌜ b ≡ heldLawful d (wordsHeld (now (held .entry))) i ⌝ }
 {
-    if held.count <= i {
-        return zero_held(held.values[i]);
+    let v = value_at(held, i);
+    if value_count(held) <= i {
+        return zero_held(v);
     }
-    held_fits(d, held, i, held.values[i])
+    held_fits(d, held, i, v)
 }
 
 // Whether the ranges of every desk are lawful. One look at each of their places.
-fn ranges_lawful(d: Design, held: Held) -> bool
-    ensures { λ b. ⌜ b ≡ rangesLawful d held ⌝ }
+fn ranges_lawful(d: Design, held: &[u32; 358]) -> bool
+    ensures { λ b. ⌜ b ≡ rangesLawful d (wordsHeld (now (held .entry))) ⌝ }
 {
-    // read from here, as above
-    let ranges = held.ranges;
     for e in 0..4usize {
-        if !lawful_ranges(d, ranges[e]) {
+        if !lawful_ranges(d, ranges_at(held, e)) {
             return false;
         }
     }
     true
 }
 
-// Whether a desk is named that exists, and each desk holds at most 16 values, each a candidate and none twice, and lawful ranges, unused places 0. Half the
+// Whether the words are words of what is held, a desk is named that exists, and each desk holds at most 16 values, each a candidate and none twice, and lawful ranges, unused places 0. Half the
 // held values squared.
-pub fn lawful_held(d: Design, held: Held) -> bool
-    ensures { λ b. ⌜ b ≡ lawfulHeld d held ⌝ }
+pub fn lawful_held(d: Design, held: &[u32; 358]) -> bool
+    ensures { λ b. ⌜ b ≡ narrowHeld (now (held .entry)) && lawfulHeld d (wordsHeld (now (held .entry))) ⌝ }
 {
-    if Held::DESKS <= held.desk {
+    if !held_narrow(held) {
         return false;
     }
-    if Held::PLACES < held.count {
+    if Held::DESKS <= named_desk(held) {
+        return false;
+    }
+    if Held::PLACES < value_count(held) {
         return false;
     }
     if !shares_kept(held) {

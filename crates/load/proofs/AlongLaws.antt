@@ -1,25 +1,20 @@
 -- The rows that a walk along the links passes: where it begins and goes on, and which rows they are where it begins at the first row that has a value,
 -- or that a constraint demands. Assumes nothing.
-use Prim.Native.Nat.{ℕ, _+_, _*_, _/_, _%_, _≤_, _<_}
+use Prim.Native.Nat.{ℕ, _+_, _≤_, _<_}
 use native.Mathlib.Decide.{decLt}
 use native.Mathlib.Omega.{arith}
 use mathlib.Core.Path.{_≡_, refl, sym, ap, subst, _∙_}
 use mathlib.Core.Bool.{Bool, true, false, _&&_, and-eq-true-iff}
-use mathlib.Core.List.{List}
-use mir.Syntax.{w64}
-use mir.Val.{Fits}
 use borrow.Author.Tests.{lt-ltb, le-ltb, ltb-true}
 use lib.Dec.{eqb, ltb}
-use lib.ListN.{getD}
-use Rattle.finite.proofs.Bools.{and-left, cond-case}
-use Rattle.finite.proofs.Tables.{tab-at, tab-past}
+use Rattle.finite.proofs.Bools.{and-left}
 use Rattle.model.specs.Cell.{Cell, blank}
 use Rattle.model.specs.Scheme as Model
 use Rattle.model.specs.Database.{Database, has}
 use Rattle.model.specs.Rounds.{leads}
 use Rattle.model.proofs.CellLaws.{blank-is}
 use Rattle.finite.specs.Finite.{firstFrom}
-use Rattle.catalog.specs.Catalog.{columnAt, nextOf, nexts}
+use Rattle.catalog.specs.Catalog.{columnAt, nextOf}
 use Rattle.finite.proofs.First.{First, first-from, first-same, first-none}
 use Rattle.catalog.proofs.CatalogLaws.{next-from, same-rows, has-no-blank}
 use Rattle.load.specs.Walked.{alike, Begins, along}
@@ -50,27 +45,12 @@ module _ (D : Database) (p r : ℕ) where
           e ∙ sym (first-none 512 (along D p r) 0 (λ s _ _. along-none (omega arith) s))
 
   -- where it goes on
-  pub along-next : (next : List ℕ) → next ≡ nexts D → p < 8 → (x : ℕ) → x < 512 → along D p r x ≡ true →
-      getD next (8 * x + p) 0 ≡ firstFrom 512 (along D p r) (x + 1)
+  pub along-next : (x : ℕ) → along D p r x ≡ true → (n : ℕ) → n ≡ nextOf D x p → n ≡ firstFrom 512 (along D p r) (x + 1)
   unfolding alike
-  along-next next e l x m t =
+  along-next x t n e =
       let s = along-start x t in
-      next-from D (columnAt D r p) (D .cell r p) x (sym (along-alike s x) ∙ t) next e m l ∙
+      next-from D (columnAt D r p) (D .cell r p) x (sym (along-alike s x) ∙ t) n e ∙
       first-same 512 (alike D r p) (along D p r) (x + 1) (λ y _ _. sym (along-alike s y))
-
--- every link is a row number, or 512
-next-most : (D : Database) (r c : ℕ) → r < 512 → nextOf D r c ≤ 512
-unfolding nextOf
-next-most D r c l = cond-case (λ (n : ℕ). n ≤ 512) (has D (columnAt D r c) (D .cell r c) r) _ 512 (λ _. first-from 512 _ (r + 1) (omega arith) .bound) (λ _. omega arith)
-
-pub next-fits : (D : Database) (next : List ℕ) → next ≡ nexts D → (i : ℕ) → Fits w64 (getD next i 0)
-next-fits D next e i = go (decLt i 4096)
-  where
-    go : Dec (i < 4096) → Fits w64 (getD next i 0)
-    go (yes l) =
-        omega (arith, next-most D (i / 8) (i % 8) (omega arith), ap (λ (xs : List ℕ). getD xs i 0) e ∙ tab-at 0 4096 (λ x. nextOf D (x / 8) (x % 8)) i l)
-    go (no l) =
-        omega (arith, ap (λ (xs : List ℕ). getD xs i 0) e ∙ tab-past {A = ℕ} 0 4096 (λ x. nextOf D (x / 8) (x % 8)) i (omega arith))
 
 -- ---- from the first row that has a value
 

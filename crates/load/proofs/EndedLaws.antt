@@ -21,8 +21,6 @@ use Rattle.model.specs.Database.{Database}
 use Rattle.model.specs.Cache.{RowSet, Inside}
 use Rattle.model.specs.Rounds.{level, orElse, start, demands, reachedFrom, next, levels, reached, load, addedRows, laterRounds}
 use Rattle.model.proofs.RoundsLaws.{reached-level, level-reached, zero-unreached, levels-length}
-use Rattle.state.specs.Cells.{Cells}
-use Rattle.state.specs.Meaning.{databaseOf}
 use Rattle.load.specs.Queue.{added}
 use Rattle.load.specs.Ended.{Enough, Ended, Covers, Within, Reaches}
 use Rattle.load.proofs.RaisedLaws.{orElse-kept}
@@ -109,8 +107,8 @@ module _ (S : Scheme) (D : Database) (L : List ℕ) where
 
 module _ (S : Scheme) (D : Database) (L : List ℕ) (most : ℕ) (M : List ℕ) (rows rounds : ℕ) (e : rows ≡ count 512 (added M)) where
   -- with a round that added nothing, or the last
-  pub ended-whole : (M ≡ levels S D L 512) × (rounds ≡ laterRounds D M) → Ended S D L most M rows rounds
-  ended-whole p = record { size = e; end = inl (record { levels = p .0; counted = p .1 }) }
+  pub ended-whole : D .size ≡ 512 → (M ≡ levels S D L (D .size)) × (rounds ≡ laterRounds D M) → Ended S D L most M rows rounds
+  ended-whole z p = record { size = e; end = inl (record { levels = p .0 ∙ ap (levels S D L) z; counted = p .1 }) }
 
   -- because enough rows are reached
   pub ended-enough : M ≡ levels S D L rounds → rounds ≤ 512 → most ≤ rows → Ended S D L most M rows rounds
@@ -169,16 +167,13 @@ pub within-all : (S : Scheme) (D : Database) (seed : RowSet) → Within S D seed
 within-all S D seed =
     record { set = λ _. true; covers = record { closed = λ s r x y. refl; seeds = λ r e. refl }; few = count-le 512 (λ _. true) }
 
-module _ (S : Scheme) (cells : Cells) (tables : List ℕ) (L M : List ℕ) (rows rounds : ℕ) where
-  abbrev D : Database
-  D = databaseOf cells tables
-
+module _ (S : Scheme) (D : Database) (z : D .size ≡ 512) (L M : List ℕ) (rows rounds : ℕ) where
   -- there are no 513 rows: the load is whole
   pub ended-load : (old seed : RowSet) → L ≡ start D old seed → Ended S D L 513 M rows rounds →
       (M ≡ load S D old seed) × (rows ≡ addedRows D M) × (rounds ≡ laterRounds D M)
-  unfolding addedRows added databaseOf
+  unfolding addedRows added
   ended-load old seed e u =
-      ⊎-elim (λ w. (w .levels ∙ ap (λ (K : List ℕ). levels S D K 512) e ∙ load-is S cells tables old seed, u .size, w .counted))
+      ⊎-elim (λ w. (w .levels ∙ ap (λ (K : List ℕ). levels S D K 512) e ∙ load-is S D z old seed, u .size ∙ ap (λ (n : ℕ). count n (added M)) (sym z), w .counted))
       (λ w. absurd (omega (arith, w .reached, count-le 512 (added M)))) (u .end)
 
   -- a load from nothing inside a row set that has no more than `most` rows: the levels are those of a whole load
@@ -190,23 +185,20 @@ module _ (S : Scheme) (cells : Cells) (tables : List ℕ) (L M : List ℕ) (rows
     fresh n f = fresh-added M (λ i w. levels-fresh S D _ (start-fresh D seed) n i (sym (ap (λ (K : List ℕ). level K i) (after n f)) ∙ w))
 
     long : (n : ℕ) → M ≡ levels S D L n → length M ≡ 512
-    unfolding databaseOf
-    long n f = ap length (after n f) ∙ levels-length S D (λ _. false) seed n
+    long n f = ap length (after n f) ∙ levels-length S D (λ _. false) seed n ∙ z
 
     reaches : (n : ℕ) → M ≡ levels S D L n → rows ≡ count 512 (added M) →
         ((r : ℕ) → r < 512 → level (levels S D (start D (λ _. false) seed) n) r ≡ level (levels S D (start D (λ _. false) seed) 512) r) →
         Reaches M (load S D (λ _. false) seed) rows
-    unfolding databaseOf
     reaches n f s h =
         record {
           long = long n f;
-          levels = ext-getD 0 M (levels S D (start D (λ _. false) seed) 512) (long n f ∙ sym (levels-length S D (λ _. false) seed 512))
-              (λ r l. ap (λ (K : List ℕ). level K r) (after n f) ∙ h r (omega (arith, long n f))) ∙ load-is S cells tables (λ _. false) seed;
+          levels = ext-getD 0 M (levels S D (start D (λ _. false) seed) 512) (long n f ∙ sym (levels-length S D (λ _. false) seed 512 ∙ z))
+              (λ r l. ap (λ (K : List ℕ). level K r) (after n f) ∙ h r (omega (arith, long n f))) ∙ load-is S D z (λ _. false) seed;
           size = s ∙ count-same 512 _ _ (λ r l. fresh n f r);
         }
 
     pub ended-within : Ended S D L most M rows rounds → Reaches M (load S D (λ _. false) seed) rows
-    unfolding databaseOf
     ended-within u = ⊎-elim (λ w. reaches 512 (w .levels) (u .size) (λ r l. refl)) enough (u .end)
       where
         enough : Enough S D L most M rounds → Reaches M (load S D (λ _. false) seed) rows
@@ -215,4 +207,5 @@ module _ (S : Scheme) (cells : Cells) (tables : List ℕ) (L M : List ℕ) (rows
             let c : count 512 (x .set) ≤ count 512 (reached (levels S D (start D (λ _. false) seed) rounds)) =
             subst (λ (K : List ℕ). count 512 (x .set) ≤ count 512 (reached K)) (after rounds (w .levels)) (omega (arith, x .few, w .reached)) in
             reaches rounds (w .levels) (u .size)
-            (levels-enough S D _ (x .set) (x .covers .closed) (start-inside D seed (x .set) (x .covers .seeds)) rounds 512 (w .early) c)
+            (λ r l. levels-enough S D _ (x .set) (x .covers .closed) (start-inside D seed (x .set) (x .covers .seeds)) rounds 512 (w .early)
+            (subst (λ (n : ℕ). count n (x .set) ≤ count n (reached (levels S D (start D (λ _. false) seed) rounds))) (sym z) c) r (omega (arith, z)))

@@ -3,20 +3,18 @@ use Prim.Native.Nat.{ℕ, suc, _+_, _≤_, _<_}
 use native.Mathlib.Decide.{decLt}
 use native.Mathlib.Omega.{arith}
 use mathlib.Core.Path.{_≡_, sym, ap, subst, _∙_}
-use mathlib.Core.Bool.{Bool, true, false, _&&_, and-eq-true-iff}
+use mathlib.Core.Bool.{Bool, true, false, cond, _&&_, and-eq-true-iff}
 use mathlib.Core.List.{List}
 use borrow.Author.Tests.{ltb-true, eqb-true, eq-eqb, leb-true, le-leb, lt-leb}
 use lib.Dec.{eqb, leb}
 use lib.ListN.{getD}
-use Rattle.finite.specs.Finite.{any}
+use Rattle.finite.specs.Finite.{any, tab}
 use Rattle.finite.proofs.Bools.{both, and-left, refute, bool-ext}
 use Rattle.finite.proofs.Search.{any-true, any-found, any-refuted}
 use Rattle.model.specs.Scheme.{Scheme}
 use Rattle.model.specs.Database.{Database}
 use Rattle.model.specs.Cache.{RowSet}
-use Rattle.model.specs.Rounds.{level, demands, reachedFrom, next}
-use Rattle.state.specs.Cells.{Cells}
-use Rattle.state.specs.Meaning.{databaseOf}
+use Rattle.model.specs.Rounds.{level, orElse, demands, reachedFrom, next}
 use Rattle.load.specs.Raised.{raised}
 use Rattle.load.specs.Queue.{added, Listed, Grown, Front}
 use Rattle.load.proofs.QueueLaws.{is-added, grown-level}
@@ -97,14 +95,11 @@ pub asks-here : (d : ℕ → RowSet) (from : ℕ) (q q′ : List ℕ) (j : ℕ) 
 unfolding asks
 asks-here d from q q′ j l e r = ap (λ (s : ℕ). d s r) e ∙ sym (ap (λ (b : Bool). b && d (getD q j 0) r) (le-leb from j l))
 
-module _ (S : Scheme) (cells : Cells) (tables : List ℕ) (n : ℕ) (L q : List ℕ) (from end : ℕ) (u : Listed (added L) q end) (w : Front (n + 2) L q from end) where
-  abbrev D : Database
-  D = databaseOf cells tables
-
+module _ (S : Scheme) (D : Database) (z : D .size ≡ 512) (n : ℕ) (L q : List ℕ) (from end : ℕ) (u : Listed (added L) q end) (w : Front (n + 2) L q from end) where
   -- what the rows in the front demand is what the rows of round n demand
   asked : (r : ℕ) → any end (λ j. asks (demands S D) from q j r) ≡ reachedFrom S D n L r
-  unfolding asks reachedFrom databaseOf
-  asked r = bool-ext _ _ there back
+  unfolding asks reachedFrom
+  asked r = bool-ext _ _ there back ∙ ap (λ (m : ℕ). any m (λ s. eqb (level L s) (suc (suc n)) && demands S D s r)) (sym z)
     where
       there : any end (λ j. leb from j && demands S D (getD q j 0) r) ≡ true → any 512 (λ s. eqb (level L s) (suc (suc n)) && demands S D s r) ≡ true
       there t =
@@ -124,7 +119,8 @@ module _ (S : Scheme) (cells : Cells) (tables : List ℕ) (n : ℕ) (L q : List 
 
   -- the round of the model
   pub front-round : (M : List ℕ) → M ≡ raised L (n + 3) (λ r. any end (λ j. asks (demands S D) from q j r)) → M ≡ next S D n L
-  unfolding next raised databaseOf
+  unfolding next raised
   front-round M e =
       let b : n + 3 ≡ suc (suc (suc n)) = omega arith in
       e ∙ raised-same L (n + 3) _ _ (λ r l. asked r) ∙ ap (λ (m : ℕ). raised L m (reachedFrom S D n L)) b
+      ∙ ap (λ (m : ℕ). tab m (λ r. orElse (level L r) (cond (reachedFrom S D n L r) (suc (suc (suc n))) 0))) (sym z)

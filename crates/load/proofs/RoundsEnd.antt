@@ -23,6 +23,10 @@ use Rattle.load.proofs.RaisedLaws.{orElse-zero, orElse-kept}
 unfoldable pub someAt : ℕ → List ℕ → ℕ → Bool
 someAt size L m = any size (λ r. eqb (level L r) m)
 
+pub some-at : (size : ℕ) → size ≡ 512 → (L : List ℕ) (m : ℕ) (b : Bool) → any 512 (λ r. eqb (level L r) m) ≡ b → someAt size L m ≡ b
+unfolding someAt
+some-at size z L m b h = ap (λ (k : ℕ). any k (λ r. eqb (level L r) m)) z ∙ h
+
 module _ (S : Scheme) (D : Database) (n : ℕ) (L : List ℕ) where
   -- what a round leaves of a row's level
   pub next-at : (r : ℕ) → r < D .size → level (next S D n L) r ≡ orElse (level L r) (cond (reachedFrom S D n L r) (suc (suc (suc n))) 0)

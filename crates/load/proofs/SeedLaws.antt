@@ -10,9 +10,8 @@ use Rattle.finite.specs.Finite.{any}
 use Rattle.finite.proofs.Bools.{bool-ext, both}
 use Rattle.finite.proofs.Search.{any-found, any-true}
 use Rattle.finite.proofs.Tables.{replicate-tab}
+use Rattle.model.specs.Database.{Database}
 use Rattle.model.specs.Rounds.{start}
-use Rattle.state.specs.Cells.{Cells}
-use Rattle.state.specs.Meaning.{databaseOf}
 use Rattle.load.specs.Raised.{raised}
 use Rattle.load.proofs.StartLaws.{start-raised}
 
@@ -28,8 +27,7 @@ seeds-any seed r l = bool-ext _ _
     subst (λ (x : ℕ). getD seed x false ≡ true) (sym (eqb-true r (f .0) (q .1))) (q .0))
     (λ t. any-true 512 (λ j. seeds seed j r) r l (both t (eq-eqb r r refl)))
 
-pub start-seeds : (cells : Cells) (tables : List ℕ) (seed : List Bool) (L : List ℕ) → L ≡ raised (replicate 512 0) 2 (λ r. any 512 (λ j. seeds seed j r)) →
-    L ≡ start (databaseOf cells tables) (λ _. false) (λ r. getD seed r false)
-start-seeds cells tables seed L e =
-    start-raised (λ _. false) (replicate 512 0) (replicate-tab 512 0)
-    cells tables (λ r. any 512 (λ j. seeds seed j r)) (λ r. getD seed r false) L e (seeds-any seed)
+pub start-seeds : (D : Database) → D .size ≡ 512 → (seed : List Bool) (L : List ℕ) → L ≡ raised (replicate 512 0) 2 (λ r. any 512 (λ j. seeds seed j r)) →
+    L ≡ start D (λ _. false) (λ r. getD seed r false)
+start-seeds D z seed L e =
+    start-raised (λ _. false) (replicate 512 0) (replicate-tab 512 0) D z (λ r. any 512 (λ j. seeds seed j r)) (λ r. getD seed r false) L e (seeds-any seed)

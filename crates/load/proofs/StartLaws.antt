@@ -9,22 +9,20 @@ use lib.Dec.{ltb}
 use lib.ListN.{length, replicate, getD-replicate}
 use Rattle.finite.specs.Finite.{any, tab}
 use Rattle.finite.proofs.Search.{any-front}
-use Rattle.finite.proofs.Tables.{length-tab, tab-at, tab-past, tab-same}
+use Rattle.finite.proofs.Tables.{length-tab, tab-at, tab-past, tab-same, replicate-tab}
 use Rattle.model.specs.Scheme.{Scheme}
 use Rattle.model.specs.Database.{Database, has}
 use Rattle.model.specs.Cache.{RowSet}
 use Rattle.model.specs.Rounds.{level, orElse, start, levels, load}
 use Rattle.model.specs.Ranges.{hasRange}
 use Rattle.model.specs.Holding.{Owned, pairsWant, wanted}
-use Rattle.state.specs.Cells.{Cells}
 use Rattle.state.specs.declared.held.Held.{Held}
-use Rattle.state.specs.Meaning.{cellOf, databaseOf, ownedOf, valuesOf, holdingOf}
+use Rattle.state.specs.Meaning.{cellOf, ownedOf, valuesOf, holdingOf}
 use Rattle.state.specs.Held.{heldAt}
 use Rattle.load.specs.Raised.{raised}
 use Rattle.state.proofs.RangeLists.{ranges-any}
 use Rattle.load.specs.Queue.{added, Listed}
 use Rattle.load.specs.Ranges.{desksWant}
-use Rattle.load.proofs.RaisedLaws.{raised-same}
 use Rattle.load.proofs.QueueLaws.{listed-none, not-added}
 
 -- ---- what `close` asks of the levels, and what it gives on round 0
@@ -47,19 +45,17 @@ module _ (D : Database) (old seed : RowSet) where
       at-row (yes h) = low (old r) (seed r) _ (tab-at 0 (D .size) (λ i. cond (old i) 1 (cond (seed i) 2 0)) r h)
       at-row (no h) = omega (arith, tab-past {A = ℕ} 0 (D .size) (λ i. cond (old i) 1 (cond (seed i) 2 0)) r (omega arith))
 
--- the same over lent rows
-module _ (cells : Cells) (tables : List ℕ) (old seed : RowSet) (L : List ℕ) (e : L ≡ start (databaseOf cells tables) old seed) where
+-- the same in a database of 512 row numbers
+module _ (D : Database) (z : D .size ≡ 512) (old seed : RowSet) (L : List ℕ) (e : L ≡ start D old seed) where
   pub started-long : length L ≡ 512
-  unfolding databaseOf
-  started-long = ap length e ∙ length-start (databaseOf cells tables) old seed
+  started-long = ap length e ∙ length-start D old seed ∙ z
 
   pub started-low : (r : ℕ) → level L r ≤ 2
-  started-low r = subst (λ (K : List ℕ). level K r ≤ 2) (sym e) (start-low (databaseOf cells tables) old seed r)
+  started-low r = subst (λ (K : List ℕ). level K r ≤ 2) (sym e) (start-low D old seed r)
 
-pub load-is : (S : Scheme) (cells : Cells) (tables : List ℕ) (old seed : RowSet) →
-    levels S (databaseOf cells tables) (start (databaseOf cells tables) old seed) 512 ≡ load S (databaseOf cells tables) old seed
-unfolding load databaseOf
-load-is S cells tables old seed = refl
+pub load-is : (S : Scheme) (D : Database) → D .size ≡ 512 → (old seed : RowSet) → levels S D (start D old seed) 512 ≡ load S D old seed
+unfolding load
+load-is S D z old seed = ap (levels S D (start D old seed)) (sym z)
 
 -- ---- round 0 of a load of one value, over the levels L of the cached rows
 
@@ -79,11 +75,12 @@ module _ (old : RowSet) (L : List ℕ) (e : L ≡ tab 512 (λ r. cond (old r) 1 
       low false l e = omega arith
 
   -- a step to level 2
-  pub start-raised : (cells : Cells) (tables : List ℕ) (P seed : RowSet) (M : List ℕ) → M ≡ raised L 2 P → ((r : ℕ) → r < 512 → P r ≡ seed r) →
-      M ≡ start (databaseOf cells tables) old seed
-  unfolding start raised databaseOf
-  start-raised cells tables P seed M g h =
+  pub start-raised : (D : Database) → D .size ≡ 512 → (P seed : RowSet) (M : List ℕ) → M ≡ raised L 2 P → ((r : ℕ) → r < 512 → P r ≡ seed r) →
+      M ≡ start D old seed
+  unfolding start raised
+  start-raised D z P seed M g h =
       g ∙ tab-same 512 _ _ (λ r l. ap₂ (λ (m : ℕ) (b : Bool). orElse m (cond b 2 0)) (cached-at r l) (h r l) ∙ one (old r) (seed r))
+      ∙ ap (λ (n : ℕ). tab n (λ r. cond (old r) 1 (cond (seed r) 2 0))) (sym z)
     where
       one : (a b : Bool) → orElse (cond a 1 0) (cond b 2 0) ≡ cond a 1 (cond b 2 0)
       one true b = refl
@@ -108,18 +105,14 @@ wanted-any S D h r =
     ap₂ _||_ (sym (wanted-tab S D r (h .count) (λ i. ownedOf (heldAt h i)))) (sym (ranges-any (λ q. hasRange D (S .filling (q .filling) .column) q r) h))
 
 -- from nothing, by steps for the held values and ranges
-pub start-all : (S : Scheme) (cells : Cells) (tables : List ℕ) (h : Held) (L : List ℕ) → let D = databaseOf cells tables in
+pub start-all : (S : Scheme) (D : Database) → D .size ≡ 512 → (h : Held) (L : List ℕ) →
     L ≡ raised (replicate 512 0) 2
     (λ r. any (h .count) (λ i. has D (S .filling (heldAt h i .pair .filling) .column) (cellOf (heldAt h i .pair .value)) r) || desksWant S D h r) →
     L ≡ start D (λ _. false) (wanted S D (holdingOf h))
-unfolding start raised databaseOf
-start-all S cells tables h L e =
-    let D = databaseOf cells tables in
-    e ∙ raised-same (replicate 512 0) 2 _ (wanted S D (holdingOf h)) (λ r l. wanted-any S D h r) ∙
-    tab-same 512 _ _ (λ r l. ap (λ (m : ℕ). orElse m (cond (wanted S D (holdingOf h) r) 2 0)) (zeros r l))
-  where
-    zeros : (r : ℕ) → r < 512 → level (replicate 512 0) r ≡ 0
-    zeros r l = getD-replicate {A = ℕ} 512 r 0 0 l
+start-all S D z h L e =
+    start-raised (λ _. false) (replicate 512 0) (replicate-tab 512 0) D z
+    (λ r. any (h .count) (λ i. has D (S .filling (heldAt h i .pair .filling) .column) (cellOf (heldAt h i .pair .value)) r) || desksWant S D h r)
+    (wanted S D (holdingOf h)) L e (λ r l. wanted-any S D h r)
 
 -- no row has been added
 pub none-added : (q : List ℕ) → length q ≡ 512 → Listed (added (replicate 512 0)) q 0

@@ -2,15 +2,16 @@
 ghost use mathlib.Core.Path.{_≡_};
 ghost use Prim.Native.Nat.{_<_};
 ghost use lib.ListN.{length};
+ghost use Rattle.model.specs.Database.{Database};
 ghost use Rattle.model.specs.Rounds.{demands};
-ghost use Rattle.state.specs.Cells.{cellsIn};
 ghost use Rattle.state.specs.Design.{InRange};
-ghost use Rattle.state.specs.Meaning.{databaseOf, schemeOf};
-ghost use Rattle.catalog.specs.Catalog.{nexts, firsts};
+ghost use Rattle.state.specs.Meaning.{schemeOf};
+ghost use Rattle.catalog.specs.Catalog.{Demands};
 ghost use Rattle.load.specs.Queue.{Listed, added, Grown};
 ghost use Rattle.load.specs.Walked.{Walked};
 ghost use Rattle.load.specs.Targets.{targetPlaces};
 use crate::walking::walk_once;
+use catalog::first_row;
 use state::Design;
 
 // The places at which the constraints end, so that a row is expanded without the design. One pass over the 16 places.
@@ -30,11 +31,7 @@ pub(crate) fn target_places(d: Design) -> [usize; 16]
 // One step for each constraint, and the walk of the rows that it demands if their value is new.
 pub(crate) fn expand(
     d: Design,
-    cells: &[u32],
-    issues: &[u8],
-    tables: &[u8],
-    next: &[u16; 4096],
-    first: &[u16; 8192],
+    catalog: &[u16; 16449],
     places: &[usize; 16],
     s: usize,
     walked: &mut [bool; 4096],
@@ -44,32 +41,17 @@ pub(crate) fn expand(
     end: usize,
 ) -> usize
     requires { ⌜ InRange d × (s < 512) × (1 < to) × (length (now levels) ≡ 512) ⌝ }
-    requires { ⌜ (now next ≡ nexts (databaseOf (cellsIn (now cells) (now issues)) (now tables)))
-        × (now first ≡ firsts (schemeOf d) (databaseOf (cellsIn (now cells) (now issues)) (now tables))) ⌝ }
     requires { ⌜ (now places ≡ targetPlaces d) × Listed (added (now levels)) (now queue) end ⌝ }
-    requires { ⌜ Walked (databaseOf (cellsIn (now cells) (now issues)) (now tables)) (now walked) (now levels) ⌝ }
-    ensures { λ e. ⌜ Grown to (demands (schemeOf d) (databaseOf (cellsIn (now (cells .entry)) (now (issues .entry))) (now (tables .entry))) s)
-        (now (levels .entry)) (now (queue .entry)) end (now (levels .exit)) (now (queue .exit)) e ⌝ }
-    ensures { λ _. ⌜ Walked (databaseOf (cellsIn (now (cells .entry)) (now (issues .entry))) (now (tables .entry))) (now (walked .exit))
-        (now (levels .exit)) ⌝ }
+    requires { ⌜ ((D : Database) × Demands (schemeOf d) D (now catalog) × Walked D (now walked) (now levels)) ⌝ }
+    ensures { λ e. ⌜ ((D : Database) → Demands (schemeOf d) D (now (catalog .entry)) → Walked D (now (walked .entry)) (now (levels .entry))
+        → Grown to (demands (schemeOf d) D s) (now (levels .entry)) (now (queue .entry)) end (now (levels .exit)) (now (queue .exit)) e
+        × Walked D (now (walked .exit)) (now (levels .exit))) ⌝ }
 {
     let mut e = end;
     for i in 0..d.constraints {
         let place = places[i];
-        let r = first[Design::ROWS * i + s] as usize;
-        e = walk_once(
-            cells,
-            issues,
-            tables,
-            next,
-            place,
-            r,
-            walked,
-            levels,
-            to,
-            queue,
-            e,
-        );
+        let r = first_row(catalog, i, s);
+        e = walk_once(catalog, place, r, walked, levels, to, queue, e);
     }
     e
 }

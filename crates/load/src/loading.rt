@@ -2,16 +2,16 @@
 ghost use mathlib.Core.Path.{_≡_};
 ghost use Prim.Native.Nat.{_≤_, _<_};
 ghost use lib.ListN.{length};
-ghost use Rattle.model.specs.Database.{has};
+ghost use Rattle.model.specs.Database.{Database, has};
 ghost use Rattle.model.specs.Ranges.{hasRange};
 ghost use Rattle.model.specs.Rounds as Rounds;
 ghost use Rattle.model.specs.Rounds.{addedRows, laterRounds};
 ghost use Rattle.model.specs.Holding.{wanted};
 ghost use Rattle.model.specs.Runs.{marked, reloadLevels};
-ghost use Rattle.state.specs.Cells.{cellsIn};
 ghost use Rattle.state.specs.Design.{InRange};
 ghost use Rattle.state.specs.Held.{Bounded};
-ghost use Rattle.state.specs.Meaning.{cellOf, columnOf, databaseOf, rangeOf, schemeOf, holdingOf};
+ghost use Rattle.state.specs.HeldWords.{wordsHeld};
+ghost use Rattle.state.specs.Meaning.{cellOf, columnOf, rangeOf, schemeOf, holdingOf};
 ghost use Rattle.catalog.specs.Catalog.{Catalogued};
 ghost use Rattle.load.specs.Ended.{Within, Reaches};
 use crate::outcome::Growth;
@@ -22,117 +22,48 @@ use crate::start::start_value;
 use state::Cell;
 use state::Column;
 use state::Design;
-use state::Held;
 use state::Range;
 
 // The load of the value v in column k beside the marked rows: its levels. One pass over the marks, a search of the directory, the walk of the value's
 // rows, then a step for each row that is added and each constraint.
 pub fn load_value(
     d: Design,
-    cells: &[u32],
-    issues: &[u8],
-    tables: &[u8],
-    next: &[u16; 4096],
-    first: &[u16; 8192],
+    catalog: &[u16; 16449],
     keys: &[u64; 4096],
-    heads: &[u16; 4096],
-    starts: &[u16; 65],
     marks: &[u8],
     k: Column,
     v: Cell,
     levels: &mut [u16; 512],
 ) -> Growth
     requires { ⌜ InRange d × (k .table < 8) × (k .place < 8) × (512 ≤ length (now marks)) × (length (now levels) ≡ 512) ⌝ }
-    requires { ⌜ Catalogued d (cellsIn (now cells) (now issues)) (now tables) (now next) (now first) (now keys) (now heads) (now starts) ⌝ }
-    ensures { λ g. ⌜ (now (levels .exit) ≡ Rounds.load (schemeOf d) (databaseOf (cellsIn (now (cells .entry)) (now (issues .entry)))
-        (now (tables .entry))) (marked (now (marks .entry))) (has (databaseOf (cellsIn (now (cells .entry)) (now (issues .entry)))
-        (now (tables .entry))) (columnOf k) (cellOf v)))
-        × (g .rows ≡ addedRows (databaseOf (cellsIn (now (cells .entry)) (now (issues .entry))) (now (tables .entry))) (now (levels .exit)))
-        × (g .rounds ≡ laterRounds (databaseOf (cellsIn (now (cells .entry)) (now (issues .entry))) (now (tables .entry)))
-        (now (levels .exit))) ⌝ }
+    requires { ⌜ ((D : Database) × Catalogued (schemeOf d) D (now catalog) (now keys)) ⌝ }
+    ensures { λ g. ⌜ ((D : Database) → Catalogued (schemeOf d) D (now (catalog .entry)) (now (keys .entry))
+        → (now (levels .exit) ≡ Rounds.load (schemeOf d) D (marked (now (marks .entry))) (has D (columnOf k) (cellOf v))) × (g .rows ≡ addedRows D (now (levels .exit))) × (g .rounds ≡ laterRounds D (now (levels .exit)))) ⌝ }
 {
     let mut queue = [0u16; 512];
-    let end = start_value(
-        cells,
-        issues,
-        tables,
-        next,
-        keys,
-        heads,
-        starts,
-        marks,
-        k,
-        v,
-        levels,
-        &mut queue,
-    );
-    close(
-        d,
-        cells,
-        issues,
-        tables,
-        next,
-        first,
-        levels,
-        &mut queue,
-        end,
-        Design::ROWS + 1,
-    )
+    let end = start_value(catalog, keys, marks, k, v, levels, &mut queue);
+    close(d, catalog, levels, &mut queue, end, Design::ROWS + 1)
 }
 
 // The load of the values of range q in column k beside the marked rows: its levels. One pass over the marks, a search of the directory, the walk of the range's
 // values, then a step for each row that is added and each constraint.
 pub fn load_range(
     d: Design,
-    cells: &[u32],
-    issues: &[u8],
-    tables: &[u8],
-    next: &[u16; 4096],
-    first: &[u16; 8192],
+    catalog: &[u16; 16449],
     keys: &[u64; 4096],
-    heads: &[u16; 4096],
-    starts: &[u16; 65],
     marks: &[u8],
     k: Column,
     q: Range,
     levels: &mut [u16; 512],
 ) -> Growth
     requires { ⌜ InRange d × (k .table < 8) × (k .place < 8) × (512 ≤ length (now marks)) × (length (now levels) ≡ 512) ⌝ }
-    requires { ⌜ Catalogued d (cellsIn (now cells) (now issues)) (now tables) (now next) (now first) (now keys) (now heads) (now starts) ⌝ }
-    ensures { λ g. ⌜ (now (levels .exit) ≡ Rounds.load (schemeOf d) (databaseOf (cellsIn (now (cells .entry)) (now (issues .entry)))
-        (now (tables .entry))) (marked (now (marks .entry))) (hasRange (databaseOf (cellsIn (now (cells .entry)) (now (issues .entry)))
-        (now (tables .entry))) (columnOf k) (rangeOf q)))
-        × (g .rows ≡ addedRows (databaseOf (cellsIn (now (cells .entry)) (now (issues .entry))) (now (tables .entry))) (now (levels .exit)))
-        × (g .rounds ≡ laterRounds (databaseOf (cellsIn (now (cells .entry)) (now (issues .entry))) (now (tables .entry)))
-        (now (levels .exit))) ⌝ }
+    requires { ⌜ ((D : Database) × Catalogued (schemeOf d) D (now catalog) (now keys)) ⌝ }
+    ensures { λ g. ⌜ ((D : Database) → Catalogued (schemeOf d) D (now (catalog .entry)) (now (keys .entry))
+        → (now (levels .exit) ≡ Rounds.load (schemeOf d) D (marked (now (marks .entry))) (hasRange D (columnOf k) (rangeOf q))) × (g .rows ≡ addedRows D (now (levels .exit))) × (g .rounds ≡ laterRounds D (now (levels .exit)))) ⌝ }
 {
     let mut queue = [0u16; 512];
-    let end = start_range(
-        cells,
-        issues,
-        tables,
-        next,
-        keys,
-        heads,
-        starts,
-        marks,
-        k,
-        q,
-        levels,
-        &mut queue,
-    );
-    close(
-        d,
-        cells,
-        issues,
-        tables,
-        next,
-        first,
-        levels,
-        &mut queue,
-        end,
-        Design::ROWS + 1,
-    )
+    let end = start_range(catalog, keys, marks, k, q, levels, &mut queue);
+    close(d, catalog, levels, &mut queue, end, Design::ROWS + 1)
 }
 
 // The levels of a load of all that is held from nothing; how many rows have one. It stops once `most` rows are reached,
@@ -140,51 +71,19 @@ pub fn load_range(
 // reached and each constraint.
 pub fn load_held(
     d: Design,
-    cells: &[u32],
-    issues: &[u8],
-    tables: &[u8],
-    next: &[u16; 4096],
-    first: &[u16; 8192],
+    catalog: &[u16; 16449],
     keys: &[u64; 4096],
-    heads: &[u16; 4096],
-    starts: &[u16; 65],
-    held: Held,
+    held: &[u32; 358],
     most: usize,
     levels: &mut [u16; 512],
 ) -> usize
-    requires { ⌜ InRange d × Bounded held ⌝ }
-    requires { ⌜ Catalogued d (cellsIn (now cells) (now issues)) (now tables) (now next) (now first) (now keys) (now heads) (now starts) ⌝ }
-    requires { ⌜ Within (schemeOf d) (databaseOf (cellsIn (now cells) (now issues)) (now tables))
-        (wanted (schemeOf d) (databaseOf (cellsIn (now cells) (now issues)) (now tables)) (holdingOf held)) most ⌝ }
-    ensures { λ n. ⌜ Reaches (now (levels .exit))
-        (reloadLevels (schemeOf d) (databaseOf (cellsIn (now (cells .entry)) (now (issues .entry))) (now (tables .entry)))
-        (holdingOf held)) n ⌝ }
+    requires { ⌜ InRange d × Bounded (wordsHeld (now held)) ⌝ }
+    requires { ⌜ ((D : Database) × Catalogued (schemeOf d) D (now catalog) (now keys)) ⌝ }
+    ensures { λ n. ⌜ ((D : Database) → Catalogued (schemeOf d) D (now (catalog .entry)) (now (keys .entry))
+        → Within (schemeOf d) D (wanted (schemeOf d) D (holdingOf (wordsHeld (now (held .entry))))) most → Reaches (now (levels .exit)) (reloadLevels (schemeOf d) D (holdingOf (wordsHeld (now (held .entry))))) n) ⌝ }
 {
     let mut queue = [0u16; 512];
-    let end = start_held(
-        d,
-        cells,
-        issues,
-        tables,
-        next,
-        keys,
-        heads,
-        starts,
-        held,
-        levels,
-        &mut queue,
-    );
-    let g = close(
-        d,
-        cells,
-        issues,
-        tables,
-        next,
-        first,
-        levels,
-        &mut queue,
-        end,
-        most,
-    );
+    let end = start_held(d, catalog, keys, held, levels, &mut queue);
+    let g = close(d, catalog, levels, &mut queue, end, most);
     g.rows
 }

@@ -2,11 +2,11 @@
 ghost use mathlib.Core.Path.{_≡_};
 ghost use Prim.Native.Nat.{ℕ, _+_, _≤_, _<_};
 ghost use lib.ListN.{length, getD};
+ghost use Rattle.model.specs.Database.{Database};
 ghost use Rattle.model.specs.Rounds as Rounds;
-ghost use Rattle.state.specs.Cells.{cellsIn};
 ghost use Rattle.state.specs.Design.{InRange};
-ghost use Rattle.state.specs.Meaning.{databaseOf, schemeOf};
-ghost use Rattle.catalog.specs.Catalog.{nexts, firsts};
+ghost use Rattle.state.specs.Meaning.{schemeOf};
+ghost use Rattle.catalog.specs.Catalog.{Demands};
 ghost use Rattle.load.specs.Queue.{Listed, added, Front};
 ghost use Rattle.load.specs.Walked.{Walked};
 ghost use Rattle.load.specs.Targets.{targetPlaces};
@@ -19,11 +19,7 @@ use state::Design;
 // Round n + 1: expands the rows of round n, which stand in the queue from `from` on; where the queue ends then. The cost is that of expanding them.
 pub(crate) fn round(
     d: Design,
-    cells: &[u32],
-    issues: &[u8],
-    tables: &[u8],
-    next: &[u16; 4096],
-    first: &[u16; 8192],
+    catalog: &[u16; 16449],
     places: &[usize; 16],
     walked: &mut [bool; 4096],
     levels: &mut [u16; 512],
@@ -33,25 +29,17 @@ pub(crate) fn round(
     end: usize,
 ) -> usize
     requires { ⌜ InRange d × (n < 512) × (length (now levels) ≡ 512) ⌝ }
-    requires { ⌜ (now next ≡ nexts (databaseOf (cellsIn (now cells) (now issues)) (now tables)))
-        × (now first ≡ firsts (schemeOf d) (databaseOf (cellsIn (now cells) (now issues)) (now tables))) ⌝ }
-    requires { ⌜ (now places ≡ targetPlaces d) × Listed (added (now levels)) (now queue) end × Front (n + 2) (now levels) (now queue) from end
-        × Walked (databaseOf (cellsIn (now cells) (now issues)) (now tables)) (now walked) (now levels) ⌝ }
-    ensures { λ _. ⌜ now (levels .exit) ≡ Rounds.next (schemeOf d) (databaseOf (cellsIn (now (cells .entry)) (now (issues .entry)))
-        (now (tables .entry))) n (now (levels .entry)) ⌝ }
-    ensures { λ e. ⌜ Listed (added (now (levels .exit))) (now (queue .exit)) e × Front (n + 3) (now (levels .exit)) (now (queue .exit)) end e
-        × Walked (databaseOf (cellsIn (now (cells .entry)) (now (issues .entry))) (now (tables .entry))) (now (walked .exit))
-        (now (levels .exit)) ⌝ }
+    requires { ⌜ (now places ≡ targetPlaces d) × Listed (added (now levels)) (now queue) end × Front (n + 2) (now levels) (now queue) from end ⌝ }
+    requires { ⌜ ((D : Database) × Demands (schemeOf d) D (now catalog) × Walked D (now walked) (now levels)) ⌝ }
+    ensures { λ e. ⌜ ((D : Database) → Demands (schemeOf d) D (now (catalog .entry)) → Walked D (now (walked .entry)) (now (levels .entry))
+        → (now (levels .exit) ≡ Rounds.next (schemeOf d) D n (now (levels .entry))) × Listed (added (now (levels .exit))) (now (queue .exit)) e
+        × Front (n + 3) (now (levels .exit)) (now (queue .exit)) end e × Walked D (now (walked .exit)) (now (levels .exit))) ⌝ }
 {
     let mut e = end;
     for i in from..end {
         e = expand(
             d,
-            cells,
-            issues,
-            tables,
-            next,
-            first,
+            catalog,
             places,
             queue[i] as usize,
             walked,
@@ -68,11 +56,7 @@ pub(crate) fn round(
 // that stand in the queue. The cost is that of expanding each row that is added once.
 pub(crate) fn run(
     d: Design,
-    cells: &[u32],
-    issues: &[u8],
-    tables: &[u8],
-    next: &[u16; 4096],
-    first: &[u16; 8192],
+    catalog: &[u16; 16449],
     places: &[usize; 16],
     walked: &mut [bool; 4096],
     levels: &mut [u16; 512],
@@ -81,12 +65,10 @@ pub(crate) fn run(
     most: usize,
 ) -> Growth
     requires { ⌜ InRange d × (length (now levels) ≡ 512) × ((r : ℕ) → getD (now levels) r 0 ≤ 2) ⌝ }
-    requires { ⌜ (now next ≡ nexts (databaseOf (cellsIn (now cells) (now issues)) (now tables)))
-        × (now first ≡ firsts (schemeOf d) (databaseOf (cellsIn (now cells) (now issues)) (now tables))) ⌝ }
-    requires { ⌜ (now places ≡ targetPlaces d) × Listed (added (now levels)) (now queue) end × Front 2 (now levels) (now queue) 0 end
-        × Walked (databaseOf (cellsIn (now cells) (now issues)) (now tables)) (now walked) (now levels) ⌝ }
-    ensures { λ g. ⌜ Ended (schemeOf d) (databaseOf (cellsIn (now (cells .entry)) (now (issues .entry))) (now (tables .entry)))
-        (now (levels .entry)) most (now (levels .exit)) (g .rows) (g .rounds) ⌝ }
+    requires { ⌜ (now places ≡ targetPlaces d) × Listed (added (now levels)) (now queue) end × Front 2 (now levels) (now queue) 0 end ⌝ }
+    requires { ⌜ ((D : Database) × Demands (schemeOf d) D (now catalog) × Walked D (now walked) (now levels)) ⌝ }
+    ensures { λ g. ⌜ ((D : Database) → Demands (schemeOf d) D (now (catalog .entry)) → Walked D (now (walked .entry)) (now (levels .entry))
+        → Ended (schemeOf d) D (now (levels .entry)) most (now (levels .exit)) (g .rows) (g .rounds)) ⌝ }
 {
     let mut n: u16 = 0;
     let mut from: usize = 0;
@@ -98,21 +80,7 @@ pub(crate) fn run(
                 rounds: n as usize,
             };
         }
-        let grown = round(
-            d,
-            cells,
-            issues,
-            tables,
-            next,
-            first,
-            places,
-            walked,
-            levels,
-            n,
-            queue,
-            from,
-            to,
-        );
+        let grown = round(d, catalog, places, walked, levels, n, queue, from, to);
         if grown == to {
             return Growth {
                 rows: to,
@@ -134,39 +102,21 @@ pub(crate) fn run(
 // nothing is set up.
 pub(crate) fn close(
     d: Design,
-    cells: &[u32],
-    issues: &[u8],
-    tables: &[u8],
-    next: &[u16; 4096],
-    first: &[u16; 8192],
+    catalog: &[u16; 16449],
     levels: &mut [u16; 512],
     queue: &mut [u16; 512],
     end: usize,
     most: usize,
 ) -> Growth
     requires { ⌜ InRange d × (length (now levels) ≡ 512) × ((r : ℕ) → getD (now levels) r 0 ≤ 2) × Listed (added (now levels)) (now queue) end ⌝ }
-    requires { ⌜ (now next ≡ nexts (databaseOf (cellsIn (now cells) (now issues)) (now tables)))
-        × (now first ≡ firsts (schemeOf d) (databaseOf (cellsIn (now cells) (now issues)) (now tables))) ⌝ }
-    ensures { λ g. ⌜ Ended (schemeOf d) (databaseOf (cellsIn (now (cells .entry)) (now (issues .entry))) (now (tables .entry)))
-        (now (levels .entry)) most (now (levels .exit)) (g .rows) (g .rounds) ⌝ }
+    requires { ⌜ ((D : Database) × Demands (schemeOf d) D (now catalog)) ⌝ }
+    ensures { λ g. ⌜ ((D : Database) → Demands (schemeOf d) D (now (catalog .entry))
+        → Ended (schemeOf d) D (now (levels .entry)) most (now (levels .exit)) (g .rows) (g .rounds)) ⌝ }
 {
     if end == 0 {
         return Growth { rows: 0, rounds: 0 };
     }
     let places = target_places(d);
     let mut walked = [false; 4096];
-    run(
-        d,
-        cells,
-        issues,
-        tables,
-        next,
-        first,
-        &places,
-        &mut walked,
-        levels,
-        queue,
-        end,
-        most,
-    )
+    run(d, catalog, &places, &mut walked, levels, queue, end, most)
 }

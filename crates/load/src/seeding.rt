@@ -1,16 +1,15 @@
 // Loads of given rows from nothing.
 ghost use mathlib.Core.Path.{_≡_};
 ghost use mathlib.Core.Bool.{false, _&&_};
-ghost use mathlib.Core.List.{List};
-ghost use Prim.Native.Nat.{ℕ, _<_};
+ghost use Prim.Native.Nat.{_<_};
 ghost use lib.Dec.{eqb};
 ghost use lib.ListN.{length, getD};
+ghost use Rattle.model.specs.Database.{Database};
 ghost use Rattle.model.specs.Rounds as Rounds;
 ghost use Rattle.model.specs.Rounds.{start};
-ghost use Rattle.state.specs.Cells.{Cells, cellsIn};
 ghost use Rattle.state.specs.Design.{InRange};
-ghost use Rattle.state.specs.Meaning.{databaseOf, schemeOf};
-ghost use Rattle.catalog.specs.Catalog.{nexts, firsts};
+ghost use Rattle.state.specs.Meaning.{schemeOf};
+ghost use Rattle.catalog.specs.Catalog.{Demands};
 ghost use Rattle.load.specs.Queue.{Listed, added, Grown};
 use crate::queue::reach;
 use crate::rounds::close;
@@ -36,7 +35,7 @@ fn reach_if(
 // Round 0: the rows of the seed; how many they are, and stand in the queue. One pass over the row numbers.
 fn start_rows(seed: &[bool; 512], levels: &mut [u16; 512], queue: &mut [u16; 512]) -> usize
     requires { ⌜ length (now queue) ≡ 512 ⌝ }
-    ensures { λ e. ⌜ ((cells : Cells) (tables : List ℕ) → now (levels .exit) ≡ start (databaseOf cells tables) (λ _. false)
+    ensures { λ e. ⌜ ((D : Database) → D .size ≡ 512 → now (levels .exit) ≡ start D (λ _. false)
         (λ r. getD (now (seed .entry)) r false))
         × Listed (added (now (levels .exit))) (now (queue .exit)) e ⌝ }
 {
@@ -49,34 +48,13 @@ fn start_rows(seed: &[bool; 512], levels: &mut [u16; 512], queue: &mut [u16; 512
 }
 
 // The load of the rows of the seed from nothing: its levels. One pass over the row numbers, then a step for each row that is added and each constraint.
-pub fn load_rows(
-    d: Design,
-    cells: &[u32],
-    issues: &[u8],
-    tables: &[u8],
-    next: &[u16; 4096],
-    first: &[u16; 8192],
-    seed: &[bool; 512],
-    levels: &mut [u16; 512],
-)
+pub fn load_rows(d: Design, catalog: &[u16; 16449], seed: &[bool; 512], levels: &mut [u16; 512])
     requires { ⌜ InRange d ⌝ }
-    requires { ⌜ (now next ≡ nexts (databaseOf (cellsIn (now cells) (now issues)) (now tables)))
-        × (now first ≡ firsts (schemeOf d) (databaseOf (cellsIn (now cells) (now issues)) (now tables))) ⌝ }
-    ensures { λ _. ⌜ now (levels .exit) ≡ Rounds.load (schemeOf d) (databaseOf (cellsIn (now (cells .entry)) (now (issues .entry)))
-        (now (tables .entry))) (λ _. false) (λ r. getD (now (seed .entry)) r false) ⌝ }
+    requires { ⌜ ((D : Database) × Demands (schemeOf d) D (now catalog)) ⌝ }
+    ensures { λ _. ⌜ ((D : Database) → Demands (schemeOf d) D (now (catalog .entry))
+        → now (levels .exit) ≡ Rounds.load (schemeOf d) D (λ _. false) (λ r. getD (now (seed .entry)) r false)) ⌝ }
 {
     let mut queue = [0u16; 512];
     let end = start_rows(seed, levels, &mut queue);
-    close(
-        d,
-        cells,
-        issues,
-        tables,
-        next,
-        first,
-        levels,
-        &mut queue,
-        end,
-        Design::ROWS + 1,
-    );
+    close(d, catalog, levels, &mut queue, end, Design::ROWS + 1);
 }

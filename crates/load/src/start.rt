@@ -5,16 +5,16 @@ ghost use Prim.Native.Nat.{ℕ, _≤_, _<_};
 ghost use lib.Dec.{eqb};
 ghost use lib.ListN.{length};
 ghost use Rattle.finite.specs.Finite.{tab};
-ghost use Rattle.model.specs.Database.{has};
+ghost use Rattle.model.specs.Database.{Database, has};
 ghost use Rattle.model.specs.Ranges.{hasRange};
 ghost use Rattle.model.specs.Rounds.{start};
 ghost use Rattle.model.specs.Holding.{wanted};
 ghost use Rattle.model.specs.Runs.{marked};
-ghost use Rattle.state.specs.Cells.{cellsIn};
 ghost use Rattle.state.specs.Design.{InRange};
 ghost use Rattle.state.specs.Held.{Bounded};
-ghost use Rattle.state.specs.Meaning.{cellOf, columnOf, databaseOf, rangeOf, schemeOf, holdingOf};
-ghost use Rattle.catalog.specs.Catalog.{nexts, Directory};
+ghost use Rattle.state.specs.HeldWords.{wordsHeld};
+ghost use Rattle.state.specs.Meaning.{cellOf, columnOf, rangeOf, schemeOf, holdingOf};
+ghost use Rattle.catalog.specs.Catalog.{Indexed};
 ghost use Rattle.load.specs.Queue.{Listed, added};
 use crate::ranging::add_all_ranges;
 use crate::ranging::add_range;
@@ -23,8 +23,9 @@ use catalog::find;
 use state::Cell;
 use state::Column;
 use state::Design;
-use state::Held;
 use state::Range;
+use state::value_at;
+use state::value_count;
 
 // The level of a row with this mark before a load: 1 if it is cached. Constant time.
 pub(crate) fn cached_level(mark: u8) -> u16
@@ -46,13 +47,8 @@ pub(crate) fn cached_levels(marks: &[u8], levels: &mut [u16; 512])
 // Round 0 of a load of one value: the rows that have v in column k, added to the marked rows; how many are, and stand in the queue. One pass over the
 // marks, a search of the directory, and the walk of the value's rows.
 pub(crate) fn start_value(
-    cells: &[u32],
-    issues: &[u8],
-    tables: &[u8],
-    next: &[u16; 4096],
+    catalog: &[u16; 16449],
     keys: &[u64; 4096],
-    heads: &[u16; 4096],
-    starts: &[u16; 65],
     marks: &[u8],
     k: Column,
     v: Cell,
@@ -60,29 +56,21 @@ pub(crate) fn start_value(
     queue: &mut [u16; 512],
 ) -> usize
     requires { ⌜ (k .table < 8) × (k .place < 8) × (512 ≤ length (now marks)) × (length (now levels) ≡ 512) × (length (now queue) ≡ 512) ⌝ }
-    requires { ⌜ (now next ≡ nexts (databaseOf (cellsIn (now cells) (now issues)) (now tables)))
-        × Directory (databaseOf (cellsIn (now cells) (now issues)) (now tables)) (now keys) (now heads) (now starts) ⌝ }
-    ensures { λ e. ⌜ (now (levels .exit) ≡ start (databaseOf (cellsIn (now (cells .entry)) (now (issues .entry))) (now (tables .entry)))
-        (marked (now (marks .entry))) (has (databaseOf (cellsIn (now (cells .entry)) (now (issues .entry))) (now (tables .entry))) (columnOf k)
-        (cellOf v)))
-        × Listed (added (now (levels .exit))) (now (queue .exit)) e ⌝ }
+    requires { ⌜ ((D : Database) × Indexed D (now catalog) (now keys)) ⌝ }
+    ensures { λ e. ⌜ ((D : Database) → Indexed D (now (catalog .entry)) (now (keys .entry))
+        → (now (levels .exit) ≡ start D (marked (now (marks .entry))) (has D (columnOf k) (cellOf v))) × Listed (added (now (levels .exit))) (now (queue .exit)) e) ⌝ }
 {
     cached_levels(marks, levels);
-    let r = find(keys, heads, starts, k, v);
+    let r = find(catalog, keys, k, v);
     let place = k.place as usize;
-    walk(cells, issues, tables, next, place, r, levels, 2, queue, 0)
+    walk(catalog, place, r, levels, 2, queue, 0)
 }
 
 // Round 0 of a load of one range: the rows that have one of its values in column k, added to the marked rows; how many are, and stand in the queue. One pass
 // over the marks, a search of the directory, and the walk of the range's values.
 pub(crate) fn start_range(
-    cells: &[u32],
-    issues: &[u8],
-    tables: &[u8],
-    next: &[u16; 4096],
+    catalog: &[u16; 16449],
     keys: &[u64; 4096],
-    heads: &[u16; 4096],
-    starts: &[u16; 65],
     marks: &[u8],
     k: Column,
     q: Range,
@@ -90,79 +78,42 @@ pub(crate) fn start_range(
     queue: &mut [u16; 512],
 ) -> usize
     requires { ⌜ (k .table < 8) × (k .place < 8) × (512 ≤ length (now marks)) × (length (now levels) ≡ 512) × (length (now queue) ≡ 512) ⌝ }
-    requires { ⌜ (now next ≡ nexts (databaseOf (cellsIn (now cells) (now issues)) (now tables)))
-        × Directory (databaseOf (cellsIn (now cells) (now issues)) (now tables)) (now keys) (now heads) (now starts) ⌝ }
-    ensures { λ e. ⌜ (now (levels .exit) ≡ start (databaseOf (cellsIn (now (cells .entry)) (now (issues .entry))) (now (tables .entry)))
-        (marked (now (marks .entry))) (hasRange (databaseOf (cellsIn (now (cells .entry)) (now (issues .entry))) (now (tables .entry))) (columnOf k)
-        (rangeOf q)))
-        × Listed (added (now (levels .exit))) (now (queue .exit)) e ⌝ }
+    requires { ⌜ ((D : Database) × Indexed D (now catalog) (now keys)) ⌝ }
+    ensures { λ e. ⌜ ((D : Database) → Indexed D (now (catalog .entry)) (now (keys .entry))
+        → (now (levels .exit) ≡ start D (marked (now (marks .entry))) (hasRange D (columnOf k) (rangeOf q))) × Listed (added (now (levels .exit))) (now (queue .exit)) e) ⌝ }
 {
     cached_levels(marks, levels);
-    add_range(
-        cells,
-        issues,
-        tables,
-        next,
-        keys,
-        heads,
-        starts,
-        k,
-        q,
-        levels,
-        queue,
-        0,
-    )
+    add_range(catalog, keys, k, q, levels, queue, 0)
 }
 
 // Round 0 of a load of all that is held from nothing: the rows that have a held value, or one of a held range, in its filling's column; how many they are, and
 // stand in the queue. For each held value a search of the directory and the walk of its rows, and the cost of each range.
 pub(crate) fn start_held(
     d: Design,
-    cells: &[u32],
-    issues: &[u8],
-    tables: &[u8],
-    next: &[u16; 4096],
+    catalog: &[u16; 16449],
     keys: &[u64; 4096],
-    heads: &[u16; 4096],
-    starts: &[u16; 65],
-    held: Held,
+    held: &[u32; 358],
     levels: &mut [u16; 512],
     queue: &mut [u16; 512],
 ) -> usize
-    requires { ⌜ InRange d × Bounded held × (length (now queue) ≡ 512) ⌝ }
-    requires { ⌜ (now next ≡ nexts (databaseOf (cellsIn (now cells) (now issues)) (now tables)))
-        × Directory (databaseOf (cellsIn (now cells) (now issues)) (now tables)) (now keys) (now heads) (now starts) ⌝ }
-    ensures { λ e. ⌜ (now (levels .exit) ≡ start (databaseOf (cellsIn (now (cells .entry)) (now (issues .entry))) (now (tables .entry)))
-        (λ _. false) (wanted (schemeOf d) (databaseOf (cellsIn (now (cells .entry)) (now (issues .entry))) (now (tables .entry)))
-        (holdingOf held)))
-        × Listed (added (now (levels .exit))) (now (queue .exit)) e ⌝ }
+    requires { ⌜ InRange d × Bounded (wordsHeld (now held)) × (length (now queue) ≡ 512) ⌝ }
+    requires { ⌜ ((D : Database) × Indexed D (now catalog) (now keys)) ⌝ }
+    ensures { λ e. ⌜ ((D : Database) → Indexed D (now (catalog .entry)) (now (keys .entry))
+        → (now (levels .exit) ≡ start D (λ _. false) (wanted (schemeOf d) D (holdingOf (wordsHeld (now (held .entry)))))) × Listed (added (now (levels .exit))) (now (queue .exit)) e) ⌝ }
 {
     *levels = [0u16; 512];
     let mut end: usize = 0;
-    // read from here, so that the compiler copies a value and a filling, and not all of them
-    let values = held.values;
+    // read from here, so that the compiler copies a filling and not all of them
     let filling = d.filling;
-    for i in 0..held.count {
-        let o = values[i];
+    let n = value_count(held);
+    for i in 0..n {
+        let o = value_at(held, i);
         let v = o.pair;
         let f = filling[v.filling as usize];
         let k = f.column;
-        let r = find(keys, heads, starts, k, v.value);
+        let r = find(catalog, keys, k, v.value);
         let place = k.place as usize;
-        end = walk(cells, issues, tables, next, place, r, levels, 2, queue, end);
+        end = walk(catalog, place, r, levels, 2, queue, end);
     }
-    add_all_ranges(
-        d,
-        cells,
-        issues,
-        tables,
-        next,
-        keys,
-        heads,
-        starts,
-        held,
-        levels,
-        queue,
-        end,
-    )
+    add_all_ranges(d, catalog, keys, held, levels, queue, end)
 }

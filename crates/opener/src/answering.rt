@@ -3,9 +3,10 @@ ghost use mathlib.Core.Bool.{true};
 ghost use mathlib.Core.Path.{_≡_};
 ghost use Rattle.model.specs.Runs as Runs;
 ghost use Rattle.state.specs.Cells.{cellsIn};
+ghost use Rattle.state.specs.HeldWords.{wordsHeld};
 ghost use Rattle.state.specs.Meaning.{answerOf, cellOf, columnOf, databaseOf};
 ghost use Rattle.state.specs.Lent.{lent, sound, answerAt};
-ghost use Rattle.catalog.specs.Catalog.{nexts, Directory};
+ghost use Rattle.catalog.specs.Catalog.{Indexed};
 use crate::leading::leading_rows;
 use crate::reading::lowest_opener;
 use lawful::is_column;
@@ -14,7 +15,6 @@ use state::Answer;
 use state::Cell;
 use state::Column;
 use state::Design;
-use state::Held;
 use state::is_numberless;
 
 // Whether the probe has a ground, or else the lowest filling, number and issue whose reference would give it one. The probe's cost, and without a ground a
@@ -24,19 +24,16 @@ pub fn opener_lawful(
     cells: &[u32],
     issues: &[u8],
     tables: &[u8],
-    next: &[u16; 4096],
+    catalog: &[u16; 16449],
     keys: &[u64; 4096],
-    heads: &[u16; 4096],
-    starts: &[u16; 65],
     marks: &[u8],
-    held: Held,
+    held: &[u32; 358],
     k: Column,
     v: Cell,
 ) -> Answer
-    requires { ⌜ sound (lent design (cellsIn (now cells) (now issues)) (now tables) (now marks) held) ≡ true ⌝ }
-    requires { ⌜ (now next ≡ nexts (databaseOf (cellsIn (now cells) (now issues)) (now tables)))
-        × Directory (databaseOf (cellsIn (now cells) (now issues)) (now tables)) (now keys) (now heads) (now starts) ⌝ }
-    ensures { λ a. ⌜ answerOf a ≡ answerAt (lent design (cellsIn (now (cells .entry)) (now (issues .entry))) (now (tables .entry)) (now (marks .entry)) held)
+    requires { ⌜ sound (lent design (cellsIn (now cells) (now issues)) (now tables) (now marks) (wordsHeld (now held))) ≡ true ⌝ }
+    requires { ⌜ Indexed (databaseOf (cellsIn (now cells) (now issues)) (now tables)) (now catalog) (now keys) ⌝ }
+    ensures { λ a. ⌜ answerOf a ≡ answerAt (lent design (cellsIn (now (cells .entry)) (now (issues .entry))) (now (tables .entry)) (now (marks .entry)) (wordsHeld (now (held .entry))))
         (Runs.ask (Runs.opener (columnOf k) (cellOf v))) ⌝ }
 {
     if !is_column(design, k) {
@@ -45,20 +42,7 @@ pub fn opener_lawful(
     if is_numberless(v) {
         return Answer::Refused(9);
     }
-    let found = search(
-        design,
-        cells,
-        issues,
-        tables,
-        next,
-        keys,
-        heads,
-        starts,
-        marks,
-        held,
-        k,
-        v,
-    );
+    let found = search(design, catalog, keys, marks, held, k, v);
     if found.ground != 0 {
         return Answer::Open;
     }
@@ -68,10 +52,8 @@ pub fn opener_lawful(
         cells,
         issues,
         tables,
-        next,
+        catalog,
         keys,
-        heads,
-        starts,
         k,
         v,
         &mut levels,

@@ -14,3 +14,4 @@ pub mod ReasonSizes
 pub mod Sizes
 pub mod EvenBound
 pub mod DeskAlone
+pub mod ReadyLaws

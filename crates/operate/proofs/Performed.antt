@@ -4,7 +4,9 @@ use Prim.Native.Nat.{ℕ}
 use mathlib.Core.Path.{_≡_, refl, sym, ap, _∙_}
 use mathlib.Core.Bool.{true}
 use mathlib.Core.List.{List, []}
+use lib.ListN.{length}
 use lib.Seq.{sets}
+use Rattle.finite.proofs.Bools.{clash}
 use Rattle.model.specs.Ranges.{Range}
 use Rattle.model.specs.Holding.{Pair}
 use Rattle.model.specs.Query.{Query}
@@ -12,8 +14,12 @@ use Rattle.model.specs.Runs.{Question, evenness, smallestKnot, Output, Operatio
 use Rattle.model.specs.Answers.{Answer, refused, evenAnswer, knotAnswer, questionAnswer, questionText, answer, written, textOf}
 use Rattle.state.specs.declared.operation.Operation as State-operation
 use Rattle.state.specs.Meaning.{operationOf}
-use Rattle.state.specs.Lent.{State, cache, scheme, database, sound, causeAt, answerAt, wordsAt, textAt, Answered, Worded, Performed}
+use Rattle.state.specs.HeldWords.{Whole}
+use Rattle.state.specs.Lent.{State, cache, scheme, database, sound, causeAt, causeOf, answerAt, wordsAt, textAt, Answered, Worded, Performed}
 use Rattle.state.proofs.Arrays.{HeldSized}
+use Rattle.state.proofs.HeldWords.{whole-words}
+use Rattle.cache.proofs.CauseWords.{cause-narrow, cause-clear}
+use Rattle.operate.specs.Lending.{PerformedWords}
 use Rattle.lawful.proofs.SoundState.{after, answer-at, unchanged, words-at, text-at, cause-answer, cause-state, cause-words, cause-text}
 
 -- ---- a state known sound
@@ -97,3 +103,15 @@ refused-performs s w t o c e n =
 pub in-case : (s : State) (w t : List ℕ) (room bytes : ℕ) (c d : State-operation.Operation) (a : Answer) (s′ : State) (w′ t′ : List ℕ) → c ≡ d →
     Performed s w t (operationOf d room bytes) a s′ w′ t′ → Performed s w t (operationOf c room bytes) a s′ w′ t′
 in-case s w t room bytes c d a s′ w′ t′ e h = rw e h
+
+-- the same where what is held is lent as words
+pub refused-words : (s : State) (h w t : List ℕ) (o : Operation) (c : ℕ) → length h ≡ 358 → c ≡ causeOf s h → (c ≡ 0 → ⊥) → PerformedWords s h w t o (refused c) s h w t
+refused-words s h w t o c l e n =
+    record {
+      performed = λ b. (refused-performs s w t o c (e ∙ cause-narrow s h b) n, whole-words h l b);
+      refused = λ b. (ap refused e, refl, refl, refl, refl);
+    }
+
+pub performed-words : (s : State) (h w t : List ℕ) (o : Operation) (c : ℕ) → c ≡ causeOf s h → c ≡ 0 → (a : Answer) (s′ : State) (h′ w′ t′ : List ℕ) →
+    Performed s w t o a s′ w′ t′ × Whole h′ → PerformedWords s h w t o a s′ h′ w′ t′
+performed-words s h w t o c e z a s′ h′ w′ t′ p = record { performed = λ b. p; refused = λ b. clash (cause-clear s h (sym e ∙ z) .1) b }

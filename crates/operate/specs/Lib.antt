@@ -2,3 +2,4 @@
 -- enough is lent.
 pub mod Queries
 pub mod Sizes
+pub mod Lending

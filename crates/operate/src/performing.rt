@@ -3,12 +3,13 @@ ghost use mathlib.Core.Path.{_≡_};
 ghost use mathlib.Core.Bool.{true};
 ghost use lib.ListN.{length};
 ghost use Rattle.state.specs.Cells.{cellsIn};
-ghost use Rattle.state.specs.Meaning.{answerOf, operationOf};
+ghost use Rattle.state.specs.HeldWords.{wordsHeld, Whole};
+ghost use Rattle.state.specs.Meaning.{answerOf, databaseOf, operationOf, schemeOf};
 ghost use Rattle.state.specs.Lent.{lent, sound, Performed};
 ghost use Rattle.catalog.specs.Catalog.{Catalogued};
+ghost use Rattle.operate.specs.Lending.{PerformedWords};
 use crate::output::Output;
 use crate::querying::query_lawful;
-use cache::Outcome;
 use cache::cause;
 use cache::drop_lawful;
 use cache::drop_range_lawful;
@@ -22,13 +23,12 @@ use opener::opener_lawful;
 use reason::reason_lawful;
 use state::Answer;
 use state::Design;
-use state::Held;
 use state::Operation;
 
-// The operation on a state known sound, with the catalog of its rows: no test for causes 7 and 12. The last four arrays are working memory, whatever
+// The operation on a state known sound, with the catalog of its rows: no test for causes 7 and 12. The last two arrays are working memory, whatever
 // stands in them. REFER and the holding of a range cost one load, DROP and the dropping of a range one reload, PROBE a look for the value for each constraint that
 // ends at the column, QUERY the probe of its first position, a load if that has no ground and its value is taken, the counting of its lists and the writing of
-// their words, and a total the same with two sums by weights in place of the lists. Naming a desk costs a copy of what is held. The value that would open a
+// their words, and a total the same with two sums by weights in place of the lists. The value that would open a
 // query costs its probe and, without a ground, a search of the directory for each constraint and row, one load, and a pass over the rows for each filling; a
 // reason a reload and its own links.
 pub fn perform_lawful(
@@ -37,97 +37,42 @@ pub fn perform_lawful(
     cells: &[u32],
     issues: &[u8],
     tables: &[u8],
-    next: &[u16; 4096],
-    first: &[u16; 8192],
+    catalog: &[u16; 16449],
     keys: &[u64; 4096],
-    heads: &[u16; 4096],
-    starts: &[u16; 65],
     marks: &mut [u8],
-    held: Held,
+    held: &mut [u32; 358],
     words: &mut [u32],
     text: &mut [u8],
-    weights: &mut [u64; 2560],
-    sums: &mut [u64; 2560],
-    froms: &mut [u16; 2560],
-    links: &mut [u16; 2560],
-) -> Outcome
-    requires { ⌜ (sound (lent design (cellsIn (now cells) (now issues)) (now tables) (now marks) held) ≡ true)
-        × Catalogued design (cellsIn (now cells) (now issues)) (now tables) (now next) (now first) (now keys) (now heads) (now starts) ⌝ }
-    ensures { λ o. ⌜ Performed (lent design (cellsIn (now (cells .entry)) (now (issues .entry))) (now (tables .entry)) (now (marks .entry)) held) (now (words .entry))
+    counts: &mut [u64; 5120],
+    places: &mut [u16; 5120],
+) -> Answer
+    requires { ⌜ (sound (lent design (cellsIn (now cells) (now issues)) (now tables) (now marks) (wordsHeld (now held))) ≡ true)
+        × Catalogued (schemeOf design) (databaseOf (cellsIn (now cells) (now issues)) (now tables)) (now catalog) (now keys) × Whole (now held) ⌝ }
+    ensures { λ a. ⌜ Performed (lent design (cellsIn (now (cells .entry)) (now (issues .entry))) (now (tables .entry)) (now (marks .entry)) (wordsHeld (now (held .entry)))) (now (words .entry))
         (now (text .entry)) (operationOf op (length (now (words .entry))) (length (now (text .entry))))
-        (answerOf (o .answer)) (lent design (cellsIn (now (cells .entry)) (now (issues .entry))) (now (tables .entry)) (now (marks .exit)) (o .held)) (now (words .exit))
-        (now (text .exit)) ⌝ }
+        (answerOf a) (lent design (cellsIn (now (cells .entry)) (now (issues .entry))) (now (tables .entry)) (now (marks .exit)) (wordsHeld (now (held .exit)))) (now (words .exit))
+        (now (text .exit)) × Whole (now (held .exit)) ⌝ }
 {
     match op {
-        Operation::Refer(v) => refer_lawful(
-            design,
-            cells,
-            issues,
-            tables,
-            next,
-            first,
-            keys,
-            heads,
-            starts,
-            marks,
-            held,
-            v,
-        ),
-        Operation::Drop(v) => drop_lawful(
-            design,
-            cells,
-            issues,
-            tables,
-            next,
-            first,
-            keys,
-            heads,
-            starts,
-            marks,
-            held,
-            v,
-        ),
-        Operation::Probe(k, v) => {
-            let answer = probe_lawful(
-                design,
-                cells,
-                issues,
-                tables,
-                next,
-                keys,
-                heads,
-                starts,
-                marks,
-                held,
-                k,
-                v,
-            );
-            Outcome { held, answer }
-        }
+        Operation::Refer(v) => refer_lawful(design, catalog, keys, marks, held, v),
+        Operation::Drop(v) => drop_lawful(design, catalog, keys, marks, held, v),
+        Operation::Probe(k, v) => { probe_lawful(design, catalog, keys, marks, held, k, v) }
         Operation::Query(q) => query_lawful(
             design,
             cells,
             issues,
             tables,
-            next,
-            first,
+            catalog,
             keys,
-            heads,
-            starts,
             marks,
             held,
             q,
             Output::Lists,
             words,
-            weights,
-            sums,
-            froms,
-            links,
+            counts,
+            places,
         ),
-        Operation::Evenness => {
-            let answer = evenness(design);
-            Outcome { held, answer }
-        }
+        Operation::Evenness => { evenness(design) }
         Operation::Total(t) => {
             let q = t.query;
             let output = Output::Total(t.position, t.column);
@@ -136,90 +81,49 @@ pub fn perform_lawful(
                 cells,
                 issues,
                 tables,
-                next,
-                first,
+                catalog,
                 keys,
-                heads,
-                starts,
                 marks,
                 held,
                 q,
                 output,
                 words,
-                weights,
-                sums,
-                froms,
-                links,
+                counts,
+                places,
             )
         }
-        Operation::SmallestKnot => {
-            let answer = smallest_knot(design);
-            Outcome { held, answer }
-        }
+        Operation::SmallestKnot => { smallest_knot(design) }
         Operation::Name(desk) => name_lawful(held, desk),
         Operation::Opener(k, v) => {
-            let answer = opener_lawful(
+            opener_lawful(
                 design,
                 cells,
                 issues,
                 tables,
-                next,
+                catalog,
                 keys,
-                heads,
-                starts,
                 marks,
                 held,
                 k,
                 v,
-            );
-            Outcome { held, answer }
+            )
         }
         Operation::Reason(row) => {
-            let answer = reason_lawful(
+            reason_lawful(
                 design,
                 cells,
                 issues,
                 tables,
-                next,
-                first,
+                catalog,
                 keys,
-                heads,
-                starts,
                 marks,
                 held,
                 row,
                 text,
-            );
-            Outcome { held, answer }
+            )
         }
-        Operation::ReferRange(r) => refer_range_lawful(
-            design,
-            cells,
-            issues,
-            tables,
-            next,
-            first,
-            keys,
-            heads,
-            starts,
-            marks,
-            held,
-            r,
-        ),
-        Operation::DropRange(r) => drop_range_lawful(
-            design,
-            cells,
-            issues,
-            tables,
-            next,
-            first,
-            keys,
-            heads,
-            starts,
-            marks,
-            held,
-            r,
-        ),
+        Operation::ReferRange(r) => refer_range_lawful(design, catalog, keys, marks, held, r),
+        Operation::DropRange(r) => drop_range_lawful(design, catalog, keys, marks, held, r),
     }
 }
 
@@ -232,59 +136,46 @@ pub fn perform(
     issues: &[u8],
     tables: &[u8],
     marks: &mut [u8],
-    held: Held,
+    held: &mut [u32; 358],
     words: &mut [u32],
     text: &mut [u8],
-) -> Outcome
-    ensures { λ o. ⌜ Performed (lent design (cellsIn (now (cells .entry)) (now (issues .entry))) (now (tables .entry)) (now (marks .entry)) held) (now (words .entry))
+) -> Answer
+    requires { ⌜ length (now held) ≡ 358 ⌝ }
+    ensures { λ a. ⌜ PerformedWords (lent design (cellsIn (now (cells .entry)) (now (issues .entry))) (now (tables .entry)) (now (marks .entry)) (wordsHeld (now (held .entry)))) (now (held .entry)) (now (words .entry))
         (now (text .entry)) (operationOf op (length (now (words .entry))) (length (now (text .entry))))
-        (answerOf (o .answer)) (lent design (cellsIn (now (cells .entry)) (now (issues .entry))) (now (tables .entry)) (now (marks .exit)) (o .held)) (now (words .exit))
+        (answerOf a) (lent design (cellsIn (now (cells .entry)) (now (issues .entry))) (now (tables .entry)) (now (marks .exit)) (wordsHeld (now (held .exit)))) (now (held .exit)) (now (words .exit))
         (now (text .exit)) ⌝ }
 {
-    let mut next = [512u16; 4096];
-    let mut first = [512u16; 8192];
+    let mut catalog = [0u16; 16449];
     let mut keys = [0u64; 4096];
-    let mut heads = [512u16; 4096];
-    let mut starts = [0u16; 65];
     let why = cause(
         design,
         cells,
         issues,
         tables,
-        &mut next,
-        &mut first,
+        &mut catalog,
         &mut keys,
-        &mut heads,
-        &mut starts,
         marks,
         held,
     );
     if why != 0 {
-        let answer = Answer::Refused(why);
-        return Outcome { held, answer };
+        return Answer::Refused(why);
     }
-    let mut weights = [0u64; 2560];
-    let mut sums = [0u64; 2560];
-    let mut froms = [0u16; 2560];
-    let mut links = [0u16; 2560];
+    let mut counts = [0u64; 5120];
+    let mut places = [0u16; 5120];
     perform_lawful(
         op,
         design,
         cells,
         issues,
         tables,
-        &next,
-        &first,
+        &catalog,
         &keys,
-        &heads,
-        &starts,
         marks,
         held,
         words,
         text,
-        &mut weights,
-        &mut sums,
-        &mut froms,
-        &mut links,
+        &mut counts,
+        &mut places,
     )
 }

@@ -4,12 +4,14 @@ ghost use mathlib.Core.Path.{_≡_};
 ghost use mathlib.Core.Bool.{true};
 ghost use Prim.Native.Nat.{_≤_, _<_};
 ghost use lib.ListN.{length};
+ghost use Rattle.model.specs.Database.{Database};
 ghost use Rattle.model.specs.Query.{fitting, fullLists, joinsOf, operandsFit, wordsOf};
 ghost use Rattle.model.specs.Runs as Runs;
 ghost use Rattle.model.specs.Runs.{marked};
 ghost use Rattle.state.specs.Cells.{cellsIn};
-ghost use Rattle.state.specs.Design.{Backed, InRange};
+ghost use Rattle.state.specs.Design.{InRange};
 ghost use Rattle.state.specs.Meaning.{answerOf, cellOf, columnOf, databaseOf, queryOf, schemeOf};
+ghost use Rattle.state.specs.HeldWords.{wordsHeld, Whole};
 ghost use Rattle.state.specs.Lent.{lent, sound, textAt, wordsAt};
 ghost use Rattle.catalog.specs.Catalog.{Catalogued};
 ghost use Rattle.operate.specs.Queries.{Referring};
@@ -23,7 +25,6 @@ use query::operands_fit;
 use reason::reason_lawful;
 use state::Answer;
 use state::Design;
-use state::Held;
 use state::HeldValue;
 use state::Operation;
 use state::Query;
@@ -40,45 +41,19 @@ pub struct Sizes {
 // The words of the lists of marked rows, whatever stands in the others: one for each position of each list. The cost of `count_fitting`.
 fn listed_words(
     d: Design,
-    cells: &[u32],
-    issues: &[u8],
-    tables: &[u8],
-    next: &[u16; 4096],
-    first: &[u16; 8192],
+    catalog: &[u16; 16449],
     keys: &[u64; 4096],
-    heads: &[u16; 4096],
-    starts: &[u16; 65],
     marks: &[u8],
     q: Query,
-    weights: &mut [u64; 2560],
-    sums: &mut [u64; 2560],
-    froms: &mut [u16; 2560],
-    links: &mut [u16; 2560],
+    counts: &mut [u64; 5120],
+    places: &mut [u16; 5120],
 ) -> u64
-    requires { ⌜ InRange d × (q .column .place < 8) × (operandsFit (schemeOf d) (queryOf q) ≡ true)
-        × Backed (cellsIn (now cells) (now issues)) (now tables)
-        × Catalogued d (cellsIn (now cells) (now issues)) (now tables) (now next) (now first) (now keys) (now heads) (now starts)
-        × (512 ≤ length (now marks)) ⌝ }
-    ensures { λ n. ⌜ n ≡ length (wordsOf (fitting (schemeOf d) (databaseOf (cellsIn (now (cells .entry)) (now (issues .entry))) (now (tables .entry)))
-        (marked (now (marks .entry))) (columnOf (q .column)) (cellOf (q .value)) (joinsOf (queryOf q)))) ⌝ }
+    requires { ⌜ InRange d × (q .column .place < 8) × (operandsFit (schemeOf d) (queryOf q) ≡ true) × (512 ≤ length (now marks))
+        × ((D : Database) × Catalogued (schemeOf d) D (now catalog) (now keys)) ⌝ }
+    ensures { λ n. ⌜ ((D : Database) → Catalogued (schemeOf d) D (now (catalog .entry)) (now (keys .entry))
+        → n ≡ length (wordsOf (fitting (schemeOf d) D (marked (now (marks .entry))) (columnOf (q .column)) (cellOf (q .value)) (joinsOf (queryOf q))))) ⌝ }
 {
-    let lists = count_fitting(
-        d,
-        cells,
-        issues,
-        tables,
-        next,
-        first,
-        keys,
-        heads,
-        starts,
-        marks,
-        q,
-        weights,
-        sums,
-        froms,
-        links,
-    );
+    let lists = count_fitting(d, catalog, keys, marks, q, counts, places);
     let joins = q.joins as u64;
     lists * (joins + 1)
 }
@@ -90,85 +65,47 @@ fn referred_words(
     cells: &[u32],
     issues: &[u8],
     tables: &[u8],
-    next: &[u16; 4096],
-    first: &[u16; 8192],
+    catalog: &[u16; 16449],
     keys: &[u64; 4096],
-    heads: &[u16; 4096],
-    starts: &[u16; 65],
     marks: &[u8],
-    held: Held,
+    held: &[u32; 358],
     q: Query,
     v: HeldValue,
-    weights: &mut [u64; 2560],
-    sums: &mut [u64; 2560],
-    froms: &mut [u16; 2560],
-    links: &mut [u16; 2560],
+    counts: &mut [u64; 5120],
+    places: &mut [u16; 5120],
 ) -> u64
-    requires { ⌜ (sound (lent design (cellsIn (now cells) (now issues)) (now tables) (now marks) held) ≡ true)
-        × Catalogued design (cellsIn (now cells) (now issues)) (now tables) (now next) (now first) (now keys) (now heads) (now starts) ⌝ }
-    requires { ⌜ Referring (lent design (cellsIn (now cells) (now issues)) (now tables) (now marks) held) q (Runs.asLists ample) v ⌝ }
+    requires { ⌜ (sound (lent design (cellsIn (now cells) (now issues)) (now tables) (now marks) (wordsHeld (now held))) ≡ true)
+        × Catalogued (schemeOf design) (databaseOf (cellsIn (now cells) (now issues)) (now tables)) (now catalog) (now keys) × Whole (now held) ⌝ }
+    requires { ⌜ Referring (lent design (cellsIn (now cells) (now issues)) (now tables) (now marks) (wordsHeld (now held))) q (Runs.asLists ample) v ⌝ }
     ensures { λ n. ⌜ n ≡ length (wordsOf (fullLists (schemeOf design) (databaseOf (cellsIn (now (cells .entry)) (now (issues .entry))) (now (tables .entry)))
         (queryOf q))) ⌝ }
 {
     let mut copy = [0u8; 512];
     copy_bytes(&marks[..Design::ROWS], &mut copy, Design::ROWS);
-    refer_lawful(
-        design,
-        cells,
-        issues,
-        tables,
-        next,
-        first,
-        keys,
-        heads,
-        starts,
-        &mut copy,
-        held,
-        v,
-    );
-    listed_words(
-        design,
-        cells,
-        issues,
-        tables,
-        next,
-        first,
-        keys,
-        heads,
-        starts,
-        &copy,
-        q,
-        weights,
-        sums,
-        froms,
-        links,
-    )
+    let mut more = *held;
+    refer_lawful(design, catalog, keys, &mut copy, &mut more, v);
+    listed_words(design, catalog, keys, &copy, q, counts, places)
 }
 
 // The words that a QUERY takes: none where causes 5 and 9 refuse it or it is sent; else those of its lists, on the cache after the reference. The last
-// four tables are working memory, whatever stands there before. The cost of the probe, a load if that has no ground and its value is taken, and the
+// two arrays are working memory, whatever stands there before. The cost of the probe, a load if that has no ground and its value is taken, and the
 // cost of `count_fitting`.
 fn query_words(
     design: Design,
     cells: &[u32],
     issues: &[u8],
     tables: &[u8],
-    next: &[u16; 4096],
-    first: &[u16; 8192],
+    catalog: &[u16; 16449],
     keys: &[u64; 4096],
-    heads: &[u16; 4096],
-    starts: &[u16; 65],
     marks: &[u8],
-    held: Held,
+    held: &[u32; 358],
     q: Query,
-    weights: &mut [u64; 2560],
-    sums: &mut [u64; 2560],
-    froms: &mut [u16; 2560],
-    links: &mut [u16; 2560],
+    counts: &mut [u64; 5120],
+    places: &mut [u16; 5120],
 ) -> u64
-    requires { ⌜ (sound (lent design (cellsIn (now cells) (now issues)) (now tables) (now marks) held) ≡ true)
-        × Catalogued design (cellsIn (now cells) (now issues)) (now tables) (now next) (now first) (now keys) (now heads) (now starts) ⌝ }
-    ensures { λ n. ⌜ n ≡ length (wordsAt (lent design (cellsIn (now (cells .entry)) (now (issues .entry))) (now (tables .entry)) (now (marks .entry)) held)
+    requires { ⌜ (sound (lent design (cellsIn (now cells) (now issues)) (now tables) (now marks) (wordsHeld (now held))) ≡ true)
+        × Catalogued (schemeOf design) (databaseOf (cellsIn (now cells) (now issues)) (now tables)) (now catalog) (now keys) × Whole (now held) ⌝ }
+    ensures { λ n. ⌜ n ≡ length (wordsAt (lent design (cellsIn (now (cells .entry)) (now (issues .entry))) (now (tables .entry)) (now (marks .entry)) (wordsHeld (now (held .entry))))
         (Runs.query (queryOf q) (Runs.asLists ample))) ⌝ }
 {
     if !operands_fit(design, q) {
@@ -178,39 +115,10 @@ fn query_words(
         return 0;
     }
     let k = q.column;
-    let found = search(
-        design,
-        cells,
-        issues,
-        tables,
-        next,
-        keys,
-        heads,
-        starts,
-        marks,
-        held,
-        k,
-        q.value,
-    );
+    let found = search(design, catalog, keys, marks, held, k, q.value);
     let g = found.ground;
     if g != 0 {
-        return listed_words(
-            design,
-            cells,
-            issues,
-            tables,
-            next,
-            first,
-            keys,
-            heads,
-            starts,
-            marks,
-            q,
-            weights,
-            sums,
-            froms,
-            links,
-        );
+        return listed_words(design, catalog, keys, marks, q, counts, places);
     }
     let f = filling_for(design, k);
     let value = q.value;
@@ -226,19 +134,14 @@ fn query_words(
         cells,
         issues,
         tables,
-        next,
-        first,
+        catalog,
         keys,
-        heads,
-        starts,
         marks,
         held,
         q,
         v,
-        weights,
-        sums,
-        froms,
-        links,
+        counts,
+        places,
     )
 }
 
@@ -261,18 +164,15 @@ fn reason_bytes(
     cells: &[u32],
     issues: &[u8],
     tables: &[u8],
-    next: &[u16; 4096],
-    first: &[u16; 8192],
+    catalog: &[u16; 16449],
     keys: &[u64; 4096],
-    heads: &[u16; 4096],
-    starts: &[u16; 65],
     marks: &[u8],
-    held: Held,
+    held: &[u32; 358],
     row: u16,
 ) -> usize
-    requires { ⌜ (sound (lent design (cellsIn (now cells) (now issues)) (now tables) (now marks) held) ≡ true)
-        × Catalogued design (cellsIn (now cells) (now issues)) (now tables) (now next) (now first) (now keys) (now heads) (now starts) ⌝ }
-    ensures { λ n. ⌜ n ≡ length (textAt (lent design (cellsIn (now (cells .entry)) (now (issues .entry))) (now (tables .entry)) (now (marks .entry)) held)
+    requires { ⌜ (sound (lent design (cellsIn (now cells) (now issues)) (now tables) (now marks) (wordsHeld (now held))) ≡ true)
+        × Catalogued (schemeOf design) (databaseOf (cellsIn (now cells) (now issues)) (now tables)) (now catalog) (now keys) ⌝ }
+    ensures { λ n. ⌜ n ≡ length (textAt (lent design (cellsIn (now (cells .entry)) (now (issues .entry))) (now (tables .entry)) (now (marks .entry)) (wordsHeld (now (held .entry))))
         (Runs.ask (Runs.reason row ample))) ⌝ }
 {
     let mut text = [0u8; 16384];
@@ -281,11 +181,8 @@ fn reason_bytes(
         cells,
         issues,
         tables,
-        next,
-        first,
+        catalog,
         keys,
-        heads,
-        starts,
         marks,
         held,
         row,
@@ -303,22 +200,17 @@ pub fn sizes_lawful(
     cells: &[u32],
     issues: &[u8],
     tables: &[u8],
-    next: &[u16; 4096],
-    first: &[u16; 8192],
+    catalog: &[u16; 16449],
     keys: &[u64; 4096],
-    heads: &[u16; 4096],
-    starts: &[u16; 65],
     marks: &[u8],
-    held: Held,
-    weights: &mut [u64; 2560],
-    sums: &mut [u64; 2560],
-    froms: &mut [u16; 2560],
-    links: &mut [u16; 2560],
+    held: &[u32; 358],
+    counts: &mut [u64; 5120],
+    places: &mut [u16; 5120],
 ) -> Sizes
-    requires { ⌜ (sound (lent design (cellsIn (now cells) (now issues)) (now tables) (now marks) held) ≡ true)
-        × Catalogued design (cellsIn (now cells) (now issues)) (now tables) (now next) (now first) (now keys) (now heads) (now starts) ⌝ }
-    ensures { λ z. ⌜ (z .words ≡ wordsTaken (lent design (cellsIn (now (cells .entry)) (now (issues .entry))) (now (tables .entry)) (now (marks .entry)) held) op)
-        × (z .text ≡ textTaken (lent design (cellsIn (now (cells .entry)) (now (issues .entry))) (now (tables .entry)) (now (marks .entry)) held) op) ⌝ }
+    requires { ⌜ (sound (lent design (cellsIn (now cells) (now issues)) (now tables) (now marks) (wordsHeld (now held))) ≡ true)
+        × Catalogued (schemeOf design) (databaseOf (cellsIn (now cells) (now issues)) (now tables)) (now catalog) (now keys) × Whole (now held) ⌝ }
+    ensures { λ z. ⌜ (z .words ≡ wordsTaken (lent design (cellsIn (now (cells .entry)) (now (issues .entry))) (now (tables .entry)) (now (marks .entry)) (wordsHeld (now (held .entry)))) op)
+        × (z .text ≡ textTaken (lent design (cellsIn (now (cells .entry)) (now (issues .entry))) (now (tables .entry)) (now (marks .entry)) (wordsHeld (now (held .entry)))) op) ⌝ }
 {
     match op {
         Operation::Query(q) => {
@@ -327,18 +219,13 @@ pub fn sizes_lawful(
                 cells,
                 issues,
                 tables,
-                next,
-                first,
+                catalog,
                 keys,
-                heads,
-                starts,
                 marks,
                 held,
                 q,
-                weights,
-                sums,
-                froms,
-                links,
+                counts,
+                places,
             );
             Sizes { words, text: 0 }
         }
@@ -348,11 +235,8 @@ pub fn sizes_lawful(
                 cells,
                 issues,
                 tables,
-                next,
-                first,
+                catalog,
                 keys,
-                heads,
-                starts,
                 marks,
                 held,
                 row,

@@ -1,7 +1,7 @@
 -- A count of the cached rows among those that have a value, from one to the next. Assumes nothing.
 use Prim.Native.Nat.{ℕ, _+_, _≤_, _<_}
 use native.Mathlib.Omega.{arith}
-use mathlib.Core.Path.{_≡_, _∙_}
+use mathlib.Core.Path.{_≡_, sym, ap, _∙_}
 use mathlib.Core.Bool.{true, false, _&&_}
 use mathlib.Core.List.{List}
 use borrow.Author.Tests.{eq-eqb, ne-eqb}
@@ -15,8 +15,6 @@ use Rattle.model.specs.Database.{Database, has}
 use Rattle.model.specs.Cache.{RowSet}
 use Rattle.model.specs.Probe.{cachedRows}
 use Rattle.model.specs.Runs.{marked}
-use Rattle.state.specs.Cells.{Cells}
-use Rattle.state.specs.Meaning.{databaseOf}
 use Rattle.catalog.specs.Hits.{Hit}
 use Rattle.catalog.proofs.HitLaws.{first-hit}
 use Rattle.catalog.proofs.Walks.{count-first, count-next-hit, count-next-miss, only-right}
@@ -68,8 +66,8 @@ module _ (D : Database) (X : RowSet) (k : Column) (v : Cell) (r : ℕ) where
                 f ∙ count-next-miss (has D k v) (λ i. X i && has D k v i) (λ i. only-right (has D k v) X i) r s l e n (w .found) (and-left (X r) (has D k v r) h);
           }
 
--- in the lent rows: there is none left
-pub counting-end : (cells : Cells) (tables : List ℕ) (X : RowSet) (k : Column) (v : Cell) (r n : ℕ) → Counting (databaseOf cells tables) X k v r n →
-    512 ≤ r → n ≡ cachedRows (databaseOf cells tables) X k v
-unfolding cachedRows databaseOf
-counting-end cells tables X k v r n w h = count-end n r 512 (λ i. X i && has (databaseOf cells tables) k v i) (w .stands .bound) h (w .found)
+-- in a database of 512 row numbers: there is none left
+pub counting-end : (D : Database) → D .size ≡ 512 → (X : RowSet) (k : Column) (v : Cell) (r n : ℕ) → Counting D X k v r n → 512 ≤ r → n ≡ cachedRows D X k v
+unfolding cachedRows
+counting-end D z X k v r n w h =
+    count-end n r 512 (λ i. X i && has D k v i) (w .stands .bound) h (w .found) ∙ ap (λ (m : ℕ). count m (λ i. X i && has D k v i)) (sym z)

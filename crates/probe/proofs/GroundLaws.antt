@@ -1,5 +1,6 @@
 -- The grounds as searches below a count, and they and the count of cached rows over row sets that have the same rows. Assumes nothing.
 use Prim.Native.Nat.{ℕ, zero, suc, _<_}
+use native.Mathlib.Omega.{arith}
 use mathlib.Core.Path.{_≡_, refl, sym, ap, ap₂, _∙_}
 use mathlib.Core.Bool.{Bool, true, false, _&&_, _||_}
 use mathlib.Core.List.{List}
@@ -18,8 +19,6 @@ use Rattle.model.specs.Probe.{seen, demanded, uniquelySeen, lowest, probe, cach
 use Rattle.model.specs.Ranges.{Range, inRange, rangeHolds}
 use Rattle.model.specs.Holding.{Pair, Owned, one, pairsHold}
 use Rattle.model.specs.Runs.{marked}
-use Rattle.state.specs.Cells.{Cells}
-use Rattle.state.specs.Meaning.{databaseOf}
 
 -- ---- ground 1
 
@@ -83,19 +82,17 @@ pub marked-front : (m : List ℕ) (n r : ℕ) → r < n → marked m r ≡ marke
 unfolding marked
 marked-front m n r l = ap (λ (x : ℕ). eqb x 1) (sym (getD-take n m r 0 l))
 
--- so a probe over lent buffers looks at the first 512 marks alone
-pub probe-front : (S : Scheme) (cells : Cells) (tables m : List ℕ) (H : Held) (k : Column) (v : Cell) →
-    probe S (databaseOf cells tables) H (marked m) k v ≡ probe S (databaseOf cells tables) H (marked (take 512 m)) k v
-unfolding databaseOf
-probe-front S cells tables m H k v =
-    probe-same (databaseOf cells tables) (marked m) (marked (take 512 m)) (λ r l. marked-front m 512 r l) v S H k
+-- so a probe of a database of 512 row numbers looks at the first 512 marks alone
+module _ (D : Database) (z : D .size ≡ 512) (m : List ℕ) where
+  front : (r : ℕ) → r < D .size → marked m r ≡ marked (take 512 m) r
+  front r l = marked-front m 512 r (omega (arith, z))
 
--- ... and so does a count
-pub rows-front : (cells : Cells) (tables m : List ℕ) (k : Column) (v : Cell) →
-    cachedRows (databaseOf cells tables) (marked m) k v ≡ cachedRows (databaseOf cells tables) (marked (take 512 m)) k v
-unfolding databaseOf
-rows-front cells tables m k v =
-    rows-same (databaseOf cells tables) (marked m) (marked (take 512 m)) (λ r l. marked-front m 512 r l) v k
+  pub probe-front : (S : Scheme) (H : Held) (k : Column) (v : Cell) → probe S D H (marked m) k v ≡ probe S D H (marked (take 512 m)) k v
+  probe-front S H k v = probe-same D (marked m) (marked (take 512 m)) front v S H k
+
+  -- ... and so does a count
+  pub rows-front : (k : Column) (v : Cell) → cachedRows D (marked m) k v ≡ cachedRows D (marked (take 512 m)) k v
+  rows-front k v = rows-same D (marked m) (marked (take 512 m)) front v k
 
 -- ---- the lowest ground
 

@@ -1,8 +1,7 @@
 -- A search among the rows that have a value, from one to the next, for one that is cached. Assumes nothing.
 use Prim.Native.Nat.{ℕ, _+_, _≤_, _<_}
-use mathlib.Core.Path.{_≡_}
+use mathlib.Core.Path.{_≡_, sym, ap, _∙_}
 use mathlib.Core.Bool.{true, false, _&&_}
-use mathlib.Core.List.{List}
 use Rattle.finite.specs.Finite.{any, firstFrom}
 use Rattle.finite.proofs.Bools.{and-left, both}
 use Rattle.finite.proofs.Search.{any-hit, any-end}
@@ -11,8 +10,6 @@ use Rattle.model.specs.Scheme.{Column}
 use Rattle.model.specs.Database.{Database, has}
 use Rattle.model.specs.Cache.{RowSet}
 use Rattle.model.specs.Probe.{seen}
-use Rattle.state.specs.Cells.{Cells}
-use Rattle.state.specs.Meaning.{databaseOf}
 use Rattle.catalog.specs.Hits.{Hit}
 use Rattle.catalog.proofs.HitLaws.{first-hit}
 use Rattle.catalog.proofs.Walks.{any-first, any-next, only-right}
@@ -38,12 +35,14 @@ module _ (D : Database) (X : RowSet) (k : Column) (v : Cell) (r : ℕ) where
         none = any-next (has D k v) (λ i. X i && has D k v i) (λ i. only-right (has D k v) X i) r s l e (w .none) (and-left (X r) (has D k v r) h);
       }
 
--- in the lent rows: row r is cached, and there is none left
-module _ (cells : Cells) (tables : List ℕ) (X : RowSet) (k : Column) (v : Cell) (r : ℕ) (w : Seeking (databaseOf cells tables) X k v r) where
-  pub seek-found : r < 512 → X r ≡ true → true ≡ seen (databaseOf cells tables) X k v
-  unfolding seen databaseOf
-  seek-found l h = any-hit 512 r (λ i. X i && has (databaseOf cells tables) k v i) l (both h (w .stands .here l))
+-- in a database of 512 row numbers: row r is cached, and there is none left
+module _ (D : Database) (z : D .size ≡ 512) (X : RowSet) (k : Column) (v : Cell) (r : ℕ) (w : Seeking D X k v r) where
+  all-rows : any 512 (λ i. X i && has D k v i) ≡ seen D X k v
+  unfolding seen
+  all-rows = ap (λ (n : ℕ). any n (λ i. X i && has D k v i)) (sym z)
 
-  pub seek-end : 512 ≤ r → false ≡ seen (databaseOf cells tables) X k v
-  unfolding seen databaseOf
-  seek-end h = any-end 512 r (λ i. X i && has (databaseOf cells tables) k v i) (w .stands .bound) h (w .none)
+  pub seek-found : r < 512 → X r ≡ true → true ≡ seen D X k v
+  seek-found l h = any-hit 512 r (λ i. X i && has D k v i) l (both h (w .stands .here l)) ∙ all-rows
+
+  pub seek-end : 512 ≤ r → false ≡ seen D X k v
+  seek-end h = any-end 512 r (λ i. X i && has D k v i) (w .stands .bound) h (w .none) ∙ all-rows

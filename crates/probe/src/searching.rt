@@ -2,20 +2,20 @@
 ghost use Prim.Native.Nat.{_<_, _≤_};
 ghost use mathlib.Core.Path.{_≡_};
 ghost use lib.ListN.{length, take};
+ghost use Rattle.model.specs.Database.{Database};
 ghost use Rattle.model.specs.Probe as Probe;
 ghost use Rattle.model.specs.Holding.{heldIn};
 ghost use Rattle.model.specs.Runs.{marked};
-ghost use Rattle.state.specs.Cells.{cellsIn};
 ghost use Rattle.state.specs.Design.{InRange};
 ghost use Rattle.state.specs.Held.{Bounded};
-ghost use Rattle.state.specs.Meaning.{cellOf, columnOf, holdingOf, schemeOf, databaseOf};
-ghost use Rattle.catalog.specs.Catalog.{nexts, Directory};
+ghost use Rattle.state.specs.HeldWords.{wordsHeld};
+ghost use Rattle.state.specs.Meaning.{cellOf, columnOf, holdingOf, schemeOf};
+ghost use Rattle.catalog.specs.Catalog.{Indexed};
 use crate::counting::rows_with;
 use crate::grounds::ground;
 use state::Cell;
 use state::Column;
 use state::Design;
-use state::Held;
 
 // The lowest ground, 0 if none applies; and how many cached rows of the column's table have the value there, 0 if no ground applies.
 pub struct Found {
@@ -27,54 +27,22 @@ pub struct Found {
 // row that has the value; a "sent" counts nothing.
 pub fn search(
     d: Design,
-    cells: &[u32],
-    issues: &[u8],
-    tables: &[u8],
-    next: &[u16; 4096],
+    catalog: &[u16; 16449],
     keys: &[u64; 4096],
-    heads: &[u16; 4096],
-    starts: &[u16; 65],
     marks: &[u8],
-    held: Held,
+    held: &[u32; 358],
     k: Column,
     v: Cell,
 ) -> Found
-    requires { ⌜ InRange d × (512 ≤ length (now marks)) × Bounded held × (k .table < 8) × (k .place < 8) ⌝ }
-    requires { ⌜ (now next ≡ nexts (databaseOf (cellsIn (now cells) (now issues)) (now tables)))
-        × Directory (databaseOf (cellsIn (now cells) (now issues)) (now tables)) (now keys) (now heads) (now starts) ⌝ }
-    ensures { λ s. ⌜ (s .ground ≡ Probe.probe (schemeOf d) (databaseOf (cellsIn (now (cells .entry)) (now (issues .entry)))
-        (now (tables .entry))) (heldIn (schemeOf d) (holdingOf held)) (marked (take 512 (now (marks .entry)))) (columnOf k) (cellOf v))
-        × (s .rows ≡ Probe.rowsBehind (s .ground) (databaseOf (cellsIn (now (cells .entry)) (now (issues .entry))) (now (tables .entry)))
-        (marked (take 512 (now (marks .entry)))) (columnOf k) (cellOf v)) ⌝ }
+    requires { ⌜ InRange d × (512 ≤ length (now marks)) × Bounded (wordsHeld (now held)) × (k .table < 8) × (k .place < 8) ⌝ }
+    requires { ⌜ ((D : Database) × Indexed D (now catalog) (now keys)) ⌝ }
+    ensures { λ s. ⌜ ((D : Database) → Indexed D (now (catalog .entry)) (now (keys .entry))
+        → (s .ground ≡ Probe.probe (schemeOf d) D (heldIn (schemeOf d) (holdingOf (wordsHeld (now (held .entry))))) (marked (take 512 (now (marks .entry)))) (columnOf k) (cellOf v)) × (s .rows ≡ Probe.rowsBehind (s .ground) D (marked (take 512 (now (marks .entry)))) (columnOf k) (cellOf v))) ⌝ }
 {
-    let g = ground(
-        d,
-        cells,
-        issues,
-        tables,
-        next,
-        keys,
-        heads,
-        starts,
-        marks,
-        held,
-        k,
-        v,
-    );
+    let g = ground(d, catalog, keys, marks, held, k, v);
     if g == 0 {
         return Found { ground: g, rows: 0 };
     }
-    let n = rows_with(
-        cells,
-        issues,
-        tables,
-        next,
-        keys,
-        heads,
-        starts,
-        marks,
-        k,
-        v,
-    );
+    let n = rows_with(catalog, keys, marks, k, v);
     Found { ground: g, rows: n }
 }

@@ -12,9 +12,10 @@ ghost use Rattle.model.specs.Sentence.{reasonText};
 ghost use Rattle.state.specs.Cells.{cellsIn};
 ghost use Rattle.state.specs.Design.{Backed, InRange};
 ghost use Rattle.state.specs.Held.{Bounded};
+ghost use Rattle.state.specs.HeldWords.{wordsHeld};
 ghost use Rattle.state.specs.Lent.{answerAt, lent, sound, textAt};
 ghost use Rattle.state.specs.Meaning.{answerOf, databaseOf, holdingOf, schemeOf};
-ghost use Rattle.catalog.specs.Catalog.{Catalogued, Directory, nexts};
+ghost use Rattle.catalog.specs.Catalog.{Catalogued, Indexed};
 ghost use Rattle.reason.specs.Links.{Graded, linksText, rootBy};
 ghost use Rattle.reason.specs.Walked.{Passed};
 use crate::linking::last_link;
@@ -24,7 +25,6 @@ use crate::wording::put_origin;
 use load::load_held;
 use state::Answer;
 use state::Design;
-use state::Held;
 use state::is_live;
 use text::put_bytes;
 use text::put_spaced;
@@ -43,10 +43,8 @@ fn put_links(
     cells: &[u32],
     issues: &[u8],
     tables: &[u8],
-    next: &[u16; 4096],
+    catalog: &[u16; 16449],
     keys: &[u64; 4096],
-    heads: &[u16; 4096],
-    starts: &[u16; 65],
     levels: &[u16; 512],
     walked: &mut [bool; 4096],
     r: usize,
@@ -56,8 +54,7 @@ fn put_links(
 ) -> Traced
     requires { ⌜ (r < 512) × (n < 512) × InRange d × Backed (cellsIn (now cells) (now issues)) (now tables)
         × (at + 30 * n + 47 ≤ length (now out)) ⌝ }
-    requires { ⌜ (now next ≡ nexts (databaseOf (cellsIn (now cells) (now issues)) (now tables)))
-        × Directory (databaseOf (cellsIn (now cells) (now issues)) (now tables)) (now keys) (now heads) (now starts) ⌝ }
+    requires { ⌜ Indexed (databaseOf (cellsIn (now cells) (now issues)) (now tables)) (now catalog) (now keys) ⌝ }
     requires { ⌜ Graded (schemeOf d) (databaseOf (cellsIn (now cells) (now issues)) (now tables)) (now levels)
         × (level (now levels) r ≡ n + 2)
         × Passed (databaseOf (cellsIn (now cells) (now issues)) (now tables)) (now levels) (n + 2) (now walked) ⌝ }
@@ -75,10 +72,8 @@ fn put_links(
         cells,
         issues,
         tables,
-        next,
+        catalog,
         keys,
-        heads,
-        starts,
         levels,
         walked,
         r,
@@ -90,10 +85,8 @@ fn put_links(
         cells,
         issues,
         tables,
-        next,
+        catalog,
         keys,
-        heads,
-        starts,
         levels,
         walked,
         k.row,
@@ -109,38 +102,22 @@ fn put_reason(
     cells: &[u32],
     issues: &[u8],
     tables: &[u8],
-    next: &[u16; 4096],
-    first: &[u16; 8192],
+    catalog: &[u16; 16449],
     keys: &[u64; 4096],
-    heads: &[u16; 4096],
-    starts: &[u16; 65],
-    held: Held,
+    held: &[u32; 358],
     r: usize,
     out: &mut [u8],
 ) -> usize
-    requires { ⌜ (r < 512) × InRange d × Backed (cellsIn (now cells) (now issues)) (now tables) × Bounded held
+    requires { ⌜ (r < 512) × InRange d × Backed (cellsIn (now cells) (now issues)) (now tables) × Bounded (wordsHeld (now held))
         × (length (now out) ≡ 16384) ⌝ }
-    requires { ⌜ Catalogued d (cellsIn (now cells) (now issues)) (now tables) (now next) (now first) (now keys) (now heads) (now starts)
-        × (cachedFor (schemeOf d) (databaseOf (cellsIn (now cells) (now issues)) (now tables)) (holdingOf held) r ≡ true) ⌝ }
+    requires { ⌜ Catalogued (schemeOf d) (databaseOf (cellsIn (now cells) (now issues)) (now tables)) (now catalog) (now keys)
+        × (cachedFor (schemeOf d) (databaseOf (cellsIn (now cells) (now issues)) (now tables)) (holdingOf (wordsHeld (now held))) r ≡ true) ⌝ }
     ensures { λ z. ⌜ (z ≤ 16384)
         × Wrote (now (out .entry)) (now (out .exit)) 0 z (reasonText (schemeOf d) (databaseOf (cellsIn (now (cells .entry))
-        (now (issues .entry))) (now (tables .entry))) (holdingOf held) r) ⌝ }
+        (now (issues .entry))) (now (tables .entry))) (holdingOf (wordsHeld (now (held .entry)))) r) ⌝ }
 {
     let mut levels = [0u16; 512];
-    load_held(
-        d,
-        cells,
-        issues,
-        tables,
-        next,
-        first,
-        keys,
-        heads,
-        starts,
-        held,
-        Design::ROWS,
-        &mut levels,
-    );
+    load_held(d, catalog, keys, held, Design::ROWS, &mut levels);
     let z = put_bytes(out, 0, b"row", 3);
     let y = put_spaced(out, z, r as u64);
     let mut walked = [false; 4096];
@@ -150,10 +127,8 @@ fn put_reason(
         cells,
         issues,
         tables,
-        next,
+        catalog,
         keys,
-        heads,
-        starts,
         &levels,
         &mut walked,
         r,
@@ -174,22 +149,19 @@ pub fn reason_lawful(
     cells: &[u32],
     issues: &[u8],
     tables: &[u8],
-    next: &[u16; 4096],
-    first: &[u16; 8192],
+    catalog: &[u16; 16449],
     keys: &[u64; 4096],
-    heads: &[u16; 4096],
-    starts: &[u16; 65],
     marks: &[u8],
-    held: Held,
+    held: &[u32; 358],
     row: u16,
     text: &mut [u8],
 ) -> Answer
-    requires { ⌜ (sound (lent design (cellsIn (now cells) (now issues)) (now tables) (now marks) held) ≡ true)
-        × Catalogued design (cellsIn (now cells) (now issues)) (now tables) (now next) (now first) (now keys) (now heads) (now starts) ⌝ }
-    ensures { λ a. ⌜ (answerOf a ≡ answerAt (lent design (cellsIn (now (cells .entry)) (now (issues .entry))) (now (tables .entry)) (now (marks .entry)) held)
+    requires { ⌜ (sound (lent design (cellsIn (now cells) (now issues)) (now tables) (now marks) (wordsHeld (now held))) ≡ true)
+        × Catalogued (schemeOf design) (databaseOf (cellsIn (now cells) (now issues)) (now tables)) (now catalog) (now keys) ⌝ }
+    ensures { λ a. ⌜ (answerOf a ≡ answerAt (lent design (cellsIn (now (cells .entry)) (now (issues .entry))) (now (tables .entry)) (now (marks .entry)) (wordsHeld (now (held .entry))))
         (Runs.ask (Runs.reason row (length (now (text .entry))))))
         × (now (text .exit) ≡ sets (now (text .entry)) 0 (textAt (lent design (cellsIn (now (cells .entry)) (now (issues .entry))) (now (tables .entry))
-        (now (marks .entry)) held) (Runs.ask (Runs.reason row (length (now (text .entry))))))) ⌝ }
+        (now (marks .entry)) (wordsHeld (now (held .entry)))) (Runs.ask (Runs.reason row (length (now (text .entry))))))) ⌝ }
 {
     let r = row as usize;
     if Design::ROWS <= r {
@@ -207,11 +179,8 @@ pub fn reason_lawful(
         cells,
         issues,
         tables,
-        next,
-        first,
+        catalog,
         keys,
-        heads,
-        starts,
         held,
         r,
         &mut out,

@@ -3,17 +3,18 @@ ghost use mathlib.Core.Bool.{true};
 ghost use mathlib.Core.Path.{_≡_};
 ghost use Prim.Native.Nat.{_+_, _<_};
 ghost use Rattle.finite.specs.Finite.{firstFrom};
-ghost use Rattle.model.specs.Database.{has};
+ghost use Rattle.model.specs.Cell.{Cell};
+ghost use Rattle.model.specs.Database.{Database, has};
 ghost use Rattle.model.specs.Rounds.{level};
 ghost use Rattle.model.specs.Reason.{lastConstraint, lastRow};
 ghost use Rattle.state.specs.Cells.{cellsIn};
 ghost use Rattle.state.specs.Design.{Backed, InRange};
-ghost use Rattle.state.specs.Meaning.{cellOf, columnOf, constraintOf, databaseOf, schemeOf};
-ghost use Rattle.catalog.specs.Catalog.{Directory, nexts};
+ghost use Rattle.state.specs.Meaning.{columnOf, constraintOf, databaseOf, schemeOf};
+ghost use Rattle.catalog.specs.Catalog.{Indexed, Links};
 ghost use Rattle.reason.specs.Links.{Graded, rowOfLevel, sourceRow};
 ghost use Rattle.reason.specs.Walked.{Near, Passed, Searched};
 use catalog::find;
-use state::Cell;
+use catalog::next_row;
 use state::Column;
 use state::Constraint;
 use state::Design;
@@ -25,30 +26,25 @@ pub(crate) struct Link {
     pub row: usize,
 }
 
-// The first row of this level among those that have the value v in column k, the first of which is `from`; 512 if there is none. One step for each of
-// them, up to the one that is found. Neither the rows nor v are read: they say what the links are.
+// The first row of this level among those that have a value in column k, the first of which is `from`; 512 if there is none. One step for each of them, up
+// to the one that is found.
 fn row_of_level(
-    cells: &[u32],
-    issues: &[u8],
-    tables: &[u8],
-    next: &[u16; 4096],
+    catalog: &[u16; 16449],
     levels: &[u16; 512],
     k: Column,
-    v: Cell,
     from: usize,
     l: u16,
 ) -> usize
-    requires { ⌜ (k .place < 8) × (now next ≡ nexts (databaseOf (cellsIn (now cells) (now issues)) (now tables)))
-        × (from ≡ firstFrom 512 (has (databaseOf (cellsIn (now cells) (now issues)) (now tables)) (columnOf k) (cellOf v)) 0) ⌝ }
-    ensures { λ s. ⌜ s ≡ rowOfLevel (databaseOf (cellsIn (now (cells .entry)) (now (issues .entry))) (now (tables .entry))) (now (levels .entry)) l
-        (columnOf k) (cellOf v) ⌝ }
+    requires { ⌜ (k .place < 8) × ((D : Database) × Links D (now catalog)) ⌝ }
+    ensures { λ s. ⌜ ((D : Database) → Links D (now (catalog .entry)) → (v : Cell) → from ≡ firstFrom 512 (has D (columnOf k) v) 0
+        → s ≡ rowOfLevel D (now (levels .entry)) l (columnOf k) v) ⌝ }
 {
     let mut s = from;
     while s < Design::ROWS {
         if levels[s] == l {
             return s;
         }
-        s = next[Design::COLUMNS * s + k.place as usize] as usize;
+        s = next_row(catalog, s, k.place as usize);
     }
     Design::ROWS
 }
@@ -59,10 +55,8 @@ fn source_row(
     cells: &[u32],
     issues: &[u8],
     tables: &[u8],
-    next: &[u16; 4096],
+    catalog: &[u16; 16449],
     keys: &[u64; 4096],
-    heads: &[u16; 4096],
-    starts: &[u16; 65],
     levels: &[u16; 512],
     walked: &mut [bool; 4096],
     j: Constraint,
@@ -71,8 +65,7 @@ fn source_row(
 ) -> usize
     requires { ⌜ (r < 512) × (0 < l) × Backed (cellsIn (now cells) (now issues)) (now tables)
         × (j .source .table < 8) × (j .source .place < 8) × (j .target .place < 8) ⌝ }
-    requires { ⌜ (now next ≡ nexts (databaseOf (cellsIn (now cells) (now issues)) (now tables)))
-        × Directory (databaseOf (cellsIn (now cells) (now issues)) (now tables)) (now keys) (now heads) (now starts) ⌝ }
+    requires { ⌜ Indexed (databaseOf (cellsIn (now cells) (now issues)) (now tables)) (now catalog) (now keys) ⌝ }
     requires { ⌜ (databaseOf (cellsIn (now cells) (now issues)) (now tables) .live r ≡ true)
         × Near (databaseOf (cellsIn (now cells) (now issues)) (now tables)) (now levels) l (constraintOf j) r
         × Passed (databaseOf (cellsIn (now cells) (now issues)) (now tables)) (now levels) (l + 1) (now walked) ⌝ }
@@ -87,7 +80,7 @@ fn source_row(
     }
     let v = cell_at(cells, issues, r, target.place as usize);
     let source = j.source;
-    let from = find(keys, heads, starts, source, v);
+    let from = find(catalog, keys, source, v);
     if Design::ROWS <= from {
         return Design::ROWS;
     }
@@ -96,7 +89,7 @@ fn source_row(
         return Design::ROWS;
     }
     walked[at] = true;
-    row_of_level(cells, issues, tables, next, levels, source, v, from, l)
+    row_of_level(catalog, levels, source, from, l)
 }
 
 // The last link of the chain of row r, which is n + 1 constraints away from what is held. For each constraint, up to the one that is found, a search of the
@@ -106,18 +99,15 @@ pub(crate) fn last_link(
     cells: &[u32],
     issues: &[u8],
     tables: &[u8],
-    next: &[u16; 4096],
+    catalog: &[u16; 16449],
     keys: &[u64; 4096],
-    heads: &[u16; 4096],
-    starts: &[u16; 65],
     levels: &[u16; 512],
     walked: &mut [bool; 4096],
     r: usize,
     n: u16,
 ) -> Link
     requires { ⌜ (r < 512) × (n < 512) × InRange d × Backed (cellsIn (now cells) (now issues)) (now tables) ⌝ }
-    requires { ⌜ (now next ≡ nexts (databaseOf (cellsIn (now cells) (now issues)) (now tables)))
-        × Directory (databaseOf (cellsIn (now cells) (now issues)) (now tables)) (now keys) (now heads) (now starts) ⌝ }
+    requires { ⌜ Indexed (databaseOf (cellsIn (now cells) (now issues)) (now tables)) (now catalog) (now keys) ⌝ }
     requires { ⌜ Graded (schemeOf d) (databaseOf (cellsIn (now cells) (now issues)) (now tables)) (now levels)
         × (level (now levels) r ≡ n + 3)
         × Passed (databaseOf (cellsIn (now cells) (now issues)) (now tables)) (now levels) (n + 3) (now walked) ⌝ }
@@ -135,10 +125,8 @@ pub(crate) fn last_link(
             cells,
             issues,
             tables,
-            next,
+            catalog,
             keys,
-            heads,
-            starts,
             levels,
             walked,
             j,

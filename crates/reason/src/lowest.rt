@@ -7,17 +7,20 @@ ghost use Rattle.model.specs.Reason.{byRange, byValue, hasOrigin, lowerOrigin, 
 ghost use Rattle.state.specs.Cells.{cellsIn};
 ghost use Rattle.state.specs.Design.{Backed, InRange};
 ghost use Rattle.state.specs.Held.{Bounded, heldAt, rangeAt};
+ghost use Rattle.state.specs.HeldWords.{wordsHeld};
 ghost use Rattle.state.specs.Meaning.{databaseOf, holdingOf, pairOf, rangeOf, schemeOf};
 ghost use Rattle.reason.specs.Lowest.{lowerOf, lowestOfDesks, lowestOfRanges, lowestOfValues, noneFound, originOf};
 use state::Cell;
 use state::Design;
 use state::DeskRanges;
-use state::Held;
 use state::HeldValue;
 use state::Range;
 use state::lower_cell;
+use state::ranges_at;
 use state::row_has;
 use state::row_has_range;
+use state::value_at;
+use state::value_count;
 
 // What a chain ends with.
 pub(crate) enum Origin {
@@ -109,15 +112,14 @@ fn lowest_value(
     cells: &[u32],
     issues: &[u8],
     tables: &[u8],
-    held: Held,
+    held: &[u32; 358],
     r: usize,
 ) -> Lowest
-    requires { ⌜ (r < 512) × InRange d × Backed (cellsIn (now cells) (now issues)) (now tables) × (held .count ≤ 64)
-        × ((i : ℕ) → heldAt held i .pair .filling < 8) ⌝ }
-    ensures { λ l. ⌜ l ≡ lowestOfValues (schemeOf d) (databaseOf (cellsIn (now (cells .entry)) (now (issues .entry))) (now (tables .entry))) r held
+    requires { ⌜ (r < 512) × InRange d × Backed (cellsIn (now cells) (now issues)) (now tables) × (wordsHeld (now held) .count ≤ 64)
+        × ((i : ℕ) → heldAt (wordsHeld (now held)) i .pair .filling < 8) ⌝ }
+    ensures { λ l. ⌜ l ≡ lowestOfValues (schemeOf d) (databaseOf (cellsIn (now (cells .entry)) (now (issues .entry))) (now (tables .entry))) r (wordsHeld (now (held .entry)))
         noneFound ⌝ }
 {
-    let values = held.values;
     let filling = d.filling;
     let mut low = Lowest {
         found: false,
@@ -129,8 +131,9 @@ fn lowest_value(
             },
         }),
     };
-    for i in 0..held.count {
-        let o = values[i];
+    let n = value_count(held);
+    for i in 0..n {
+        let o = value_at(held, i);
         let v = o.pair;
         let f = filling[v.filling as usize];
         let k = f.column;
@@ -176,18 +179,18 @@ fn lowest_ranges(
     cells: &[u32],
     issues: &[u8],
     tables: &[u8],
-    held: Held,
+    held: &[u32; 358],
     r: usize,
     start: Lowest,
 ) -> Lowest
-    requires { ⌜ (r < 512) × InRange d × Backed (cellsIn (now cells) (now issues)) (now tables) × Bounded held ⌝ }
+    requires { ⌜ (r < 512) × InRange d × Backed (cellsIn (now cells) (now issues)) (now tables) × Bounded (wordsHeld (now held)) ⌝ }
     ensures { λ l. ⌜ l ≡ lowestOfDesks (schemeOf d) (databaseOf (cellsIn (now (cells .entry)) (now (issues .entry))) (now (tables .entry))) r
-        (held .ranges) 4 start ⌝ }
+        (wordsHeld (now (held .entry)) .ranges) 4 start ⌝ }
 {
-    let ranges = held.ranges;
     let mut low = start;
     for e in 0..4usize {
-        let next = lowest_range(d, cells, issues, tables, ranges[e], r, low);
+        let ranges = ranges_at(held, e);
+        let next = lowest_range(d, cells, issues, tables, ranges, r, low);
         low = next;
     }
     low
@@ -199,14 +202,14 @@ pub(crate) fn lowest_held(
     cells: &[u32],
     issues: &[u8],
     tables: &[u8],
-    held: Held,
+    held: &[u32; 358],
     r: usize,
 ) -> Origin
-    requires { ⌜ (r < 512) × InRange d × Backed (cellsIn (now cells) (now issues)) (now tables) × Bounded held ⌝ }
-    requires { ⌜ any (originCount (holdingOf held)) (λ i. hasOrigin (schemeOf d) (databaseOf (cellsIn (now cells) (now issues)) (now tables)) r
-        (originAt (holdingOf held) i)) ≡ true ⌝ }
+    requires { ⌜ (r < 512) × InRange d × Backed (cellsIn (now cells) (now issues)) (now tables) × Bounded (wordsHeld (now held)) ⌝ }
+    requires { ⌜ any (originCount (holdingOf (wordsHeld (now held)))) (λ i. hasOrigin (schemeOf d) (databaseOf (cellsIn (now cells) (now issues)) (now tables)) r
+        (originAt (holdingOf (wordsHeld (now held))) i)) ≡ true ⌝ }
     ensures { λ o. ⌜ originOf o ≡ lowestHeld (schemeOf d) (databaseOf (cellsIn (now (cells .entry)) (now (issues .entry))) (now (tables .entry)))
-        (holdingOf held) r ⌝ }
+        (holdingOf (wordsHeld (now (held .entry)))) r ⌝ }
 {
     let value = lowest_value(d, cells, issues, tables, held, r);
     let low = lowest_ranges(d, cells, issues, tables, held, r, value);

@@ -4,11 +4,10 @@ use native.Mathlib.Omega.{arith}
 use mathlib.Core.Path.{_≡_, refl, sym, ap, ap₂, subst, _∙_}
 use mathlib.Core.Bool.{true}
 use mathlib.Core.List.{List}
-use lib.ListN.{length}
+use lib.ListN.{length, replicate}
 use Rattle.state.specs.Cells.{Cells}
 use Rattle.state.specs.declared.design.Design.{Design}
-use Rattle.state.specs.declared.held.Held.{Held}
-use Rattle.state.specs.Held.{noneHeld}
+use Rattle.state.specs.HeldWords.{wordsHeld, Whole}
 use Rattle.state.specs.Lent.{State, lent, sound}
 use Rattle.lawful.proofs.RowsLaws.{Stored}
 use Rattle.format.specs.declared.verdict.DesignReading.{DesignReading}
@@ -17,61 +16,64 @@ use Rattle.format.specs.Reading.{Draft, DesignRead, verdictOf, designOf, cellsA
 use Rattle.format.specs.Reading.DesignRead.{accepted, refusedAt}
 use Rattle.format.proofs.Small.{Small}
 use Rattle.script.specs.Runs.{leaving, leftFrom, Buffers, buffers, readingOf, justRead, Ran}
+use Rattle.script.proofs.ZeroWords.{zero-none}
 use Rattle.script.proofs.JustRead.{begun}
 use Rattle.script.proofs.WholeRun.{operated}
 
 module _ (script : List ℕ) (b : Buffers) (r : DesignReading) (cs : Cells) (ts ms : List ℕ)
-    (read : Leaves (readingOf script b) r (b .cells) cs (b .tables) ts (b .marks) ms) (none : Held) (empty : none ≡ noneHeld) where
+    (read : Leaves (readingOf script b) r (b .cells) cs (b .tables) ts (b .marks) ms) where
   -- the design is refused
-  pub refused-ran : (n place : ℕ) → r .verdict ≡ Refused n place →
-      Ran script b (buffers cs ts ms (b .outputs)) (record { verdict = r .verdict; design = r .design; held = none })
-  refused-ran n place v =
+  pub refused-ran : (ws : List ℕ) (n place : ℕ) → r .verdict ≡ Refused n place →
+      Ran script b (buffers cs ts ms (b .outputs)) ws ws (record { verdict = r .verdict; design = r .design })
+  refused-ran ws n place v =
       record {
         verdict = read .verdict;
         design = read .design;
         refused = λ m i e.
             record {
-              held = empty;
+              held = refl;
               cells = read .cells ∙ ap (λ (R : DesignRead). cellsAfter R (b .cells)) e;
               tables = read .tables ∙ ap (λ (R : DesignRead). tablesAfter R (b .tables)) e;
               marks = read .marks ∙ ap (λ (R : DesignRead). marksAfter R (b .marks)) e;
               outputs = refl;
             };
+        whole = λ p i e. absurd (let z : _≡_ {A = ℕ} 0 1 = cc (read .verdict ∙ ap verdictOf e) in omega arith);
         accepted = λ p i e. absurd (let z : _≡_ {A = ℕ} 0 1 = cc (read .verdict ∙ ap verdictOf e) in omega arith);
       }
 
   module _ (small : Small script) (stored : Stored cs) (j : ℕ) (v : r .verdict ≡ Accepted j) where
     -- the state behind the reading is the one just read
-    start-is : (p : Draft) (i : ℕ) → readingOf script b ≡ accepted p i → lent (r .design) cs ts ms none ≡ justRead (accepted p i) b
-    start-is p i e = (λ x. lent (read .design x) (read .cells x) (read .tables x) (read .marks x) (empty x)) ∙ ap (λ (R : DesignRead). justRead R b) e
+    start-is : (p : Draft) (i : ℕ) → readingOf script b ≡ accepted p i → lent (r .design) cs ts ms (wordsHeld (replicate 358 0)) ≡ justRead (accepted p i) b
+    start-is p i e = (λ x. lent (read .design x) (read .cells x) (read .tables x) (read .marks x) (zero-none x)) ∙ ap (λ (R : DesignRead). justRead R b) e
 
     stored-at : (p : Draft) (i : ℕ) → readingOf script b ≡ accepted p i → Stored (cellsAfter (accepted p i) (b .cells))
     stored-at p i e = subst Stored (read .cells ∙ ap (λ (R : DesignRead). cellsAfter R (b .cells)) e) stored
 
     -- and it is sound
-    pub start-sound : sound (lent (r .design) cs ts ms none) ≡ true
+    pub start-sound : sound (lent (r .design) cs ts ms (wordsHeld (replicate 358 0))) ≡ true
     start-sound = go (readingOf script b) refl
       where
-        go : (R : DesignRead) → readingOf script b ≡ R → sound (lent (r .design) cs ts ms none) ≡ true
+        go : (R : DesignRead) → readingOf script b ≡ R → sound (lent (r .design) cs ts ms (wordsHeld (replicate 358 0))) ≡ true
         go (accepted p i) e = ap sound (start-is p i e) ∙ begun script small b p i e (stored-at p i e) .sound
         go (refusedAt n i) e = absurd (let z : _≡_ {A = ℕ} 0 1 = cc (read .verdict ∙ ap verdictOf e) in omega arith)
 
-    -- the steps leave the buffers a and the held values h
-    module _ (h : Held) (a : Buffers)
-        (left : leaving (lent (r .design) (a .cells) (a .tables) (a .marks) h) (a .outputs)
-        ≡ leftFrom (length script) script (lent (r .design) cs ts ms none) (b .outputs) j) where
+    -- the steps leave the buffers a and the words h of what is held
+    module _ (ws h : List ℕ) (full : Whole h) (a : Buffers)
+        (left : leaving (lent (r .design) (a .cells) (a .tables) (a .marks) (wordsHeld h)) (a .outputs)
+        ≡ leftFrom (length script) script (lent (r .design) cs ts ms (wordsHeld (replicate 358 0))) (b .outputs) j) where
       left-is : (p : Draft) (i : ℕ) → readingOf script b ≡ accepted p i →
-          leaving (lent (p .design) (a .cells) (a .tables) (a .marks) h) (a .outputs) ≡ leftFrom (length script) script (justRead (accepted p i) b) (b .outputs) i
+          leaving (lent (p .design) (a .cells) (a .tables) (a .marks) (wordsHeld h)) (a .outputs) ≡ leftFrom (length script) script (justRead (accepted p i) b) (b .outputs) i
       left-is p i e =
           let q : j ≡ i = cc (read .verdict ∙ ap verdictOf e) in
-          ap (λ (d : Design). leaving (lent d (a .cells) (a .tables) (a .marks) h) (a .outputs)) (sym (read .design ∙ ap designOf e)) ∙ left ∙
+          ap (λ (d : Design). leaving (lent d (a .cells) (a .tables) (a .marks) (wordsHeld h)) (a .outputs)) (sym (read .design ∙ ap designOf e)) ∙ left ∙
           ap₂ (λ (s : State) (k : ℕ). leftFrom (length script) script s (b .outputs) k) (start-is p i e) q
 
-      pub accepted-ran : Ran script b a (record { verdict = Accepted j; design = r .design; held = h })
+      pub accepted-ran : Ran script b a ws h (record { verdict = Accepted j; design = r .design })
       accepted-ran =
           record {
             verdict = sym v ∙ read .verdict;
             design = read .design;
             refused = λ n i e. absurd (let z : _≡_ {A = ℕ} 0 1 = cc (read .verdict ∙ ap verdictOf e) in omega arith);
-            accepted = λ p i e. operated script small b p i e (stored-at p i e) a h (left-is p i e);
+            whole = λ p i e. full;
+            accepted = λ p i e. operated script small b p i e (stored-at p i e) a (wordsHeld h) (left-is p i e);
           }

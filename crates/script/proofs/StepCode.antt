@@ -12,28 +12,28 @@ use Rattle.state.specs.declared.operation.Operation.{Operation}
 use Rattle.state.specs.declared.rows.Row.{Row}
 use Rattle.state.specs.Cells.{Cells}
 use Rattle.state.specs.Meaning.{answerOf}
-use Rattle.state.specs.Lent.{State, lent, sound, causeAt, Performed}
+use Rattle.state.specs.HeldWords.{Whole}
+use Rattle.state.specs.Lent.{State, lent, sound, causeAt, causeOf, Performed}
 use Rattle.state.specs.Changes.{Change, put, Changed}
 use Rattle.format.specs.declared.command.Command.{Command}
 use Rattle.format.specs.Bytes.{byteAt}
 use Rattle.format.specs.Commands.{widthOf, commandAt}
 use Rattle.format.specs.Reading.{mostBytes}
 use Rattle.script.specs.declared.outcome.Step.{Step}
-use Rattle.script.specs.Step.{Outputs, outputs, roomsOf, operationIn, Stepped, placeOf, refusing, operated, changing, carried, stepAt, Does}
+use Rattle.script.specs.Step.{Outputs, outputs, roomsOf, operationIn, Stepped, placeOf, refusing, operated, changing, carried, stepAt, Does, DoesWords}
+use Rattle.finite.proofs.Bools.{clash}
+use Rattle.state.proofs.HeldWords.{whole-words}
+use Rattle.cache.proofs.CauseWords.{cause-narrow, cause-clear}
 use Rattle.script.proofs.StepLaws.{step-caused, step-carried}
-
--- the state that the code has after a step: the one that it was lent, with the marks m and the held values that the step gives
-abbrev pub stateWith : State → List ℕ → Step → State
-stateWith s m t = lent (s .design) (s .cells) (s .tables) m (t .held)
 
 -- ---- an operation
 
-abbrev pub answered : Answer → ℕ → ℕ → Held → Step
-answered a i j h = record { answer = a; place = placeOf (answerOf a) i; next = j; more = true; held = h }
+abbrev pub answered : Answer → ℕ → ℕ → Step
+answered a i j = record { answer = a; place = placeOf (answerOf a) i; next = j; more = true }
 
 pub operated-does : (s : State) (out : Outputs) (op : Operation) (i j : ℕ) (a : Answer) (m : List ℕ) (h : Held) (w : Outputs) →
     Performed s (out .words) (out .text) (operationIn op (roomsOf out)) (answerOf a) (lent (s .design) (s .cells) (s .tables) m h) (w .words) (w .text) →
-    (t : Step) → t ≡ answered a i j h → Does (operated s out op i j) t (stateWith s m t) w
+    (t : Step) → t ≡ answered a i j → Does (operated s out op i j) t (lent (s .design) (s .cells) (s .tables) m h) w
 unfolding operated
 operated-does s out op i j a m h w p t e =
     record {
@@ -41,15 +41,15 @@ operated-does s out op i j a m h w p t e =
       place = ap (λ (x : Step). x .place) e ∙ ap (λ b. placeOf b i) (p .answered .answer);
       next = ap (λ (x : Step). x .next) e;
       more = ap (λ (x : Step). x .more) e;
-      state = ap (stateWith s m) e ∙ p .answered .state;
+      state = p .answered .state;
       outputs = λ x. outputs (p .words x) (p .text x);
     }
 
 -- ---- a change of the rows
 
 pub changed-does : (s : State) (x : Change) (i j : ℕ) (a : Answer) (cs : Cells) (ts ms : List ℕ) →
-    Changed s x (answerOf a) (lent (s .design) cs ts ms (s .held)) → (t : Step) → t ≡ answered a i j (s .held) → (out : Outputs) →
-    Does (changing s out x i j) t (lent (s .design) cs ts ms (t .held)) out
+    Changed s x (answerOf a) (lent (s .design) cs ts ms (s .held)) → (t : Step) → t ≡ answered a i j → (out : Outputs) →
+    Does (changing s out x i j) t (lent (s .design) cs ts ms (s .held)) out
 unfolding changing
 changed-does s x i j a cs ts ms p t e out =
     record {
@@ -57,7 +57,7 @@ changed-does s x i j a cs ts ms p t e out =
       place = ap (λ (y : Step). y .place) e ∙ ap (λ b. placeOf b i) (p .answer);
       next = ap (λ (y : Step). y .next) e;
       more = ap (λ (y : Step). y .more) e;
-      state = ap (λ (y : Step). lent (s .design) cs ts ms (y .held)) e ∙ p .state;
+      state = p .state;
       outputs = refl;
     }
 
@@ -67,25 +67,25 @@ put-changed s r x y e a s′ h = subst (λ (z : Row). Changed s (put r z) a s′
 
 -- ---- refusals
 
-abbrev pub refusal : ℕ → ℕ → ℕ → Bool → Held → Step
-refusal n place next more h = record { answer = Refused n; place = place; next = next; more = more; held = h }
+abbrev pub refusal : ℕ → ℕ → ℕ → Bool → Step
+refusal n place next more = record { answer = Refused n; place = place; next = next; more = more }
 
 -- a refusal that changes nothing
 pub refusing-does : (s : State) (out : Outputs) (n place next : ℕ) (more : Bool) (t : Step) →
-    t ≡ refusal n place next more (s .held) → Does (refusing s out n place next more) t (stateWith s (s .marks) t) out
+    t ≡ refusal n place next more → Does (refusing s out n place next more) t s out
 refusing-does s out n place next more t e =
     record {
       answer = ap (λ (z : Step). answerOf (z .answer)) e;
       place = ap (λ (z : Step). z .place) e;
       next = ap (λ (z : Step). z .next) e;
       more = ap (λ (z : Step). z .more) e;
-      state = ap (stateWith s (s .marks)) e;
+      state = refl;
       outputs = refl;
     }
 
 -- its place, found by a call
-pub placed : (n p q next : ℕ) (more : Bool) (h : Held) (t : Step) → t ≡ refusal n p next more h → p ≡ q → t ≡ refusal n q next more h
-placed n p q next more h t e x = e ∙ ap (λ (z : ℕ). refusal n z next more h) x
+pub placed : (n p q next : ℕ) (more : Bool) (t : Step) → t ≡ refusal n p next more → p ≡ q → t ≡ refusal n q next more
+placed n p q next more t e x = e ∙ ap (λ (z : ℕ). refusal n z next more) x
 
 -- ---- the command at a place
 
@@ -104,8 +104,22 @@ pub step-case : (R Q : Stepped) (t : Step) (s′ : State) (w : Outputs) → R �
 step-case R Q t s′ w e h = rw e h
 
 -- causes 7 and 12
-pub caused-does : (s : State) (out : Outputs) (script : List ℕ) (i c : ℕ) → c ≡ causeAt s → (c ≡ 0 → ⊥) → (t : Step) → t ≡ refusal c 0 i false (s .held) →
-    Does (stepAt s out script i) t (stateWith s (s .marks) t) out
+pub caused-does : (s : State) (out : Outputs) (script : List ℕ) (i c : ℕ) → c ≡ causeAt s → (c ≡ 0 → ⊥) → (t : Step) → t ≡ refusal c 0 i false →
+    Does (stepAt s out script i) t s out
 caused-does s out script i c p n t e =
     step-case _ _ _ _ _ (step-caused s out script i (λ z. n (p ∙ z)) ∙ ap (λ (m : ℕ). refusing s out m 0 i false) (sym p))
     (refusing-does s out c 0 i false t e)
+
+-- ---- whatever is lent, where what is held is lent as words
+
+pub caused-words : (s : State) (h : List ℕ) (out : Outputs) (script : List ℕ) (i c : ℕ) → length h ≡ 358 → c ≡ causeOf s h → (c ≡ 0 → ⊥) →
+    (t : Step) → t ≡ refusal c 0 i false → DoesWords s h out script i t s h out
+caused-words s h out script i c l p n t e =
+    record {
+      done = λ b. (caused-does s out script i c (p ∙ cause-narrow s h b) n t e, whole-words h l b);
+      refused = λ b. (refusing-does s out _ 0 i false t (e ∙ ap (λ (m : ℕ). refusal m 0 i false) p), refl);
+    }
+
+pub done-words : (s : State) (h : List ℕ) (out : Outputs) (script : List ℕ) (i c : ℕ) → c ≡ causeOf s h → c ≡ 0 → (t : Step) (s′ : State) (h′ : List ℕ) (w : Outputs) →
+    Does (stepAt s out script i) t s′ w → Whole h′ → DoesWords s h out script i t s′ h′ w
+done-words s h out script i c p z t s′ h′ w d x = record { done = λ b. (d, x); refused = λ b. clash (cause-clear s h (sym p ∙ z) .1) b }

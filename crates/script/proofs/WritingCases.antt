@@ -1,17 +1,19 @@
 -- The cases of writing a design out, in the order of causes: 7 for the rows, 12, 7 for the written design, and the bytes stored. Assumes nothing.
 use Prim.Native.Nat.{ℕ, _≤_, _<_}
-use mathlib.Core.Path.{_≡_, sym, ap, _∙_}
+use mathlib.Core.Path.{_≡_, refl, sym, ap, _∙_}
 use mathlib.Core.Bool.{true, not, cond}
 use mathlib.Core.List.{List}
 use borrow.Author.Tests.{le-leb, lt-leb}
 use lib.Dec.{leb}
 use lib.ListN.{length}
 use lib.Seq.{sets}
-use Rattle.finite.proofs.Bools.{cond-true, cond-false}
-use Rattle.state.specs.Lent.{State, sound, causeAt}
+use Rattle.finite.proofs.Bools.{clash, cond-true, cond-false}
+use Rattle.state.specs.HeldWords.{narrowHeld}
+use Rattle.state.specs.Lent.{State, sound, causeAt, causeOf}
+use Rattle.cache.proofs.CauseWords.{cause-narrow}
 use Rattle.script.specs.declared.outcome.Written.{Written}
 use Rattle.script.specs.declared.outcome.Written.the-variants.{Bytes, Refused}
-use Rattle.script.specs.Writing.{bytesOf, writtenAt, storedWith, Writes}
+use Rattle.script.specs.Writing.{bytesOf, writtenAt, storedWith, Writes, WritesWords}
 use Rattle.script.proofs.Causes.{caused, uncaused}
 
 module _ (s : State) (before : List ℕ) where
@@ -43,3 +45,10 @@ module _ (s : State) (before : List ℕ) where
     where
       w : writtenAt s (length before) ≡ Bytes (length (bytesOf s))
       w = sound-written e ∙ cond-false (not (leb (length (bytesOf s)) (length before))) _ _ (ap not (le-leb _ _ l))
+
+  -- where what is held is lent as words
+  pub caused-words : (h : List ℕ) (c : ℕ) → c ≡ causeOf s h → (c ≡ 0 → ⊥) → WritesWords s h (Refused c) before before
+  caused-words h c p n = record { writes = λ b. caused-writes c (p ∙ cause-narrow s h b) n; refused = λ b. (ap Refused p, refl) }
+
+  pub writes-words : (h : List ℕ) → narrowHeld h ≡ true → (w : Written) (after : List ℕ) → Writes s w before after → WritesWords s h w before after
+  writes-words h e w after x = record { writes = λ b. x; refused = λ b. clash e b }

@@ -22,6 +22,7 @@ use Rattle.state.specs.declared.held.Held.{Held}
 use Rattle.state.specs.declared.operation.Operation.the-variants.{Probe}
 use Rattle.state.specs.Held.{noneHeld}
 use Rattle.state.specs.Meaning.{cellOf, columnOf, schemeOf, heldOf}
+use Rattle.state.specs.HeldWords.{wordsHeld, Whole}
 use Rattle.state.specs.Lent.{State, lent, sound, answerAt}
 use Rattle.state.specs.Changes.{put, remove, rowsIn}
 use Rattle.format.specs.declared.command.Command.{Command}
@@ -181,30 +182,33 @@ pub record StepsExact (script : List ℕ) (p : Draft) (i : ℕ) (b : Buffers) : 
 
 -- ---- what a whole run gives
 
--- a refused design leaves everything as it was, and nothing held
-pub record Untouched (b a : Buffers) (h : Held) : Type 0 where
-  pub held : h ≡ noneHeld
+-- a refused design leaves everything as it was, the words h of what is held too
+pub record Untouched (b a : Buffers) (h h′ : List ℕ) : Type 0 where
+  pub held : h′ ≡ h
   pub cells : a .cells ≡ b .cells
   pub tables : a .tables ≡ b .tables
   pub marks : a .marks ≡ b .marks
   pub outputs : a .outputs ≡ b .outputs
 
-pub record Ran (script : List ℕ) (b a : Buffers) (r : Run) : Type 0 where
+-- the words lent for what is held are h before, whatever stands there, and h′ after
+pub record Ran (script : List ℕ) (b a : Buffers) (h h′ : List ℕ) (r : Run) : Type 0 where
   pub verdict : r .verdict ≡ verdictOf (readingOf script b)
   pub design : r .design ≡ designOf (readingOf script b)
-  pub refused : (n i : ℕ) → readingOf script b ≡ refusedAt n i → Untouched b a (r .held)
-  pub accepted : (p : Draft) (i : ℕ) → readingOf script b ≡ accepted p i → Operated script p i b a (r .held)
+  pub refused : (n i : ℕ) → readingOf script b ≡ refusedAt n i → Untouched b a h h′
+  -- what is held is lent as words of a record
+  pub whole : (p : Draft) (i : ℕ) → readingOf script b ≡ accepted p i → Whole h′
+  pub accepted : (p : Draft) (i : ℕ) → readingOf script b ≡ accepted p i → Operated script p i b a (wordsHeld h′)
 
 -- ---- a probe behind a run
 
 -- r is what the run gives, and the probe of the value v in column k changes nothing more
-pub record ProbedAfter (script : List ℕ) (b a : Buffers) (r : Run) (k : Column) (v : Cell) (x : Answer) : Type 0 where
-  pub ran : Ran script b a r
+pub record ProbedAfter (script : List ℕ) (b a : Buffers) (h h′ : List ℕ) (r : Run) (k : Column) (v : Cell) (x : Answer) : Type 0 where
+  pub ran : Ran script b a h h′ r
   -- the design is refused, with its cause
   pub refused : (n i : ℕ) → readingOf script b ≡ refusedAt n i → x ≡ refused n
   -- the design is accepted: the probe's answer on the state that the run has left
   pub answer : (p : Draft) (i : ℕ) → readingOf script b ≡ accepted p i →
-      x ≡ answerAt (lent (p .design) (a .cells) (a .tables) (a .marks) (r .held)) (ask (probe k v))
+      x ≡ answerAt (lent (p .design) (a .cells) (a .tables) (a .marks) (wordsHeld h′)) (ask (probe k v))
   -- DEMAND 3, of the answer itself: a yes exactly when the value is complete in every lawful database from which the same rows would have been cached
   pub exact : (p : Draft) (i : ℕ) → readingOf script b ≡ accepted p i → ColumnOf (schemeOf (p .design)) k → numberless v ≡ false →
       Yes x ↔

@@ -1,12 +1,13 @@
 -- Writing a lent design out (01, "Causes of refusal": order 7 for the rows, 12, 7 for the written design). Assumes nothing.
 use Prim.Native.Nat.{ℕ}
 use mathlib.Core.Path.{_≡_}
-use mathlib.Core.Bool.{not, cond}
+use mathlib.Core.Bool.{true, false, not, cond}
 use mathlib.Core.List.{List, []}
 use lib.Dec.{leb}
 use lib.ListN.{length}
 use lib.Seq.{sets}
-use Rattle.state.specs.Lent.{State, longEnough, lawful}
+use Rattle.state.specs.HeldWords.{narrowHeld}
+use Rattle.state.specs.Lent.{State, longEnough, lawful, causeOf}
 use Rattle.format.specs.Writing.{designBytes}
 use Rattle.script.specs.declared.outcome.Written.{Written}
 use Rattle.script.specs.declared.outcome.Written.the-variants.{Bytes, Refused}
@@ -32,3 +33,9 @@ storedWith (Refused n) bytes = []
 pub record Writes (s : State) (w : Written) (before after : List ℕ) : Type 0 where
   pub answer : w ≡ writtenAt s (length before)
   pub buffer : after ≡ sets before 0 (storedWith (writtenAt s (length before)) (bytesOf s))
+
+-- the same of a state s whose held values are lent as the words h: where they are the words of a record, as of the record; otherwise it is refused by cause 7 or
+-- 12, and the buffer stays
+pub record WritesWords (s : State) (h : List ℕ) (w : Written) (before after : List ℕ) : Type 0 where
+  pub writes : narrowHeld h ≡ true → Writes s w before after
+  pub refused : narrowHeld h ≡ false → (w ≡ Refused (causeOf s h)) × (after ≡ before)

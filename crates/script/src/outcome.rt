@@ -2,23 +2,20 @@
 use format::Verdict;
 use state::Answer;
 use state::Design;
-use state::Held;
 
-// What a step gives: the answer, the place of a refusal (0 with any other answer), the place after the command, whether reading goes on, and the
-// values held afterwards.
+// What a step gives: the answer, the place of a refusal (0 with any other answer), the place after the command, and whether
+// reading goes on.
 pub struct Step {
     pub answer: Answer,
     pub place: usize,
     pub next: usize,
     pub more: bool,
-    pub held: Held,
 }
 
-// What a run gives: whether the design was accepted, the design (empty where it was not), and the values held afterwards.
+// What a run gives: whether the design was accepted, and the design (empty where it was not).
 pub struct Run {
     pub verdict: Verdict,
     pub design: Design,
-    pub held: Held,
 }
 
 // What a run gives, and the answer of a probe behind it.

@@ -4,7 +4,8 @@ ghost use mathlib.Core.Bool.{true};
 ghost use Prim.Native.Nat.{ℕ};
 ghost use lib.ListN.{length};
 ghost use Rattle.state.specs.Cells.{cellsIn};
-ghost use Rattle.state.specs.Meaning.{answerOf, cellOf, columnOf};
+ghost use Rattle.state.specs.Meaning.{answerOf, cellOf, columnOf, databaseOf, schemeOf};
+ghost use Rattle.state.specs.HeldWords.{wordsHeld, Whole};
 ghost use Rattle.state.specs.Lent.{lent, sound};
 ghost use Rattle.catalog.specs.Catalog.{Catalogued};
 ghost use Rattle.format.specs.declared.verdict.Verdict.the-variants as Verdicts;
@@ -20,10 +21,8 @@ use state::Answer;
 use state::Cell;
 use state::Column;
 use state::Design;
-use state::Held;
 
-// The steps from place `at` on, until the script ends or cause 1, 2 or 4 stops it, on a state known sound with the catalog of its rows; the values
-// held afterwards. That the state is sound again is a law (`left-sound` of proofs/RunLaws.antt). The last four arrays are working memory, whatever stands
+// The steps from place `at` on, until the script ends or cause 1, 2 or 4 stops it, on a state known sound with the catalog of its rows. That the state is sound again is a law (`left-sound` of proofs/RunLaws.antt). The last two arrays are working memory, whatever stands
 // in them. The cost of the operations.
 pub fn run_lawful(
     script: &[u8],
@@ -32,32 +31,26 @@ pub fn run_lawful(
     cells: &mut [u32],
     issues: &mut [u8],
     tables: &mut [u8],
-    next: &mut [u16; 4096],
-    first: &mut [u16; 8192],
+    catalog: &mut [u16; 16449],
     keys: &mut [u64; 4096],
-    heads: &mut [u16; 4096],
-    starts: &mut [u16; 65],
     marks: &mut [u8],
-    held: Held,
+    held: &mut [u32; 358],
     words: &mut [u32],
     text: &mut [u8],
-    weights: &mut [u64; 2560],
-    sums: &mut [u64; 2560],
-    froms: &mut [u16; 2560],
-    links: &mut [u16; 2560],
-) -> Held
-    requires { ⌜ (sound (lent design (cellsIn (now cells) (now issues)) (now tables) (now marks) held) ≡ true)
-        × Catalogued design (cellsIn (now cells) (now issues)) (now tables) (now next) (now first) (now keys) (now heads) (now starts) ⌝ }
-    ensures { λ h. ⌜ leaving (lent design (cellsIn (now (cells .exit)) (now (issues .exit))) (now (tables .exit)) (now (marks .exit)) h)
+    counts: &mut [u64; 5120],
+    places: &mut [u16; 5120],
+)
+    requires { ⌜ (sound (lent design (cellsIn (now cells) (now issues)) (now tables) (now marks) (wordsHeld (now held))) ≡ true)
+        × Catalogued (schemeOf design) (databaseOf (cellsIn (now cells) (now issues)) (now tables)) (now catalog) (now keys) × Whole (now held) ⌝ }
+    ensures { λ _. ⌜ leaving (lent design (cellsIn (now (cells .exit)) (now (issues .exit))) (now (tables .exit)) (now (marks .exit)) (wordsHeld (now (held .exit))))
         (outputs (now (words .exit)) (now (text .exit)))
         ≡ leftFrom (length (now (script .entry))) (now (script .entry))
-        (lent design (cellsIn (now (cells .entry)) (now (issues .entry))) (now (tables .entry)) (now (marks .entry)) held)
+        (lent design (cellsIn (now (cells .entry)) (now (issues .entry))) (now (tables .entry)) (now (marks .entry)) (wordsHeld (now (held .entry))))
         (outputs (now (words .entry)) (now (text .entry))) at ⌝ }
-    ensures { λ _. ⌜ Catalogued design (cellsIn (now (cells .exit)) (now (issues .exit))) (now (tables .exit)) (now (next .exit)) (now (first .exit))
-        (now (keys .exit)) (now (heads .exit)) (now (starts .exit)) ⌝ }
+    ensures { λ _. ⌜ Catalogued (schemeOf design) (databaseOf (cellsIn (now (cells .exit)) (now (issues .exit))) (now (tables .exit))) (now (catalog .exit)) (now (keys .exit))
+        × Whole (now (held .exit)) ⌝ }
 {
     let mut i = at;
-    let mut h = held;
     while i < script.len() {
         let t = step_lawful(
             script,
@@ -66,28 +59,20 @@ pub fn run_lawful(
             cells,
             issues,
             tables,
-            next,
-            first,
+            catalog,
             keys,
-            heads,
-            starts,
             marks,
-            h,
+            held,
             words,
             text,
-            weights,
-            sums,
-            froms,
-            links,
+            counts,
+            places,
         );
-        let kept = t.held;
-        h = kept;
         if !t.more {
-            return h;
+            return;
         }
         i = t.next;
     }
-    h
 }
 
 // The run of a whole script, which leaves the catalog of the rows in the arrays, whatever stood there. The cost of `read_catalogued`, then that of the
@@ -97,105 +82,76 @@ fn run_catalogued(
     cells: &mut [u32],
     issues: &mut [u8],
     tables: &mut [u8],
-    next: &mut [u16; 4096],
-    first: &mut [u16; 8192],
+    catalog: &mut [u16; 16449],
     keys: &mut [u64; 4096],
-    heads: &mut [u16; 4096],
-    starts: &mut [u16; 65],
     marks: &mut [u8],
+    held: &mut [u32; 358],
     words: &mut [u32],
     text: &mut [u8],
 ) -> Run
     ensures { λ r. ⌜ Ran (now (script .entry))
         (buffers (cellsIn (now (cells .entry)) (now (issues .entry))) (now (tables .entry)) (now (marks .entry)) (outputs (now (words .entry)) (now (text .entry))))
-        (buffers (cellsIn (now (cells .exit)) (now (issues .exit))) (now (tables .exit)) (now (marks .exit)) (outputs (now (words .exit)) (now (text .exit)))) r ⌝ }
-    ensures { λ r. ⌜ ((i : ℕ) → r .verdict ≡ Verdicts.Accepted i → Catalogued (r .design) (cellsIn (now (cells .exit)) (now (issues .exit))) (now (tables .exit))
-        (now (next .exit)) (now (first .exit)) (now (keys .exit)) (now (heads .exit)) (now (starts .exit))) ⌝ }
+        (buffers (cellsIn (now (cells .exit)) (now (issues .exit))) (now (tables .exit)) (now (marks .exit)) (outputs (now (words .exit)) (now (text .exit))))
+        (now (held .entry)) (now (held .exit)) r ⌝ }
+    ensures { λ r. ⌜ ((i : ℕ) → r .verdict ≡ Verdicts.Accepted i → Catalogued (schemeOf (r .design)) (databaseOf (cellsIn (now (cells .exit)) (now (issues .exit))) (now (tables .exit)))
+        (now (catalog .exit)) (now (keys .exit))) ⌝ }
 {
-    let reading = read_catalogued(
-        script,
-        cells,
-        issues,
-        tables,
-        marks,
-        next,
-        first,
-        keys,
-        heads,
-        starts,
-    );
+    let reading = read_catalogued(script, cells, issues, tables, marks, catalog, keys);
     let verdict = reading.verdict;
     let design = reading.design;
-    let none = Held::none();
     let Verdict::Accepted(at) = verdict else {
-        return Run {
-            verdict,
-            design,
-            held: none,
-        };
+        return Run { verdict, design };
     };
-    let mut weights = [0u64; 2560];
-    let mut sums = [0u64; 2560];
-    let mut froms = [0u16; 2560];
-    let mut links = [0u16; 2560];
-    let held = run_lawful(
+    let mut counts = [0u64; 5120];
+    let mut places = [0u16; 5120];
+    *held = [0u32; 358];
+    run_lawful(
         script,
         at,
         design,
         cells,
         issues,
         tables,
-        next,
-        first,
+        catalog,
         keys,
-        heads,
-        starts,
         marks,
-        none,
+        held,
         words,
         text,
-        &mut weights,
-        &mut sums,
-        &mut froms,
-        &mut links,
+        &mut counts,
+        &mut places,
     );
-    Run {
-        verdict,
-        design,
-        held,
-    }
+    Run { verdict, design }
 }
 
-// The run of a whole script. Reading the design and making its catalog, then the cost of the operations.
+// The run of a whole script. What stands in the words for what is held is of no account: a run begins with nothing held, and a refused design leaves them.
+// Reading the design and making its catalog, then the cost of the operations.
 pub fn run(
     script: &[u8],
     cells: &mut [u32],
     issues: &mut [u8],
     tables: &mut [u8],
     marks: &mut [u8],
+    held: &mut [u32; 358],
     words: &mut [u32],
     text: &mut [u8],
 ) -> Run
     ensures { λ r. ⌜ Ran (now (script .entry))
         (buffers (cellsIn (now (cells .entry)) (now (issues .entry))) (now (tables .entry)) (now (marks .entry)) (outputs (now (words .entry)) (now (text .entry))))
-        (buffers (cellsIn (now (cells .exit)) (now (issues .exit))) (now (tables .exit)) (now (marks .exit)) (outputs (now (words .exit)) (now (text .exit)))) r ⌝ }
+        (buffers (cellsIn (now (cells .exit)) (now (issues .exit))) (now (tables .exit)) (now (marks .exit)) (outputs (now (words .exit)) (now (text .exit))))
+        (now (held .entry)) (now (held .exit)) r ⌝ }
 {
-    let mut next = [512u16; 4096];
-    let mut first = [512u16; 8192];
+    let mut catalog = [0u16; 16449];
     let mut keys = [0u64; 4096];
-    let mut heads = [512u16; 4096];
-    let mut starts = [0u16; 65];
     run_catalogued(
         script,
         cells,
         issues,
         tables,
-        &mut next,
-        &mut first,
+        &mut catalog,
         &mut keys,
-        &mut heads,
-        &mut starts,
         marks,
+        held,
         words,
         text,
     )
@@ -209,6 +165,7 @@ pub fn probe_after(
     issues: &mut [u8],
     tables: &mut [u8],
     marks: &mut [u8],
+    held: &mut [u32; 358],
     words: &mut [u32],
     text: &mut [u8],
     k: Column,
@@ -217,49 +174,30 @@ pub fn probe_after(
     ensures { λ x. ⌜ ProbedAfter (now (script .entry))
         (buffers (cellsIn (now (cells .entry)) (now (issues .entry))) (now (tables .entry)) (now (marks .entry)) (outputs (now (words .entry)) (now (text .entry))))
         (buffers (cellsIn (now (cells .exit)) (now (issues .exit))) (now (tables .exit)) (now (marks .exit)) (outputs (now (words .exit)) (now (text .exit))))
-        (x .run) (columnOf k) (cellOf v) (answerOf (x .answer)) ⌝ }
+        (now (held .entry)) (now (held .exit)) (x .run) (columnOf k) (cellOf v) (answerOf (x .answer)) ⌝ }
 {
-    let mut next = [512u16; 4096];
-    let mut first = [512u16; 8192];
+    let mut catalog = [0u16; 16449];
     let mut keys = [0u64; 4096];
-    let mut heads = [512u16; 4096];
-    let mut starts = [0u16; 65];
     let left = run_catalogued(
         script,
         cells,
         issues,
         tables,
-        &mut next,
-        &mut first,
+        &mut catalog,
         &mut keys,
-        &mut heads,
-        &mut starts,
         marks,
+        held,
         words,
         text,
     );
     let verdict = left.verdict;
     let design = left.design;
-    let held = left.held;
     if let Verdict::Refused(cause, _) = verdict {
         return ProbedRun {
             run: left,
             answer: Answer::Refused(cause),
         };
     }
-    let answer = probe_lawful(
-        design,
-        cells,
-        issues,
-        tables,
-        &next,
-        &keys,
-        &heads,
-        &starts,
-        marks,
-        held,
-        k,
-        v,
-    );
+    let answer = probe_lawful(design, &catalog, &keys, marks, held, k, v);
     ProbedRun { run: left, answer }
 }

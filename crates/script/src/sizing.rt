@@ -2,6 +2,8 @@
 ghost use mathlib.Core.Path.{_≡_};
 ghost use mathlib.Core.Bool.{true};
 ghost use Rattle.state.specs.Cells.{cellsIn};
+ghost use Rattle.state.specs.Meaning.{databaseOf, schemeOf};
+ghost use Rattle.state.specs.HeldWords.{wordsHeld, Whole};
 ghost use Rattle.state.specs.Lent.{lent, sound};
 ghost use Rattle.catalog.specs.Catalog.{Catalogued};
 ghost use Rattle.script.specs.Sizes.{textTakenAt, wordsTakenAt};
@@ -11,9 +13,8 @@ use format::command_at;
 use operate::Sizes;
 use operate::sizes_lawful;
 use state::Design;
-use state::Held;
 
-// What the step at place `at` takes, on a state known sound, with the catalog of its rows; nothing changes. The last four arrays are working memory,
+// What the step at place `at` takes, on a state known sound, with the catalog of its rows; nothing changes. The last two arrays are working memory,
 // whatever stands in them. The cost of `sizes_lawful`; constant time for a command that is no operation.
 pub fn step_sizes_lawful(
     script: &[u8],
@@ -22,22 +23,17 @@ pub fn step_sizes_lawful(
     cells: &[u32],
     issues: &[u8],
     tables: &[u8],
-    next: &[u16; 4096],
-    first: &[u16; 8192],
+    catalog: &[u16; 16449],
     keys: &[u64; 4096],
-    heads: &[u16; 4096],
-    starts: &[u16; 65],
     marks: &[u8],
-    held: Held,
-    weights: &mut [u64; 2560],
-    sums: &mut [u64; 2560],
-    froms: &mut [u16; 2560],
-    links: &mut [u16; 2560],
+    held: &[u32; 358],
+    counts: &mut [u64; 5120],
+    places: &mut [u16; 5120],
 ) -> Sizes
-    requires { ⌜ (sound (lent design (cellsIn (now cells) (now issues)) (now tables) (now marks) held) ≡ true)
-        × Catalogued design (cellsIn (now cells) (now issues)) (now tables) (now next) (now first) (now keys) (now heads) (now starts) ⌝ }
-    ensures { λ z. ⌜ (z .words ≡ wordsTakenAt (lent design (cellsIn (now (cells .entry)) (now (issues .entry))) (now (tables .entry)) (now (marks .entry)) held) (now (script .entry)) at)
-        × (z .text ≡ textTakenAt (lent design (cellsIn (now (cells .entry)) (now (issues .entry))) (now (tables .entry)) (now (marks .entry)) held) (now (script .entry)) at) ⌝ }
+    requires { ⌜ (sound (lent design (cellsIn (now cells) (now issues)) (now tables) (now marks) (wordsHeld (now held))) ≡ true)
+        × Catalogued (schemeOf design) (databaseOf (cellsIn (now cells) (now issues)) (now tables)) (now catalog) (now keys) × Whole (now held) ⌝ }
+    ensures { λ z. ⌜ (z .words ≡ wordsTakenAt (lent design (cellsIn (now (cells .entry)) (now (issues .entry))) (now (tables .entry)) (now (marks .entry)) (wordsHeld (now (held .entry)))) (now (script .entry)) at)
+        × (z .text ≡ textTakenAt (lent design (cellsIn (now (cells .entry)) (now (issues .entry))) (now (tables .entry)) (now (marks .entry)) (wordsHeld (now (held .entry)))) (now (script .entry)) at) ⌝ }
 {
     if MOST_BYTES < script.len() {
         return Sizes { words: 0, text: 0 };
@@ -52,16 +48,11 @@ pub fn step_sizes_lawful(
         cells,
         issues,
         tables,
-        next,
-        first,
+        catalog,
         keys,
-        heads,
-        starts,
         marks,
         held,
-        weights,
-        sums,
-        froms,
-        links,
+        counts,
+        places,
     )
 }

@@ -5,13 +5,14 @@ ghost use Prim.Native.Nat.{_+_, _≤_, min};
 ghost use lib.ListN.{length};
 ghost use Rattle.state.specs.Cells.{cellsIn};
 ghost use Rattle.state.specs.declared.answer.Answer.the-variants as Answers;
-ghost use Rattle.state.specs.Meaning.{answerOf};
+ghost use Rattle.state.specs.Meaning.{answerOf, databaseOf, schemeOf};
+ghost use Rattle.state.specs.HeldWords.{wordsHeld, Whole};
 ghost use Rattle.state.specs.Lent.{lent, sound};
 ghost use Rattle.state.specs.Changes.{put, remove};
 ghost use Rattle.catalog.specs.Catalog.{Catalogued};
 ghost use Rattle.format.specs.Bytes.{byteAt};
 ghost use Rattle.format.specs.Commands.{widthOf, putRowAt, commandAt};
-ghost use Rattle.script.specs.Step.{Outputs, placeOf, outputs, operated, changing, carried, stepAt, Does};
+ghost use Rattle.script.specs.Step.{Outputs, placeOf, outputs, operated, changing, carried, stepAt, Does, DoesWords};
 use crate::outcome::Step;
 use cache::cause;
 use change::put_lawful;
@@ -24,20 +25,18 @@ use format::width_of;
 use operate::perform_lawful;
 use state::Answer;
 use state::Design;
-use state::Held;
 use state::Operation;
 use state::is_refusal;
 
 // A refusal, with nothing changed. Constant time.
-fn refusing(cause: u8, place: usize, after: usize, more: bool, held: Held) -> Step
-    ensures { λ t. ⌜ t ≡ record { answer = Answers.Refused cause; place = place; next = after; more = more; held = held } ⌝ }
+fn refusing(cause: u8, place: usize, after: usize, more: bool) -> Step
+    ensures { λ t. ⌜ t ≡ record { answer = Answers.Refused cause; place = place; next = after; more = more } ⌝ }
 {
     Step {
         answer: Answer::Refused(cause),
         place,
         next: after,
         more,
-        held,
     }
 }
 
@@ -52,8 +51,8 @@ fn place_of(answer: Answer, at: usize) -> usize
 }
 
 // The answer of an operation that stood at place `at`, before place `after`. Constant time.
-fn answering(answer: Answer, at: usize, after: usize, held: Held) -> Step
-    ensures { λ t. ⌜ t ≡ record { answer = answer; place = placeOf (answerOf answer) at; next = after; more = true; held = held } ⌝ }
+fn answering(answer: Answer, at: usize, after: usize) -> Step
+    ensures { λ t. ⌜ t ≡ record { answer = answer; place = placeOf (answerOf answer) at; next = after; more = true } ⌝ }
 {
     let place = place_of(answer, at);
     Step {
@@ -61,7 +60,6 @@ fn answering(answer: Answer, at: usize, after: usize, held: Held) -> Step
         place,
         next: after,
         more: true,
-        held,
     }
 }
 
@@ -91,51 +89,40 @@ fn operate_at(
     cells: &[u32],
     issues: &[u8],
     tables: &[u8],
-    next: &[u16; 4096],
-    first: &[u16; 8192],
+    catalog: &[u16; 16449],
     keys: &[u64; 4096],
-    heads: &[u16; 4096],
-    starts: &[u16; 65],
     marks: &mut [u8],
-    held: Held,
+    held: &mut [u32; 358],
     words: &mut [u32],
     text: &mut [u8],
-    weights: &mut [u64; 2560],
-    sums: &mut [u64; 2560],
-    froms: &mut [u16; 2560],
-    links: &mut [u16; 2560],
+    counts: &mut [u64; 5120],
+    places: &mut [u16; 5120],
 ) -> Step
-    requires { ⌜ (sound (lent design (cellsIn (now cells) (now issues)) (now tables) (now marks) held) ≡ true)
-        × Catalogued design (cellsIn (now cells) (now issues)) (now tables) (now next) (now first) (now keys) (now heads) (now starts) ⌝ }
+    requires { ⌜ (sound (lent design (cellsIn (now cells) (now issues)) (now tables) (now marks) (wordsHeld (now held))) ≡ true)
+        × Catalogued (schemeOf design) (databaseOf (cellsIn (now cells) (now issues)) (now tables)) (now catalog) (now keys) × Whole (now held) ⌝ }
     ensures { λ t. ⌜ Does
-        (operated (lent design (cellsIn (now (cells .entry)) (now (issues .entry))) (now (tables .entry)) (now (marks .entry)) held)
+        (operated (lent design (cellsIn (now (cells .entry)) (now (issues .entry))) (now (tables .entry)) (now (marks .entry)) (wordsHeld (now (held .entry))))
         (outputs (now (words .entry)) (now (text .entry))) op at after)
-        t (lent design (cellsIn (now (cells .entry)) (now (issues .entry))) (now (tables .entry)) (now (marks .exit)) (t .held))
+        t (lent design (cellsIn (now (cells .entry)) (now (issues .entry))) (now (tables .entry)) (now (marks .exit)) (wordsHeld (now (held .exit))))
         (outputs (now (words .exit)) (now (text .exit))) ⌝ }
+    ensures { λ _. ⌜ Whole (now (held .exit)) ⌝ }
 {
-    let o = perform_lawful(
+    let a = perform_lawful(
         op,
         design,
         cells,
         issues,
         tables,
-        next,
-        first,
+        catalog,
         keys,
-        heads,
-        starts,
         marks,
         held,
         words,
         text,
-        weights,
-        sums,
-        froms,
-        links,
+        counts,
+        places,
     );
-    let h = o.held;
-    let a = o.answer;
-    answering(a, at, after, h)
+    answering(a, at, after)
 }
 
 // Puts in the row that stands at place `at`, followed by place `after`. The cost is `put_lawful`'s.
@@ -148,22 +135,18 @@ fn put_at(
     cells: &mut [u32],
     issues: &mut [u8],
     tables: &mut [u8],
-    next: &mut [u16; 4096],
-    first: &mut [u16; 8192],
+    catalog: &mut [u16; 16449],
     keys: &mut [u64; 4096],
-    heads: &mut [u16; 4096],
-    starts: &mut [u16; 65],
     marks: &mut [u8],
-    held: Held,
+    held: &[u32; 358],
 ) -> Step
-    requires { ⌜ (sound (lent design (cellsIn (now cells) (now issues)) (now tables) (now marks) held) ≡ true)
-        × Catalogued design (cellsIn (now cells) (now issues)) (now tables) (now next) (now first) (now keys) (now heads) (now starts) ⌝ }
+    requires { ⌜ (sound (lent design (cellsIn (now cells) (now issues)) (now tables) (now marks) (wordsHeld (now held))) ≡ true)
+        × Catalogued (schemeOf design) (databaseOf (cellsIn (now cells) (now issues)) (now tables)) (now catalog) (now keys) ⌝ }
     requires { ⌜ at + 44 ≤ length (now script) ⌝ }
     ensures { λ t. ⌜ ((out : Outputs) → Does
-        (changing (lent design (cellsIn (now (cells .entry)) (now (issues .entry))) (now (tables .entry)) (now (marks .entry)) held) out (put r (putRowAt (now (script .entry)) at)) at after)
-        t (lent design (cellsIn (now (cells .exit)) (now (issues .exit))) (now (tables .exit)) (now (marks .exit)) (t .held)) out) ⌝ }
-    ensures { λ _. ⌜ Catalogued design (cellsIn (now (cells .exit)) (now (issues .exit))) (now (tables .exit)) (now (next .exit)) (now (first .exit))
-        (now (keys .exit)) (now (heads .exit)) (now (starts .exit)) ⌝ }
+        (changing (lent design (cellsIn (now (cells .entry)) (now (issues .entry))) (now (tables .entry)) (now (marks .entry)) (wordsHeld (now (held .entry)))) out (put r (putRowAt (now (script .entry)) at)) at after)
+        t (lent design (cellsIn (now (cells .exit)) (now (issues .exit))) (now (tables .exit)) (now (marks .exit)) (wordsHeld (now (held .entry)))) out) ⌝ }
+    ensures { λ _. ⌜ Catalogued (schemeOf design) (databaseOf (cellsIn (now (cells .exit)) (now (issues .exit))) (now (tables .exit))) (now (catalog .exit)) (now (keys .exit)) ⌝ }
 {
     let x = row_at(script, at);
     let a = put_lawful(
@@ -171,17 +154,14 @@ fn put_at(
         cells,
         issues,
         tables,
-        next,
-        first,
+        catalog,
         keys,
-        heads,
-        starts,
         marks,
         held,
         r,
         x,
     );
-    answering(a, at, after, held)
+    answering(a, at, after)
 }
 
 // Removes row r, by the command that stands at place `at`, followed by place `after`. The cost is `remove_lawful`'s.
@@ -193,37 +173,20 @@ fn remove_at(
     cells: &mut [u32],
     issues: &mut [u8],
     tables: &mut [u8],
-    next: &mut [u16; 4096],
-    first: &mut [u16; 8192],
+    catalog: &mut [u16; 16449],
     keys: &mut [u64; 4096],
-    heads: &mut [u16; 4096],
-    starts: &mut [u16; 65],
     marks: &mut [u8],
-    held: Held,
+    held: &[u32; 358],
 ) -> Step
-    requires { ⌜ (sound (lent design (cellsIn (now cells) (now issues)) (now tables) (now marks) held) ≡ true)
-        × Catalogued design (cellsIn (now cells) (now issues)) (now tables) (now next) (now first) (now keys) (now heads) (now starts) ⌝ }
+    requires { ⌜ (sound (lent design (cellsIn (now cells) (now issues)) (now tables) (now marks) (wordsHeld (now held))) ≡ true)
+        × Catalogued (schemeOf design) (databaseOf (cellsIn (now cells) (now issues)) (now tables)) (now catalog) (now keys) ⌝ }
     ensures { λ t. ⌜ ((out : Outputs) → Does
-        (changing (lent design (cellsIn (now (cells .entry)) (now (issues .entry))) (now (tables .entry)) (now (marks .entry)) held) out (remove r) at after)
-        t (lent design (cellsIn (now (cells .exit)) (now (issues .exit))) (now (tables .exit)) (now (marks .exit)) (t .held)) out) ⌝ }
-    ensures { λ _. ⌜ Catalogued design (cellsIn (now (cells .exit)) (now (issues .exit))) (now (tables .exit)) (now (next .exit)) (now (first .exit))
-        (now (keys .exit)) (now (heads .exit)) (now (starts .exit)) ⌝ }
+        (changing (lent design (cellsIn (now (cells .entry)) (now (issues .entry))) (now (tables .entry)) (now (marks .entry)) (wordsHeld (now (held .entry)))) out (remove r) at after)
+        t (lent design (cellsIn (now (cells .exit)) (now (issues .exit))) (now (tables .exit)) (now (marks .exit)) (wordsHeld (now (held .entry)))) out) ⌝ }
+    ensures { λ _. ⌜ Catalogued (schemeOf design) (databaseOf (cellsIn (now (cells .exit)) (now (issues .exit))) (now (tables .exit))) (now (catalog .exit)) (now (keys .exit)) ⌝ }
 {
-    let a = remove_lawful(
-        design,
-        cells,
-        issues,
-        tables,
-        next,
-        first,
-        keys,
-        heads,
-        starts,
-        marks,
-        held,
-        r,
-    );
-    answering(a, at, after, held)
+    let a = remove_lawful(design, cells, issues, tables, catalog, keys, marks, held, r);
+    answering(a, at, after)
 }
 
 // Carries out the command that stands at place `at`, followed by place `after`. The cost is that of its operation.
@@ -236,31 +199,26 @@ fn carry_out(
     cells: &mut [u32],
     issues: &mut [u8],
     tables: &mut [u8],
-    next: &mut [u16; 4096],
-    first: &mut [u16; 8192],
+    catalog: &mut [u16; 16449],
     keys: &mut [u64; 4096],
-    heads: &mut [u16; 4096],
-    starts: &mut [u16; 65],
     marks: &mut [u8],
-    held: Held,
+    held: &mut [u32; 358],
     words: &mut [u32],
     text: &mut [u8],
-    weights: &mut [u64; 2560],
-    sums: &mut [u64; 2560],
-    froms: &mut [u16; 2560],
-    links: &mut [u16; 2560],
+    counts: &mut [u64; 5120],
+    places: &mut [u16; 5120],
 ) -> Step
-    requires { ⌜ (sound (lent design (cellsIn (now cells) (now issues)) (now tables) (now marks) held) ≡ true)
-        × Catalogued design (cellsIn (now cells) (now issues)) (now tables) (now next) (now first) (now keys) (now heads) (now starts) ⌝ }
+    requires { ⌜ (sound (lent design (cellsIn (now cells) (now issues)) (now tables) (now marks) (wordsHeld (now held))) ≡ true)
+        × Catalogued (schemeOf design) (databaseOf (cellsIn (now cells) (now issues)) (now tables)) (now catalog) (now keys) × Whole (now held) ⌝ }
     requires { ⌜ command ≡ commandAt (now script) at ⌝ }
     ensures { λ t. ⌜ Does
-        (carried (lent design (cellsIn (now (cells .entry)) (now (issues .entry))) (now (tables .entry)) (now (marks .entry)) held)
+        (carried (lent design (cellsIn (now (cells .entry)) (now (issues .entry))) (now (tables .entry)) (now (marks .entry)) (wordsHeld (now (held .entry))))
         (outputs (now (words .entry)) (now (text .entry)))
         (now (script .entry)) at after command)
-        t (lent design (cellsIn (now (cells .exit)) (now (issues .exit))) (now (tables .exit)) (now (marks .exit)) (t .held))
+        t (lent design (cellsIn (now (cells .exit)) (now (issues .exit))) (now (tables .exit)) (now (marks .exit)) (wordsHeld (now (held .exit))))
         (outputs (now (words .exit)) (now (text .exit))) ⌝ }
-    ensures { λ _. ⌜ Catalogued design (cellsIn (now (cells .exit)) (now (issues .exit))) (now (tables .exit)) (now (next .exit)) (now (first .exit))
-        (now (keys .exit)) (now (heads .exit)) (now (starts .exit)) ⌝ }
+    ensures { λ _. ⌜ Catalogued (schemeOf design) (databaseOf (cellsIn (now (cells .exit)) (now (issues .exit))) (now (tables .exit))) (now (catalog .exit)) (now (keys .exit))
+        × Whole (now (held .exit)) ⌝ }
 {
     match command {
         Command::Operate(op) => operate_at(
@@ -271,19 +229,14 @@ fn carry_out(
             cells,
             issues,
             tables,
-            next,
-            first,
+            catalog,
             keys,
-            heads,
-            starts,
             marks,
             held,
             words,
             text,
-            weights,
-            sums,
-            froms,
-            links,
+            counts,
+            places,
         ),
         Command::Put(r, _) => put_at(
             script,
@@ -294,11 +247,8 @@ fn carry_out(
             cells,
             issues,
             tables,
-            next,
-            first,
+            catalog,
             keys,
-            heads,
-            starts,
             marks,
             held,
         ),
@@ -310,25 +260,22 @@ fn carry_out(
             cells,
             issues,
             tables,
-            next,
-            first,
+            catalog,
             keys,
-            heads,
-            starts,
             marks,
             held,
         ),
-        Command::Table(_) => refusing(3, at, after, true, held),
-        Command::Constraint(_) => refusing(3, at, after, true, held),
-        Command::Filling(_) => refusing(3, at, after, true, held),
-        Command::Row(_) => refusing(3, at, after, true, held),
-        Command::End => refusing(3, at, after, true, held),
-        Command::Unknown => refusing(2, at, at, false, held),
-        Command::Short => refusing(1, lower(at, script.len()), at, false, held),
+        Command::Table(_) => refusing(3, at, after, true),
+        Command::Constraint(_) => refusing(3, at, after, true),
+        Command::Filling(_) => refusing(3, at, after, true),
+        Command::Row(_) => refusing(3, at, after, true),
+        Command::End => refusing(3, at, after, true),
+        Command::Unknown => refusing(2, at, at, false),
+        Command::Short => refusing(1, lower(at, script.len()), at, false),
     }
 }
 
-// The step at place `at` on a state known sound, with the catalog of its rows: no test for causes 7 and 12. The last four arrays are working memory,
+// The step at place `at` on a state known sound, with the catalog of its rows: no test for causes 7 and 12. The last two arrays are working memory,
 // whatever stands in them. The cost is that of the command's operation.
 pub fn step_lawful(
     script: &[u8],
@@ -337,32 +284,27 @@ pub fn step_lawful(
     cells: &mut [u32],
     issues: &mut [u8],
     tables: &mut [u8],
-    next: &mut [u16; 4096],
-    first: &mut [u16; 8192],
+    catalog: &mut [u16; 16449],
     keys: &mut [u64; 4096],
-    heads: &mut [u16; 4096],
-    starts: &mut [u16; 65],
     marks: &mut [u8],
-    held: Held,
+    held: &mut [u32; 358],
     words: &mut [u32],
     text: &mut [u8],
-    weights: &mut [u64; 2560],
-    sums: &mut [u64; 2560],
-    froms: &mut [u16; 2560],
-    links: &mut [u16; 2560],
+    counts: &mut [u64; 5120],
+    places: &mut [u16; 5120],
 ) -> Step
-    requires { ⌜ (sound (lent design (cellsIn (now cells) (now issues)) (now tables) (now marks) held) ≡ true)
-        × Catalogued design (cellsIn (now cells) (now issues)) (now tables) (now next) (now first) (now keys) (now heads) (now starts) ⌝ }
+    requires { ⌜ (sound (lent design (cellsIn (now cells) (now issues)) (now tables) (now marks) (wordsHeld (now held))) ≡ true)
+        × Catalogued (schemeOf design) (databaseOf (cellsIn (now cells) (now issues)) (now tables)) (now catalog) (now keys) × Whole (now held) ⌝ }
     ensures { λ t. ⌜ Does
-        (stepAt (lent design (cellsIn (now (cells .entry)) (now (issues .entry))) (now (tables .entry)) (now (marks .entry)) held)
+        (stepAt (lent design (cellsIn (now (cells .entry)) (now (issues .entry))) (now (tables .entry)) (now (marks .entry)) (wordsHeld (now (held .entry))))
         (outputs (now (words .entry)) (now (text .entry))) (now (script .entry)) at)
-        t (lent design (cellsIn (now (cells .exit)) (now (issues .exit))) (now (tables .exit)) (now (marks .exit)) (t .held))
+        t (lent design (cellsIn (now (cells .exit)) (now (issues .exit))) (now (tables .exit)) (now (marks .exit)) (wordsHeld (now (held .exit))))
         (outputs (now (words .exit)) (now (text .exit))) ⌝ }
-    ensures { λ _. ⌜ Catalogued design (cellsIn (now (cells .exit)) (now (issues .exit))) (now (tables .exit)) (now (next .exit)) (now (first .exit))
-        (now (keys .exit)) (now (heads .exit)) (now (starts .exit)) ⌝ }
+    ensures { λ _. ⌜ Catalogued (schemeOf design) (databaseOf (cellsIn (now (cells .exit)) (now (issues .exit))) (now (tables .exit))) (now (catalog .exit)) (now (keys .exit))
+        × Whole (now (held .exit)) ⌝ }
 {
     if MOST_BYTES < script.len() {
-        return refusing(4, 0, at, false, held);
+        return refusing(4, 0, at, false);
     }
     let after = place_after(script, at);
     let command = command_at(script, at);
@@ -375,19 +317,14 @@ pub fn step_lawful(
         cells,
         issues,
         tables,
-        next,
-        first,
+        catalog,
         keys,
-        heads,
-        starts,
         marks,
         held,
         words,
         text,
-        weights,
-        sums,
-        froms,
-        links,
+        counts,
+        places,
     )
 }
 
@@ -401,41 +338,33 @@ pub fn step(
     issues: &mut [u8],
     tables: &mut [u8],
     marks: &mut [u8],
-    held: Held,
+    held: &mut [u32; 358],
     words: &mut [u32],
     text: &mut [u8],
 ) -> Step
-    ensures { λ t. ⌜ Does
-        (stepAt (lent design (cellsIn (now (cells .entry)) (now (issues .entry))) (now (tables .entry)) (now (marks .entry)) held)
-        (outputs (now (words .entry)) (now (text .entry))) (now (script .entry)) at)
-        t (lent design (cellsIn (now (cells .exit)) (now (issues .exit))) (now (tables .exit)) (now (marks .exit)) (t .held))
+    requires { ⌜ length (now held) ≡ 358 ⌝ }
+    ensures { λ t. ⌜ DoesWords (lent design (cellsIn (now (cells .entry)) (now (issues .entry))) (now (tables .entry)) (now (marks .entry)) (wordsHeld (now (held .entry))))
+        (now (held .entry)) (outputs (now (words .entry)) (now (text .entry))) (now (script .entry)) at
+        t (lent design (cellsIn (now (cells .exit)) (now (issues .exit))) (now (tables .exit)) (now (marks .exit)) (wordsHeld (now (held .exit)))) (now (held .exit))
         (outputs (now (words .exit)) (now (text .exit))) ⌝ }
 {
-    let mut next = [512u16; 4096];
-    let mut first = [512u16; 8192];
+    let mut catalog = [0u16; 16449];
     let mut keys = [0u64; 4096];
-    let mut heads = [512u16; 4096];
-    let mut starts = [0u16; 65];
     let why = cause(
         design,
         cells,
         issues,
         tables,
-        &mut next,
-        &mut first,
+        &mut catalog,
         &mut keys,
-        &mut heads,
-        &mut starts,
         marks,
         held,
     );
     if why != 0 {
-        return refusing(why, 0, at, false, held);
+        return refusing(why, 0, at, false);
     }
-    let mut weights = [0u64; 2560];
-    let mut sums = [0u64; 2560];
-    let mut froms = [0u16; 2560];
-    let mut links = [0u16; 2560];
+    let mut counts = [0u64; 5120];
+    let mut places = [0u16; 5120];
     step_lawful(
         script,
         at,
@@ -443,18 +372,13 @@ pub fn step(
         cells,
         issues,
         tables,
-        &mut next,
-        &mut first,
+        &mut catalog,
         &mut keys,
-        &mut heads,
-        &mut starts,
         marks,
         held,
         words,
         text,
-        &mut weights,
-        &mut sums,
-        &mut froms,
-        &mut links,
+        &mut counts,
+        &mut places,
     )
 }

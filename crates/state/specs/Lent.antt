@@ -14,6 +14,7 @@ use Rattle.model.specs.Answers.{Answer, unless, answer, written, textOf}
 use Rattle.state.specs.declared.design.Design.{Design}
 use Rattle.state.specs.declared.held.Held.{Held}
 use Rattle.state.specs.Cells.{Cells}
+use Rattle.state.specs.HeldWords.{narrowHeld}
 use Rattle.state.specs.Meaning.{schemeOf, databaseOf, cacheOf, heldOf}
 use Rattle.state.specs.Lawful.{lawfulDesign, lawfulRows, lawfulHeld, lawfulMarks}
 
@@ -57,6 +58,10 @@ sound s = longEnough s && lawful s
 -- cause 7 or 12, whichever keeps the state from being worked on; 0 if neither applies
 unfoldable pub causeAt : State → ℕ
 causeAt s = cond (not (longEnough s)) 7 (cond (not (lawful s)) 12 0)
+
+-- the same where what is held is lent as words: cause 12 applies to words of no record, too
+unfoldable pub causeOf : State → List ℕ → ℕ
+causeOf s words = cond (not (longEnough s)) 7 (cond (not (narrowHeld words && lawful s)) 12 0)
 
 -- the answer that a sound state gets, behind causes 7 and 12
 abbrev pub guarded : State → Answer → Answer

@@ -21,7 +21,7 @@ use Rattle.state.specs.declared.held.DeskRanges.{DeskRanges}
 use Rattle.state.specs.declared.held.Held.{Held}
 use Rattle.state.specs.Design.{noTable, noConstraint, noFilling}
 use Rattle.state.specs.Held.{noValue, noRange, noRanges, rangeAt}
-use Rattle.format.proofs.Standing.{Stands, stands-first, stands-part, stands-at, stands-piece}
+use Rattle.finite.proofs.Standing.{Stands, stands-first, stands-part, stands-at, stands-piece}
 use Rattle.words.specs.Words.{tableWords, constraintWords, fillingWords, valueWords, rangeWords, listWords, rangesWords, placesWords, designWords, heldWords}
 use Rattle.words.specs.Words.{isByte, narrowTwo, narrowConstraint, narrowValue, narrowRanges, narrowDesign, narrowHeld}
 use Rattle.words.proofs.WordLaws.{length-ranges, length-design, length-held, tables-stand, constraints-stand, fillings-stand, desk-stands, values-stand, desks-stand}

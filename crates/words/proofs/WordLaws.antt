@@ -21,7 +21,7 @@ use Rattle.state.specs.declared.held.Held.{Held}
 use Rattle.state.specs.Design.{noTable, noConstraint, noFilling, tableAt, constraintAt, fillingAt}
 use Rattle.state.specs.Held.{noValue, noRange, noRanges, heldAt, rangeAt, rangesAt}
 use Rattle.state.proofs.Arrays.{Sized}
-use Rattle.format.proofs.Standing.{Stands, stands-first, stands-part, stands-at, stands-piece}
+use Rattle.finite.proofs.Standing.{Stands, stands-first, stands-part, stands-at, stands-piece}
 use Rattle.words.specs.Words.{tableWords, constraintWords, fillingWords, valueWords, countsWords, placesWords, tablesWords, constraintsWords}
 use Rattle.words.specs.Words.{fillingsWords, valuesWords, designWords, heldWords, wordAt, byteOf, tableFrom, columnFrom, constraintFrom}
 use Rattle.words.specs.Words.{rangeWords, listWords, rangesWords, desksWords, rangeFrom, listFrom, rangesFrom, desksFrom, Typed}

@@ -1,8 +1,11 @@
 -- `cache::dropping::drop_lawful` meets its contract: the causes in their order, then the reload. Assumes nothing.
 use native.Mathlib.Omega.{arith}
 use mathlib.Core.Path.{sym, _∙_}
+use denote.Ref.{now}
 use borrow.Author.Needs.{needs}
-use Rattle.state.proofs.Arrays.{sized, held-sized}
+use Rattle.state.specs.HeldWords.{wordsHeld}
+use Rattle.state.proofs.Arrays.{sized}
+use Rattle.state.proofs.HeldWords.{words-sized, holds-whole}
 use Rattle.lawful.proofs.Asked.{sound-range, sound-marks, sound-tidy}
 use Rattle.cache.proofs.HeldRecord.{held-there, held-nowhere, without-is}
 use Rattle.cache.proofs.Steps.{drop-5, drop-9, drop-10, left-bounded, left-covers, drop-load}
@@ -13,48 +16,37 @@ cast-f : tie.Need-cast-f
 cast-f c = search needs
 
 returns : tie.Need-returns
-returns c =
-    let s = c .before .before .before .before .before .before .before in
-    drop-5 _ (s .pre .0) (held-sized (s .args .held) _ (s .good .1 .1 .1 .1 .1 .1 .1 .1 .1 .1 .0)) _ (c .if1 .taken)
+returns c = let s = c .before .before .before .before in (s .pre .0, λ k t y. drop-5 _ (y .sound-is) (words-sized (now (s .args .held))) _ (c .if1 .taken))
 
 is-numberless-requires : tie.Need-is-numberless-requires
 is-numberless-requires c κs = search needs
 
 returns-2 : tie.Need-returns-2
-returns-2 c =
-    let s = c .before .before .before .before .before .before .before .before .before in
-    drop-9 _ (s .pre .0) (held-sized (s .args .held) _ (s .good .1 .1 .1 .1 .1 .1 .1 .1 .1 .1 .0)) _ (c .before .before .if1 .left) (sym (c .before .is-numberless .ensures) ∙ c .if2 .taken)
+returns-2 c = let s = c .before .before .before .before .before .before in (s .pre .0, λ k t y. drop-9 _ (y .sound-is) (words-sized (now (s .args .held))) _ (c .before .before .if1 .left) (sym (c .before .is-numberless .ensures) ∙ c .if2 .taken))
 
 place-requires : tie.Need-place-requires
-place-requires c κs = sound-tidy _ (c .before .before .before .before .before .before .before .before .before .pre .0) .few
+place-requires c κs = sound-tidy _ (c .before .before .before .before .before .before .before .pre .1 .2 .sound-is) .few
+
+value-count-requires : tie.Need-value-count-requires
+value-count-requires c κs = search needs
 
 returns-3 : tie.Need-returns-3
-returns-3 c =
-    let b = c .before .before .before .before in
-    let s = b .before .before .before .before .before .before .before .before in
-    drop-10 _ (s .pre .0) (held-sized (s .args .held) _ (s .good .1 .1 .1 .1 .1 .1 .1 .1 .1 .1 .0)) _ (b .before .if1 .left) (sym (b .is-numberless .ensures) ∙ c .before .before .before .if2 .left)
-    (held-nowhere (s .args .held) _ _ (c .before .before .place .ensures) (c .if3 .taken))
+returns-3 c = let s = c .before .before .before .before .before .before .before .before .before .before .before in (s .pre .0, λ k t y. drop-10 _ (y .sound-is) (words-sized (now (s .args .held))) _ (c .before .before .before .before .before .before .before .if1 .left) (sym (c .before .before .before .before .before .before .is-numberless .ensures) ∙ c .before .before .before .before .before .if2 .left) (held-nowhere (wordsHeld (now (s .args .held))) _ _ (c .before .before .before .place .ensures) (rw (c .before .value-count .ensures) at (c .if3 .taken))))
 
-closed-requires : tie.Need-closed-requires
-closed-requires c κs =
-    let t = sound-tidy _ (c .before .before .before .before .before .before .before .before .before .before .before .before .pre .0) .few in
-    (omega (arith, c .if3 .left), omega (arith, t, c .if3 .left))
+close-gap-requires : tie.Need-close-gap-requires
+close-gap-requires c κs = let s = c .before .before .before .before .before .before .before .before .before .before .before .before in let t = sound-tidy _ (s .pre .1 .2 .sound-is) .few in (omega (arith, c .before .if3 .left, c .before .before .value-count .ensures), t, omega (arith, t, c .before .if3 .left, c .before .before .value-count .ensures), s .pre .0)
 
 mark-held-requires : tie.Need-mark-held-requires
 mark-held-requires c κs =
-    let p = c .before .before .before .before in
-    let b = p .before .before in
-    let s = b .before .before .before .before .before .before .before .before in
-    let long = held-sized (s .args .held) _ (s .good .1 .1 .1 .1 .1 .1 .1 .1 .1 .1 .0) in
-    let full = sym (b .is-numberless .ensures) ∙ p .before .if2 .left in
-    let is = held-there (s .args .held) _ _ (p .place .ensures) (c .before .before .if3 .left) in
-    let fewer = c .before .closed .ensures ∙ without-is _ (sound-tidy _ (s .pre .0)) long _ _ (p .place .ensures) (c .before .before .if3 .left) in (
+    let s = c .before .before .before .before .before .before .before .before .before .before .before .before .before .before .before in let full = (sym (c .before .before .before .before .before .before .before .before .before .before .is-numberless .ensures) ∙ c .before .before .before .before .before .before .before .before .before .if2 .left) in let l = rw (c .before .before .before .before .before .value-count .ensures) at (c .before .before .before .before .if3 .left) in
+    let is = held-there (wordsHeld (now (s .args .held))) _ _ (c .before .before .before .before .before .before .before .place .ensures) l in
+    let fewer = c .before .before .close-gap .ensures .means ∙ without-is _ (sound-tidy _ (s .pre .1 .2 .sound-is)) (words-sized (now (s .args .held))) _ _ (c .before .before .before .before .before .before .before .place .ensures) l in (
       (
-        sound-range _ (s .pre .0) (sized (s .args .design) _ (s .good .0)),
-        sound-marks _ (s .pre .0),
-        left-bounded _ (s .pre .0) long _ (b .before .if1 .left) full is _ fewer,
+        sound-range _ (s .pre .1 .2 .sound-is) (sized (s .args .design) _ (s .good .0)),
+        sound-marks _ (s .pre .1 .2 .sound-is),
+        left-bounded _ (s .pre .1 .2 .sound-is) (words-sized (now (s .args .held))) _ (c .before .before .before .before .before .before .before .before .before .before .before .if1 .left) full is _ fewer,
       ),
-      (s .pre .1, left-covers _ (s .pre .0) long _ (b .before .if1 .left) full is _ fewer),
+      (_, s .pre .1 .2 .catalogued, left-covers _ (s .pre .1 .2 .sound-is) (words-sized (now (s .args .held))) _ (c .before .before .before .before .before .before .before .before .before .before .before .if1 .left) full is _ fewer),
     )
 
 same-length : tie.Need-same-length
@@ -62,13 +54,17 @@ same-length c = search needs
 
 returns-4 : tie.Need-returns-4
 returns-4 c =
-    let p = c .before .before .before .before .before .before .before in
-    let b = p .before .before in
-    let s = b .before .before .before .before .before .before .before .before in
-    let long = held-sized (s .args .held) _ (s .good .1 .1 .1 .1 .1 .1 .1 .1 .1 .1 .0) in
-    drop-load _ (s .pre .0) long _ (b .before .if1 .left) (sym (b .is-numberless .ensures) ∙ p .before .if2 .left)
-    (held-there (s .args .held) _ _ (p .place .ensures) (c .before .before .before .before .before .if3 .left)) _
-    (c .before .before .before .before .closed .ensures ∙ without-is _ (sound-tidy _ (s .pre .0)) long _ _ (p .place .ensures) (c .before .before .before .before .before .if3 .left)) _ _ (c .before .before .mark-held .ensures)
+    let s = c .before .before .before .before .before .before .before .before .before .before .before .before .before .before .before .before .before .before in
+    let w = words-sized (now (s .args .held)) in
+    let full = sym (c .before .before .before .before .before .before .before .before .before .before .before .before .before .is-numberless .ensures) ∙ c .before .before .before .before .before .before .before .before .before .before .before .before .if2 .left in
+    let l = rw (c .before .before .before .before .before .before .before .before .value-count .ensures) at (c .before .before .before .before .before .before .before .if3 .left) in
+    let is = held-there (wordsHeld (now (s .args .held))) _ _ (c .before .before .before .before .before .before .before .before .before .before .place .ensures) l in (
+      holds-whole _ _ (c .before .before .before .before .before .close-gap .ensures),
+      λ k t y.
+          let fewer = c .before .before .before .before .before .close-gap .ensures .means ∙ without-is _ (sound-tidy _ (y .sound-is)) w _ _ (c .before .before .before .before .before .before .before .before .before .before .place .ensures) l in
+          drop-load _ (y .sound-is) w _ (c .before .before .before .before .before .before .before .before .before .before .before .before .before .before .if1 .left) full is _ fewer _ _
+          (c .before .before .mark-held .ensures _ (y .catalogued) (left-covers _ (y .sound-is) w _ (c .before .before .before .before .before .before .before .before .before .before .before .before .before .before .if1 .left) full is _ fewer)),
+    )
 
 pub drop-lawful-spec : {M : Type 1} → statement M
 drop-lawful-spec =
@@ -79,8 +75,9 @@ drop-lawful-spec =
     is-numberless-requires
     returns-2
     place-requires
+    value-count-requires
     returns-3
-    closed-requires
+    close-gap-requires
     mark-held-requires
     same-length
     returns-4)

@@ -1,13 +1,13 @@
--- `cache::lending::drop` meets its contract, by the law of the thin functions over a lent record, at `drop_lawful`'s contract. Assumes nothing.
+-- `cache::lending::drop` meets its contract, by the law of the thin functions over a lent record, at `drop_record`'s contract. Assumes nothing.
 use contract.Running.{givenOf, tables, tablesOf}
 use denote.Triple.Spec.{tripleOf}
 use denote.Triple.Table.{entered, cited}
 use Rattle.model.specs.Runs.{drop}
 use Rattle.cache.proofs.Thin.{thin}
 use Rattle.cache.proofs.ThinForm.{G}
-use Rattle.cache.proofs.dropping.drop_lawful.Symbol as g-def
-use Rattle.cache.proofs.dropping.drop_lawful.Symbol.{name as #drop-lawful}
-use Rattle.cache.proofs.dropping.drop_lawful.Met as g-thm
+use Rattle.cache.proofs.records.drop_record.Symbol as g-def
+use Rattle.cache.proofs.records.drop_record.Symbol.{name as #drop-record}
+use Rattle.cache.proofs.records.drop_record.Met as g-thm
 use Rattle.cache.proofs.lending.drop.Key.{name as #drop}
 use Rattle.cache.proofs.lending.drop as f
 use Rattle.cache.proofs.lending.drop.Statement as stated
@@ -18,5 +18,5 @@ unfolding code.routine tablesOf
 drop-spec 𝓤 H 𝓜 𝓖 𝓡 =
     entered 𝓤 H (tripleOf 𝓤 H (𝓖 .A) f.signature (f.spec 𝓤 H (𝓖 .A) (𝓜 .mem) (𝓡 .run)))
     (tables 𝓤 H 𝓜 𝓡 code.env .C) (tables 𝓤 H 𝓜 𝓡 code.env .Λ) #drop code.function (code.unfolded 𝓤 H 𝓜 𝓡)
-    (thin drop #drop-lawful 𝓤 H (𝓖 .A) (givenOf 𝓤 H 𝓜 𝓖) (tablesOf 𝓤 H 𝓜 (tables 𝓤 H 𝓜 𝓡 code.env))
-    (cited 𝓤 H (G drop 𝓤 H (𝓖 .A)) 𝓜 𝓡 code.env #drop-lawful g-def.routine code.calls-cache·dropping·drop-lawful (g-thm.met 𝓤 H 𝓜 𝓖 𝓡)))
+    (thin drop #drop-record 𝓤 H (𝓖 .A) (givenOf 𝓤 H 𝓜 𝓖) (tablesOf 𝓤 H 𝓜 (tables 𝓤 H 𝓜 𝓡 code.env))
+    (cited 𝓤 H (G drop 𝓤 H (𝓖 .A)) 𝓜 𝓡 code.env #drop-record g-def.routine code.calls-cache·records·drop-record (g-thm.met 𝓤 H 𝓜 𝓖 𝓡)))

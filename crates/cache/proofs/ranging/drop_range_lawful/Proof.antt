@@ -1,9 +1,12 @@
 -- `cache::ranging::drop_range_lawful` meets its contract: the causes in their order, then the reload. Assumes nothing.
 use mathlib.Core.Path.{sym, _∙_}
+use denote.Ref.{now}
 use borrow.Author.Needs.{needs}
 use borrow.Author.Tests.{not-true, not-false}
-use Rattle.state.proofs.Arrays.{sized, held-sized}
+use Rattle.state.proofs.Arrays.{sized}
+use Rattle.state.proofs.HeldWords.{words-sized, holds-whole}
 use Rattle.lawful.proofs.Asked.{sound-range, sound-marks}
+use Rattle.cache.proofs.HeldShifts.{left-few}
 use Rattle.cache.proofs.RangeSteps.{desk-named, own-few, drop-range-5, drop-range-10, range-left-bounded, range-left-covers, range-drop}
 use Rattle.cache.proofs.ranging.drop_range_lawful.Statement.{statement}
 use Rattle.cache.proofs.ranging.drop_range_lawful.Tie as tie
@@ -12,41 +15,32 @@ is-range-requires : tie.Need-is-range-requires
 is-range-requires c κs = search needs
 
 returns : tie.Need-returns
-returns c =
-    let s = c .before .before .before .before .before .before in
-    drop-range-5 _ (s .pre .0) (held-sized (s .args .held) _ (s .good .1 .1 .1 .1 .1 .1 .1 .1 .1 .1 .0)) _ (sym (c .before .is-range .ensures) ∙ not-true _ (c .if1 .taken))
+returns c = let s = c .before .before .before in (s .pre .0, λ k t y. drop-range-5 _ (y .sound-is) (words-sized (now (s .args .held))) _ (sym (c .before .is-range .ensures) ∙ not-true _ (c .if1 .taken)))
 
 own-ranges-requires : tie.Need-own-ranges-requires
-own-ranges-requires c κs = desk-named _ (c .before .before .before .before .before .before .pre .0)
+own-ranges-requires c κs = desk-named _ (c .before .before .before .before .pre .1 .2 .sound-is)
 
 has-range-requires : tie.Need-has-range-requires
-has-range-requires c κs = own-few _ (c .before .before .before .before .before .before .before .pre .0) _ (c .own-ranges .ensures)
+has-range-requires c κs = own-few _ (c .before .before .before .before .before .pre .1 .2 .sound-is) _ (c .own-ranges .ensures)
 
 returns-2 : tie.Need-returns-2
-returns-2 c =
-    let s = c .before .before .before .before .before .before .before .before .before in
-    drop-range-10 _ (s .pre .0) (held-sized (s .args .held) _ (s .good .1 .1 .1 .1 .1 .1 .1 .1 .1 .1 .0)) _ (sym (c .before .before .before .before .is-range .ensures) ∙ not-false _ (c .before .before .before .if1 .left)) _
-    (c .before .before .own-ranges .ensures) (sym (c .before .has-range .ensures) ∙ not-true _ (c .if2 .taken))
+returns-2 c = let s = c .before .before .before .before .before .before .before in (s .pre .0, λ k t y. drop-range-10 _ (y .sound-is) (words-sized (now (s .args .held))) _ (sym (c .before .before .before .before .before .is-range .ensures) ∙ not-false _ (c .before .before .before .before .if1 .left)) _ (c .before .before .own-ranges .ensures) (sym (c .before .has-range .ensures) ∙ not-true _ (c .if2 .taken)))
 
 removed-requires : tie.Need-removed-requires
-removed-requires c κs = own-few _ (c .before .before .before .before .before .before .before .before .before .pre .0) _ (c .before .before .own-ranges .ensures)
+removed-requires c κs = own-few _ (c .before .before .before .before .before .before .before .pre .1 .2 .sound-is) _ (c .before .before .own-ranges .ensures)
 
-with-own-requires : tie.Need-with-own-requires
-with-own-requires c κs = desk-named _ (c .before .before .before .before .before .before .before .before .before .before .pre .0)
+set-own-requires : tie.Need-set-own-requires
+set-own-requires c κs = let s = c .before .before .before .before .before .before .before .before .before in (desk-named _ (s .pre .1 .2 .sound-is), left-few _ _ _ (own-few _ (s .pre .1 .2 .sound-is) _ (c .before .before .before .before .own-ranges .ensures)) (c .before .removed .ensures), s .pre .0)
 
 mark-held-requires : tie.Need-mark-held-requires
 mark-held-requires c κs =
-    let s = c .before .before .before .before .before .before .before .before .before .before .before .before in
-    let long = held-sized (s .args .held) _ (s .good .1 .1 .1 .1 .1 .1 .1 .1 .1 .1 .0) in
-    let is = sym (c .before .before .before .before .before .before .before .is-range .ensures) ∙ not-false _ (c .before .before .before .before .before .before .if1 .left) in
-    let own = c .before .before .before .before .before .own-ranges .ensures in
-    let has = sym (c .before .before .before .before .has-range .ensures) ∙ not-false _ (c .before .before .before .if2 .left) in (
+    let s = c .before .before .before .before .before .before .before .before .before .before .before .before in let is = (sym (c .before .before .before .before .before .before .before .before .before .before .is-range .ensures) ∙ not-false _ (c .before .before .before .before .before .before .before .before .before .if1 .left)) in let own = c .before .before .before .before .before .before .before .own-ranges .ensures in let has = (sym (c .before .before .before .before .before .before .has-range .ensures) ∙ not-false _ (c .before .before .before .before .before .if2 .left)) in (
       (
-        sound-range _ (s .pre .0) (sized (s .args .design) _ (s .good .0)),
-        sound-marks _ (s .pre .0),
-        range-left-bounded _ (s .pre .0) long _ is _ own has _ (c .before .before .removed .ensures) _ (c .before .with-own .ensures),
+        sound-range _ (s .pre .1 .2 .sound-is) (sized (s .args .design) _ (s .good .0)),
+        sound-marks _ (s .pre .1 .2 .sound-is),
+        range-left-bounded _ (s .pre .1 .2 .sound-is) (words-sized (now (s .args .held))) _ is _ own has _ (c .before .before .before .before .removed .ensures) _ (c .before .before .set-own .ensures .means),
       ),
-      (s .pre .1, range-left-covers _ (s .pre .0) long _ is _ own has _ (c .before .before .removed .ensures) _ (c .before .with-own .ensures)),
+      (_, s .pre .1 .2 .catalogued, range-left-covers _ (s .pre .1 .2 .sound-is) (words-sized (now (s .args .held))) _ is _ own has _ (c .before .before .before .before .removed .ensures) _ (c .before .before .set-own .ensures .means)),
     )
 
 same-length : tie.Need-same-length
@@ -55,9 +49,16 @@ same-length c = search needs
 returns-3 : tie.Need-returns-3
 returns-3 c =
     let s = c .before .before .before .before .before .before .before .before .before .before .before .before .before .before .before in
-    range-drop _ (s .pre .0) (held-sized (s .args .held) _ (s .good .1 .1 .1 .1 .1 .1 .1 .1 .1 .1 .0)) _ (sym (c .before .before .before .before .before .before .before .before .before .before .is-range .ensures) ∙ not-false _ (c .before .before .before .before .before .before .before .before .before .if1 .left)) _
-    (c .before .before .before .before .before .before .before .before .own-ranges .ensures) (sym (c .before .before .before .before .before .before .before .has-range .ensures) ∙ not-false _ (c .before .before .before .before .before .before .if2 .left)) _ (c .before .before .before .before .before .removed .ensures) _ (c .before .before .before .before .with-own .ensures) _ _
-    (c .before .before .mark-held .ensures)
+    let w = words-sized (now (s .args .held)) in
+    let is = sym (c .before .before .before .before .before .before .before .before .before .before .before .before .before .is-range .ensures) ∙ not-false _ (c .before .before .before .before .before .before .before .before .before .before .before .before .if1 .left) in
+    let own = c .before .before .before .before .before .before .before .before .before .before .own-ranges .ensures in
+    let has = sym (c .before .before .before .before .before .before .before .before .before .has-range .ensures) ∙ not-false _ (c .before .before .before .before .before .before .before .before .if2 .left) in
+    let left = c .before .before .before .before .before .before .before .removed .ensures in
+    let means = c .before .before .before .before .before .set-own .ensures .means in (
+      holds-whole _ _ (c .before .before .before .before .before .set-own .ensures),
+      λ k t y. range-drop _ (y .sound-is) w _ is _ own has _ left _ means _ _
+          (c .before .before .mark-held .ensures _ (y .catalogued) (range-left-covers _ (y .sound-is) w _ is _ own has _ left _ means)),
+    )
 
 pub drop-range-lawful-spec : {M : Type 1} → statement M
 drop-range-lawful-spec =
@@ -69,7 +70,7 @@ drop-range-lawful-spec =
     has-range-requires
     returns-2
     removed-requires
-    with-own-requires
+    set-own-requires
     mark-held-requires
     same-length
     returns-3)

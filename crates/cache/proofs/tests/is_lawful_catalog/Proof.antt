@@ -1,17 +1,21 @@
--- `cache::tests::is_lawful_catalog` meets its contract: the design, the rows, the held values, the catalog, unique columns, then the marks.
--- Assumes nothing.
+-- `cache::tests::is_lawful_catalog` meets its contract: the design, the rows, the held values, the catalog, unique columns, then the marks. Assumes nothing.
 use mathlib.Core.Path.{refl, sym, _∙_}
+use mathlib.Core.Bool.{and-eq-true-iff}
+use denote.Ref.{now}
 use borrow.Author.Needs.{needs}
 use borrow.Author.Tests.{not-true, not-false}
 use Rattle.finite.proofs.Bools.{clash, refute, and-go, and-stop}
+use Rattle.state.specs.HeldWords.{wordsHeld, narrowHeld}
+use Rattle.state.specs.Lawful.{lawfulHeld}
 use Rattle.state.specs.Lent.{lawful}
-use Rattle.state.proofs.Arrays.{sized, held-sized}
+use Rattle.state.proofs.Arrays.{sized}
+use Rattle.state.proofs.HeldWords.{words-sized}
 use Rattle.lawful.proofs.DesignLaws.{in-range}
 use Rattle.lawful.proofs.HeldLaws.{held-bounded}
 use Rattle.lawful.proofs.RowsLaws.{lawful-stand}
-use Rattle.lawful.proofs.SoundState.{held-unlawful}
-use Rattle.cache.proofs.DistinctLaws.{distinct-is}
 use Rattle.load.proofs.EndedLaws.{within-all}
+use Rattle.cache.proofs.DistinctLaws.{distinct-is}
+use Rattle.cache.proofs.HeldShifts.{words-unlawful, words-other}
 use Rattle.cache.proofs.LoadLaws.{agree-is}
 use Rattle.cache.proofs.tests.is_lawful_catalog.Statement.{statement}
 use Rattle.cache.proofs.tests.is_lawful_catalog.Tie as tie
@@ -21,7 +25,7 @@ lawful-design-requires c κs = search needs
 
 returns : tie.Need-returns
 unfolding lawful
-returns c = (and-stop _ _ (sym (c .before .lawful-design .ensures) ∙ not-true _ (c .if1 .taken)), λ e. clash e refl)
+returns c = (words-other _ _ (and-stop _ _ (sym (c .before .lawful-design .ensures) ∙ not-true _ (c .if1 .taken))), λ e. clash e refl)
 
 rows-stand-requires : tie.Need-rows-stand-requires
 rows-stand-requires c κs = search needs
@@ -30,8 +34,7 @@ returns-2 : tie.Need-returns-2
 unfolding lawful
 returns-2 c =
     let s = c .before .before .before .before .before .before .before .before .args in (
-      and-go _ _ (sym (c .before .before .before .lawful-design .ensures) ∙ not-false _ (c .before .before .if1 .left))
-          (and-stop _ _ (refute _ (λ t. clash (lawful-stand (s .design) _ _ t) (sym (c .before .rows-stand .ensures) ∙ not-true _ (c .if2 .taken))))),
+      words-other _ _ (and-go _ _ (sym (c .before .before .before .lawful-design .ensures) ∙ not-false _ (c .before .before .if1 .left)) (and-stop _ _ (refute _ (λ t. clash (lawful-stand (s .design) _ _ t) (sym (c .before .rows-stand .ensures) ∙ not-true _ (c .if2 .taken)))))),
       λ e. clash e refl,
     )
 
@@ -39,13 +42,10 @@ lawful-held-requires : tie.Need-lawful-held-requires
 lawful-held-requires c κs = search needs
 
 returns-3 : tie.Need-returns-3
-returns-3 c = (held-unlawful _ (sym (c .before .lawful-held .ensures) ∙ not-true _ (c .if3 .taken)), λ e. clash e refl)
+returns-3 c = (words-unlawful _ _ (sym (c .before .lawful-held .ensures) ∙ not-true _ (c .if3 .taken)), λ e. clash e refl)
 
 build-requires : tie.Need-build-requires
-build-requires c κs =
-    let p = c .before .before .before .before .before .before .before .before .before in
-    let s = p .before .before .before .before .before .before in
-    (in-range (s .args .design) (sized (s .args .design) _ (s .good .0)) (sym (p .before .lawful-design .ensures) ∙ not-false _ (p .if1 .left)), s .pre .0)
+build-requires c κs = let s = c .before .before .before .before .before .before .before .before .before .before .before .before in (in-range (s .args .design) (sized (s .args .design) _ (s .good .0)) (sym (c .before .before .before .before .before .before .before .lawful-design .ensures) ∙ not-false _ (c .before .before .before .before .before .before .if1 .left)), s .pre .0)
 
 is-distinct-requires : tie.Need-is-distinct-requires
 is-distinct-requires c κs = search needs
@@ -53,50 +53,36 @@ is-distinct-requires c κs = search needs
 returns-4 : tie.Need-returns-4
 unfolding lawful
 returns-4 c =
-    let g = c .before .before .before in
-    let r = g .before .before .before .before .before .before .before .before in
-    let p = r .before .before in
-    let s = p .before .before .before .before .before .before in (
-      and-go _ _ (sym (p .before .lawful-design .ensures) ∙ not-false _ (p .if1 .left))
-          (and-stop _ _ (sym (distinct-is (s .args .design) _ _ _ (g .build .ensures .next-is) (sym (r .before .rows-stand .ensures) ∙ not-false _ (r .if2 .left))) ∙
-          sym (c .before .is-distinct .ensures) ∙ not-true _ (c .if4 .taken))),
+    let s = c .before .before .before .before .before .before .before .before .before .before .before .before .before .before .before .before in (
+      words-other _ _ (and-go _ _ (sym (c .before .before .before .before .before .before .before .before .before .before .before .lawful-design .ensures) ∙ not-false _ (c .before .before .before .before .before .before .before .before .before .before .if1 .left))
+          (and-stop _ _ (sym (distinct-is (s .args .design) _ _ (sym (c .before .before .before .before .before .before .before .before .before .rows-stand .ensures) ∙ not-false _ (c .before .before .before .before .before .before .before .before .if2 .left))) ∙
+          sym (c .before .is-distinct .ensures _ (c .before .before .before .build .ensures .demands .links)) ∙ not-true _ (c .if4 .taken)))),
       λ e. clash e refl,
     )
 
 load-held-requires : tie.Need-load-held-requires
 load-held-requires c κs =
-    let g = c .before .before .before .before .before .before .before .before .before in
-    let t = g .before .before .before .before .before .before in
-    let p = t .before .before .before .before in
-    let s = p .before .before .before .before .before .before in
-    let d = sym (p .before .lawful-design .ensures) ∙ not-false _ (p .if1 .left) in
-    let h = sym (t .before .lawful-held .ensures) ∙ not-false _ (t .if3 .left) in
-    let l = held-sized (s .args .held) _ (s .good .1 .1 .1 .1 .1 .1 .1 .1 .1 .1 .0) in (
-      (
-        in-range (s .args .design) (sized (s .args .design) _ (s .good .0)) d,
-        held-bounded (s .args .design) (s .args .held) d h l,
-      ),
-      (g .build .ensures, within-all _ _ _),
+    let s = c .before .before .before .before .before .before .before .before .before .before .before .before .before .before .before .before .before .before .before in
+    let d = sym (c .before .before .before .before .before .before .before .before .before .before .before .before .before .before .lawful-design .ensures) ∙ not-false _ (c .before .before .before .before .before .before .before .before .before .before .before .before .before .if1 .left) in
+    let h = and-eq-true-iff (narrowHeld (now (s .args .held))) (lawfulHeld (s .args .design) (wordsHeld (now (s .args .held)))) .0 (sym (c .before .before .before .before .before .before .before .before .before .before .lawful-held .ensures) ∙ not-false _ (c .before .before .before .before .before .before .before .before .before .if3 .left)) in (
+      (in-range (s .args .design) (sized (s .args .design) _ (s .good .0)) d, held-bounded (s .args .design) (wordsHeld (now (s .args .held))) d (h .1) (words-sized (now (s .args .held)))),
+      (_, c .before .before .before .before .before .before .build .ensures),
     )
 
 marks-agree-requires : tie.Need-marks-agree-requires
-marks-agree-requires c κs = (c .before .before .before .before .before .before .before .before .before .before .before .before .before .before .before .before .before .before .before .before .before .before .before .before .before .before .before .pre .1, c .before .load-held .ensures .long)
+marks-agree-requires c κs = (c .before .before .before .before .before .before .before .before .before .before .before .before .before .before .before .before .before .before .before .before .before .pre .1, c .before .load-held .ensures _ (c .before .before .before .before .before .before .before .before .build .ensures) (within-all _ _ _) .long)
 
 returns-5 : tie.Need-returns-5
 unfolding lawful
 returns-5 c =
-    let q = c .before .before .before .before .before .before .before .before .before in
-    let g = q .before .before .before in
-    let t = g .before .before .before .before .before .before in
-    let r = t .before .before in
-    let p = r .before .before in
-    let s = p .before .before .before .before .before .before in (
-      and-go _ _ (sym (p .before .lawful-design .ensures) ∙ not-false _ (p .if1 .left))
-          (and-go _ _ (sym (distinct-is (s .args .design) _ _ _ (g .build .ensures .next-is) (sym (r .before .rows-stand .ensures) ∙ not-false _ (r .if2 .left))) ∙
-          sym (q .before .is-distinct .ensures) ∙ not-false _ (q .if4 .left))
-          (and-go _ _ (sym (t .before .lawful-held .ensures) ∙ not-false _ (t .if3 .left))
-          (c .marks-agree .ensures ∙ agree-is (s .args .design) _ _ (s .args .held) _ _ (c .before .before .load-held .ensures) _))),
-      λ e. g .build .ensures,
+    let s = c .before .before .before .before .before .before .before .before .before .before .before .before .before .before .before .before .before .before .before .before .before .before in
+    let b = c .before .before .before .before .before .before .before .before .before .build .ensures in
+    let h = and-eq-true-iff (narrowHeld (now (s .args .held))) (lawfulHeld (s .args .design) (wordsHeld (now (s .args .held)))) .0 (sym (c .before .before .before .before .before .before .before .before .before .before .before .before .before .lawful-held .ensures) ∙ not-false _ (c .before .before .before .before .before .before .before .before .before .before .before .before .if3 .left)) in (
+      and-go _ _ (h .0)
+          (and-go _ _ (sym (c .before .before .before .before .before .before .before .before .before .before .before .before .before .before .before .before .before .lawful-design .ensures) ∙ not-false _ (c .before .before .before .before .before .before .before .before .before .before .before .before .before .before .before .before .if1 .left))
+          (and-go _ _ (sym (distinct-is (s .args .design) _ _ (sym (c .before .before .before .before .before .before .before .before .before .before .before .before .before .before .before .rows-stand .ensures) ∙ not-false _ (c .before .before .before .before .before .before .before .before .before .before .before .before .before .before .if2 .left))) ∙ sym (c .before .before .before .before .before .before .before .is-distinct .ensures _ (b .demands .links)) ∙ not-false _ (c .before .before .before .before .before .before .if4 .left))
+          (and-go _ _ (h .1) (c .marks-agree .ensures ∙ agree-is (s .args .design) _ _ (wordsHeld (now (s .args .held))) _ _ (c .before .before .load-held .ensures _ b (within-all _ _ _)) _)))),
+      λ e. b,
     )
 
 pub is-lawful-catalog-spec : {M : Type 1} → statement M

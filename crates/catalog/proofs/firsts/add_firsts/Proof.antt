@@ -11,10 +11,10 @@ use Rattle.catalog.proofs.firsts.add_firsts.Statement.{statement}
 use Rattle.catalog.proofs.firsts.add_firsts.Tie as tie
 
 abbrev Inv-loop : tie.InvT-loop
-Inv-loop cells issues tables keys heads starts j i first₀ s₀ first s = (s ≤ 512) × Tabled (λ r. firstFrom 512 (leads (databaseOf (cellsIn cells issues) tables) (constraintOf j) r) 0) first₀ (512 * i) s first
+Inv-loop cells issues tables catalog keys j i first₀ s₀ first s = (s ≤ 512) × Tabled (λ r. firstFrom 512 (leads (databaseOf (cellsIn cells issues) tables) (constraintOf j) r) 0) first₀ (512 * i) s first
 
 abbrev μ-loop : tie.MeasureT-loop
-μ-loop cells issues tables keys heads starts j i first₀ s₀ first s = 512 - s
+μ-loop cells issues tables catalog keys j i first₀ s₀ first s = 512 - s
 
 loop-holds : tie.Need-loop-holds Inv-loop μ-loop
 loop-holds c = (omega arith, tabled-start _ _ _)

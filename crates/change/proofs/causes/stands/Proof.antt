@@ -10,16 +10,16 @@ use Rattle.model.specs.Database.{Database}
 use Rattle.state.specs.Lawful.{stoodBelow}
 use Rattle.state.specs.Meaning.{schemeOf}
 use Rattle.state.specs.Changes.{rowCell}
-use Rattle.catalog.specs.Catalog.{Directory}
+use Rattle.catalog.specs.Catalog.{Indexed}
 use Rattle.change.proofs.causes.stands.Statement.{statement}
 use Rattle.change.proofs.causes.stands.Tie as tie
 
 abbrev Inv-loop : tie.InvT-loop
-Inv-loop d keys heads starts x c₀ c =
-    (c ≤ 8) × ((D : Database) → Directory D keys heads starts → any c (λ i. stoodBelow (schemeOf d) D 512 (record { table = x .table; place = i }) (rowCell x i)) ≡ false)
+Inv-loop d catalog keys x c₀ c =
+    (c ≤ 8) × ((D : Database) → Indexed D catalog keys → any c (λ i. stoodBelow (schemeOf d) D 512 (record { table = x .table; place = i }) (rowCell x i)) ≡ false)
 
 abbrev μ-loop : tie.MeasureT-loop
-μ-loop d keys heads starts x c₀ c = 8 - c
+μ-loop d catalog keys x c₀ c = 8 - c
 
 loop-holds : tie.Need-loop-holds Inv-loop μ-loop
 loop-holds c = (omega arith, λ D h. any-start _)

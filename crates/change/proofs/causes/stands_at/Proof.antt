@@ -23,7 +23,7 @@ find-requires c κs = search needs
 returns-2 : tie.Need-returns-2
 returns-2 c D h =
     stood-found (schemeOf (c .before .before .before .before .args .d)) _ _ _ _ _ (c .before .operand-cell .ensures) (sym (c .before .before .before .is-unique .ensures) ∙ not-false _ (c .before .before .if1 .left))
-    (c .find .ensures D h)
+    (c .find .ensures D (h .directory))
 
 pub stands-at-spec : {M : Type 1} → statement M
 stands-at-spec =

@@ -1,7 +1,9 @@
 -- `change::changing::put_lawful` meets its contract. Assumes nothing.
+use denote.Ref.{now}
 use borrow.Author.Needs.{needs}
 use Rattle.state.specs.Changes.{put}
-use Rattle.state.proofs.Arrays.{sized, held-sized}
+use Rattle.state.proofs.Arrays.{sized}
+use Rattle.state.proofs.HeldWords.{words-sized}
 use Rattle.lawful.proofs.Asked.{sound-range, sound-backed}
 use Rattle.change.proofs.ReplaceLaws.{changed-refused, replace-asked, changed-well}
 use Rattle.change.proofs.changing.put_lawful.Statement.{statement}
@@ -9,7 +11,7 @@ use Rattle.change.proofs.changing.put_lawful.Tie as tie
 
 put-cause-requires : tie.Need-put-cause-requires
 put-cause-requires c κs =
-    let s = c .before .before .before .before .before .before .before .before in
+    let s = c .before .before .before .before .before .before .before in
     (sound-range _ (s .pre .0) (sized (s .args .design) _ (s .good .0)), sound-backed _ (s .pre .0) .members)
 
 same-length : tie.Need-same-length
@@ -17,14 +19,14 @@ same-length c = search needs
 
 returns : tie.Need-returns
 returns c =
-    let s = c .before .before .before .before .before .before .before .before .before .before in
-    (changed-refused _ (s .pre .0) (put (s .args .r) (s .args .x)) _ (c .before .put-cause .ensures _ (s .pre .1 .directory)) (c .if1 .taken), s .pre .1)
+    let s = c .before .before .before .before .before .before .before .before .before in
+    (changed-refused _ (s .pre .0) (put (s .args .r) (s .args .x)) _ (c .before .put-cause .ensures _ (s .pre .1 .index)) (c .if1 .taken), s .pre .1)
 
 replace-requires : tie.Need-replace-requires
 replace-requires c κs =
-    let s = c .before .before .before .before .before .before .before .before .before .before .before .before .before .before .before .before .before .before .before in
-    replace-asked _ (s .pre .0) (put (s .args .r) (s .args .x)) _ (c .before .before .before .before .before .before .before .before .before .before .put-cause .ensures _ (s .pre .1 .directory)) (c .before .before .before .before .before .before .before .before .before .if1 .left)
-    (sized (s .args .design) _ (s .good .0)) (held-sized (s .args .held) _ (s .good .1 .1 .1 .1 .1 .1 .1 .1 .1 .1 .0))
+    let s = c .before .before .before .before .before .before .before .before .before .before .before .before .before .before .before in
+    replace-asked _ (s .pre .0) (put (s .args .r) (s .args .x)) _ (c .before .before .before .before .before .before .before .put-cause .ensures _ (s .pre .1 .index)) (c .before .before .before .before .before .before .if1 .left)
+    (sized (s .args .design) _ (s .good .0)) (words-sized (now (s .args .held)))
 
 same-length-2 : tie.Need-same-length-2
 same-length-2 c = search needs
@@ -40,9 +42,9 @@ same-length-5 c = search needs
 
 returns-2 : tie.Need-returns-2
 returns-2 c =
-    let s = c .before .before .before .before .before .before .before .before .before .before .before .before .before .before .before .before .before .before .before .before .before .before .before .before .before .before .before .before in
+    let s = c .before .before .before .before .before .before .before .before .before .before .before .before .before .before .before .before .before .before .before .before .before .before .before .before in
     let w = c .before .before .before .before .before .before .before .before .replace .ensures in
-    (changed-well _ (s .pre .0) (put (s .args .r) (s .args .x)) _ (c .before .before .before .before .before .before .before .before .before .before .before .before .before .before .before .before .before .before .before .put-cause .ensures _ (s .pre .1 .directory)) (c .before .before .before .before .before .before .before .before .before .before .before .before .before .before .before .before .before .before .if1 .left) _ _ (w .0), w .1)
+    (changed-well _ (s .pre .0) (put (s .args .r) (s .args .x)) _ (c .before .before .before .before .before .before .before .before .before .before .before .before .before .before .before .before .put-cause .ensures _ (s .pre .1 .index)) (c .before .before .before .before .before .before .before .before .before .before .before .before .before .before .before .if1 .left) _ _ (w .0), w .1)
 
 pub put-lawful-spec : {M : Type 1} → statement M
 put-lawful-spec =

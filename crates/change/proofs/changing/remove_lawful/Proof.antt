@@ -1,7 +1,9 @@
 -- `change::changing::remove_lawful` meets its contract. Assumes nothing.
+use denote.Ref.{now}
 use borrow.Author.Needs.{needs}
 use Rattle.state.specs.Changes.{remove}
-use Rattle.state.proofs.Arrays.{sized, held-sized}
+use Rattle.state.proofs.Arrays.{sized}
+use Rattle.state.proofs.HeldWords.{words-sized}
 use Rattle.lawful.proofs.Asked.{sound-backed}
 use Rattle.change.proofs.ReplaceLaws.{changed-refused, replace-asked, changed-well}
 use Rattle.change.proofs.changing.remove_lawful.Statement.{statement}
@@ -23,9 +25,9 @@ free-row-requires c κs = search needs
 
 replace-requires : tie.Need-replace-requires
 replace-requires c κs =
-    let s = c .before .before .before .before .before .before .before .before .before .before .before .before .before .before .before .before .before in
-    replace-asked _ (s .pre .0) (remove (s .args .r)) _ (c .before .before .before .before .before .before .before .before .before .before .before .remove-cause .ensures _) (c .before .before .before .before .before .before .before .before .before .before .if1 .left)
-    (sized (s .args .design) _ (s .good .0)) (held-sized (s .args .held) _ (s .good .1 .1 .1 .1 .1 .1 .1 .1 .1 .1 .0))
+    let s = c .before .before .before .before .before .before .before .before .before .before .before .before .before .before in
+    replace-asked _ (s .pre .0) (remove (s .args .r)) _ (c .before .before .before .before .before .before .before .before .remove-cause .ensures _) (c .before .before .before .before .before .before .before .if1 .left)
+    (sized (s .args .design) _ (s .good .0)) (words-sized (now (s .args .held)))
 
 same-length-2 : tie.Need-same-length-2
 same-length-2 c = search needs
@@ -41,9 +43,9 @@ same-length-5 c = search needs
 
 returns-2 : tie.Need-returns-2
 returns-2 c =
-    let s = c .before .before .before .before .before .before .before .before .before .before .before .before .before .before .before .before .before .before .before .before .before .before .before .before .before .before in
+    let s = c .before .before .before .before .before .before .before .before .before .before .before .before .before .before .before .before .before .before .before .before .before .before .before in
     let w = c .before .before .before .before .before .before .before .before .replace .ensures in
-    (changed-well _ (s .pre .0) (remove (s .args .r)) _ (c .before .before .before .before .before .before .before .before .before .before .before .before .before .before .before .before .before .before .before .before .remove-cause .ensures _) (c .before .before .before .before .before .before .before .before .before .before .before .before .before .before .before .before .before .before .before .if1 .left) _ _ (rw (c .before .before .before .before .before .before .before .before .before .free-row .ensures) at (w .0)), w .1)
+    (changed-well _ (s .pre .0) (remove (s .args .r)) _ (c .before .before .before .before .before .before .before .before .before .before .before .before .before .before .before .before .before .remove-cause .ensures _) (c .before .before .before .before .before .before .before .before .before .before .before .before .before .before .before .before .if1 .left) _ _ (rw (c .before .before .before .before .before .before .before .before .before .free-row .ensures) at (w .0)), w .1)
 
 pub remove-lawful-spec : {M : Type 1} → statement M
 remove-lawful-spec =

@@ -1,5 +1,7 @@
 -- `change::changing::replace` meets its contract: the row stored, the catalog, the marks. Assumes nothing.
+use denote.Ref.{now}
 use borrow.Author.Needs.{needs}
+use Rattle.state.specs.HeldWords.{wordsHeld}
 use Rattle.change.proofs.ReplaceLaws.{replaced}
 use Rattle.change.proofs.changing.replace.Statement.{statement}
 use Rattle.change.proofs.changing.replace.Tie as tie
@@ -11,7 +13,7 @@ build-requires : tie.Need-build-requires
 build-requires c κs = search needs
 
 remark-requires : tie.Need-remark-requires
-remark-requires c κs = search needs
+remark-requires c κs = let p = c .before .before .before .before .before .before .before .before .before .before .before .before .before .before .before .before .before .before .before .before .before .before .before .pre in ((p .1, p .2, p .4), (_, c .before .before .before .build .ensures))
 
 same-length : tie.Need-same-length
 same-length c = search needs
@@ -27,8 +29,9 @@ same-length-4 c = search needs
 
 returns : tie.Need-returns
 returns c =
-    let s = c .before .before .before .before .before .before .before .before .before .before .before .before .before .before .before .before .before .before .before .before .before .before .before .before .before .before .before .before .before .before .before .before .before .before .before in
-    (replaced (s .args .design) _ _ (s .args .held) _ _ _ _ _ (c .before .before .before .before .before .before .before .before .before .before .before .before .before .before .before .before .before .before .before .before .before .before .before .before .before .before .before .store-row .ensures) (c .before .before .remark .ensures), c .before .before .before .before .before .before .before .before .before .before .before .before .build .ensures)
+    let s = c .before .before .before .before .before .before .before .before .before .before .before .before .before .before .before .before .before .before .before .before .before .before .before .before .before .before in
+    let b = c .before .before .before .before .before .before .build .ensures in
+    (replaced (s .args .design) _ _ (wordsHeld (now (s .args .held))) _ _ _ _ _ (c .before .before .before .before .before .before .before .before .before .before .before .before .before .before .before .before .before .before .store-row .ensures) (c .before .before .remark .ensures _ b), b)
 
 pub replace-spec : {M : Type 1} → statement M
 replace-spec =

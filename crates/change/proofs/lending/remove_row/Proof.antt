@@ -1,9 +1,10 @@
 -- `change::lending::remove_row` meets its contract: causes 7 and 12, then the change of a sound state. Assumes nothing.
 use mathlib.Core.Path.{sym, _∙_}
+use denote.Ref.{now}
 use borrow.Author.Needs.{needs}
 use Rattle.state.specs.Changes.{remove}
-use Rattle.lawful.proofs.SoundState.{cause-none}
-use Rattle.change.proofs.LendingLaws.{refused-changes}
+use Rattle.cache.proofs.CauseWords.{cause-clear}
+use Rattle.change.proofs.LendingLaws.{refused-words, changed-words}
 use Rattle.change.proofs.lending.remove_row.Statement.{statement}
 use Rattle.change.proofs.lending.remove_row.Tie as tie
 
@@ -23,13 +24,13 @@ same-length-4 : tie.Need-same-length-4
 same-length-4 c = search needs
 
 returns : tie.Need-returns
-returns c = let s = c .before .before .before .before .before .before .before .before .before .before .before .before .before .before .before in refused-changes _ (remove (s .args .r)) _ (c .before .cause .ensures .0) (c .if1 .taken)
+returns c = let s = c .before .before .before .before .before .before .before .before .before .before .before .before in refused-words _ (now (s .args .held)) (remove (s .args .r)) _ (c .before .cause .ensures .0) (c .if1 .taken)
 
 remove-lawful-requires : tie.Need-remove-lawful-requires
 remove-lawful-requires c κs =
-    let z = c .before .before .before .before .before .before .before .before .before .if1 .left in
-    let e = c .before .before .before .before .before .before .before .before .before .before .cause .ensures in
-    (cause-none _ (sym (e .0) ∙ z), e .1 z)
+    let z = c .before .before .before .before .before .before .if1 .left in
+    let e = c .before .before .before .before .before .before .before .cause .ensures in
+    (cause-clear _ _ (sym (e .0) ∙ z) .0, e .1 z)
 
 same-length-5 : tie.Need-same-length-5
 same-length-5 c = search needs
@@ -44,7 +45,7 @@ same-length-8 : tie.Need-same-length-8
 same-length-8 c = search needs
 
 returns-2 : tie.Need-returns-2
-returns-2 c = search needs
+returns-2 c = let s = c .before .before .before .before .before .before .before .before .before .before .before .before .before .before .before .before .before .before .before .before .before .before .before .before .before .before .before in changed-words _ (now (s .args .held)) (remove (s .args .r)) _ (c .before .before .before .before .before .before .before .before .before .before .before .before .before .before .before .before .cause .ensures .0) (c .before .before .before .before .before .before .before .before .before .before .before .before .before .before .before .if1 .left) _ _ (c .before .before .before .before .before .before .before .before .remove-lawful .ensures .0)
 
 pub remove-row-spec : {M : Type 1} → statement M
 remove-row-spec =

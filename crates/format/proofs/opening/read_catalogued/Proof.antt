@@ -31,8 +31,8 @@ returns : tie.Need-returns
 returns c = (
   c .before .before .before .before .before .before .before .before .before .before .read-lent .ensures .0,
   (
-    opens-refused _ _ _ _ (c .enum-told2 .given .1) _ _ _ _ _ _ _,
-    record { next = λ n i e. refl; first = λ n i e. refl; keys = λ n i e. refl; heads = λ n i e. refl; starts = λ n i e. refl },
+    opens-refused _ _ _ _ (c .enum-told2 .given .1) _ _ _ _,
+    record { catalog = λ n i e. refl; keys = λ n i e. refl },
   ),
 )
 
@@ -51,7 +51,7 @@ same-length-8 c = search needs
 returns-2 : tie.Need-returns-2
 returns-2 c = (
   c .before .before .before .before .before .before .before .before .before .before .read-lent .ensures .0,
-  (c .before .before .before .before .before .before .before .before .before .before .read-lent .ensures .1, keeps-accepted _ _ (c .enum-told .given .1) _ _ _ _ _ _ _ _ _ _),
+  (c .before .before .before .before .before .before .before .before .before .before .read-lent .ensures .1, keeps-accepted _ _ (c .enum-told .given .1) _ _ _ _),
 )
 
 pub read-catalogued-spec : {M : Type 1} → statement M

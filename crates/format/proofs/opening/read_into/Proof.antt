@@ -28,7 +28,7 @@ enum-told-2 c = search needs
 returns : tie.Need-returns
 returns c = (
   leaves-refused _ _ (from-none _ _) _ _ _ (c .before .before .before .before .before .read-rows .ensures .0) _ _ _ _ _ (c .enum-told2 .given .1),
-  opens-refused _ _ _ _ (c .enum-told2 .given .1) _ _ _ _ _ _ _,
+  opens-refused _ _ _ _ (c .enum-told2 .given .1) _ _ _ _,
 )
 
 slice-aggregate-copy-cells : tie.Need-slice-aggregate-copy-cells
@@ -41,19 +41,19 @@ slice-aggregate-copy-bytes : tie.Need-slice-aggregate-copy-bytes
 slice-aggregate-copy-bytes c = search needs
 
 copy-bytes-requires : tie.Need-copy-bytes-requires
-copy-bytes-requires c κs = (omega (arith, c .before .before .before .before .before .before .before .before .before .before .v2 .given), c .before .before .before .before .before .before .before .before .before .before .before .before .before .before .before .before .before .before .before .before .before .before .before .before .before .before .pre .1)
+copy-bytes-requires c κs = (omega (arith, c .before .before .before .before .before .before .before .before .before .before .v2 .given), c .before .before .before .before .before .before .before .before .before .before .before .before .before .before .before .before .before .before .before .before .before .before .before .pre .1)
 
 slice-aggregate-copy-bytes-2 : tie.Need-slice-aggregate-copy-bytes-2
 slice-aggregate-copy-bytes-2 c = search needs
 
 copy-bytes-requires-2 : tie.Need-copy-bytes-requires-2
-copy-bytes-requires-2 c κs = (omega (arith, c .before .before .before .before .before .before .before .before .before .before .before .before .before .before .y2 .given), c .before .before .before .before .before .before .before .before .before .before .before .before .before .before .before .before .before .before .before .before .before .before .before .before .before .before .before .before .before .before .before .pre .2)
+copy-bytes-requires-2 c κs = (omega (arith, c .before .before .before .before .before .before .before .before .before .before .before .before .before .before .y2 .given), c .before .before .before .before .before .before .before .before .before .before .before .before .before .before .before .before .before .before .before .before .before .before .before .before .before .before .before .before .pre .2)
 
 slice-aggregate-copy-bytes-3 : tie.Need-slice-aggregate-copy-bytes-3
 slice-aggregate-copy-bytes-3 c = search needs
 
 copy-bytes-requires-3 : tie.Need-copy-bytes-requires-3
-copy-bytes-requires-3 c κs = (refl, c .before .before .before .before .before .before .before .before .before .before .before .before .before .before .before .before .before .before .before .before .before .before .before .before .before .before .before .before .before .before .before .before .before .before .before .before .pre .3)
+copy-bytes-requires-3 c κs = (refl, c .before .before .before .before .before .before .before .before .before .before .before .before .before .before .before .before .before .before .before .before .before .before .before .before .before .before .before .before .before .before .before .before .before .pre .3)
 
 same-length : tie.Need-same-length
 same-length c = search needs
@@ -71,7 +71,7 @@ returns-2 : tie.Need-returns-2
 returns-2 c = (
   leaves-accepted _ _ (from-none _ _) _ _ _ (c .before .before .before .before .before .before .before .before .before .before .before .before .before .before .before .before .before .before .before .before .before .before .before .before .before .read-rows .ensures .0) _ _ _ _ (c .before .before .before .before .before .before .before .before .before .before .before .before .before .before .before .before .before .before .before .before .enum-told .given .1) _ _ _ _ (c .before .before .before .before .before .before .before .before .before .before .before .before .before .before .before .before .before .copy-cells .ensures) (c .before .before .before .before .before .before .before .before .before .before .before .before .copy-bytes .ensures)
       (c .before .before .before .before .before .before .before .copy-bytes2 .ensures) (c .before .before .copy-bytes3 .ensures),
-  opens-copied _ _ _ _ _ _ _ _ _ (c .before .before .before .before .before .before .before .before .before .before .before .before .before .before .before .before .before .before .before .before .before .before .before .before .before .read-rows .ensures .1) (copy-cells-requires (c .before .before .before .before .before .before .before .before .before .before .before .before .before .before .before .before .before .before) (c .before .before .before .before .before .before .before .before .before .before .before .before .before .before .before .before .before .copy-cells .lifetimes) .0)
+  opens-copied _ _ _ _ _ _ (c .before .before .before .before .before .before .before .before .before .before .before .before .before .before .before .before .before .before .before .before .before .before .before .before .before .read-rows .ensures .1) (copy-cells-requires (c .before .before .before .before .before .before .before .before .before .before .before .before .before .before .before .before .before .before) (c .before .before .before .before .before .before .before .before .before .before .before .before .before .before .before .before .before .copy-cells .lifetimes) .0)
       (copy-bytes-requires (c .before .before .before .before .before .before .before .before .before .before .before .before .before) (c .before .before .before .before .before .before .before .before .before .before .before .before .copy-bytes .lifetimes) .0) (copy-bytes-requires-2 (c .before .before .before .before .before .before .before .before) (c .before .before .before .before .before .before .before .copy-bytes2 .lifetimes) .0) _ _ _ _ _ _
       (c .before .before .before .before .before .before .before .before .before .before .before .before .before .before .before .before .before .copy-cells .ensures) (c .before .before .before .before .before .before .before .before .before .before .before .before .copy-bytes .ensures) (c .before .before .before .before .before .before .before .copy-bytes2 .ensures),
 )

@@ -1,4 +1,8 @@
 -- `format::repeating::unique_next` meets its contract. Assumes nothing.
+use Prim.Native.Nat.{_/_, _%_}
+use native.Mathlib.Omega.{arith}
+use Rattle.finite.proofs.Tables.{tab-at}
+use Rattle.catalog.specs.Catalog.{nextOf}
 use mathlib.Core.Path.{sym, _∙_}
 use borrow.Author.Tests.{not-true, not-false}
 use Rattle.format.proofs.RepeatLaws.{next-free, next-unique}
@@ -16,19 +20,15 @@ is-unique-requires : tie.Need-is-unique-requires
 is-unique-requires c κs = search needs
 
 returns : tie.Need-returns
-returns c = next-free _ _ _ _ (sym (c .before .is-unique .ensures) ∙ not-true _ (c .if1 .taken))
+returns c = λ D y. next-free _ _ _ _ (sym (c .before .is-unique .ensures) ∙ not-true _ (c .if1 .taken))
 
-mul-wide : tie.Need-mul-wide
-mul-wide c = search needs
-
-element-copy-out-wide : tie.Need-element-copy-out-wide
-element-copy-out-wide c = search needs
-
-wide-requires : tie.Need-wide-requires
-wide-requires c κs = search needs
+next-row-requires : tie.Need-next-row-requires
+next-row-requires c κs = (omega arith, omega arith)
 
 returns-2 : tie.Need-returns-2
-returns-2 c = c .wide .ensures ∙ next-unique _ _ _ _ (sym (c .before .before .before .is-unique .ensures) ∙ not-false _ (c .before .before .if1 .left))
+returns-2 c = λ D y.
+    c .next-row .ensures D y ∙ sym (tab-at 0 4096 (λ z. nextOf D (z / 8) (z % 8)) _ (omega arith)) ∙
+    next-unique _ _ _ _ (sym (c .before .before .is-unique .ensures) ∙ not-false _ (c .before .if1 .left))
 
 pub unique-next-spec : {M : Type 1} → statement M
 unique-next-spec =
@@ -38,7 +38,5 @@ unique-next-spec =
     cast-t10
     is-unique-requires
     returns
-    mul-wide
-    element-copy-out-wide
-    wide-requires
+    next-row-requires
     returns-2)

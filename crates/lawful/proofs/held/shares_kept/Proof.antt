@@ -9,12 +9,13 @@ use lib.Dec.{leb}
 use Rattle.finite.proofs.Search.{all-end, all-more, all-start, all-stop}
 use Rattle.finite.specs.Finite.{all}
 use Rattle.model.specs.Holding.{desks, places}
+use Rattle.state.specs.HeldWords.{wordsHeld}
 use Rattle.state.specs.Lawful.{ownCount}
 use Rattle.lawful.proofs.held.shares_kept.Statement.{statement}
 use Rattle.lawful.proofs.held.shares_kept.Tie as tie
 
 abbrev Inv-loop : tie.InvT-loop
-Inv-loop held desk₀ desk = (desk ≤ desks) × (all desk (λ e. leb (ownCount held e) places) ≡ true)
+Inv-loop held desk₀ desk = (desk ≤ desks) × (all desk (λ e. leb (ownCount (wordsHeld held) e) places) ≡ true)
 
 abbrev μ-loop : tie.MeasureT-loop
 μ-loop held desk₀ desk = desks - desk

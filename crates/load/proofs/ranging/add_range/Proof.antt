@@ -1,4 +1,5 @@
 -- `load::ranging::add_range` meets its contract: a loop of steps to level 2, one for each value in the span. Assumes nothing.
+use Rattle.catalog.specs.Catalog.{Indexed}
 use Prim.Native.Nat.{_+_, _-_, _≤_}
 use native.Mathlib.Omega.{arith}
 use mathlib.Core.Path.{sym}
@@ -10,59 +11,65 @@ use Rattle.finite.specs.Finite.{any}
 use Rattle.load.proofs.AlongLaws.{along-has, begins-has}
 use Rattle.load.proofs.QueueLaws.{grown-end, grown-same, grown-start, grown-turn}
 use Rattle.load.specs.Queue.{Grown}
-use Rattle.model.specs.Database.{has}
-use Rattle.state.specs.Cells.{cellsIn}
-use Rattle.state.specs.Meaning.{columnOf, databaseOf}
+use Rattle.model.specs.Database.{Database, has}
+use Rattle.state.specs.Meaning.{columnOf}
 use Rattle.load.proofs.ranging.add_range.Statement.{statement}
 use Rattle.load.proofs.ranging.add_range.Tie as tie
 
 abbrev Inv-loop : tie.InvT-loop
-Inv-loop cells issues tables next keys heads starts k levels₀ queue₀ end from n e₀ j₀ levels queue e j =
+Inv-loop catalog keys k levels₀ queue₀ end from n e₀ j₀ levels queue e j =
     (j ≤ n) ×
-    Grown 2 (λ r. any j (λ x. has (databaseOf (cellsIn cells issues) tables) (columnOf k) (plainValue (getD keys (from + x) 0)) r)) levels₀ queue₀ end levels queue e
+    ((D : Database) → Indexed D catalog keys → Grown 2 (λ r. any j (λ x. has D (columnOf k) (plainValue (getD keys (from + x) 0)) r)) levels₀ queue₀ end levels queue e)
 
 abbrev μ-loop : tie.MeasureT-loop
-μ-loop cells issues tables next keys heads starts k levels₀ queue₀ end from n e₀ j₀ levels queue e j = n - j
+μ-loop catalog keys k levels₀ queue₀ end from n e₀ j₀ levels queue e j = n - j
 
 find-range-requires : tie.Need-find-range-requires Inv-loop μ-loop
-find-range-requires c κs = let p = c .before .before .before .pre .0 in (p .0, p .1)
+find-range-requires c κs = let p = c .pre .0 in (p .0, p .1)
 
 loop-holds : tie.Need-loop-holds Inv-loop μ-loop
-loop-holds c = let p = c .before .before .before .before .pre .0 in (omega arith, grown-start _ _ _ _ _ 0 (p .2) (p .3) (λ r l. any-start _))
+loop-holds c = let p = c .before .pre .0 in (omega arith, λ D x. grown-start _ _ _ _ _ 0 (p .2) (p .3) (λ r l. any-start _))
 
 add-first-of : tie.Need-add-first-of Inv-loop μ-loop
-add-first-of c = let s = c .before .before .find-range .ensures _ _ (c .before .before .before .before .before .before .pre .1 .1) in omega (arith, s .bound, c .loop-test .taken)
+add-first-of c = let x = c .before .before .before .pre .1 in let s = c .before .before .find-range .ensures (x .0) (x .1 .directory) in omega (arith, s .bound, c .loop-test .taken)
 
 first-of-requires : tie.Need-first-of-requires Inv-loop μ-loop
-first-of-requires c κs = let s = c .before .before .find-range .ensures _ _ (c .before .before .before .before .before .before .pre .1 .1) in omega (arith, s .bound, c .loop-test .taken)
+first-of-requires c κs = let x = c .before .before .before .pre .1 in let s = c .before .before .find-range .ensures (x .0) (x .1 .directory) in omega (arith, s .bound, c .loop-test .taken)
 
 cast-place : tie.Need-cast-place Inv-loop μ-loop
 cast-place c = search needs
 
 walk-requires : tie.Need-walk-requires Inv-loop μ-loop
 walk-requires c κs =
-    let p = c .before .before .before .before .before .before .before .before .before .before .pre in
-    let s = c .before .before .before .before .before .before .find-range .ensures _ _ (p .1 .1) in
-    let f = c .before .before .before .first-of .ensures _ _ (s .first (c .before .before .before .before .before .loop .j) (c .before .before .before .before .loop-test .taken)) in
-    let g = c .before .before .before .before .before .loop .inv .1 in
-    (p .1 .0, ((p .0 .1, begins-has _ _ _ _ f), (omega arith, g .long, g .queue)))
+    let p = c .before .before .before .before .before .before .before .pre in
+    let x = p .1 in
+    let h = c .before .before .before .before .before .loop in
+    let s = c .before .before .before .before .before .before .find-range .ensures (x .0) (x .1 .directory) in
+    let f = c .before .before .before .first-of .ensures _ _ (s .first (h .j) (c .before .before .before .before .loop-test .taken)) in
+    let g = h .inv .1 (x .0) (x .1) in
+    ((p .0 .1, omega arith, g .long, g .queue), (x .0, x .1 .links, begins-has _ _ _ _ f))
 
 add-j : tie.Need-add-j Inv-loop μ-loop
-add-j c = let s = c .before .before .before .before .before .before .before .find-range .ensures _ _ (c .before .before .before .before .before .before .before .before .before .before .before .pre .1 .1) in omega (arith, s .bound, c .before .before .before .before .before .loop-test .taken)
+add-j c = let x = c .before .before .before .before .before .before .before .before .pre .1 in let s = c .before .before .before .before .before .before .before .find-range .ensures (x .0) (x .1 .directory) in omega (arith, s .bound, c .before .before .before .before .before .loop-test .taken)
 
 loop-less : tie.Need-loop-less Inv-loop μ-loop
 loop-less c = omega (arith, c .before .before .before .before .before .loop-test .taken)
 
 loop-again : tie.Need-loop-again Inv-loop μ-loop
 loop-again c =
-    let s = c .before .before .before .before .before .before .before .find-range .ensures _ _ (c .before .before .before .before .before .before .before .before .before .before .before .pre .1 .1) in
-    let f = c .before .before .before .before .first-of .ensures _ _ (s .first (c .before .before .before .before .before .before .loop .j) (c .before .before .before .before .before .loop-test .taken)) in
-    (omega (arith, c .before .before .before .before .before .loop-test .taken), grown-turn _ _ _ _ _ _ _ _ _ _ _ _ _ (omega arith) (c .before .before .before .before .before .before .loop .inv .1) (c .walk .ensures) (along-has _ _ _ _ f))
+    let t = c .before .before .before .before .before .loop-test .taken in
+    let h = c .before .before .before .before .before .before .loop in (
+      omega (arith, t),
+      λ D x.
+          let s = c .before .before .before .before .before .before .before .find-range .ensures D (x .directory) in
+          let f = c .before .before .before .before .first-of .ensures _ _ (s .first (h .j) t) in
+          grown-turn _ _ _ _ _ _ _ _ _ _ _ _ _ (omega arith) (h .inv .1 D x) (c .walk .ensures D (x .links) (begins-has _ _ _ _ f)) (along-has _ _ _ _ f),
+    )
 
 returns : tie.Need-returns Inv-loop μ-loop
-returns c =
-    let s = c .before .before .find-range .ensures _ _ (c .before .before .before .before .before .before .pre .1 .1) in
-    let g = grown-end _ _ _ _ _ _ _ _ _ _ (c .before .loop .inv .0) (c .loop-test .left) (c .before .loop .inv .1) in
+returns c = λ D x.
+    let s = c .before .before .find-range .ensures D (x .directory) in
+    let g = grown-end _ _ _ _ _ _ _ _ _ _ (c .before .loop .inv .0) (c .loop-test .left) (c .before .loop .inv .1 D x) in
     grown-same _ _ _ _ _ _ _ _ g _ (λ r l. sym (s .rows r))
 
 pub add-range-spec : {M : Type 1} → statement M

@@ -42,7 +42,7 @@ loop-again c =
 returns : tie.Need-returns Inv-loop μ-loop
 returns c =
     let g = grown-end _ _ _ _ _ _ _ _ _ _ (c .before .loop .inv .0) (c .loop-test .left) (c .before .loop .inv .1) in
-    (λ cells tables. start-seeds cells tables (c .before .before .before .args .seed .now) _ (g .levels), g .queue)
+    (λ D z. start-seeds D z (c .before .before .before .args .seed .now) _ (g .levels), g .queue)
 
 pub start-rows-spec : {M : Type 1} → statement M
 start-rows-spec =

@@ -6,9 +6,7 @@ use Rattle.load.proofs.walking.walk_once.Statement.{statement}
 use Rattle.load.proofs.walking.walk_once.Tie as tie
 
 returns : tie.Need-returns
-returns c =
-    let p = c .before .before .before .before .pre .1 .1 in
-    (walk-empty _ _ _ _ _ _ _ (c .if1 .taken) (p .1) (p .2), p .3)
+returns c = λ D l b w. let p = c .before .pre .0 in (walk-empty _ _ _ _ _ _ _ (c .if1 .taken) (p .2) (p .3), w)
 
 mul-at : tie.Need-mul-at
 mul-at c = search needs
@@ -20,22 +18,21 @@ element-copy-out-if2 : tie.Need-element-copy-out-if2
 element-copy-out-if2 c = search needs
 
 returns-2 : tie.Need-returns-2
-returns-2 c =
-    let s = c .before .before .before .before .before .before .pre .1 in
-    let p = s .1 in
-    (walk-again _ _ _ _ _ _ _ (c .before .before .if1 .left) (s .0 .0) _ (p .3) (c .if2 .taken) (p .1) (p .2), p .3)
+returns-2 c = λ D l b w.
+    let p = c .before .before .before .pre .0 in
+    (walk-again _ _ _ _ _ _ _ (c .before .before .if1 .left) (p .0) _ w (c .if2 .taken) (p .2) (p .3), w)
 
 walk-requires : tie.Need-walk-requires
-walk-requires c κs = let p = c .before .before .before .before .before .before .before .before .pre in (p .0, (p .1 .0, (p .1 .1 .0, p .1 .1 .1, p .1 .1 .2)))
+walk-requires c κs = let p = c .before .before .before .before .before .pre in (p .0, (p .1 .0, p .1 .1, p .1 .2))
 
 element-write-walked : tie.Need-element-write-walked
 element-write-walked c = search needs
 
 returns-3 : tie.Need-returns-3
-returns-3 c =
-    let p = c .before .before .before .before .before .before .before .before .before .pre .1 in
-    let u = c .walk .ensures in
-    (u, walk-marked _ _ _ _ _ _ _ (c .before .before .before .before .before .if1 .left) (p .0 .0) _ (p .1 .3) _ _ _ (omega (arith, p .1 .0)) u)
+returns-3 c = λ D l b w.
+    let p = c .before .before .before .before .before .before .pre .0 in
+    let u = c .walk .ensures D l b in
+    (u, walk-marked _ _ _ _ _ _ _ (c .before .before .before .before .before .if1 .left) (p .0) _ w _ _ _ (omega (arith, p .1)) u)
 
 pub walk-once-spec : {M : Type 1} → statement M
 walk-once-spec =

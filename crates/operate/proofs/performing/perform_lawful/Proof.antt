@@ -1,9 +1,12 @@
 -- `operate::performing::perform_lawful` meets its contract: what the operation's own function gives. Assumes nothing.
 use mathlib.Core.Path.{refl}
+use denote.Ref.{now}
 use borrow.Author.Needs.{needs}
 use Rattle.model.specs.Answers.{questionText}
-use Rattle.state.proofs.Arrays.{sized, held-sized}
+use Rattle.state.proofs.Arrays.{sized}
+use Rattle.state.proofs.HeldWords.{words-sized}
 use Rattle.lawful.proofs.Asked.{sound-range}
+use Rattle.operate.proofs.ReadyLaws.{ready}
 use Rattle.operate.proofs.Performed.{refer-performs, drop-performs, name-performs, range-performs, drop-range-performs, query-performs, ask-performs, ask-writes, even-answers, knot-answers, in-case}
 use Rattle.operate.proofs.performing.perform_lawful.Statement.{statement}
 use Rattle.operate.proofs.performing.perform_lawful.Tie as tie
@@ -12,25 +15,25 @@ enum-known-op : tie.Need-enum-known-op
 enum-known-op c = search needs
 
 refer-lawful-requires : tie.Need-refer-lawful-requires
-refer-lawful-requires c κs = search needs
+refer-lawful-requires c κs = let b = c .before .before .before .before .before .before .before .before .before .before .before in (b .pre .2, (_, _, (ready _ _ _ _ _ _ _ (b .pre .0) (b .pre .1))))
 
 enum-known-op-2 : tie.Need-enum-known-op-2
 enum-known-op-2 c = search needs
 
 drop-lawful-requires : tie.Need-drop-lawful-requires
-drop-lawful-requires c κs = search needs
+drop-lawful-requires c κs = let b = c .before .before .before .before .before .before .before .before .before .before .before in (b .pre .2, (_, _, (ready _ _ _ _ _ _ _ (b .pre .0) (b .pre .1))))
 
 enum-known-op-3 : tie.Need-enum-known-op-3
 enum-known-op-3 c = search needs
 
 probe-lawful-requires : tie.Need-probe-lawful-requires
-probe-lawful-requires c κs = search needs
+probe-lawful-requires c κs = let b = c .before .before .before .before .before .before .before .before .before .before .before in (_, _, b .pre .0, b .pre .1 .index)
 
 enum-known-op-4 : tie.Need-enum-known-op-4
 enum-known-op-4 c = search needs
 
 query-lawful-requires : tie.Need-query-lawful-requires
-query-lawful-requires c κs = search needs
+query-lawful-requires c κs = let b = c .before .before .before .before .before .before .before .before .before .before .before .before .before .before in (b .pre .0, b .pre .1, b .pre .2)
 
 enum-told : tie.Need-enum-told
 enum-told c = search needs
@@ -43,7 +46,7 @@ enum-known-op-5 : tie.Need-enum-known-op-5
 enum-known-op-5 c = search needs
 
 query-lawful-requires-2 : tie.Need-query-lawful-requires-2
-query-lawful-requires-2 c κs = search needs
+query-lawful-requires-2 c κs = let b = c .before .before .before .before .before .before .before .before .before .before .before .before .before .before .before in (b .pre .0, b .pre .1, b .pre .2)
 
 enum-told-2 : tie.Need-enum-told-2
 enum-told-2 c = search needs
@@ -56,56 +59,53 @@ enum-known-op-6 : tie.Need-enum-known-op-6
 enum-known-op-6 c = search needs
 
 name-lawful-requires : tie.Need-name-lawful-requires
-name-lawful-requires c κs = search needs
+name-lawful-requires c κs = let b = c .before .before .before .before .before .before .before .before .before .before in b .pre .2
 
 enum-known-op-7 : tie.Need-enum-known-op-7
 enum-known-op-7 c = search needs
 
 opener-lawful-requires : tie.Need-opener-lawful-requires
-opener-lawful-requires c κs = search needs
+opener-lawful-requires c κs = let b = c .before .before .before .before .before .before .before .before .before .before .before in (b .pre .0, b .pre .1 .index)
 
 enum-known-op-8 : tie.Need-enum-known-op-8
 enum-known-op-8 c = search needs
 
 reason-lawful-requires : tie.Need-reason-lawful-requires
-reason-lawful-requires c κs = search needs
+reason-lawful-requires c κs = let b = c .before .before .before .before .before .before .before .before .before .before .before .before in (b .pre .0, b .pre .1)
 
 enum-known-op-9 : tie.Need-enum-known-op-9
 enum-known-op-9 c = search needs
 
 refer-range-lawful-requires : tie.Need-refer-range-lawful-requires
-refer-range-lawful-requires c κs = search needs
+refer-range-lawful-requires c κs = let b = c .before .before .before .before .before .before .before .before .before .before .before in (b .pre .2, (_, _, (ready _ _ _ _ _ _ _ (b .pre .0) (b .pre .1))))
 
 enum-known-op-10 : tie.Need-enum-known-op-10
 enum-known-op-10 c = search needs
 
 drop-range-lawful-requires : tie.Need-drop-range-lawful-requires
-drop-range-lawful-requires c κs = search needs
+drop-range-lawful-requires c κs = let b = c .before .before .before .before .before .before .before .before .before .before .before in (b .pre .2, (_, _, (ready _ _ _ _ _ _ _ (b .pre .0) (b .pre .1))))
 
 same-length : tie.Need-same-length
 same-length c = search needs
 
 returns : tie.Need-returns
-returns c =
-    let b = c .before .before .before .before .before .before .before .before .before .before .before .before .before in
-    in-case _ _ _ _ _ _ _ _ _ _ _ (c .before .before .before .before .before .op .given .1) (refer-performs _ (b .pre .0) _ _ _ _ _ (c .before .before .refer-lawful .ensures))
+returns c = let b = c .before .before .before .before .before .before .before .before .before .before .before .before .before .before in
+    (in-case _ _ _ _ _ _ _ _ _ _ _ (c .before .before .before .before .before .before .op .given .1) (refer-performs _ (b .pre .0) _ _ _ _ _ (c .before .before .refer-lawful .ensures .1 _ _ (ready _ _ _ _ _ _ _ (b .pre .0) (b .pre .1)))), c .before .before .refer-lawful .ensures .0)
 
 same-length-2 : tie.Need-same-length-2
 same-length-2 c = search needs
 
 returns-2 : tie.Need-returns-2
-returns-2 c =
-    let b = c .before .before .before .before .before .before .before .before .before .before .before .before .before in
-    in-case _ _ _ _ _ _ _ _ _ _ _ (c .before .before .before .before .before .op2 .given .1) (drop-performs _ (b .pre .0) _ _ _ _ _ (c .before .before .drop-lawful .ensures))
+returns-2 c = let b = c .before .before .before .before .before .before .before .before .before .before .before .before .before .before in
+    (in-case _ _ _ _ _ _ _ _ _ _ _ (c .before .before .before .before .before .before .op2 .given .1) (drop-performs _ (b .pre .0) _ _ _ _ _ (c .before .before .drop-lawful .ensures .1 _ _ (ready _ _ _ _ _ _ _ (b .pre .0) (b .pre .1)))), c .before .before .drop-lawful .ensures .0)
 
 same-length-3 : tie.Need-same-length-3
 same-length-3 c = search needs
 
 returns-3 : tie.Need-returns-3
 unfolding questionText
-returns-3 c =
-    let b = c .before .before .before .before .before .before .before .before .before .before .before in
-    in-case _ _ _ _ _ _ _ _ _ _ _ (c .before .before .before .op3 .given .1) (ask-performs _ (b .pre .0) _ _ (held-sized (b .args .held) _ (b .good .1 .1 .1 .1 .1 .1 .1 .1 .1 .1 .1 .0)) _ refl _ (c .probe-lawful .ensures))
+returns-3 c = let b = c .before .before .before .before .before .before .before .before .before .before .before .before in
+    (in-case _ _ _ _ _ _ _ _ _ _ _ (c .before .before .before .before .op3 .given .1) (ask-performs _ (b .pre .0) _ _ (words-sized (now (b .args .held))) _ refl _ (c .probe-lawful .ensures _ _ (b .pre .0) (b .pre .1 .index))), b .pre .2)
 
 same-length-4 : tie.Need-same-length-4
 same-length-4 c = search needs
@@ -114,16 +114,16 @@ same-length-5 : tie.Need-same-length-5
 same-length-5 c = search needs
 
 returns-4 : tie.Need-returns-4
-returns-4 c =
-    let b = c .before .before .before .before .before .before .before .before .before .before .before .before .before .before .before .before .before .before .before .before in
-    in-case _ _ _ _ _ _ _ _ _ _ _ (c .before .before .before .before .before .before .before .before .before .before .before .before .op4 .given .1) (query-performs _ (b .pre .0) _ _ _ _ _ _ _ (c .before .before .before .before .query-lawful .ensures))
+returns-4 c = let b = c .before .before .before .before .before .before .before .before .before .before .before .before .before .before .before .before .before .before .before in
+    (in-case _ _ _ _ _ _ _ _ _ _ _ (c .before .before .before .before .before .before .before .before .before .before .before .op4 .given .1) (query-performs _ (b .pre .0) _ _ _ _ _ _ _ (c .before .before .before .before .query-lawful .ensures .0)), c .before .before .before .before .query-lawful .ensures .1)
 
 returns-5 : tie.Need-returns-5
 unfolding questionText
-returns-5 c =
-    let b = c .before .before .before .before .before .before .before .before .before in
-    in-case _ _ _ _ _ _ _ _ _ _ _ (c .before .enum-told .given .1)
-    (ask-performs _ (b .pre .0) _ _ (held-sized (b .args .held) _ (b .good .1 .1 .1 .1 .1 .1 .1 .1 .1 .1 .1 .0)) _ refl _ (even-answers _ (b .pre .0) _ (c .evenness .ensures)))
+returns-5 c = let b = c .before .before .before .before .before .before .before .before .before in (
+  in-case _ _ _ _ _ _ _ _ _ _ _ (c .before .enum-told .given .1)
+      (ask-performs _ (b .pre .0) _ _ (words-sized (now (b .args .held))) _ refl _ (even-answers _ (b .pre .0) _ (c .evenness .ensures))),
+  b .pre .2,
+)
 
 same-length-6 : tie.Need-same-length-6
 same-length-6 c = search needs
@@ -132,31 +132,31 @@ same-length-7 : tie.Need-same-length-7
 same-length-7 c = search needs
 
 returns-6 : tie.Need-returns-6
-returns-6 c =
-    let b = c .before .before .before .before .before .before .before .before .before .before .before .before .before .before .before .before .before .before .before .before .before in
-    in-case _ _ _ _ _ _ _ _ _ _ _ (c .before .before .before .before .before .before .before .before .before .before .before .before .before .op5 .given .1) (query-performs _ (b .pre .0) _ _ _ _ _ _ _ (c .before .before .before .before .query-lawful2 .ensures))
+returns-6 c = let b = c .before .before .before .before .before .before .before .before .before .before .before .before .before .before .before .before .before .before .before .before in
+    (in-case _ _ _ _ _ _ _ _ _ _ _ (c .before .before .before .before .before .before .before .before .before .before .before .before .op5 .given .1) (query-performs _ (b .pre .0) _ _ _ _ _ _ _ (c .before .before .before .before .query-lawful2 .ensures .0)), c .before .before .before .before .query-lawful2 .ensures .1)
 
 returns-7 : tie.Need-returns-7
 unfolding questionText
-returns-7 c =
-    let b = c .before .before .before .before .before .before .before .before .before in
-    in-case _ _ _ _ _ _ _ _ _ _ _ (c .before .enum-told2 .given .1)
-    (ask-performs _ (b .pre .0) _ _ (held-sized (b .args .held) _ (b .good .1 .1 .1 .1 .1 .1 .1 .1 .1 .1 .1 .0)) _ refl _ (knot-answers _ (b .pre .0) _ (c .smallest-knot .ensures)))
+returns-7 c = let b = c .before .before .before .before .before .before .before .before .before in (
+  in-case _ _ _ _ _ _ _ _ _ _ _ (c .before .enum-told2 .given .1)
+      (ask-performs _ (b .pre .0) _ _ (words-sized (now (b .args .held))) _ refl _ (knot-answers _ (b .pre .0) _ (c .smallest-knot .ensures))),
+  b .pre .2,
+)
 
 returns-8 : tie.Need-returns-8
-returns-8 c =
-    let b = c .before .before .before .before .before .before .before .before .before .before in
-    in-case _ _ _ _ _ _ _ _ _ _ _ (c .before .before .op6 .given .1) (name-performs _ (b .pre .0) _ _ _ _ _ (c .name-lawful .ensures _ _ _ _ (b .pre .0)))
+returns-8 c = let b = c .before .before .before .before .before .before .before .before .before .before .before in
+    (in-case _ _ _ _ _ _ _ _ _ _ _ (c .before .before .before .op6 .given .1) (name-performs _ (b .pre .0) _ _ _ _ _ (c .name-lawful .ensures .0 _ _ _ _ (b .pre .0))), c .name-lawful .ensures .1)
 
 same-length-8 : tie.Need-same-length-8
 same-length-8 c = search needs
 
 returns-9 : tie.Need-returns-9
 unfolding questionText
-returns-9 c =
-    let b = c .before .before .before .before .before .before .before .before .before .before .before in
-    in-case _ _ _ _ _ _ _ _ _ _ _ (c .before .before .before .op7 .given .1)
-    (ask-performs _ (b .pre .0) _ _ (held-sized (b .args .held) _ (b .good .1 .1 .1 .1 .1 .1 .1 .1 .1 .1 .1 .0)) _ refl _ (c .opener-lawful .ensures))
+returns-9 c = let b = c .before .before .before .before .before .before .before .before .before .before .before .before in (
+  in-case _ _ _ _ _ _ _ _ _ _ _ (c .before .before .before .before .op7 .given .1)
+      (ask-performs _ (b .pre .0) _ _ (words-sized (now (b .args .held))) _ refl _ (c .opener-lawful .ensures)),
+  b .pre .2,
+)
 
 same-length-9 : tie.Need-same-length-9
 same-length-9 c = search needs
@@ -165,26 +165,25 @@ same-length-10 : tie.Need-same-length-10
 same-length-10 c = search needs
 
 returns-10 : tie.Need-returns-10
-returns-10 c =
-    let b = c .before .before .before .before .before .before .before .before .before .before .before .before .before .before in
-    in-case _ _ _ _ _ _ _ _ _ _ _ (c .before .before .before .before .before .before .op8 .given .1)
-    (ask-writes _ (b .pre .0) _ _ (held-sized (b .args .held) _ (b .good .1 .1 .1 .1 .1 .1 .1 .1 .1 .1 .1 .0)) _ _ _ (c .before .before .reason-lawful .ensures))
+returns-10 c = let b = c .before .before .before .before .before .before .before .before .before .before .before .before .before .before .before in (
+  in-case _ _ _ _ _ _ _ _ _ _ _ (c .before .before .before .before .before .before .before .op8 .given .1)
+      (ask-writes _ (b .pre .0) _ _ (words-sized (now (b .args .held))) _ _ _ (c .before .before .reason-lawful .ensures)),
+  b .pre .2,
+)
 
 same-length-11 : tie.Need-same-length-11
 same-length-11 c = search needs
 
 returns-11 : tie.Need-returns-11
-returns-11 c =
-    let b = c .before .before .before .before .before .before .before .before .before .before .before .before .before in
-    in-case _ _ _ _ _ _ _ _ _ _ _ (c .before .before .before .before .before .op9 .given .1) (range-performs _ (b .pre .0) _ _ _ _ _ (c .before .before .refer-range-lawful .ensures))
+returns-11 c = let b = c .before .before .before .before .before .before .before .before .before .before .before .before .before .before in
+    (in-case _ _ _ _ _ _ _ _ _ _ _ (c .before .before .before .before .before .before .op9 .given .1) (range-performs _ (b .pre .0) _ _ _ _ _ (c .before .before .refer-range-lawful .ensures .1 _ _ (ready _ _ _ _ _ _ _ (b .pre .0) (b .pre .1)))), c .before .before .refer-range-lawful .ensures .0)
 
 same-length-12 : tie.Need-same-length-12
 same-length-12 c = search needs
 
 returns-12 : tie.Need-returns-12
-returns-12 c =
-    let b = c .before .before .before .before .before .before .before .before .before .before .before .before .before in
-    in-case _ _ _ _ _ _ _ _ _ _ _ (c .before .before .before .before .before .op10 .given .1) (drop-range-performs _ (b .pre .0) _ _ _ _ _ (c .before .before .drop-range-lawful .ensures))
+returns-12 c = let b = c .before .before .before .before .before .before .before .before .before .before .before .before .before .before in
+    (in-case _ _ _ _ _ _ _ _ _ _ _ (c .before .before .before .before .before .before .op10 .given .1) (drop-range-performs _ (b .pre .0) _ _ _ _ _ (c .before .before .drop-range-lawful .ensures .1 _ _ (ready _ _ _ _ _ _ _ (b .pre .0) (b .pre .1)))), c .before .before .drop-range-lawful .ensures .0)
 
 pub perform-lawful-spec : {M : Type 1} → statement M
 perform-lawful-spec =

@@ -1,13 +1,16 @@
 -- `operate::querying::refer_and_draw` meets its contract: the reference on a copy, then cause 11 or 13, or the copy for the marks. Assumes nothing.
 use native.Mathlib.Omega.{arith}
 use mathlib.Core.Path.{refl, sym, _∙_}
+use denote.Ref.{now}
 use borrow.Author.Needs.{needs}
 use lib.Seq.{length-take-le}
 use Rattle.model.proofs.Demand2.{fits-operands}
-use Rattle.state.proofs.Arrays.{sized, held-sized}
+use Rattle.state.proofs.Arrays.{sized}
+use Rattle.state.proofs.HeldWords.{words-sized}
 use Rattle.lawful.proofs.Asked.{sound-range, sound-backed, sound-marks}
 use Rattle.lawful.proofs.SoundState.{parts}
 use Rattle.operate.proofs.QueryLists.{sound-place}
+use Rattle.operate.proofs.ReadyLaws.{ready}
 use Rattle.operate.proofs.Referred.{copied-sound, marks-long, left-alone, taken-over}
 use Rattle.operate.proofs.querying.refer_and_draw.Statement.{statement}
 use Rattle.operate.proofs.querying.refer_and_draw.Tie as tie
@@ -28,7 +31,7 @@ slice-aggregate-refer-lawful : tie.Need-slice-aggregate-refer-lawful
 slice-aggregate-refer-lawful c = search needs
 
 refer-lawful-requires : tie.Need-refer-lawful-requires
-refer-lawful-requires c κs = let s = c .before .before .before .before .before .before .before .before .before .before in (copied-sound _ (s .pre .0 .0) _ _ refl (c .before .before .copy-bytes .ensures), s .pre .0 .1)
+refer-lawful-requires c κs = let s = c .before .before .before .before .before .before .before .before .before .before .before .before in (s .pre .0 .2, (_, _, ready _ _ _ _ _ _ _ (copied-sound _ (s .pre .0 .0) _ _ refl (c .before .before .before .before .copy-bytes .ensures)) (s .pre .0 .1)))
 
 slice-aggregate-draw : tie.Need-slice-aggregate-draw
 slice-aggregate-draw c = search needs
@@ -43,7 +46,7 @@ draw-requires c κs =
         s .pre .0 .1,
         omega (
           arith,
-          marks-long _ (s .pre .0 .0) _ _ refl (c .before .before .before .before .before .before .before .before .before .before .copy-bytes .ensures) (record { number = λ i. omega (arith, c .before .before .before .before .before .before .before .before .before .before .before .before .before .before .before .before .before .shared-slice-known .given i); issue = λ i. omega (arith, c .before .before .before .before .before .before .before .before .before .before .before .before .before .before .before .before .shared-slice-known2 .given i) }) (s .args .q) (s .args .v) _ (s .pre .1) _ _ _ (c .before .before .before .before .before .before .before .refer-lawful .ensures),
+          marks-long _ (s .pre .0 .0) _ _ refl (c .before .before .before .before .before .before .before .before .before .before .copy-bytes .ensures) (record { number = λ i. omega (arith, c .before .before .before .before .before .before .before .before .before .before .before .before .before .before .before .before .before .shared-slice-known .given i); issue = λ i. omega (arith, c .before .before .before .before .before .before .before .before .before .before .before .before .before .before .before .before .shared-slice-known2 .given i) }) (s .args .q) (s .args .v) _ (s .pre .1) _ _ _ (c .before .before .before .before .before .refer-lawful .ensures .1 _ _ (ready _ _ _ _ _ _ _ (copied-sound _ (s .pre .0 .0) _ _ refl (c .before .before .before .before .before .before .before .before .before .before .copy-bytes .ensures)) (s .pre .0 .1))),
         ),
       ),
       (parts _ (s .pre .0 .0) .design, s .pre .1 .fit),
@@ -59,18 +62,19 @@ same-length-2 : tie.Need-same-length-2
 same-length-2 c = search needs
 
 returns : tie.Need-returns
-returns c =
-    let s = c .before .before .before .before .before .before .before .before .before .before .before .before .before .before .before .before .before .before .before .before .before .before .before .before in
-    left-alone _ (s .pre .0 .0) _ _ refl (c .before .before .before .before .before .before .before .before .before .before .before .before .before .before .before .before .copy-bytes .ensures) (record { number = λ i. omega (arith, c .before .before .before .before .before .before .before .before .before .before .before .before .before .before .before .before .before .before .before .before .before .before .before .shared-slice-known .given i); issue = λ i. omega (arith, c .before .before .before .before .before .before .before .before .before .before .before .before .before .before .before .before .before .before .before .before .before .before .shared-slice-known2 .given i) }) (s .args .q) (s .args .v) _ (s .pre .1) _ _ _ (c .before .before .before .before .before .before .before .before .before .before .before .before .before .refer-lawful .ensures) _ _ _
-    (c .before .before .before .before .before .draw .ensures) (held-sized (s .args .held) _ (s .good .1 .1 .1 .1 .1 .1 .1 .1 .1 .1 .0)) (sym (c .before .is-refusal .ensures) ∙ c .if1 .taken)
+returns c = let s = c .before .before .before .before .before .before .before .before .before .before .before .before .before .before .before .before .before .before .before .before .before .before .before in (
+  left-alone _ (s .pre .0 .0) _ _ refl (c .before .before .before .before .before .before .before .before .before .before .before .before .before .before .before .copy-bytes .ensures) (record { number = λ i. omega (arith, c .before .before .before .before .before .before .before .before .before .before .before .before .before .before .before .before .before .before .before .before .before .before .shared-slice-known .given i); issue = λ i. omega (arith, c .before .before .before .before .before .before .before .before .before .before .before .before .before .before .before .before .before .before .before .before .before .shared-slice-known2 .given i) }) (s .args .q) (s .args .v) _ (s .pre .1) _ _ _ (c .before .before .before .before .before .before .before .before .before .before .refer-lawful .ensures .1 _ _ (ready _ _ _ _ _ _ _ (copied-sound _ (s .pre .0 .0) _ _ refl (c .before .before .before .before .before .before .before .before .before .before .before .before .before .before .before .copy-bytes .ensures)) (s .pre .0 .1))) _ _ _
+      (c .before .before .before .before .draw .ensures) (words-sized (now (s .args .held))) (sym (c .before .is-refusal .ensures) ∙ c .if1 .taken),
+  s .pre .0 .2,
+)
 
 slice-aggregate-copy-bytes-3 : tie.Need-slice-aggregate-copy-bytes-3
 slice-aggregate-copy-bytes-3 c = search needs
 
 copy-bytes-requires-2 : tie.Need-copy-bytes-requires-2
 copy-bytes-requires-2 c κs =
-    let s = c .before .before .before .before .before .before .before .before .before .before .before .before .before .before .before .before .before .before .before .before .before .before .before .before .before .before in (
-      marks-long _ (s .pre .0 .0) _ _ refl (c .before .before .before .before .before .before .before .before .before .before .before .before .before .before .before .before .before .before .copy-bytes .ensures) (record { number = λ i. omega (arith, c .before .before .before .before .before .before .before .before .before .before .before .before .before .before .before .before .before .before .before .before .before .before .before .before .before .shared-slice-known .given i); issue = λ i. omega (arith, c .before .before .before .before .before .before .before .before .before .before .before .before .before .before .before .before .before .before .before .before .before .before .before .before .shared-slice-known2 .given i) }) (s .args .q) (s .args .v) _ (s .pre .1) _ _ _ (c .before .before .before .before .before .before .before .before .before .before .before .before .before .before .before .refer-lawful .ensures),
+    let s = c .before .before .before .before .before .before .before .before .before .before .before .before .before .before .before .before .before .before .before .before .before .before .before .before .before in (
+      marks-long _ (s .pre .0 .0) _ _ refl (c .before .before .before .before .before .before .before .before .before .before .before .before .before .before .before .before .before .copy-bytes .ensures) (record { number = λ i. omega (arith, c .before .before .before .before .before .before .before .before .before .before .before .before .before .before .before .before .before .before .before .before .before .before .before .before .shared-slice-known .given i); issue = λ i. omega (arith, c .before .before .before .before .before .before .before .before .before .before .before .before .before .before .before .before .before .before .before .before .before .before .before .shared-slice-known2 .given i) }) (s .args .q) (s .args .v) _ (s .pre .1) _ _ _ (c .before .before .before .before .before .before .before .before .before .before .before .before .refer-lawful .ensures .1 _ _ (ready _ _ _ _ _ _ _ (copied-sound _ (s .pre .0 .0) _ _ refl (c .before .before .before .before .before .before .before .before .before .before .before .before .before .before .before .before .before .copy-bytes .ensures)) (s .pre .0 .1))),
       sound-marks _ (s .pre .0 .0),
     )
 
@@ -81,10 +85,11 @@ same-length-4 : tie.Need-same-length-4
 same-length-4 c = search needs
 
 returns-2 : tie.Need-returns-2
-returns-2 c =
-    let s = c .before .before .before .before .before .before .before .before .before .before .before .before .before .before .before .before .before .before .before .before .before .before .before .before .before .before .before .before .before in
-    taken-over _ (s .pre .0 .0) _ _ refl (c .before .before .before .before .before .before .before .before .before .before .before .before .before .before .before .before .before .before .before .before .before .copy-bytes .ensures) (record { number = λ i. omega (arith, c .before .before .before .before .before .before .before .before .before .before .before .before .before .before .before .before .before .before .before .before .before .before .before .before .before .before .before .before .shared-slice-known .given i); issue = λ i. omega (arith, c .before .before .before .before .before .before .before .before .before .before .before .before .before .before .before .before .before .before .before .before .before .before .before .before .before .before .before .shared-slice-known2 .given i) }) (s .args .q) (s .args .v) _ (s .pre .1) _ _ _ (c .before .before .before .before .before .before .before .before .before .before .before .before .before .before .before .before .before .before .refer-lawful .ensures) _ _ _
-    (c .before .before .before .before .before .before .before .before .before .before .draw .ensures) (held-sized (s .args .held) _ (s .good .1 .1 .1 .1 .1 .1 .1 .1 .1 .1 .0)) (sym (c .before .before .before .before .before .before .is-refusal .ensures) ∙ c .before .before .before .before .before .if1 .left) _ (c .before .before .copy-bytes2 .ensures)
+returns-2 c = let s = c .before .before .before .before .before .before .before .before .before .before .before .before .before .before .before .before .before .before .before .before .before .before .before .before .before .before .before .before in (
+  taken-over _ (s .pre .0 .0) _ _ refl (c .before .before .before .before .before .before .before .before .before .before .before .before .before .before .before .before .before .before .before .before .copy-bytes .ensures) (record { number = λ i. omega (arith, c .before .before .before .before .before .before .before .before .before .before .before .before .before .before .before .before .before .before .before .before .before .before .before .before .before .before .before .shared-slice-known .given i); issue = λ i. omega (arith, c .before .before .before .before .before .before .before .before .before .before .before .before .before .before .before .before .before .before .before .before .before .before .before .before .before .before .shared-slice-known2 .given i) }) (s .args .q) (s .args .v) _ (s .pre .1) _ _ _ (c .before .before .before .before .before .before .before .before .before .before .before .before .before .before .before .refer-lawful .ensures .1 _ _ (ready _ _ _ _ _ _ _ (copied-sound _ (s .pre .0 .0) _ _ refl (c .before .before .before .before .before .before .before .before .before .before .before .before .before .before .before .before .before .before .before .before .copy-bytes .ensures)) (s .pre .0 .1))) _ _ _
+      (c .before .before .before .before .before .before .before .before .before .draw .ensures) (words-sized (now (s .args .held))) (sym (c .before .before .before .before .before .before .is-refusal .ensures) ∙ c .before .before .before .before .before .if1 .left) _ (c .before .before .copy-bytes2 .ensures),
+  c .before .before .before .before .before .before .before .before .before .before .before .before .before .before .before .refer-lawful .ensures .0,
+)
 
 pub refer-and-draw-spec : {M : Type 1} → statement M
 refer-and-draw-spec =

@@ -9,8 +9,9 @@ use lib.Seq.{length-take-le}
 use Rattle.model.specs.Query.{wordsOf}
 use Rattle.model.proofs.Demand2.{fits-operands}
 use Rattle.state.proofs.Arrays.{sized}
-use Rattle.lawful.proofs.Asked.{sound-range, sound-backed, sound-marks}
+use Rattle.lawful.proofs.Asked.{sound-range, sound-marks}
 use Rattle.operate.proofs.QueryLists.{sound-place}
+use Rattle.operate.proofs.ReadyLaws.{ready}
 use Rattle.operate.proofs.Referred.{copied-sound, marks-long, lists-full}
 use Rattle.operate.proofs.sizing.referred_words.Statement.{statement}
 use Rattle.operate.proofs.sizing.referred_words.Tie as tie
@@ -28,7 +29,7 @@ slice-aggregate-refer-lawful : tie.Need-slice-aggregate-refer-lawful
 slice-aggregate-refer-lawful c = search needs
 
 refer-lawful-requires : tie.Need-refer-lawful-requires
-refer-lawful-requires c κs = let s = c .before .before .before .before .before .before .before .before .before in (copied-sound _ (s .pre .0 .0) _ _ refl (c .before .before .copy-bytes .ensures), s .pre .0 .1)
+refer-lawful-requires c κs = let s = c .before .before .before .before .before .before .before .before .before .before .before in (s .pre .0 .2, (_, _, ready _ _ _ _ _ _ _ (copied-sound _ (s .pre .0 .0) _ _ refl (c .before .before .before .before .copy-bytes .ensures)) (s .pre .0 .1)))
 
 slice-aggregate-listed-words : tie.Need-slice-aggregate-listed-words
 slice-aggregate-listed-words c = search needs
@@ -40,24 +41,23 @@ listed-words-requires c κs =
       sound-range _ (s .pre .0 .0) (sized (s .args .design) _ (s .good .0)),
       sound-place _ (s .pre .0 .0) (s .args .q) f,
       f,
-      sound-backed _ (s .pre .0 .0),
-      s .pre .0 .1,
       omega (
         arith,
         marks-long _ (s .pre .0 .0) _ _ refl (c .before .before .before .before .before .before .before .before .before .copy-bytes .ensures)
             (record { number = λ i. omega (arith, c .before .before .before .before .before .before .before .before .before .before .before .before .before .before .before .shared-slice-known .given i); issue = λ i. omega (arith, c .before .before .before .before .before .before .before .before .before .before .before .before .before .before .shared-slice-known2 .given i) })
-            (s .args .q) (s .args .v) _ (s .pre .1) _ _ _ (c .before .before .before .before .before .before .refer-lawful .ensures),
+            (s .args .q) (s .args .v) _ (s .pre .1) _ _ _ (c .before .before .before .before .refer-lawful .ensures .1 _ _ (ready _ _ _ _ _ _ _ (copied-sound _ (s .pre .0 .0) _ _ refl (c .before .before .before .before .before .before .before .before .before .copy-bytes .ensures)) (s .pre .0 .1))),
       ),
+      (_, s .pre .0 .1),
     )
 
 returns : tie.Need-returns
 returns c =
     let s = c .before .before .before .before .before .before .before .before .before .before .before .before .before .before .before .before .before in
-    c .listed-words .ensures ∙
+    c .listed-words .ensures _ (s .pre .0 .1) ∙
     ap (λ (ls : List (List ℕ)). length (wordsOf ls))
     (lists-full _ (s .pre .0 .0) _ _ refl (c .before .before .before .before .before .before .before .before .before .before .copy-bytes .ensures)
     (record { number = λ i. omega (arith, c .before .before .before .before .before .before .before .before .before .before .before .before .before .before .before .before .shared-slice-known .given i); issue = λ i. omega (arith, c .before .before .before .before .before .before .before .before .before .before .before .before .before .before .before .shared-slice-known2 .given i) })
-    (s .args .q) (s .args .v) _ (s .pre .1) _ _ _ (c .before .before .before .before .before .before .before .refer-lawful .ensures))
+    (s .args .q) (s .args .v) _ (s .pre .1) _ _ _ (c .before .before .before .before .before .refer-lawful .ensures .1 _ _ (ready _ _ _ _ _ _ _ (copied-sound _ (s .pre .0 .0) _ _ refl (c .before .before .before .before .before .before .before .before .before .before .copy-bytes .ensures)) (s .pre .0 .1))))
 
 pub referred-words-spec : {M : Type 1} → statement M
 referred-words-spec =

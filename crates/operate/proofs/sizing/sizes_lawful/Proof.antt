@@ -17,7 +17,7 @@ reason-bytes-requires : tie.Need-reason-bytes-requires
 reason-bytes-requires c κs = search needs
 
 returns : tie.Need-returns
-returns c = query-takes _ (c .before .before .before .before .before .before .before .before .before .before .before .before .pre .0) _ _ (c .before .before .before .before .before .before .op .given .1) _ (c .query-words .ensures)
+returns c = query-takes _ (c .before .before .before .before .before .before .before .before .before .before .pre .0) _ _ (c .before .before .before .before .op .given .1) _ (c .query-words .ensures)
 
 returns-2 : tie.Need-returns-2
 returns-2 c = reason-takes _ (c .before .before .before .before .before .before .before .before .pre .0) _ _ (c .before .before .op2 .given .1) _ (c .reason-bytes .ensures)

@@ -16,15 +16,15 @@ use Rattle.reason.proofs.wording.put_link.Reads as put-link-reads
 use Rattle.reason.proofs.explaining.+put_links.{statement}
 use Rattle.reason.proofs.explaining.+put_links.Tie.{close}
 
-abbrev μ-put-links : Measures 10 put-links-kinds.ps ℕ
-μ-put-links κs a = a .1 .1 .1 .1 .1 .1 .1 .1 .1 .1 .1 .0
+abbrev μ-put-links : Measures 8 put-links-kinds.ps ℕ
+μ-put-links κs a = a .1 .1 .1 .1 .1 .1 .1 .1 .1 .0
 
-abbrev put-links-at : ℕ → In 10 put-links-kinds.ps
-put-links-at t = and 10 put-links-kinds.ps (is 10 put-links-kinds.ps μ-put-links t) put-links.Pre
+abbrev put-links-at : ℕ → In 8 put-links-kinds.ps
+put-links-at t = and 8 put-links-kinds.ps (is 8 put-links-kinds.ps μ-put-links t) put-links.Pre
 
-abbrev put-links-below : ℕ → In 10 put-links-kinds.ps
+abbrev put-links-below : ℕ → In 8 put-links-kinds.ps
 put-links-below t =
-    and 10 put-links-kinds.ps (falls 10 put-links-kinds.ps _<_ μ-put-links t) put-links.Pre
+    and 8 put-links-kinds.ps (falls 8 put-links-kinds.ps _<_ μ-put-links t) put-links.Pre
 
 put-links-returns : (t : ℕ) → put-links-lts.Need-returns (
   last-link-reads.Asked,

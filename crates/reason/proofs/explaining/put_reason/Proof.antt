@@ -13,7 +13,7 @@ use Rattle.reason.proofs.explaining.put_reason.Statement.{statement}
 use Rattle.reason.proofs.explaining.put_reason.Tie as tie
 
 load-held-requires : tie.Need-load-held-requires
-load-held-requires c κs = let p = c .before .before .before .before .before .pre in ((p .0 .1, p .0 .3), (p .1 .0, within-all _ _ _))
+load-held-requires c κs = let p = c .before .before .before .before .before .pre in ((p .0 .1, p .0 .3), (_, p .1 .0))
 
 slice-aggregate-put-bytes : tie.Need-slice-aggregate-put-bytes
 slice-aggregate-put-bytes c = search needs
@@ -31,28 +31,30 @@ array-read-n : tie.Need-array-read-n
 array-read-n c = search needs
 
 sub-n : tie.Need-sub-n
-sub-n c = two-up _ _ _ _ (c .before .before .before .before .before .before .before .before .before .load-held .ensures .levels) _ (c .before .before .before .before .before .before .before .before .before .before .before .before .before .before .before .pre .1 .1)
+sub-n c =
+    let p = c .before .before .before .before .before .before .before .before .before .before .before .before .before .before .before .pre in
+    two-up _ _ _ _ (c .before .before .before .before .before .before .before .before .before .load-held .ensures _ (p .1 .0) (within-all _ _ _) .levels) _ (p .1 .1)
 
 put-links-requires : tie.Need-put-links-requires
 put-links-requires c κs =
     let p = c .before .before .before .before .before .before .before .before .before .before .before .before .before .before .before .before .before .before .pre in
-    let f = c .before .before .before .before .before .before .before .before .before .before .before .before .load-held .ensures .levels in
+    let f = c .before .before .before .before .before .before .before .before .before .before .before .before .load-held .ensures _ (p .1 .0) (within-all _ _ _) .levels in
     let n = few-links _ _ _ _ f _ (p .1 .1) (rows-numbered _ _) _ refl in (
       (p .0 .0, n, p .0 .1, p .0 .2, omega (arith, n, spaced-reach-by _ _ _ _ 2 _ (omega arith) (c .before .before .before .before .before .put-spaced .ensures))),
-      ((p .1 .0 .next-is, p .1 .0 .directory), (graded-reload _ _ _ _ (rows-numbered _ _) f, away _ _ _ _ f _ (p .1 .1) _ refl, passed-none _ _ _)),
+      (p .1 .0 .index, (graded-reload _ _ _ _ (rows-numbered _ _) f, away _ _ _ _ f _ (p .1 .1) _ refl, passed-none _ _ _)),
     )
 
 lowest-held-requires : tie.Need-lowest-held-requires
 lowest-held-requires c κs =
     let p = c .before .before .before .before .before .before .before .before .before .before .before .before .before .before .before .before .before .before .before .before .before .pre in
-    let f = c .before .before .before .before .before .before .before .before .before .before .before .before .before .before .before .load-held .ensures .levels in
+    let f = c .before .before .before .before .before .before .before .before .before .before .before .before .before .before .before .load-held .ensures _ (p .1 .0) (within-all _ _ _) .levels in
     let t = c .before .before .put-links .ensures .0 in
     ((root-within _ _ _ _ f _ (p .1 .1) (rows-numbered _ _) _ _ refl t, p .0 .1, p .0 .2, p .0 .3), root-has _ _ _ _ f _ (p .1 .1) (rows-numbered _ _) _ _ refl t)
 
 put-origin-requires : tie.Need-put-origin-requires
 put-origin-requires c κs =
     let p = c .before .before .before .before .before .before .before .before .before .before .before .before .before .before .before .before .before .before .before .before .before .before .before .pre in
-    let f = c .before .before .before .before .before .before .before .before .before .before .before .before .before .before .before .before .before .load-held .ensures .levels in
+    let f = c .before .before .before .before .before .before .before .before .before .before .before .before .before .before .before .before .before .load-held .ensures _ (p .1 .0) (within-all _ _ _) .levels in
     let n = few-links _ _ _ _ f _ (p .1 .1) (rows-numbered _ _) _ refl in
     omega (arith, n, c .before .before .before .before .put-links .ensures .1, spaced-reach-by _ _ _ _ 2 _ (omega arith) (c .before .before .before .before .before .before .before .before .before .before .put-spaced .ensures))
 
@@ -62,7 +64,7 @@ same-length c = search needs
 returns : tie.Need-returns
 returns c =
     let p = c .before .before .before .before .before .before .before .before .before .before .before .before .before .before .before .before .before .before .before .before .before .before .before .before .before .before .pre in
-    let f = c .before .before .before .before .before .before .before .before .before .before .before .before .before .before .before .before .before .before .before .before .load-held .ensures .levels in
+    let f = c .before .before .before .before .before .before .before .before .before .before .before .before .before .before .before .before .before .before .before .before .load-held .ensures _ (p .1 .0) (within-all _ _ _) .levels in
     let t = c .before .before .before .before .before .before .before .put-links .ensures in
     let n = few-links _ _ _ _ f _ (p .1 .1) (rows-numbered _ _) _ refl in (
       sentence-within _ _ _ _ _ n (t .1) (spaced-reach-by _ _ _ _ 2 _ (omega arith) (c .before .before .before .before .before .before .before .before .before .before .before .before .before .put-spaced .ensures)) (reach _ _ _ _ row-word 3 (omega arith) (c .before .before .before .before .before .before .before .before .before .before .before .before .before .before .before .before .before .put-bytes .ensures))

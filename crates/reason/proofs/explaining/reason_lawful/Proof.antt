@@ -2,10 +2,12 @@
 use Prim.Native.Nat.{ℕ}
 use native.Mathlib.Omega.{arith}
 use mathlib.Core.Path.{sym, _∙_}
+use denote.Ref.{now}
 use borrow.Author.Needs.{needs}
 use borrow.Author.Tests.{not-true, not-false}
 use lib.ListN.{length-replicate}
-use Rattle.state.proofs.Arrays.{sized, held-sized}
+use Rattle.state.proofs.Arrays.{sized}
+use Rattle.state.proofs.HeldWords.{words-sized}
 use Rattle.lawful.proofs.Asked.{sound-range, sound-backed, sound-marks, sound-bounded}
 use Rattle.reason.proofs.Replying.{marked-cached, reply-past, reply-unnamed, reply-absent, reply-long, reply-given}
 use Rattle.reason.proofs.explaining.reason_lawful.Statement.{statement}
@@ -38,7 +40,7 @@ put-reason-requires c κs =
         c .before .before .before .before .before .if1 .left,
         sound-range _ e (sized (s .args .design) _ (s .good .0)),
         sound-backed _ e,
-        sound-bounded _ e (held-sized (s .args .held) _ (s .good .1 .1 .1 .1 .1 .1 .1 .1 .1 .1 .0)),
+        sound-bounded _ e (words-sized (now (s .args .held))),
         length-replicate {A = ℕ} 16384 0,
       ),
       (s .pre .1, marked-cached _ e _ (c .before .before .before .before .before .if1 .left) (c .before .if3 .left)),

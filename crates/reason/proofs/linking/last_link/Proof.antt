@@ -19,14 +19,14 @@ use Rattle.reason.proofs.linking.last_link.Statement.{statement}
 use Rattle.reason.proofs.linking.last_link.Tie as tie
 
 abbrev Inv-loop : tie.InvT-loop
-Inv-loop cells issues tables next keys heads starts levels walked₀ r n constraint i₀ i-end walked i =
+Inv-loop cells issues tables catalog keys levels walked₀ r n constraint i₀ i-end walked i =
     (i ≤ i-end) ×
     (any i (λ x. any (databaseOf (cellsIn cells issues) tables .size) (λ s. eqb (level levels s) (suc (suc n)) &&
     leads (databaseOf (cellsIn cells issues) tables) (constraintOf (getD constraint x noConstraint)) s r)) ≡ false) ×
     Passed (databaseOf (cellsIn cells issues) tables) levels (n + 2 + 1) walked
 
 abbrev μ-loop : tie.MeasureT-loop
-μ-loop cells issues tables next keys heads starts levels walked₀ r n constraint i₀ i-end walked i = i-end - i
+μ-loop cells issues tables catalog keys levels walked₀ r n constraint i₀ i-end walked i = i-end - i
 
 loop-holds : tie.Need-loop-holds Inv-loop μ-loop
 loop-holds c = (omega arith, any-start _, passed-as _ _ _ _ _ (omega arith) (c .before .before .before .before .pre .1 .1 .2))

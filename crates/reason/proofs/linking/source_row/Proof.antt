@@ -32,7 +32,7 @@ returns-2 : tie.Need-returns-2
 returns-2 c =
     let p = c .before .before .before .before .before .before .before .before .before .before .before .before .pre in (
       source-none _ _ _ _ _ (p .1 .1 .0) (table-at _ _ _ _ (c .before .before .before .before .before .if1 .left)) _ (cell-at _ _ _ _ (p .0 .5) ∙ sym (ap cellOf (c .before .before .before .cell-at .ensures)))
-          _ (c .before .find .ensures _ (p .1 .0 .1)) (c .if2 .taken),
+          _ (c .before .find .ensures _ (p .1 .0 .directory)) (c .if2 .taken),
       searched-none _ _ _ _ _ (p .1 .1 .2),
     )
 
@@ -51,7 +51,7 @@ element-copy-out-if3 c = let p = c .before .before .before .before .before .befo
 returns-3 : tie.Need-returns-3
 returns-3 c =
     let p = c .before .before .before .before .before .before .before .before .before .before .before .before .before .before .before .pre in
-    let f = c .before .before .before .before .find .ensures _ (p .1 .0 .1) in
+    let f = c .before .before .before .before .find .ensures _ (p .1 .0 .directory) in
     let h = first-hit _ _ _ f .here (c .before .before .before .if2 .left) in (
       passed-again _ _ _ _ _ _ h (p .0 .4) (p .0 .1) _ (p .1 .1 .2) (c .if3 .taken) ∙
           source-same _ _ _ _ _ (p .1 .1 .0) (table-at _ _ _ _ (c .before .before .before .before .before .before .before .before .if1 .left)) _ (cell-at _ _ _ _ (p .0 .5) ∙ sym (ap cellOf (c .before .before .before .before .before .before .cell-at .ensures))),
@@ -62,17 +62,18 @@ element-write-walked : tie.Need-element-write-walked
 element-write-walked c = let p = c .before .before .before .before .before .before .before .before .before .before .before .before .before .before .before .pre .0 in omega (arith, p .4, c .before .before .before .if2 .left)
 
 row-of-level-requires : tie.Need-row-of-level-requires
-row-of-level-requires c κs = let p = c .before .before .before .before .before .before .before .before .before .before .before .before .before .before .before .pre in (p .0 .4, p .1 .0 .0, c .before .before .before .before .find .ensures _ (p .1 .0 .1))
+row-of-level-requires c κs = let p = c .before .before .before .before .before .before .before .before .before .before .before .before .before .before .before .pre in (p .0 .4, (_, p .1 .0 .links))
 
 returns-4 : tie.Need-returns-4
 returns-4 c =
     let p = c .before .before .before .before .before .before .before .before .before .before .before .before .before .before .before .before .pre in
-    let f = c .before .before .before .before .before .find .ensures _ (p .1 .0 .1) in
+    let f = c .before .before .before .before .before .find .ensures _ (p .1 .0 .directory) in
     let h = first-hit _ _ _ f .here (c .before .before .before .before .if2 .left) in
     let t = table-at _ _ _ _ (c .before .before .before .before .before .before .before .before .before .if1 .left) in
-    let v = cell-at _ _ _ _ (p .0 .5) ∙ sym (ap cellOf (c .before .before .before .before .before .before .before .cell-at .ensures)) in (
-      c .row-of-level .ensures ∙ source-same _ _ _ _ _ (p .1 .1 .0) t _ v,
-      passed-source _ _ _ _ _ (p .1 .1 .0) t _ v (p .1 .1 .1) _ h (p .0 .4) (p .0 .1) _ (p .1 .1 .2) (rows-numbered _ _) _ (c .row-of-level .ensures),
+    let v = cell-at _ _ _ _ (p .0 .5) ∙ sym (ap cellOf (c .before .before .before .before .before .before .before .cell-at .ensures)) in
+    let e = c .row-of-level .ensures _ (p .1 .0 .links) _ f in (
+      e ∙ source-same _ _ _ _ _ (p .1 .1 .0) t _ v,
+      passed-source _ _ _ _ _ (p .1 .1 .0) t _ v (p .1 .1 .1) _ h (p .0 .4) (p .0 .1) _ (p .1 .1 .2) (rows-numbered _ _) _ e,
     )
 
 pub source-row-spec : {M : Type 1} → statement M

@@ -30,15 +30,15 @@ same-length-6 : tie.Need-same-length-6
 same-length-6 c = search needs
 
 returns : tie.Need-returns
-returns c = refused-probed _ _ _ _ (c .before .before .before .before .before .before .before .before .before .before .before .before .before .before .before .before .before .run-catalogued .ensures .0) _ _ (c .before .verdict .given .1) _ _
+returns c = refused-probed _ _ _ _ _ _ (c .before .before .before .before .before .before .before .before .before .before .before .before .before .before .before .before .run-catalogued .ensures .0) _ _ (c .before .verdict .given .1) _ _
 
 enum-told : tie.Need-enum-told
 enum-told c = search needs
 
 probe-lawful-requires : tie.Need-probe-lawful-requires
 probe-lawful-requires c κs =
-    let k = c .before .before .before .before .before .before .before .before .before .before .before .before .before .before .before .before .before .before .before .before .before .before .before .before .run-catalogued .ensures .1 _ (c .before .before .before .before .before .before .before .before .enum-told .given .1) in
-    (behind-sound _ _ _ _ (c .before .before .before .before .before .before .before .before .before .before .before .before .before .before .before .before .before .before .before .before .before .before .before .before .run-catalogued .ensures .0) _ (c .before .before .before .before .before .before .before .before .enum-told .given .1), (k .next-is, k .directory))
+    let k = c .before .before .before .before .before .before .before .before .before .before .before .before .before .before .before .before .before .before .before .run-catalogued .ensures .1 _ (c .before .before .before .before .enum-told .given .1) in
+    (_, _, behind-sound _ _ _ _ _ _ (c .before .before .before .before .before .before .before .before .before .before .before .before .before .before .before .before .before .before .before .run-catalogued .ensures .0) _ (c .before .before .before .before .enum-told .given .1), k .index)
 
 same-length-7 : tie.Need-same-length-7
 same-length-7 c = search needs
@@ -60,8 +60,9 @@ same-length-12 c = search needs
 
 returns-2 : tie.Need-returns-2
 returns-2 c =
-    accepted-probed _ _ _ _ (c .before .before .before .before .before .before .before .before .before .before .before .before .before .before .before .before .before .before .before .before .before .before .before .before .before .run-catalogued .ensures .0) _ (c .before .before .before .before .before .before .before .before .before .enum-told .given .1) (record { at = λ j. omega (arith, c .before .before .before .before .before .before .before .before .before .before .before .before .before .before .before .before .before .before .before .before .before .before .before .before .before .before .before .before .before .before .before .before .before .before .before .before .before .before .before .before .before .before .before .shared-slice-known .given j) }) _ _
-    (cell-fits (c .before .before .before .before .before .before .before .before .before .before .before .before .before .before .before .before .before .before .before .before .before .before .before .before .before .before .before .before .before .before .before .before .before .before .before .before .before .before .before .before .before .before .before .before .args .v) _ (c .before .before .before .before .before .before .before .before .before .before .before .before .before .before .before .before .before .before .before .before .before .before .before .before .before .before .before .before .before .before .before .before .before .before .before .before .before .before .before .before .before .before .before .before .good .1 .1 .1 .1 .1 .1 .1 .1 .0)) _ (c .probe-lawful .ensures)
+    accepted-probed _ _ _ _ _ _ (c .before .before .before .before .before .before .before .before .before .before .before .before .before .before .before .before .before .before .before .before .run-catalogued .ensures .0) _ (c .before .before .before .before .before .enum-told .given .1) (record { at = λ j. omega (arith, c .before .before .before .before .before .before .before .before .before .before .before .before .before .before .before .before .before .before .before .before .before .before .before .before .before .before .before .before .before .before .before .before .before .before .before .before .shared-slice-known .given j) }) _ _
+    (cell-fits (c .before .before .before .before .before .before .before .before .before .before .before .before .before .before .before .before .before .before .before .before .before .before .before .before .before .before .before .before .before .before .before .before .before .before .before .before .before .args .v) _ (c .before .before .before .before .before .before .before .before .before .before .before .before .before .before .before .before .before .before .before .before .before .before .before .before .before .before .before .before .before .before .before .before .before .before .before .before .before .good .1 .1 .1 .1 .1 .1 .1 .1 .1 .0)) _
+    (c .probe-lawful .ensures _ _ (behind-sound _ _ _ _ _ _ (c .before .before .before .before .before .before .before .before .before .before .before .before .before .before .before .before .before .before .before .before .run-catalogued .ensures .0) _ (c .before .before .before .before .before .enum-told .given .1)) (c .before .before .before .before .before .before .before .before .before .before .before .before .before .before .before .before .before .before .before .before .run-catalogued .ensures .1 _ (c .before .before .before .before .before .enum-told .given .1) .index))
 
 pub probe-after-spec : {M : Type 1} → statement M
 probe-after-spec =

@@ -25,9 +25,9 @@ sizes-lawful-requires c κs = search needs
 
 returns-3 : tie.Need-returns-3
 returns-3 c =
-    let l = c .before .before .before .before .before .before .before .before .before .if1 .left in
-    let h = c .before .before .before .before .before .before .before .before .command-at .ensures in
-    let k = c .before .before .before .before .before .before .command .given .1 in
+    let l = c .before .before .before .before .before .before .before .if1 .left in
+    let h = c .before .before .before .before .before .before .command-at .ensures in
+    let k = c .before .before .before .before .command .given .1 in
     let z = c .sizes-lawful .ensures in
     (z .0 ∙ sym (operation-takes _ _ _ l _ h _ k), z .1 ∙ sym (operation-takes _ _ _ l _ h _ k))
 

@@ -14,7 +14,6 @@ returns c =
       place = c .place-of .ensures i;
       next = c .before .args .after;
       more = true;
-      held = c .before .args .held;
     }
 
 pub answering-spec : {M : Type 1} → statement M

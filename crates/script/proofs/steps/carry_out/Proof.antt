@@ -17,7 +17,7 @@ enum-known-command-2 : tie.Need-enum-known-command-2
 enum-known-command-2 c = search needs
 
 put-at-requires : tie.Need-put-at-requires
-put-at-requires c κs = (c .before .before .before .before .before .before .before .before .before .before .before .before .before .before .before .before .before .before .before .pre .0, put-whole _ _ _ _ (sym (c .before .before .before .before .before .before .before .before .before .before .command2 .given .1) ∙ c .before .before .before .before .before .before .before .before .before .before .before .before .before .before .before .before .before .before .before .pre .1))
+put-at-requires c κs = ((c .before .before .before .before .before .before .before .before .before .before .before .before .before .before .before .before .before .pre .0 .0, c .before .before .before .before .before .before .before .before .before .before .before .before .before .before .before .before .before .pre .0 .1), put-whole _ _ _ _ (sym (c .before .before .before .before .before .before .before .before .command2 .given .1) ∙ c .before .before .before .before .before .before .before .before .before .before .before .before .before .before .before .before .before .pre .1))
 
 enum-known-command-3 : tie.Need-enum-known-command-3
 enum-known-command-3 c = search needs
@@ -90,7 +90,7 @@ same-length-6 c = search needs
 
 returns : tie.Need-returns
 unfolding carried
-returns c = (in-case _ _ _ _ _ _ _ _ _ _ (c .before .before .before .before .before .before .before .before .before .before .before .before .before .before .before .before .before .before .before .before .before .before .before .command .given .1) (c .before .before .before .before .before .before .operate-at .ensures), c .before .before .before .before .before .before .before .before .before .before .before .before .before .before .before .before .before .before .before .before .before .before .before .before .before .before .before .before .before .before .before .before .pre .0 .1)
+returns c = (in-case _ _ _ _ _ _ _ _ _ _ (c .before .before .before .before .before .before .before .before .before .before .before .before .before .before .before .before .before .before .before .command .given .1) (c .before .before .before .before .before .before .operate-at .ensures .0), (c .before .before .before .before .before .before .before .before .before .before .before .before .before .before .before .before .before .before .before .before .before .before .before .before .before .before .before .before .pre .0 .1, c .before .before .before .before .before .before .operate-at .ensures .1))
 
 same-length-7 : tie.Need-same-length-7
 same-length-7 c = search needs
@@ -106,7 +106,7 @@ same-length-10 c = search needs
 
 returns-2 : tie.Need-returns-2
 unfolding carried
-returns-2 c = (in-case _ _ _ _ _ _ _ _ _ _ (c .before .before .before .before .before .before .before .before .before .before .before .before .before .before .before .before .before .before .before .command2 .given .1) (c .before .before .before .before .before .before .before .before .put-at .ensures .0 _), c .before .before .before .before .before .before .before .before .put-at .ensures .1)
+returns-2 c = (in-case _ _ _ _ _ _ _ _ _ _ (c .before .before .before .before .before .before .before .before .before .before .before .before .before .before .before .before .before .command2 .given .1) (c .before .before .before .before .before .before .before .before .put-at .ensures .0 _), (c .before .before .before .before .before .before .before .before .put-at .ensures .1, c .before .before .before .before .before .before .before .before .before .before .before .before .before .before .before .before .before .before .before .before .before .before .before .before .before .before .pre .0 .2))
 
 same-length-11 : tie.Need-same-length-11
 same-length-11 c = search needs
@@ -122,38 +122,38 @@ same-length-14 c = search needs
 
 returns-3 : tie.Need-returns-3
 unfolding carried
-returns-3 c = (in-case _ _ _ _ _ _ _ _ _ _ (c .before .before .before .before .before .before .before .before .before .before .before .before .before .before .before .before .before .before .before .command3 .given .1) (c .before .before .before .before .before .before .before .before .remove-at .ensures .0 _), c .before .before .before .before .before .before .before .before .remove-at .ensures .1)
+returns-3 c = (in-case _ _ _ _ _ _ _ _ _ _ (c .before .before .before .before .before .before .before .before .before .before .before .before .before .before .before .before .before .command3 .given .1) (c .before .before .before .before .before .before .before .before .remove-at .ensures .0 _), (c .before .before .before .before .before .before .before .before .remove-at .ensures .1, c .before .before .before .before .before .before .before .before .before .before .before .before .before .before .before .before .before .before .before .before .before .before .before .before .before .before .pre .0 .2))
 
 returns-4 : tie.Need-returns-4
 unfolding carried
-returns-4 c = (in-case _ _ _ _ _ _ _ _ _ _ (c .before .enum-told .given .1) (refusing-does _ _ _ _ _ _ _ (c .refusing .ensures)), c .before .before .before .before .before .before .before .before .before .before .pre .0 .1)
+returns-4 c = (in-case _ _ _ _ _ _ _ _ _ _ (c .before .enum-told .given .1) (refusing-does _ _ _ _ _ _ _ (c .refusing .ensures)), (c .before .before .before .before .before .before .before .before .before .before .pre .0 .1, c .before .before .before .before .before .before .before .before .before .before .pre .0 .2))
 
 returns-5 : tie.Need-returns-5
 unfolding carried
-returns-5 c = (in-case _ _ _ _ _ _ _ _ _ _ (c .before .enum-told2 .given .1) (refusing-does _ _ _ _ _ _ _ (c .refusing2 .ensures)), c .before .before .before .before .before .before .before .before .before .before .pre .0 .1)
+returns-5 c = (in-case _ _ _ _ _ _ _ _ _ _ (c .before .enum-told2 .given .1) (refusing-does _ _ _ _ _ _ _ (c .refusing2 .ensures)), (c .before .before .before .before .before .before .before .before .before .before .pre .0 .1, c .before .before .before .before .before .before .before .before .before .before .pre .0 .2))
 
 returns-6 : tie.Need-returns-6
 unfolding carried
-returns-6 c = (in-case _ _ _ _ _ _ _ _ _ _ (c .before .enum-told3 .given .1) (refusing-does _ _ _ _ _ _ _ (c .refusing3 .ensures)), c .before .before .before .before .before .before .before .before .before .before .pre .0 .1)
+returns-6 c = (in-case _ _ _ _ _ _ _ _ _ _ (c .before .enum-told3 .given .1) (refusing-does _ _ _ _ _ _ _ (c .refusing3 .ensures)), (c .before .before .before .before .before .before .before .before .before .before .pre .0 .1, c .before .before .before .before .before .before .before .before .before .before .pre .0 .2))
 
 returns-7 : tie.Need-returns-7
 unfolding carried
-returns-7 c = (in-case _ _ _ _ _ _ _ _ _ _ (c .before .enum-told4 .given .1) (refusing-does _ _ _ _ _ _ _ (c .refusing4 .ensures)), c .before .before .before .before .before .before .before .before .before .before .pre .0 .1)
+returns-7 c = (in-case _ _ _ _ _ _ _ _ _ _ (c .before .enum-told4 .given .1) (refusing-does _ _ _ _ _ _ _ (c .refusing4 .ensures)), (c .before .before .before .before .before .before .before .before .before .before .pre .0 .1, c .before .before .before .before .before .before .before .before .before .before .pre .0 .2))
 
 returns-8 : tie.Need-returns-8
 unfolding carried
-returns-8 c = (in-case _ _ _ _ _ _ _ _ _ _ (c .before .enum-told5 .given .1) (refusing-does _ _ _ _ _ _ _ (c .refusing5 .ensures)), c .before .before .before .before .before .before .before .before .before .before .pre .0 .1)
+returns-8 c = (in-case _ _ _ _ _ _ _ _ _ _ (c .before .enum-told5 .given .1) (refusing-does _ _ _ _ _ _ _ (c .refusing5 .ensures)), (c .before .before .before .before .before .before .before .before .before .before .pre .0 .1, c .before .before .before .before .before .before .before .before .before .before .pre .0 .2))
 
 returns-9 : tie.Need-returns-9
 unfolding carried
-returns-9 c = (in-case _ _ _ _ _ _ _ _ _ _ (c .before .enum-told6 .given .1) (refusing-does _ _ _ _ _ _ _ (c .refusing6 .ensures)), c .before .before .before .before .before .before .before .before .before .before .pre .0 .1)
+returns-9 c = (in-case _ _ _ _ _ _ _ _ _ _ (c .before .enum-told6 .given .1) (refusing-does _ _ _ _ _ _ _ (c .refusing6 .ensures)), (c .before .before .before .before .before .before .before .before .before .before .pre .0 .1, c .before .before .before .before .before .before .before .before .before .before .pre .0 .2))
 
 returns-10 : tie.Need-returns-10
 unfolding carried
 returns-10 c = (
   in-case _ _ _ _ _ _ _ _ _ _ (c .before .before .enum-told7 .given .1)
-      (refusing-does _ _ _ _ _ _ _ (placed _ _ _ _ _ _ _ (c .refusing7 .ensures) (c .before .lower .ensures))),
-  c .before .before .before .before .before .before .before .before .before .before .before .pre .0 .1,
+      (refusing-does _ _ _ _ _ _ _ (placed _ _ _ _ _ _ (c .refusing7 .ensures) (c .before .lower .ensures))),
+  (c .before .before .before .before .before .before .before .before .before .before .before .pre .0 .1, c .before .before .before .before .before .before .before .before .before .before .before .pre .0 .2),
 )
 
 pub carry-out-spec : {M : Type 1} → statement M

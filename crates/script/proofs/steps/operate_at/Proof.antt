@@ -20,7 +20,7 @@ same-length-3 : tie.Need-same-length-3
 same-length-3 c = search needs
 
 returns : tie.Need-returns
-returns c = operated-does _ _ _ _ _ _ _ _ _ (c .before .before .before .before .before .before .before .before .perform-lawful .ensures) _ (c .answering .ensures)
+returns c = (operated-does _ _ _ _ _ _ _ _ _ (c .before .before .before .before .before .before .before .perform-lawful .ensures .0) _ (c .answering .ensures), c .before .before .before .before .before .before .before .perform-lawful .ensures .1)
 
 pub operate-at-spec : {M : Type 1} → statement M
 operate-at-spec = tie.close (tie.spec perform-lawful-requires answering-requires same-length same-length-2 same-length-3 returns)

@@ -27,7 +27,7 @@ same-length-4 c = search needs
 
 returns : tie.Need-returns
 returns c = (
-  λ out. changed-does _ _ _ _ _ _ _ _ (put-changed _ _ _ _ (c .before .before .before .before .before .before .before .before .before .before .before .before .before .before .before .before .before .before .before .row-at .ensures) _ _ (c .before .before .before .before .before .before .before .before .before .put-lawful .ensures .0)) _ (c .answering .ensures) out,
+  λ out. changed-does _ _ _ _ _ _ _ _ (put-changed _ _ _ _ (c .before .before .before .before .before .before .before .before .before .before .before .before .before .before .before .before .row-at .ensures) _ _ (c .before .before .before .before .before .before .before .before .before .put-lawful .ensures .0)) _ (c .answering .ensures) out,
   c .before .before .before .before .before .before .before .before .before .put-lawful .ensures .1,
 )
 

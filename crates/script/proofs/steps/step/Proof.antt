@@ -1,7 +1,8 @@
 -- `script::steps::step` meets its contract: causes 7 and 12, then the step on a sound state. Assumes nothing.
 use mathlib.Core.Path.{sym, _∙_}
-use Rattle.lawful.proofs.SoundState.{cause-none}
-use Rattle.script.proofs.StepCode.{caused-does}
+use Rattle.state.proofs.HeldWords.{whole-words}
+use Rattle.cache.proofs.CauseWords.{cause-clear}
+use Rattle.script.proofs.StepCode.{caused-words, done-words}
 use borrow.Author.Needs.{needs}
 use Rattle.script.proofs.steps.step.Statement.{statement}
 use Rattle.script.proofs.steps.step.Tie as tie
@@ -25,13 +26,14 @@ same-length-4 : tie.Need-same-length-4
 same-length-4 c = search needs
 
 returns : tie.Need-returns
-returns c = caused-does _ _ _ _ _ (c .before .before .cause .ensures .0) (c .before .if1 .taken) _ (c .refusing .ensures)
+returns c = caused-words _ _ _ _ _ _ (c .before .before .before .before .before .before .before .before .before .before .before .before .before .before .before .before .before .pre) (c .before .before .cause .ensures .0) (c .before .if1 .taken) _ (c .refusing .ensures)
 
 step-lawful-requires : tie.Need-step-lawful-requires
 step-lawful-requires c κs =
-    let z = c .before .before .before .before .before .before .before .before .before .before .before .before .before .before .before .if1 .left in
-    let e = c .before .before .before .before .before .before .before .before .before .before .before .before .before .before .before .before .cause .ensures in
-    (cause-none _ (sym (e .0) ∙ z), e .1 z)
+    let z = c .before .before .before .before .before .before .before .before .before .before .before .if1 .left in
+    let e = c .before .before .before .before .before .before .before .before .before .before .before .before .cause .ensures in
+    let k = cause-clear _ _ (sym (e .0) ∙ z) in
+    (k .0, e .1 z, whole-words _ (c .before .before .before .before .before .before .before .before .before .before .before .before .before .before .before .before .before .before .before .before .before .before .before .before .before .before .before .pre) (k .1))
 
 same-length-5 : tie.Need-same-length-5
 same-length-5 c = search needs
@@ -52,7 +54,7 @@ same-length-10 : tie.Need-same-length-10
 same-length-10 c = search needs
 
 returns-2 : tie.Need-returns-2
-returns-2 c = c .before .before .before .before .before .before .before .before .before .before .before .before .step-lawful .ensures .0
+returns-2 c = done-words _ _ _ _ _ _ (c .before .before .before .before .before .before .before .before .before .before .before .before .before .before .before .before .before .before .before .before .before .before .before .before .before .cause .ensures .0) (c .before .before .before .before .before .before .before .before .before .before .before .before .before .before .before .before .before .before .before .before .before .before .before .before .if1 .left) _ _ _ _ (c .before .before .before .before .before .before .before .before .before .before .before .before .step-lawful .ensures .0) (c .before .before .before .before .before .before .before .before .before .before .before .before .step-lawful .ensures .1 .1)
 
 pub step-spec : {M : Type 1} → statement M
 step-spec =

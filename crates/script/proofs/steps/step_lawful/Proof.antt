@@ -11,7 +11,7 @@ refusing-requires c κs = search needs
 returns : tie.Need-returns
 returns c = (
   step-case _ _ _ _ _ (step-overlong _ _ _ _ (c .before .before .before .before .before .before .before .before .before .pre .0) (c .before .if1 .taken)) (refusing-does _ _ _ _ _ _ _ (c .refusing .ensures)),
-  c .before .before .before .before .before .before .before .before .before .pre .1,
+  (c .before .before .before .before .before .before .before .before .before .pre .1, c .before .before .before .before .before .before .before .before .before .pre .2),
 )
 
 place-after-requires : tie.Need-place-after-requires
@@ -21,7 +21,7 @@ command-at-requires : tie.Need-command-at-requires
 command-at-requires c κs = search needs
 
 carry-out-requires : tie.Need-carry-out-requires
-carry-out-requires c κs = (c .before .before .before .before .before .before .before .before .before .before .before .before .before .before .before .before .before .before .before .before .before .before .before .before .before .pre, c .before .before .before .before .before .before .before .before .before .before .before .before .before .before .before .command-at .ensures)
+carry-out-requires c κs = (c .before .before .before .before .before .before .before .before .before .before .before .before .before .before .before .before .before .before .before .before .before .pre, c .before .before .before .before .before .before .before .before .before .before .before .command-at .ensures)
 
 same-length : tie.Need-same-length
 same-length c = search needs
@@ -43,7 +43,7 @@ same-length-6 c = search needs
 
 returns-2 : tie.Need-returns-2
 returns-2 c = (
-  step-is _ (c .before .before .before .before .before .before .before .before .before .before .before .before .before .before .before .before .before .before .before .before .before .before .before .before .before .before .before .before .before .before .before .before .before .before .before .before .before .before .pre .0) _ _ _ (c .before .before .before .before .before .before .before .before .before .before .before .before .before .before .before .before .before .before .before .before .before .before .before .before .before .before .before .before .before .before .if1 .left) _ (c .before .before .before .before .before .before .before .before .before .before .before .before .before .before .before .before .before .before .before .before .before .before .before .before .before .before .before .before .before .place-after .ensures) _ (c .before .before .before .before .before .before .before .before .before .before .before .before .before .before .before .before .before .before .before .before .before .before .before .before .before .before .before .before .command-at .ensures) _ _ _ (c .before .before .before .before .before .before .before .before .before .before .before .before .carry-out .ensures .0),
+  step-is _ (c .before .before .before .before .before .before .before .before .before .before .before .before .before .before .before .before .before .before .before .before .before .before .before .before .before .before .before .before .before .before .before .before .before .before .pre .0) _ _ _ (c .before .before .before .before .before .before .before .before .before .before .before .before .before .before .before .before .before .before .before .before .before .before .before .before .before .before .if1 .left) _ (c .before .before .before .before .before .before .before .before .before .before .before .before .before .before .before .before .before .before .before .before .before .before .before .before .before .place-after .ensures) _ (c .before .before .before .before .before .before .before .before .before .before .before .before .before .before .before .before .before .before .before .before .before .before .before .before .command-at .ensures) _ _ _ (c .before .before .before .before .before .before .before .before .before .before .before .before .carry-out .ensures .0),
   c .before .before .before .before .before .before .before .before .before .before .before .before .carry-out .ensures .1,
 )
 

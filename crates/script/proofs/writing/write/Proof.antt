@@ -5,8 +5,8 @@ use borrow.Author.Needs.{needs}
 use denote.Ref.{now}
 use Rattle.state.proofs.Arrays.{sized}
 use Rattle.lawful.proofs.Asked.{sound-range, sound-backed}
-use Rattle.lawful.proofs.SoundState.{cause-none}
-use Rattle.script.proofs.WritingCases.{caused-writes, cramped-writes, stored-writes}
+use Rattle.cache.proofs.CauseWords.{cause-clear}
+use Rattle.script.proofs.WritingCases.{caused-words, writes-words, cramped-writes, stored-writes}
 use Rattle.script.proofs.writing.write.Statement.{statement}
 use Rattle.script.proofs.writing.write.Tie as tie
 
@@ -14,26 +14,24 @@ cause-requires : tie.Need-cause-requires
 cause-requires c κs = search needs
 
 returns : tie.Need-returns
-returns c = caused-writes _ _ _ (c .before .cause .ensures .0) (c .if1 .taken)
+returns c = caused-words _ _ _ _ (c .before .cause .ensures .0) (c .if1 .taken)
 
 design-length-requires : tie.Need-design-length-requires
 design-length-requires c κs =
-    let s = c .before .before .before .before .before .before .before .before .before .before .before .before in
-    let e = cause-none _ (sym (c .before .cause .ensures .0) ∙ c .if1 .left) in
+    let s = c .before .before .before .before .before .before .before .before .before in
+    let e = cause-clear _ _ (sym (c .before .cause .ensures .0) ∙ c .if1 .left) .0 in
     (sound-range _ e (sized (s .args .design) _ (s .good .0)), sound-backed _ e .issued, sound-backed _ e .members)
 
 returns-2 : tie.Need-returns-2
 returns-2 c =
-    let k = c .before .before in
-    let s = k .before .before .before .before .before .before .before .before .before .before .before .before in
-    cramped-writes _ _ (cause-none _ (sym (k .before .cause .ensures .0) ∙ k .if1 .left))
-    (omega (arith, c .before .design-length .ensures (now (s .args .cells))))
+    let s = c .before .before .before .before .before .before .before .before .before .before .before in
+    let x = cause-clear _ _ (sym (c .before .before .before .cause .ensures .0) ∙ c .before .before .if1 .left) in
+    writes-words _ _ _ (x .1) _ _ (cramped-writes _ _ (x .0) (omega (arith, c .before .design-length .ensures (now (s .args .cells)))))
 
 write-design-requires : tie.Need-write-design-requires
 write-design-requires c κs =
-    let k = c .before .before .before in
-    let s = k .before .before .before .before .before .before .before .before .before .before .before .before in
-    let e = cause-none _ (sym (k .before .cause .ensures .0) ∙ k .if1 .left) in (
+    let s = c .before .before .before .before .before .before .before .before .before .before .before .before in
+    let e = cause-clear _ _ (sym (c .before .before .before .before .cause .ensures .0) ∙ c .before .before .before .if1 .left) .0 in (
       sound-range _ e (sized (s .args .design) _ (s .good .0)),
       sound-backed _ e,
       omega (arith, c .before .before .design-length .ensures (now (s .args .cells))),
@@ -44,12 +42,11 @@ same-length c = search needs
 
 returns-3 : tie.Need-returns-3
 returns-3 c =
-    let n = c .before .before .before .before .before in
-    let k = n .before in
-    let s = k .before .before .before .before .before .before .before .before .before .before .before .before in
-    stored-writes _ _ (cause-none _ (sym (k .before .cause .ensures .0) ∙ k .if1 .left))
-    (omega (arith, n .design-length .ensures (now (s .args .cells)))) _ _
-    (n .design-length .ensures _) (c .before .before .write-design .ensures .1)
+    let s = c .before .before .before .before .before .before .before .before .before .before .before .before .before .before .before in
+    let x = cause-clear _ _ (sym (c .before .before .before .before .before .before .before .cause .ensures .0) ∙ c .before .before .before .before .before .before .if1 .left) in
+    writes-words _ _ _ (x .1) _ _
+    (stored-writes _ _ (x .0) (omega (arith, c .before .before .before .before .before .design-length .ensures (now (s .args .cells)))) _ _
+    (c .before .before .before .before .before .design-length .ensures _) (c .before .before .write-design .ensures .1))
 
 pub write-spec : {M : Type 1} → statement M
 write-spec = tie.close (tie.spec cause-requires returns design-length-requires returns-2 write-design-requires same-length returns-3)
