@@ -114,31 +114,31 @@ struct wurzsige_sizes {
 /* ---- the proved functions, which take each part of a desk by itself: a buffer as a pointer and a length, an array of a fixed length as a pointer ---- */
 
 uint8_t wurzsige_parts_open(const uint8_t *script, size_t script_length, uint32_t *cells, size_t cells_length, uint8_t *issues, size_t issues_length,
-    uint8_t *tables, size_t tables_length, uint16_t *catalog, uint64_t *keys, uint8_t *marks, size_t marks_length, uint32_t *design, size_t
-    design_length, uint32_t *held, size_t held_length, uint64_t *numbers, uint8_t *count, size_t *place, size_t *after, uint8_t *more);
+    uint8_t *tables, size_t tables_length, uint16_t *catalog, uint64_t *keys, uint8_t *marks, size_t marks_length, uint32_t *design,
+    size_t design_length, uint32_t *held, size_t held_length, uint64_t *numbers, uint8_t *count, size_t *place, size_t *after, uint8_t *more);
 
-uint8_t wurzsige_parts_step(const uint8_t *script, size_t script_length, size_t at, uint32_t *cells, size_t cells_length, uint8_t *issues, size_t
-    issues_length, uint8_t *tables, size_t tables_length, uint16_t *catalog, uint64_t *keys, uint8_t *marks, size_t marks_length, const uint32_t
-    *design, size_t design_length, uint32_t *held, size_t held_length, uint32_t *words, size_t words_length, uint8_t *text, size_t text_length,
-    uint64_t *numbers, uint8_t *count, size_t *place, size_t *after, uint8_t *more);
+uint8_t wurzsige_parts_step(const uint8_t *script, size_t script_length, size_t at, uint32_t *cells, size_t cells_length, uint8_t *issues,
+    size_t issues_length, uint8_t *tables, size_t tables_length, uint16_t *catalog, uint64_t *keys, uint8_t *marks, size_t marks_length,
+    const uint32_t *design, size_t design_length, uint32_t *held, size_t held_length, uint32_t *words, size_t words_length, uint8_t *text,
+    size_t text_length, uint64_t *numbers, uint8_t *count, size_t *place, size_t *after, uint8_t *more);
 
 uint8_t wurzsige_parts_step_trusted(const uint8_t *script, size_t script_length, size_t at, uint32_t *cells, size_t cells_length, uint8_t *issues,
-    size_t issues_length, uint8_t *tables, size_t tables_length, uint16_t *catalog, uint64_t *keys, uint8_t *marks, size_t marks_length, const
-    uint32_t *design, size_t design_length, uint32_t *held, uint32_t *words, size_t words_length, uint8_t *text, size_t text_length, uint64_t *counts,
-    uint16_t *places, uint64_t *numbers, uint8_t *count, size_t *place, size_t *after, uint8_t *more);
+    size_t issues_length, uint8_t *tables, size_t tables_length, uint16_t *catalog, uint64_t *keys, uint8_t *marks, size_t marks_length,
+    const uint32_t *design, size_t design_length, uint32_t *held, uint32_t *words, size_t words_length, uint8_t *text, size_t text_length,
+    uint64_t *counts, uint16_t *places, uint64_t *numbers, uint8_t *count, size_t *place, size_t *after, uint8_t *more);
 
-void wurzsige_parts_run_trusted(const uint8_t *script, size_t script_length, size_t at, uint32_t *cells, size_t cells_length, uint8_t *issues, size_t
-    issues_length, uint8_t *tables, size_t tables_length, uint16_t *catalog, uint64_t *keys, uint8_t *marks, size_t marks_length, const uint32_t
-    *design, size_t design_length, uint32_t *held, uint32_t *words, size_t words_length, uint8_t *text, size_t text_length, uint64_t *counts, uint16_t
-    *places);
+void wurzsige_parts_run_trusted(const uint8_t *script, size_t script_length, size_t at, uint32_t *cells, size_t cells_length, uint8_t *issues,
+    size_t issues_length, uint8_t *tables, size_t tables_length, uint16_t *catalog, uint64_t *keys, uint8_t *marks, size_t marks_length,
+    const uint32_t *design, size_t design_length, uint32_t *held, uint32_t *words, size_t words_length, uint8_t *text, size_t text_length,
+    uint64_t *counts, uint16_t *places);
 
-uint8_t wurzsige_parts_write(const uint32_t *cells, size_t cells_length, const uint8_t *issues, size_t issues_length, const uint8_t *tables, size_t
-    tables_length, const uint8_t *marks, size_t marks_length, const uint32_t *design, size_t design_length, const uint32_t *held, size_t held_length,
-    uint8_t *out, size_t out_length, size_t *written);
+uint8_t wurzsige_parts_write(const uint32_t *cells, size_t cells_length, const uint8_t *issues, size_t issues_length, const uint8_t *tables,
+    size_t tables_length, const uint8_t *marks, size_t marks_length, const uint32_t *design, size_t design_length, const uint32_t *held,
+    size_t held_length, uint8_t *out, size_t out_length, size_t *written);
 
-uint8_t wurzsige_parts_sizes(const uint8_t *script, size_t script_length, size_t at, const uint32_t *cells, size_t cells_length, const uint8_t
-    *issues, size_t issues_length, const uint8_t *tables, size_t tables_length, const uint8_t *marks, size_t marks_length, const uint32_t *design,
-    size_t design_length, const uint32_t *held, size_t held_length, uint64_t *sizes);
+uint8_t wurzsige_parts_sizes(const uint8_t *script, size_t script_length, size_t at, const uint32_t *cells, size_t cells_length,
+    const uint8_t *issues, size_t issues_length, const uint8_t *tables, size_t tables_length, const uint8_t *marks, size_t marks_length,
+    const uint32_t *design, size_t design_length, const uint32_t *held, size_t held_length, uint64_t *sizes);
 
 /* ---- the same on a desk ---- */
 
@@ -191,8 +191,8 @@ static inline void wurzsige_run_trusted(struct wurzsige *desk, const uint8_t *sc
     uint32_t no_word = 0;
     uint8_t no_text = 0;
     wurzsige_parts_run_trusted(script ? script : &nothing, script ? length : 0, at, desk->cells, WURZSIGE_CELLS, desk->issues, WURZSIGE_CELLS,
-        desk->tables, WURZSIGE_ROWS, desk->catalog, desk->keys, desk->marks, WURZSIGE_ROWS, desk->design, WURZSIGE_DESIGN_WORDS, desk->held, words ?
-        words : &no_word, words ? words_length : 0, text ? text : &no_text, text ? text_length : 0, desk->counts, desk->places);
+        desk->tables, WURZSIGE_ROWS, desk->catalog, desk->keys, desk->marks, WURZSIGE_ROWS, desk->design, WURZSIGE_DESIGN_WORDS, desk->held,
+        words ? words : &no_word, words ? words_length : 0, text ? text : &no_text, text ? text_length : 0, desk->counts, desk->places);
 }
 
 /*
