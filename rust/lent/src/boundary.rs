@@ -5,7 +5,7 @@
 #![allow(unsafe_code)]
 
 use reference::lent::Told;
-use wurzsige_sys::{parts, NUMBERS, WORKING};
+use wurzsige_sys::{parts, HELD_WORDS, NUMBERS, WORKING};
 
 use crate::library::Library;
 use crate::memory::{Fenced, Memory};
@@ -139,7 +139,7 @@ impl Library for Proved {
             wurzsige_parts_step_trusted(script.as_ptr(), script.len(), at),
             memory,
             (
-                array(&mut memory.held),
+                record(&mut memory.held),
                 memory.words.lent_mut().as_mut_ptr(),
                 memory.words.length(),
                 memory.text.lent_mut().as_mut_ptr(),
@@ -156,7 +156,7 @@ impl Library for Proved {
             wurzsige_parts_run_trusted(script.as_ptr(), script.len(), at),
             memory,
             (
-                array(&mut memory.held),
+                record(&mut memory.held),
                 memory.words.lent_mut().as_mut_ptr(),
                 memory.words.length(),
                 memory.text.lent_mut().as_mut_ptr(),
@@ -192,6 +192,13 @@ impl Library for Proved {
 fn array<T: Copy + From<u8>, const LENGTH: usize>(buffer: &mut Fenced<T>) -> &mut [T; LENGTH] {
     let array = buffer.lent_mut().try_into();
     array.unwrap_or_else(|_| panic!("the boundary takes {LENGTH} items"))
+}
+
+/// The words of what is held, of a buffer that may have more: a trusted step asks for
+/// these alone.
+fn record(held: &mut Fenced<u32>) -> &mut [u32; HELD_WORDS] {
+    let words = held.lent_mut().first_chunk_mut();
+    words.expect("a state that was worked on has the words of what is held")
 }
 
 /// An answer that no call has told yet: each part of it has to be written.
