@@ -19,3 +19,7 @@ pub mod Answers
 pub mod Desks
 pub mod Demand
 pub mod Seeing
+pub mod Slice
+pub mod Missing
+pub mod Mirror
+pub mod Verdict
