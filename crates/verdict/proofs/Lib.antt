@@ -1,0 +1,2 @@
+-- ColumnLaws: the tests of a column and what they make of a word.
+pub mod ColumnLaws
