@@ -103,7 +103,8 @@ unfolding isBlank
 full-above zero z n l = clash refl n
 full-above (suc x) z n l = ap (λ (b : Bool). b && eqb 0 0) (ne-eqb z 0 (λ e. omega arith))
 
-spanned-known : (S : Scheme) (D : Database) (fs : List Fetch) (k : Column) (x : ℕ) → isSpanned fs k x ≡ true → known S D fs k (numbered x) ≡ true
+-- a number that a span has is known to be whole
+pub spanned-known : (S : Scheme) (D : Database) (fs : List Fetch) (k : Column) (x : ℕ) → isSpanned fs k x ≡ true → known S D fs k (numbered x) ≡ true
 unfolding known someFetch spans covers
 spanned-known S D fs k x e = sym (or-left (isFetched fs k (numbered x)) _ (go fs e))
   where

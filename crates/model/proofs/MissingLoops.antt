@@ -1,15 +1,19 @@
--- What a loop that looks for the first lack needs: its start, a turn, leaving at the first lack, passing over numbers at which nothing lacks, and lists made by `tab`.
--- Assumes nothing.
+-- What a loop that looks for the first lack needs: its start, a turn, leaving at the first lack, passing over numbers at which nothing lacks, lists made by `tab`, and a
+-- search that stops or doesn't. Assumes nothing.
 use Prim.Native.Nat.{ℕ, zero, suc, _+_, _≤_, _<_}
 use native.Mathlib.Decide.{decLt}
 use native.Mathlib.Numerals.{add-one}
 use native.Mathlib.Omega.{arith}
 use mathlib.Core.Path.{_≡_, refl, sym, ap, ap₂, subst, _∙_}
-use mathlib.Core.Logic.{_⊎_, inl, inr}
-use mathlib.Core.Bool.{Bool, _||_}
+use mathlib.Core.Logic.{_⊎_, inl, inr, ⊎-elim}
+use mathlib.Core.Bool.{Bool, true, false, _||_}
 use mathlib.Core.List.{List, [], _∷_, _++_}
-use Rattle.finite.specs.Finite.{any, tab}
-use Rattle.finite.proofs.Search.{any-start, any-front, below-suc}
+use borrow.Author.Tests.{ltb-true, ltb-false}
+use lib.Dec.{ltb}
+use Rattle.finite.specs.Finite.{any, tab, first}
+use Rattle.finite.proofs.Bools.{bool-ext, clash, dec}
+use Rattle.finite.proofs.First.{First, first-from}
+use Rattle.finite.proofs.Search.{any-true, any-found, any-start, any-front, below-suc}
 use Rattle.model.specs.Missing.{Fetch, someFetch, Lack, nothing, lacks, orLack, lackIn, lackBelow}
 
 or-last : (a : Lack) → orLack a nothing ≡ a
@@ -88,3 +92,14 @@ pub some-tab : (p : Fetch → Bool) (n : ℕ) (f : ℕ → Fetch) → someFetch 
 unfolding someFetch tab
 some-tab p zero f = sym (any-start (λ i. p (f i)))
 some-tab p (suc n) f = ap (λ (b : Bool). p (f 0) || b) (some-tab p n (λ i. f (suc i))) ∙ sym (any-front n (λ i. p (f i)))
+
+-- a search that passes over what fails stops below n exactly if something passes
+pub first-any : (n : ℕ) (p : ℕ → Bool) → ltb (first n p) n ≡ any n p
+first-any n p =
+    bool-ext (ltb (first n p) n) (any n p)
+    (λ e. let l = ltb-true (first n p) n e in any-true n p (first n p) l (f .here l))
+    (λ e. let g = any-found n p e in ⊎-elim (λ (t : ltb (first n p) n ≡ true). t)
+    (λ (t : ltb (first n p) n ≡ false). clash (g .2) (f .none (g .0) (omega arith) (omega (arith, g .1, ltb-false (first n p) n t)))) (dec (ltb (first n p) n)))
+  where
+    f : First n p 0 (first n p)
+    f = first-from n p 0 (omega arith)

@@ -2,34 +2,21 @@
 use Prim.Native.Nat.{ℕ, _+_, _*_, _<_, _≤_}
 use native.Mathlib.Omega.{arith}
 use mathlib.Core.Path.{_≡_, sym, ap, _∙_}
-use mathlib.Core.Logic.{⊎-elim}
 use mathlib.Core.Bool.{Bool, true, false, not, _&&_, _||_}
 use mathlib.Core.List.{List}
-use borrow.Author.Tests.{ltb-true, ltb-false}
 use lib.Dec.{ltb}
 use lib.ListN.{getD}
 use Rattle.finite.specs.Finite.{any, tab, first}
-use Rattle.finite.proofs.Bools.{bool-ext, clash, dec, cond-true, cond-false}
-use Rattle.finite.proofs.First.{First, first-from}
-use Rattle.finite.proofs.Search.{any-true, any-found}
+use Rattle.finite.proofs.Bools.{cond-true, cond-false}
+use Rattle.finite.proofs.First.{first-from}
 use Rattle.finite.proofs.Tables.{tab-at}
+use Rattle.model.proofs.MissingLoops.{first-any}
 use Rattle.model.specs.Scheme.{Column, Scheme, isColumn}
 use Rattle.model.specs.Even.{reaches, square}
 use Rattle.model.specs.Verdict.{fetches, canCache, linksTo, onceLinked, lowestLink, onceUnique, onceHere, never, isOneColumn}
 use Rattle.even.specs.Reading.{at}
 use Rattle.even.proofs.Turns.{square-at}
 use Rattle.verdict.specs.Words.{flag, verdictOf}
-
--- the first that passes is below n exactly if one does
-pub first-any : (n : ℕ) (p : ℕ → Bool) → ltb (first n p) n ≡ any n p
-first-any n p =
-    bool-ext (ltb (first n p) n) (any n p)
-    (λ e. let l = ltb-true (first n p) n e in any-true n p (first n p) l (f .here l))
-    (λ e. let g = any-found n p e in ⊎-elim (λ (t : ltb (first n p) n ≡ true). t)
-    (λ (t : ltb (first n p) n ≡ false). clash (g .2) (f .none (g .0) (omega arith) (omega (arith, g .1, ltb-false (first n p) n t)))) (dec (ltb (first n p) n)))
-  where
-    f : First n p 0 (first n p)
-    f = first-from n p 0 (omega arith)
 
 pub first-most : (n : ℕ) (p : ℕ → Bool) → first n p ≤ n
 first-most n p = first-from n p 0 (omega arith) .bound
