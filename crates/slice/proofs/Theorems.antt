@@ -1,0 +1,103 @@
+-- What the code's answers are worth: where `missing` says that nothing lacks, the cached rows and what every operation answers (but an opener, which is found from rows
+-- that aren't cached, and a reason, whose sentence numbers rows) are those of the whole database, whichever lawful database the fetches were made in. Assumes nothing.
+use Prim.Native.Nat.{ℕ, _*_}
+use native.Mathlib.Omega.{arith}
+use mathlib.Core.Path.{_≡_, refl, sym, ap, subst, _∙_}
+use mathlib.Core.Logic.{⊎-elim}
+use mathlib.Core.Bool.{Bool, true, false, not, cond}
+use mathlib.Core.List.{List}
+use borrow.Author.Tests.{eqb-true, eq-eqb}
+use lib.Dec.{eqb, leb}
+use lib.ListN.{length, take, drop as past}
+use lib.Seq.{take-at}
+use Rattle.finite.proofs.Bools.{clash, dec}
+use Rattle.model.specs.Answers.{answer}
+use Rattle.model.specs.Database.{Database}
+use Rattle.model.specs.Mirror.{Mirrors, EnoughFor, fromSlice}
+use Rattle.model.specs.Missing as Model
+use Rattle.model.specs.Runs.{Operation, Cache, marked, reloaded}
+use Rattle.model.proofs.Fresh.{step-fresh}
+use Rattle.model.proofs.RunLaws.{reload-sound}
+use Rattle.model.proofs.MirrorLaws.{mirror-reload}
+use Rattle.model.proofs.MirrorLoads.{mirror-answer}
+use Rattle.model.proofs.MissingLaws.{nothing-enough}
+use Rattle.state.specs.Lent.{State, scheme, database, cache, sound, stateAfter, answerAt, causeOf}
+use Rattle.state.specs.Meaning.{holdingOf}
+use Rattle.lawful.proofs.DesignLaws.{fillings-apart}
+use Rattle.lawful.proofs.HeldLaws.{holding-back}
+use Rattle.lawful.proofs.SoundState.{parts, sound-fresh, sound-smallest, fresh-long, after, after-fit, held-after, marks-after, answer-at, sound-after}
+use Rattle.cache.proofs.CauseWords.{cause-clear}
+use Rattle.slice.specs.Fetches.{fetchesIn, fetchesFit}
+use Rattle.slice.specs.Replies.{lack, refused, missingAt, refusalAt, replyAt}
+use Rattle.slice.specs.Fed.{Fed, fullCache}
+
+-- ---- the state that an operation leaves
+
+-- the cache that it leaves is the model's
+after-cache : (s : State) → sound s ≡ true → (o : Operation) → cache (stateAfter s o) ≡ after s o
+after-cache s e o =
+    λ i. record { held = held i; marks = (ap (take 512) (marks-after s e o) ∙ take-at (after s o .marks) (past 512 (s .marks)) 512 long) i }
+  where
+    long : length (after s o .marks) ≡ 512
+    long = fresh-long (s .design) (s .cells) (s .tables) (after s o) (step-fresh (scheme s) (database s) (cache s) o (sound-fresh s e))
+
+    held : holdingOf (stateAfter s o .held) ≡ after s o .held
+    held = ap holdingOf (held-after s e o) ∙ holding-back (after s o .held) (after-fit s e o)
+
+-- ---- where nothing lacks
+
+module _ (s : State) (e : sound s ≡ true) (at : ℕ → ℕ) (B : Database) (fs : List Model.Fetch) (f : Fed s at B fs) where
+  -- THEOREM: where nothing lacks, the slice is enough
+  pub nothing-lacks : missingAt s fs ≡ Model.nothing → EnoughFor (scheme s) at (database s) B (cache s)
+  unfolding missingAt
+  nothing-lacks n =
+      nothing-enough (f .slice) (f .lawful) fs (f .fetched) (cache s .held) (marked (cache s .marks)) (λ r x. sound-smallest s e .meets .rows r x) n
+
+  -- THEOREM: and the state holds and has cached what the whole database would: its rows, under their numbers there
+  pub slice-cached : missingAt s fs ≡ Model.nothing → Mirrors at (database s) (cache s) (fullCache s B)
+  slice-cached n =
+      let p : cache s ≡ reloaded (scheme s) (database s) (cache s .held) = λ i. record { held = cache s .held; marks = sound-fresh s e .reloaded i } in
+      subst (λ (c : Cache). Mirrors at (database s) c (fullCache s B)) (sym p)
+      (mirror-reload (f .slice) (f .lawful) (fillings-apart (s .design) (parts s e .design)) (reload-sound (scheme s) B (cache s .held)) (subst (EnoughFor (scheme s) at (database s) B) p (nothing-lacks n)))
+
+-- THEOREM: if nothing lacks before an operation and nothing after it, it answers what it would answer over the whole database
+pub slice-answers : (s : State) → sound s ≡ true → (at : ℕ → ℕ) (B : Database) (fs : List Model.Fetch) → Fed s at B fs → (o : Operation) → fromSlice o ≡ true →
+    missingAt s fs ≡ Model.nothing → missingAt (stateAfter s o) fs ≡ Model.nothing → answerAt s o ≡ answer (scheme s) B (fullCache s B) o
+slice-answers s e at B fs f o g n m =
+    answer-at s e o ∙
+    sym (mirror-answer (f .slice) (f .lawful) (fillings-apart (s .design) (parts s e .design)) (sound-smallest s e) (reload-sound (scheme s) B (cache s .held))
+    (slice-cached s e at B fs f n) o g
+    (subst (EnoughFor (scheme s) at (database s) B) (after-cache s e o) (nothing-lacks (stateAfter s o) (sound-after s e o) at B fs (record { slice = f .slice; lawful = f .lawful; fetched = f .fetched }) m)))
+
+-- ---- the entry point's answer
+
+lack-not : {n : ℕ} {l : Model.Lack} → refused n ≡ lack l → ⊥
+lack-not e = let z : _≡_ {A = ℕ} 0 1 = cc in omega arith
+
+same-lack : {l m : Model.Lack} → lack l ≡ lack m → l ≡ m
+same-lack e = cc
+
+-- THEOREM: where the entry point says that nothing lacks, the state is sound, the words are accepted, and nothing lacks
+pub reply-nothing : (s : State) (held words : List ℕ) (n : ℕ) → replyAt s held words n ≡ lack Model.nothing →
+    (sound s ≡ true) × (fetchesFit (scheme s) words n ≡ true) × (missingAt s (fetchesIn words n) ≡ Model.nothing)
+unfolding replyAt refusalAt
+reply-nothing s held words n h =
+    let q = said (eqb (refusalAt s held words n) 0) (missingAt s (fetchesIn words n)) (refusalAt s held words n) h in
+    let c = clear (leb (5 * n) (length words)) (causeOf s held) (fetchesFit (scheme s) words n) (eqb-true _ 0 (q .0)) in
+    (cause-clear s held (c .0) .0, c .1, q .1)
+  where
+    said : (b : Bool) (m : Model.Lack) (k : ℕ) {l : Model.Lack} → cond b (lack m) (refused k) ≡ lack l → (b ≡ true) × (m ≡ l)
+    said true m k e = (refl, same-lack e)
+    said false m k e = absurd (lack-not e)
+
+    clear : (a : Bool) (c : ℕ) (b : Bool) → _≡_ {A = ℕ} (cond (not a) 7 (cond (not (eqb c 0)) c (cond (not b) 5 0))) 0 → (c ≡ 0) × (b ≡ true)
+    clear false c b e = absurd (omega arith)
+    clear true c b e = ⊎-elim (λ z. none z b (subst (λ (t : Bool). _≡_ {A = ℕ} (cond (not t) c (cond (not b) 5 0)) 0) z e))
+        (λ z. absurd (some z (subst (λ (t : Bool). _≡_ {A = ℕ} (cond (not t) c (cond (not b) 5 0)) 0) z e))) (dec (eqb c 0))
+      where
+        none : eqb c 0 ≡ true → (b : Bool) → _≡_ {A = ℕ} (cond (not b) 5 0) 0 → (c ≡ 0) × (b ≡ true)
+        none z true e = (eqb-true c 0 z, refl)
+        none z false e = absurd (omega arith)
+
+        some : eqb c 0 ≡ false → c ≡ 0 → ⊥
+        some z e = clash (eq-eqb c 0 e) z

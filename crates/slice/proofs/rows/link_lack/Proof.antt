@@ -1,0 +1,47 @@
+-- `slice::rows::link_lack` meets its contract. Assumes nothing.
+use mathlib.Core.Path.{_∙_}
+use Rattle.slice.proofs.LackLaws.{row-other, row-there}
+use borrow.Author.Needs.{needs}
+use Rattle.slice.proofs.rows.link_lack.Statement.{statement}
+use Rattle.slice.proofs.rows.link_lack.Tie as tie
+
+mul-c : tie.Need-mul-c
+mul-c c = search needs
+
+element-copy-out-c : tie.Need-element-copy-out-c
+element-copy-out-c c = search needs
+
+shared-slice-read-if1 : tie.Need-shared-slice-read-if1
+shared-slice-read-if1 c = search needs
+
+nothing-requires : tie.Need-nothing-requires
+nothing-requires c κs = search needs
+
+returns : tie.Need-returns
+returns c = λ x. c .nothing .ensures .0 ∙ row-other _ _ _ _ _ _ (c .before .if1 .taken)
+
+cast-cell-at : tie.Need-cast-cell-at
+cast-cell-at c = search needs
+
+cell-at-requires : tie.Need-cell-at-requires
+cell-at-requires c κs = let s = c .before .before .before .before .before .before .before .before .before .before in (s .pre .3, s .pre .0 .source _, s .pre .1 .rows, s .pre .1 .issued)
+
+lack-of-requires : tie.Need-lack-of-requires
+lack-of-requires c κs = let s = c .before .before .before .before .before .before .before .before .before .before .before in (s .pre .0 .target-table _, s .pre .0 .target _, s .pre .2)
+
+returns-2 : tie.Need-returns-2
+returns-2 c = λ x. let s = c .before .before .before .before .before .before .before .before .before .before .before .before in row-there _ _ _ _ _ _ _ (s .pre .0 .source _) (c .before .before .before .if1 .left) (c .before .cell-at .ensures) (c .lack-of .ensures _ x)
+
+pub link-lack-spec : {M : Type 1} → statement M
+link-lack-spec =
+    tie.close
+    (tie.spec
+    mul-c
+    element-copy-out-c
+    shared-slice-read-if1
+    nothing-requires
+    returns
+    cast-cell-at
+    cell-at-requires
+    lack-of-requires
+    returns-2)
