@@ -29,16 +29,16 @@ use Rattle.state.specs.Design.{constraintAt}
 use Rattle.state.specs.Meaning.{cellOf, cellAt, columnOf, schemeOf, databaseOf}
 use Rattle.slice.specs.declared.fetch.Fetch.{Fetch}
 use Rattle.slice.specs.declared.fetch.Lack.{Lack}
-use Rattle.slice.specs.Fetches.{fetchOf, valueFetch, spanFetch, lackIn, NextSpan, Shut}
+use Rattle.slice.specs.Fetches.{fetchOf, valueFetch, spanFetch, asLack, NextSpan, Shut}
 
 -- ---- answers
 
-pub found-says : (l : Lack) → l .found ≡ true → lackIn l ≡ Model.lacks (fetchOf (l .fetch))
-unfolding lackIn
+pub found-says : (l : Lack) → l .found ≡ true → asLack l ≡ Model.lacks (fetchOf (l .fetch))
+unfolding asLack
 found-says l e = cond-true (l .found) _ _ e
 
-pub unfound-says : (l : Lack) → l .found ≡ false → lackIn l ≡ Model.nothing
-unfolding lackIn
+pub unfound-says : (l : Lack) → l .found ≡ false → asLack l ≡ Model.nothing
+unfolding asLack
 unfound-says l e = cond-false (l .found) _ _ e
 
 pub value-of : (k : Column) (v : Cell) → fetchOf (valueFetch k v) ≡ Model.value k v
@@ -61,8 +61,8 @@ module _ (S : Scheme) (D : Database) (fs : List Model.Fetch) (k : Column) (v : C
   unfolding Model.isOpen
   open-full e h = ap not h ∙ sym (ap (λ (b : Bool). not (b || Model.known S D fs k v)) e)
 
-  pub value-lack : (b : Bool) (f : Fetch) → b ≡ Model.isOpen S D fs k v → f ≡ valueFetch k v → lackIn (record { found = b; fetch = f }) ≡ Model.lackOf S D fs k v
-  unfolding lackIn Model.lackOf
+  pub value-lack : (b : Bool) (f : Fetch) → b ≡ Model.isOpen S D fs k v → f ≡ valueFetch k v → asLack (record { found = b; fetch = f }) ≡ Model.lackOf S D fs k v
+  unfolding asLack Model.lackOf
   value-lack b f e g =
       ap (λ (x : Bool). cond x (Model.lacks (fetchOf f)) Model.nothing) e ∙
       ap (λ (x : Model.Fetch). cond (Model.isOpen S D fs k v) (Model.lacks x) Model.nothing) (ap fetchOf g ∙ value-of k v)
@@ -70,10 +70,10 @@ module _ (S : Scheme) (D : Database) (fs : List Model.Fetch) (k : Column) (v : C
 -- ---- loops that leave at the first lack
 
 module _ (f : ℕ → Model.Lack) where
-  pub leaves : (n i : ℕ) (l : Lack) → i < n → Model.lackBelow i f ≡ Model.nothing → lackIn l ≡ f i → l .found ≡ true → lackIn l ≡ Model.lackBelow n f
+  pub leaves : (n i : ℕ) (l : Lack) → i < n → Model.lackBelow i f ≡ Model.nothing → asLack l ≡ f i → l .found ≡ true → asLack l ≡ Model.lackBelow n f
   leaves n i l h e g t = found-says l t ∙ sym (lack-hit f n i h e (sym g ∙ found-says l t))
 
-  pub goes-on : (i : ℕ) (l : Lack) → Model.lackBelow i f ≡ Model.nothing → lackIn l ≡ f i → l .found ≡ false → Model.lackBelow (i + 1) f ≡ Model.nothing
+  pub goes-on : (i : ℕ) (l : Lack) → Model.lackBelow i f ≡ Model.nothing → asLack l ≡ f i → l .found ≡ false → Model.lackBelow (i + 1) f ≡ Model.nothing
   goes-on i l e g t = lack-more f i e (sym g ∙ unfound-says l t)
 
   pub ends : (n i : ℕ) {l : Model.Lack} → i ≤ n → n ≤ i → Model.lackBelow i f ≡ Model.nothing → l ≡ Model.nothing → l ≡ Model.lackBelow n f
@@ -81,12 +81,12 @@ module _ (f : ℕ → Model.Lack) where
 
 -- the same over a list of n places, where x stands at place i
 module _ {A B : Type 0} (g : B → Model.Lack) (e : A → B) (f : ℕ → A) where
-  pub leaves-at : {m n : ℕ} (i : ℕ) (x : A) (l : Lack) → m ≡ n → i < m → Model.lackBelow i (λ j. g (e (f j))) ≡ Model.nothing → x ≡ f i → lackIn l ≡ g (e x) →
-      l .found ≡ true → lackIn l ≡ Model.lackIn g (tab n (λ j. e (f j)))
+  pub leaves-at : {m n : ℕ} (i : ℕ) (x : A) (l : Lack) → m ≡ n → i < m → Model.lackBelow i (λ j. g (e (f j))) ≡ Model.nothing → x ≡ f i → asLack l ≡ g (e x) →
+      l .found ≡ true → asLack l ≡ Model.lackIn g (tab n (λ j. e (f j)))
   leaves-at {m} {n} i x l z h b q a t =
       leaves (λ j. g (e (f j))) n i l (omega (arith, z)) b (a ∙ ap (λ (y : A). g (e y)) q) t ∙ sym (lack-tab g n (λ j. e (f j)))
 
-  pub goes-at : (i : ℕ) (x : A) (l : Lack) → Model.lackBelow i (λ j. g (e (f j))) ≡ Model.nothing → x ≡ f i → lackIn l ≡ g (e x) → l .found ≡ false →
+  pub goes-at : (i : ℕ) (x : A) (l : Lack) → Model.lackBelow i (λ j. g (e (f j))) ≡ Model.nothing → x ≡ f i → asLack l ≡ g (e x) → l .found ≡ false →
       Model.lackBelow (i + 1) (λ j. g (e (f j))) ≡ Model.nothing
   goes-at i x l b q a t = goes-on (λ j. g (e (f j))) i l b (a ∙ ap (λ (y : A). g (e y)) q) t
 
@@ -200,8 +200,8 @@ module _ (fs : List Model.Fetch) (k : Column) (high x : ℕ) where
   unfolding Model.gapLack
   range-none l = sym (cond-false _ _ _ (lt-leb x high l))
 
-  pub range-gap : (y : ℕ) (f : Fetch) → x ≤ high → f ≡ spanFetch k x y → y ≡ Model.gapEnd fs k high x → lackIn (record { found = true; fetch = f }) ≡ Model.gapLack fs k high x
-  unfolding lackIn Model.gapLack
+  pub range-gap : (y : ℕ) (f : Fetch) → x ≤ high → f ≡ spanFetch k x y → y ≡ Model.gapEnd fs k high x → asLack (record { found = true; fetch = f }) ≡ Model.gapLack fs k high x
+  unfolding asLack Model.gapLack
   range-gap y f l e g =
       ap (λ (z : Model.Fetch). Model.lacks z) (ap fetchOf e ∙ span-of k x y) ∙ ap (λ (z : ℕ). Model.lacks (Model.span k x z)) g ∙ sym (cond-true _ _ _ (le-leb x high l))
 
@@ -245,18 +245,18 @@ module _ (S : Scheme) (cells : Cells) (tables : List ℕ) (h : Holding) (X : Row
   unfolding Model.missing databaseOf
   whole = refl
 
-  passed : (p : Lack) {a b c : Model.Lack} → lackIn p ≡ a → p .found ≡ false → c ≡ b → c ≡ Model.orLack a b
+  passed : (p : Lack) {a b c : Model.Lack} → asLack p ≡ a → p .found ≡ false → c ≡ b → c ≡ Model.orLack a b
   passed p {a} {b} e t q = q ∙ sym (ap (λ (x : Model.Lack). Model.orLack x b) (sym e ∙ unfound-says p t))
 
-  hit : (p : Lack) {a : Model.Lack} (b : Model.Lack) → lackIn p ≡ a → p .found ≡ true → lackIn p ≡ Model.orLack a b
+  hit : (p : Lack) {a : Model.Lack} (b : Model.Lack) → asLack p ≡ a → p .found ≡ true → asLack p ≡ Model.orLack a b
   hit p b e t = found-says p t ∙ sym (ap (λ (x : Model.Lack). Model.orLack x b) (sym e ∙ found-says p t))
 
-  pub missing-pairs : (p : Lack) → lackIn p ≡ pairs → p .found ≡ true → lackIn p ≡ Model.missing S (databaseOf cells tables) h X fs
+  pub missing-pairs : (p : Lack) → asLack p ≡ pairs → p .found ≡ true → asLack p ≡ Model.missing S (databaseOf cells tables) h X fs
   missing-pairs p e t = hit p (Model.orLack ranges rows) e t ∙ whole
 
-  pub missing-ranges : (p q : Lack) → lackIn p ≡ pairs → p .found ≡ false → lackIn q ≡ ranges → q .found ≡ true → lackIn q ≡ Model.missing S (databaseOf cells tables) h X fs
+  pub missing-ranges : (p q : Lack) → asLack p ≡ pairs → p .found ≡ false → asLack q ≡ ranges → q .found ≡ true → asLack q ≡ Model.missing S (databaseOf cells tables) h X fs
   missing-ranges p q e t f u = passed p e t (hit q rows f u) ∙ whole
 
-  pub missing-rows : (p q : Lack) {l : Model.Lack} → lackIn p ≡ pairs → p .found ≡ false → lackIn q ≡ ranges → q .found ≡ false → l ≡ rows →
+  pub missing-rows : (p q : Lack) {l : Model.Lack} → asLack p ≡ pairs → p .found ≡ false → asLack q ≡ ranges → q .found ≡ false → l ≡ rows →
       l ≡ Model.missing S (databaseOf cells tables) h X fs
   missing-rows p q e t f u g = passed p e t (passed q f u g) ∙ whole

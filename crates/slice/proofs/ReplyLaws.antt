@@ -11,7 +11,7 @@ use Rattle.finite.proofs.Bools.{cond-true, cond-false}
 use Rattle.model.specs.Missing as Model
 use Rattle.state.specs.Lent.{State, scheme, causeOf}
 use Rattle.slice.specs.declared.fetch.Lack.{Lack}
-use Rattle.slice.specs.Fetches.{fetchOf, fetchesIn, fetchesFit, lackIn}
+use Rattle.slice.specs.Fetches.{fetchOf, fetchesIn, fetchesFit, asLack}
 use Rattle.slice.specs.Replies.{lack, refused, missingAt, refusalAt, replyAt}
 use Rattle.slice.proofs.LackLaws.{found-says, unfound-says}
 
@@ -42,10 +42,10 @@ module _ (s : State) (held words : List ℕ) (n : ℕ) where
   reply-lack l e f =
       sym (cond-true _ _ _ (eq-eqb _ 0 (cond-false _ _ _ (long l) ∙ cond-false _ _ _ (ap not (eq-eqb (causeOf s held) 0 e)) ∙ cond-false _ _ _ (ap not f))))
 
-  pub reply-found : (l : Lack) → n ≤ length words / 5 → causeOf s held ≡ 0 → fetchesFit (scheme s) words n ≡ true → lackIn l ≡ missingAt s (fetchesIn words n) →
+  pub reply-found : (l : Lack) → n ≤ length words / 5 → causeOf s held ≡ 0 → fetchesFit (scheme s) words n ≡ true → asLack l ≡ missingAt s (fetchesIn words n) →
       l .found ≡ true → lack (Model.lacks (fetchOf (l .fetch))) ≡ replyAt s held words n
   reply-found l b e f g t = ap lack (sym (found-says l t) ∙ g) ∙ reply-lack b e f
 
-  pub reply-none : (l : Lack) → n ≤ length words / 5 → causeOf s held ≡ 0 → fetchesFit (scheme s) words n ≡ true → lackIn l ≡ missingAt s (fetchesIn words n) →
+  pub reply-none : (l : Lack) → n ≤ length words / 5 → causeOf s held ≡ 0 → fetchesFit (scheme s) words n ≡ true → asLack l ≡ missingAt s (fetchesIn words n) →
       l .found ≡ false → lack Model.nothing ≡ replyAt s held words n
   reply-none l b e f g t = ap lack (sym (unfound-says l t) ∙ g) ∙ reply-lack b e f

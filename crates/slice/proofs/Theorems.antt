@@ -5,27 +5,30 @@ use native.Mathlib.Omega.{arith}
 use mathlib.Core.Path.{_≡_, refl, sym, ap, subst, _∙_}
 use mathlib.Core.Logic.{⊎-elim}
 use mathlib.Core.Bool.{Bool, true, false, not, cond}
-use mathlib.Core.List.{List}
+use mathlib.Core.List.{List, map}
 use borrow.Author.Tests.{eqb-true, eq-eqb}
 use lib.Dec.{eqb, leb}
 use lib.ListN.{length, take, drop as past}
 use lib.Seq.{take-at}
 use Rattle.finite.proofs.Bools.{clash, dec}
-use Rattle.model.specs.Answers.{answer}
+use Rattle.model.specs.Answers.{answer, written}
 use Rattle.model.specs.Database.{Database}
 use Rattle.model.specs.Mirror.{Mirrors, EnoughFor, fromSlice}
 use Rattle.model.specs.Missing as Model
-use Rattle.model.specs.Runs.{Operation, Cache, marked, reloaded}
+use Rattle.model.specs.Demand.{FillingsApart}
+use Rattle.model.specs.Query.{Query}
+use Rattle.model.specs.Slice.{InOrder}
+use Rattle.model.specs.Runs.{Output, query, Operation, Cache, marked, reloaded}
 use Rattle.model.proofs.Fresh.{step-fresh}
 use Rattle.model.proofs.RunLaws.{reload-sound}
-use Rattle.model.proofs.MirrorLaws.{mirror-reload}
+use Rattle.model.proofs.MirrorLaws.{mirror-words, mirror-reload}
 use Rattle.model.proofs.MirrorLoads.{mirror-answer}
 use Rattle.model.proofs.MissingLaws.{nothing-enough}
-use Rattle.state.specs.Lent.{State, scheme, database, cache, sound, stateAfter, answerAt, causeOf}
+use Rattle.state.specs.Lent.{State, scheme, database, cache, sound, stateAfter, answerAt, wordsAt, causeOf}
 use Rattle.state.specs.Meaning.{holdingOf}
 use Rattle.lawful.proofs.DesignLaws.{fillings-apart}
 use Rattle.lawful.proofs.HeldLaws.{holding-back}
-use Rattle.lawful.proofs.SoundState.{parts, sound-fresh, sound-smallest, fresh-long, after, after-fit, held-after, marks-after, answer-at, sound-after}
+use Rattle.lawful.proofs.SoundState.{parts, sound-fresh, sound-smallest, fresh-long, after, after-fit, held-after, marks-after, answer-at, words-at, sound-after}
 use Rattle.cache.proofs.CauseWords.{cause-clear}
 use Rattle.slice.specs.Fetches.{fetchesIn, fetchesFit}
 use Rattle.slice.specs.Replies.{lack, refused, missingAt, refusalAt, replyAt}
@@ -60,14 +63,34 @@ module _ (s : State) (e : sound s ≡ true) (at : ℕ → ℕ) (B : Database) (f
       subst (λ (c : Cache). Mirrors at (database s) c (fullCache s B)) (sym p)
       (mirror-reload (f .slice) (f .lawful) (fillings-apart (s .design) (parts s e .design)) (reload-sound (scheme s) B (cache s .held)) (subst (EnoughFor (scheme s) at (database s) B) p (nothing-lacks n)))
 
--- THEOREM: if nothing lacks before an operation and nothing after it, it answers what it would answer over the whole database
-pub slice-answers : (s : State) → sound s ≡ true → (at : ℕ → ℕ) (B : Database) (fs : List Model.Fetch) → Fed s at B fs → (o : Operation) → fromSlice o ≡ true →
-    missingAt s fs ≡ Model.nothing → missingAt (stateAfter s o) fs ≡ Model.nothing → answerAt s o ≡ answer (scheme s) B (fullCache s B) o
-slice-answers s e at B fs f o g n m =
-    answer-at s e o ∙
-    sym (mirror-answer (f .slice) (f .lawful) (fillings-apart (s .design) (parts s e .design)) (sound-smallest s e) (reload-sound (scheme s) B (cache s .held))
-    (slice-cached s e at B fs f n) o g
-    (subst (EnoughFor (scheme s) at (database s) B) (after-cache s e o) (nothing-lacks (stateAfter s o) (sound-after s e o) at B fs (record { slice = f .slice; lawful = f .lawful; fetched = f .fetched }) m)))
+-- what is asked of a step: nothing lacks before the operation, and nothing after it
+pub record NothingLacks (s : State) (fs : List Model.Fetch) (o : Operation) : Type 0 where
+  pub before : missingAt s fs ≡ Model.nothing
+  pub behind : missingAt (stateAfter s o) fs ≡ Model.nothing
+
+module _ (s : State) (e : sound s ≡ true) (at : ℕ → ℕ) (B : Database) (fs : List Model.Fetch) (f : Fed s at B fs) where
+  enough-after : (o : Operation) → missingAt (stateAfter s o) fs ≡ Model.nothing → EnoughFor (scheme s) at (database s) B (after s o)
+  enough-after o m =
+      subst (EnoughFor (scheme s) at (database s) B) (after-cache s e o)
+      (nothing-lacks (stateAfter s o) (sound-after s e o) at B fs (record { slice = f .slice; lawful = f .lawful; fetched = f .fetched }) m)
+
+  apart : FillingsApart (scheme s)
+  apart = fillings-apart (s .design) (parts s e .design)
+
+  -- THEOREM: then it answers what it would answer over the whole database: refusals, rows and rounds, rows that went, grounds, lists and totals
+  pub slice-answers : (o : Operation) → fromSlice o ≡ true → NothingLacks s fs o → answerAt s o ≡ answer (scheme s) B (fullCache s B) o
+  slice-answers o g w =
+      answer-at s e o ∙
+      sym (mirror-answer (f .slice) (f .lawful) apart (sound-smallest s e) (reload-sound (scheme s) B (cache s .held)) (slice-cached s e at B fs f (w .before)) o g
+      (enough-after o (w .behind)))
+
+  -- THEOREM: and a query writes the same words, under the database's numbers, where the slice has its rows in the database's order
+  pub slice-words : InOrder at (database s) → (q : Query) (out : Output) → NothingLacks s fs (query q out) →
+      written (scheme s) B (fullCache s B) (query q out) ≡ map at (wordsAt s (query q out))
+  unfolding written
+  slice-words up q out w =
+      mirror-words (f .slice) (sound-smallest s e) (slice-cached s e at B fs f (w .before)) (f .lawful) apart q out (enough-after (query q out) (w .behind)) up ∙
+      ap (map at) (sym (words-at s e (query q out)))
 
 -- ---- the entry point's answer
 
@@ -101,3 +124,12 @@ reply-nothing s held words n h =
 
         some : eqb c 0 ≡ false → c ≡ 0 → ⊥
         some z e = clash (eq-eqb c 0 e) z
+
+-- THEOREM: if the entry point says of the states before and after an operation that nothing lacks, the operation answered what it answers over the whole database
+pub missing-answers : (s : State) (held held′ words : List ℕ) (n : ℕ) (o : Operation) → replyAt s held words n ≡ lack Model.nothing →
+    replyAt (stateAfter s o) held′ words n ≡ lack Model.nothing → fromSlice o ≡ true → (at : ℕ → ℕ) (B : Database) → Fed s at B (fetchesIn words n) →
+    answerAt s o ≡ answer (scheme s) B (fullCache s B) o
+missing-answers s held held′ words n o x y g at B f =
+    let a = reply-nothing s held words n x in
+    let b = reply-nothing (stateAfter s o) held′ words n y in
+    slice-answers s (a .0) at B (fetchesIn words n) f o g (record { before = a .2; behind = b .2 })

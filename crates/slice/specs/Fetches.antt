@@ -45,8 +45,8 @@ unfoldable pub fetchesIn : List ℕ → ℕ → List Model.Fetch
 fetchesIn ws n = tab n (λ i. fetchOf (fetchAt ws i))
 
 -- what an answer means
-unfoldable pub lackIn : Lack → Model.Lack
-lackIn l = cond (l .found) (Model.lacks (fetchOf (l .fetch))) Model.nothing
+unfoldable pub asLack : Lack → Model.Lack
+asLack l = cond (l .found) (Model.lacks (fetchOf (l .fetch))) Model.nothing
 
 -- ---- which are accepted
 

@@ -5,7 +5,7 @@ ghost use mathlib.Core.Path.{_≡_};
 ghost use lib.ListN.{length};
 ghost use Rattle.model.specs.Missing as Model;
 ghost use Rattle.state.specs.Meaning.{cellOf, columnOf};
-ghost use Rattle.slice.specs.Fetches.{valueFetch, spanFetch, fetchAt, endBefore, fetchBefore, lackIn};
+ghost use Rattle.slice.specs.Fetches.{valueFetch, spanFetch, fetchAt, endBefore, fetchBefore, asLack};
 use state::Cell;
 use state::Column;
 
@@ -103,7 +103,7 @@ pub(crate) fn span_fetch(k: Column, low: u32, high: u32) -> Fetch
 
 // Nothing lacks, and this fetch does.
 pub(crate) fn nothing() -> Lack
-    ensures { λ l. ⌜ (lackIn l ≡ Model.nothing) × (l .found ≡ false) ⌝ }
+    ensures { λ l. ⌜ (asLack l ≡ Model.nothing) × (l .found ≡ false) ⌝ }
 {
     let k = Column { table: 0, place: 0 };
     Lack {

@@ -7,7 +7,7 @@ ghost use Rattle.state.specs.Held.{Bounded};
 ghost use Rattle.state.specs.HeldWords.{wordsHeld};
 ghost use Rattle.state.specs.Meaning.{ownedOf, schemeOf, valuesOf};
 ghost use Rattle.catalog.specs.Catalog.{Indexed};
-ghost use Rattle.slice.specs.Fetches.{fetchesIn, lackIn, Ordered};
+ghost use Rattle.slice.specs.Fetches.{fetchesIn, asLack, Ordered};
 use crate::fetch::Lack;
 use crate::fetch::nothing;
 use crate::lack::lack_of;
@@ -28,7 +28,7 @@ fn pair_lack(
 ) -> Lack
     requires { ⌜ InRange d × Ordered (now words) n ⌝ }
     ensures { λ l. ⌜ ((D : Database) → Indexed D (now (catalog .entry)) (now (keys .entry))
-        → lackIn l ≡ Model.pairLack (schemeOf d) D (fetchesIn (now (words .entry)) n) (ownedOf o)) ⌝ }
+        → asLack l ≡ Model.pairLack (schemeOf d) D (fetchesIn (now (words .entry)) n) (ownedOf o)) ⌝ }
 {
     let p = o.pair;
     let f = filling_at(d, p.filling as usize);
@@ -46,7 +46,7 @@ pub(crate) fn pairs_lack(
 ) -> Lack
     requires { ⌜ InRange d × Bounded (wordsHeld (now held)) × Ordered (now words) n ⌝ }
     ensures { λ l. ⌜ ((D : Database) → Indexed D (now (catalog .entry)) (now (keys .entry))
-        → lackIn l ≡ Model.lackIn (Model.pairLack (schemeOf d) D (fetchesIn (now (words .entry)) n)) (valuesOf (wordsHeld (now (held .entry))))) ⌝ }
+        → asLack l ≡ Model.lackIn (Model.pairLack (schemeOf d) D (fetchesIn (now (words .entry)) n)) (valuesOf (wordsHeld (now (held .entry))))) ⌝ }
 {
     let m = value_count(held);
     for i in 0..m {

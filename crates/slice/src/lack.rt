@@ -5,7 +5,7 @@ ghost use Rattle.model.specs.Database.{Database};
 ghost use Rattle.model.specs.Missing as Model;
 ghost use Rattle.state.specs.Meaning.{cellOf, columnOf, schemeOf};
 ghost use Rattle.catalog.specs.Catalog.{Indexed};
-ghost use Rattle.slice.specs.Fetches.{fetchesIn, lackIn, Ordered};
+ghost use Rattle.slice.specs.Fetches.{fetchesIn, asLack, Ordered};
 use crate::fetch::Lack;
 use crate::fetch::value_fetch;
 use crate::fetched::is_fetched;
@@ -71,7 +71,7 @@ pub(crate) fn lack_of(
 ) -> Lack
     requires { ⌜ (k .table < 8) × (k .place < 8) × Ordered (now words) n ⌝ }
     ensures { λ l. ⌜ ((D : Database) → Indexed D (now (catalog .entry)) (now (keys .entry))
-        → lackIn l ≡ Model.lackOf (schemeOf d) D (fetchesIn (now (words .entry)) n) (columnOf k) (cellOf v)) ⌝ }
+        → asLack l ≡ Model.lackOf (schemeOf d) D (fetchesIn (now (words .entry)) n) (columnOf k) (cellOf v)) ⌝ }
 {
     Lack {
         found: is_open(d, catalog, keys, words, n, k, v),

@@ -9,7 +9,7 @@ ghost use Rattle.state.specs.Held.{Bounded, rangesAt};
 ghost use Rattle.state.specs.HeldWords.{wordsHeld};
 ghost use Rattle.state.specs.Meaning.{columnOf, rangeOf, schemeOf, listOf, listsOf};
 ghost use Rattle.catalog.specs.Catalog.{Indexed};
-ghost use Rattle.slice.specs.Fetches.{fetchesIn, lackIn, Ordered, Shut};
+ghost use Rattle.slice.specs.Fetches.{fetchesIn, asLack, Ordered, Shut};
 use crate::fetch::Lack;
 use crate::fetch::nothing;
 use crate::fetch::span_fetch;
@@ -95,7 +95,7 @@ fn range_lack(
 ) -> Lack
     requires { ⌜ InRange d × Ordered (now words) n ⌝ }
     ensures { λ l. ⌜ ((D : Database) → Indexed D (now (catalog .entry)) (now (keys .entry))
-        → lackIn l ≡ Model.rangeLack (schemeOf d) D (fetchesIn (now (words .entry)) n) (rangeOf q)) ⌝ }
+        → asLack l ≡ Model.rangeLack (schemeOf d) D (fetchesIn (now (words .entry)) n) (rangeOf q)) ⌝ }
 {
     let f = filling_at(d, q.filling as usize);
     let k = f.column;
@@ -123,7 +123,7 @@ fn desk_lack(
 ) -> Lack
     requires { ⌜ InRange d × Bounded (wordsHeld (now held)) × Ordered (now words) n × (e < 4) ⌝ }
     ensures { λ l. ⌜ ((D : Database) → Indexed D (now (catalog .entry)) (now (keys .entry))
-        → lackIn l ≡ Model.lackIn (Model.rangeLack (schemeOf d) D (fetchesIn (now (words .entry)) n)) (listOf (rangesAt (wordsHeld (now (held .entry))) e))) ⌝ }
+        → asLack l ≡ Model.lackIn (Model.rangeLack (schemeOf d) D (fetchesIn (now (words .entry)) n)) (listOf (rangesAt (wordsHeld (now (held .entry))) e))) ⌝ }
 {
     let m = range_count(held, e);
     for i in 0..m {
@@ -146,7 +146,7 @@ pub(crate) fn ranges_lack(
 ) -> Lack
     requires { ⌜ InRange d × Bounded (wordsHeld (now held)) × Ordered (now words) n ⌝ }
     ensures { λ l. ⌜ ((D : Database) → Indexed D (now (catalog .entry)) (now (keys .entry))
-        → lackIn l ≡ Model.lackIn (Model.rangeLack (schemeOf d) D (fetchesIn (now (words .entry)) n)) (allRanges (listsOf (wordsHeld (now (held .entry)))))) ⌝ }
+        → asLack l ≡ Model.lackIn (Model.rangeLack (schemeOf d) D (fetchesIn (now (words .entry)) n)) (allRanges (listsOf (wordsHeld (now (held .entry)))))) ⌝ }
 {
     for e in 0..4usize {
         let l = desk_lack(d, catalog, keys, held, words, n, e);

@@ -8,7 +8,7 @@ ghost use Rattle.state.specs.Cells.{cellsIn};
 ghost use Rattle.state.specs.Design.{InRange, Backed};
 ghost use Rattle.state.specs.Meaning.{databaseOf, schemeOf};
 ghost use Rattle.catalog.specs.Catalog.{Indexed};
-ghost use Rattle.slice.specs.Fetches.{fetchesIn, lackIn, Ordered};
+ghost use Rattle.slice.specs.Fetches.{fetchesIn, asLack, Ordered};
 use crate::fetch::Lack;
 use crate::fetch::nothing;
 use crate::lack::lack_of;
@@ -30,7 +30,7 @@ fn link_lack(
 ) -> Lack
     requires { ⌜ InRange d × Backed (cellsIn (now cells) (now issues)) (now tables) × Ordered (now words) n × (r < 512) × (i < 16) ⌝ }
     ensures { λ l. ⌜ (Indexed (databaseOf (cellsIn (now (cells .entry)) (now (issues .entry))) (now (tables .entry))) (now (catalog .entry)) (now (keys .entry))
-        → lackIn l ≡ Model.linkLack (schemeOf d) (databaseOf (cellsIn (now (cells .entry)) (now (issues .entry))) (now (tables .entry))) (fetchesIn (now (words .entry)) n) r i) ⌝ }
+        → asLack l ≡ Model.linkLack (schemeOf d) (databaseOf (cellsIn (now (cells .entry)) (now (issues .entry))) (now (tables .entry))) (fetchesIn (now (words .entry)) n) r i) ⌝ }
 {
     let c = d.constraint[i];
     let source = c.source;
@@ -55,7 +55,7 @@ fn links_lack(
 ) -> Lack
     requires { ⌜ InRange d × Backed (cellsIn (now cells) (now issues)) (now tables) × Ordered (now words) n × (r < 512) ⌝ }
     ensures { λ l. ⌜ (Indexed (databaseOf (cellsIn (now (cells .entry)) (now (issues .entry))) (now (tables .entry))) (now (catalog .entry)) (now (keys .entry))
-        → lackIn l ≡ Model.lackBelow (schemeOf d .constraints)
+        → asLack l ≡ Model.lackBelow (schemeOf d .constraints)
         (Model.linkLack (schemeOf d) (databaseOf (cellsIn (now (cells .entry)) (now (issues .entry))) (now (tables .entry))) (fetchesIn (now (words .entry)) n) r)) ⌝ }
 {
     let m = d.constraints;
@@ -83,7 +83,7 @@ fn row_lack(
 ) -> Lack
     requires { ⌜ InRange d × Backed (cellsIn (now cells) (now issues)) (now tables) × Ordered (now words) n × (512 ≤ length (now marks)) × (r < 512) ⌝ }
     ensures { λ l. ⌜ (Indexed (databaseOf (cellsIn (now (cells .entry)) (now (issues .entry))) (now (tables .entry))) (now (catalog .entry)) (now (keys .entry))
-        → lackIn l ≡ Model.rowLack (schemeOf d) (databaseOf (cellsIn (now (cells .entry)) (now (issues .entry))) (now (tables .entry))) (fetchesIn (now (words .entry)) n)
+        → asLack l ≡ Model.rowLack (schemeOf d) (databaseOf (cellsIn (now (cells .entry)) (now (issues .entry))) (now (tables .entry))) (fetchesIn (now (words .entry)) n)
         (marked (take 512 (now (marks .entry)))) r) ⌝ }
 {
     if marks[r] != 1 {
@@ -106,7 +106,7 @@ pub(crate) fn rows_lack(
 ) -> Lack
     requires { ⌜ InRange d × Backed (cellsIn (now cells) (now issues)) (now tables) × Ordered (now words) n × (512 ≤ length (now marks)) ⌝ }
     ensures { λ l. ⌜ (Indexed (databaseOf (cellsIn (now (cells .entry)) (now (issues .entry))) (now (tables .entry))) (now (catalog .entry)) (now (keys .entry))
-        → lackIn l ≡ Model.lackBelow 512 (Model.rowLack (schemeOf d) (databaseOf (cellsIn (now (cells .entry)) (now (issues .entry))) (now (tables .entry)))
+        → asLack l ≡ Model.lackBelow 512 (Model.rowLack (schemeOf d) (databaseOf (cellsIn (now (cells .entry)) (now (issues .entry))) (now (tables .entry)))
         (fetchesIn (now (words .entry)) n) (marked (take 512 (now (marks .entry)))))) ⌝ }
 {
     for r in 0..Design::ROWS {

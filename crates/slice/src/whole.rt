@@ -8,7 +8,7 @@ ghost use Rattle.state.specs.HeldWords.{wordsHeld};
 ghost use Rattle.state.specs.Lent.{lent, sound};
 ghost use Rattle.state.specs.Meaning.{databaseOf, schemeOf};
 ghost use Rattle.catalog.specs.Catalog.{Catalogued};
-ghost use Rattle.slice.specs.Fetches.{fetchesIn, fetchesFit, lackIn};
+ghost use Rattle.slice.specs.Fetches.{fetchesIn, fetchesFit, asLack};
 ghost use Rattle.slice.specs.Replies.{missingAt, replyOf, replyAt};
 use crate::accepted::fetches_fit;
 use crate::fetch::Fetch;
@@ -43,7 +43,7 @@ pub fn missing_lawful(
     requires { ⌜ (sound (lent design (cellsIn (now cells) (now issues)) (now tables) (now marks) (wordsHeld (now held))) ≡ true)
         × Catalogued (schemeOf design) (databaseOf (cellsIn (now cells) (now issues)) (now tables)) (now catalog) (now keys)
         × (5 * n ≤ length (now words)) × (fetchesFit (schemeOf design) (now words) n ≡ true) ⌝ }
-    ensures { λ l. ⌜ lackIn l ≡ missingAt (lent design (cellsIn (now (cells .entry)) (now (issues .entry))) (now (tables .entry)) (now (marks .entry)) (wordsHeld (now (held .entry))))
+    ensures { λ l. ⌜ asLack l ≡ missingAt (lent design (cellsIn (now (cells .entry)) (now (issues .entry))) (now (tables .entry)) (now (marks .entry)) (wordsHeld (now (held .entry))))
         (fetchesIn (now (words .entry)) n) ⌝ }
 {
     let p = pairs_lack(design, catalog, keys, held, words, n);
