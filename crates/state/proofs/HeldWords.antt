@@ -256,7 +256,7 @@ module _ (l : List ℕ) where
       (sym (places-kept l 4 258 25 noRanges rangesWords rangesFrom length-ranges (λ i h. ranges-kept (258 + 25 * i) (all-at 4 _ (b .1) i h)))))
 
 -- a list stored over one of its length
-stored-whole : (l vs : List ℕ) → length l ≡ length vs → sets l 0 vs ≡ vs
+pub stored-whole : (l vs : List ℕ) → length l ≡ length vs → sets l 0 vs ≡ vs
 stored-whole l vs e =
     ext-getD 0 (sets l 0 vs) vs (length-sets l 0 vs ∙ e)
     (λ i b. let z : i ≡ 0 + i = omega arith in ap (λ (k : ℕ). getD (sets l 0 vs) k 0) z ∙ sets-at 0 l 0 vs i (omega arith) (omega (arith, length-sets l 0 vs)))

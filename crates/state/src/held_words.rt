@@ -41,7 +41,7 @@ pub fn store_words(held: &[u32; 358], words: &mut [u32])
 }
 
 // A word where a u8 is kept.
-fn byte_at(words: &[u32], i: usize) -> u8
+pub fn byte_at(words: &[u32], i: usize) -> u8
     requires { ⌜ i < length (now words) ⌝ }
     ensures { λ b. ⌜ b ≡ byteOf (now (words .entry)) i ⌝ }
 {
@@ -49,7 +49,7 @@ fn byte_at(words: &[u32], i: usize) -> u8
 }
 
 // A word where a count is kept.
-fn count_at(words: &[u32], i: usize) -> usize
+pub fn count_at(words: &[u32], i: usize) -> usize
     requires { ⌜ i < length (now words) ⌝ }
     ensures { λ n. ⌜ n ≡ wordAt (now (words .entry)) i ⌝ }
 {

@@ -6,14 +6,14 @@ ghost use Rattle.finite.specs.Finite.{all};
 ghost use Rattle.state.specs.HeldWords.{isByte, narrowTwo, narrowValue, narrowRanges, narrowHeld};
 
 // Constant time, as are the next two.
-fn is_byte(words: &[u32], i: usize) -> bool
+pub fn is_byte(words: &[u32], i: usize) -> bool
     requires { ⌜ i < length (now words) ⌝ }
     ensures { λ b. ⌜ b ≡ isByte (now (words .entry)) i ⌝ }
 {
     words[i] < 256
 }
 
-fn two_narrow(words: &[u32], at: usize) -> bool
+pub fn two_narrow(words: &[u32], at: usize) -> bool
     requires { ⌜ at + 2 ≤ length (now words) ⌝ }
     ensures { λ b. ⌜ b ≡ narrowTwo (now (words .entry)) at ⌝ }
 {

@@ -2,30 +2,16 @@
 ghost use Prim.Native.Nat.{_+_, _≤_, _<_};
 ghost use mathlib.Core.Path.{_≡_};
 ghost use lib.ListN.{length};
-ghost use Rattle.state.specs.HeldWords.{wordAt, byteOf};
 ghost use Rattle.words.specs.Words.{tableFrom, columnFrom, constraintFrom, fillingFrom, tablesFrom, constraintsFrom, fillingsFrom, wordsDesign};
 use state::Column;
 use state::Constraint;
 use state::Design;
 use state::Filling;
 use state::Table;
+use state::byte_at;
+use state::count_at;
 
-// A word where a u8 is kept. Constant time, as are the next five.
-fn byte_at(words: &[u32], i: usize) -> u8
-    requires { ⌜ i < length (now words) ⌝ }
-    ensures { λ b. ⌜ b ≡ byteOf (now (words .entry)) i ⌝ }
-{
-    (words[i] % 256) as u8
-}
-
-// A word where a count is kept.
-fn count_at(words: &[u32], i: usize) -> usize
-    requires { ⌜ i < length (now words) ⌝ }
-    ensures { λ n. ⌜ n ≡ wordAt (now (words .entry)) i ⌝ }
-{
-    words[i] as usize
-}
-
+// One place each, from word `at` on. Constant time.
 fn table_from(words: &[u32], at: usize) -> Table
     requires { ⌜ at + 2 ≤ length (now words) ⌝ }
     ensures { λ t. ⌜ t ≡ tableFrom (now (words .entry)) at ⌝ }

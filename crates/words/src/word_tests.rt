@@ -3,27 +3,11 @@ ghost use Prim.Native.Nat.{_+_, _*_, _≤_, _<_};
 ghost use mathlib.Core.Path.{_≡_};
 ghost use lib.ListN.{length};
 ghost use Rattle.finite.specs.Finite.{all};
-ghost use Rattle.state.specs.HeldWords.{isByte, narrowTwo};
+ghost use Rattle.state.specs.HeldWords.{narrowTwo};
 ghost use Rattle.words.specs.Words.{narrowConstraint, narrowDesign};
+use state::two_narrow;
 
-// Constant time, as are the next two.
-fn is_byte(words: &[u32], i: usize) -> bool
-    requires { ⌜ i < length (now words) ⌝ }
-    ensures { λ b. ⌜ b ≡ isByte (now (words .entry)) i ⌝ }
-{
-    words[i] < 256
-}
-
-fn two_narrow(words: &[u32], at: usize) -> bool
-    requires { ⌜ at + 2 ≤ length (now words) ⌝ }
-    ensures { λ b. ⌜ b ≡ narrowTwo (now (words .entry)) at ⌝ }
-{
-    if !is_byte(words, at) {
-        return false;
-    }
-    is_byte(words, at + 1)
-}
-
+// Constant time.
 fn constraint_narrow(words: &[u32], at: usize) -> bool
     requires { ⌜ at + 4 ≤ length (now words) ⌝ }
     ensures { λ b. ⌜ b ≡ narrowConstraint (now (words .entry)) at ⌝ }

@@ -17,7 +17,7 @@ use Rattle.state.specs.Cells.{Cells}
 use Rattle.state.specs.declared.design.Design.{Design}
 use Rattle.state.specs.Meaning.{answerOf}
 use Rattle.state.specs.Lent.{State, lent, sound}
-use Rattle.state.proofs.HeldWords.{length-held, words-sized, whole-words, whole-long, whole-narrow}
+use Rattle.state.proofs.HeldWords.{length-held, words-sized, stored-whole, whole-words, whole-long, whole-narrow}
 use Rattle.state.proofs.LentWords.{means-same, narrow-same, first-means, first-narrow}
 use Rattle.script.specs.declared.outcome.Step.{Step}
 use Rattle.script.specs.Step.{Outputs, Stepped, refusing, stepAt, Does}
@@ -30,7 +30,7 @@ use Rattle.words.specs.Words.{wordsDesign}
 use Rattle.wurzsige.specs.Told.{Told, Placed, StepTold, answerIn}
 use Rattle.wurzsige.specs.Calls.{Memory, memory, stateIn, soundMemory, memoryCause, Arrays, CatalogIn, Ready, Catalogs, keeping, stepIn, memoryAfter, StepTaken, RunMade}
 use Rattle.wurzsige.proofs.ToldLaws.{told-read}
-use Rattle.wurzsige.proofs.StoredWords.{stored-over, stored-at}
+use Rattle.wurzsige.proofs.StoredWords.{stored-at}
 use Rattle.wurzsige.proofs.Memories.{words-state, Parts, memory-parts, from-parts, cause-sound, step-caused, step-uncaused}
 
 -- ---- causes 7 and 12 of the memory
@@ -93,7 +93,7 @@ module _ (ds hs : List ℕ) (cs : Cells) (ts ms : List ℕ) (k : Arrays) (d : De
   module _ (cs′ : Cells) (ts′ ms′ hs′ : List ℕ) (still : sound (lent d cs′ ts′ ms′ (wordsHeld hs′)) ≡ true) (whole′ : Whole hs′) where
     -- its words stand where those of the state before stood
     stored : hs′ ≡ sets hs 0 (heldWords (wordsHeld hs′))
-    stored = whole′ ∙ sym (stored-over hs (heldWords (wordsHeld hs′)) (long ∙ sym (length-held (wordsHeld hs′))))
+    stored = whole′ ∙ sym (stored-whole hs (heldWords (wordsHeld hs′)) (long ∙ sym (length-held (wordsHeld hs′))))
 
     kept-ready : (k′ : Arrays) → CatalogIn k′ d cs′ ts′ → Ready (memory ds hs′ cs′ ts′ ms′) k′
     kept-ready k′ catalog =
@@ -269,7 +269,7 @@ module _ (ds hs own : List ℕ) (cs : Cells) (ts ms : List ℕ) (is : own ≡ fi
       own′-is : own′ ≡ heldWords (stepIn whole-m out script i .state .held)
       own′-is =
           let R = stepIn own-m out script i in
-          ap (λ (m : Memory). m .held) s-is ∙ stored-over own (heldWords (R .state .held)) (own-long ∙ sym (length-held (R .state .held))) ∙
+          ap (λ (m : Memory). m .held) s-is ∙ stored-whole own (heldWords (R .state .held)) (own-long ∙ sym (length-held (R .state .held))) ∙
           ap (λ (Q : Stepped). heldWords (Q .state .held)) (own-step out script i)
 
       pub own-left-long : length own′ ≡ heldLength
