@@ -13,4 +13,5 @@ pub use fetch::Fetch;
 pub use fetch::Lack;
 pub use whole::Next;
 pub use whole::missing;
+pub use whole::missing_catalogued;
 pub use whole::missing_lawful;

@@ -5,7 +5,7 @@ ghost use mathlib.Core.Path.{_≡_};
 ghost use lib.ListN.{length};
 ghost use Rattle.state.specs.Cells.{cellsIn};
 ghost use Rattle.state.specs.HeldWords.{wordsHeld};
-ghost use Rattle.state.specs.Lent.{lent, sound};
+ghost use Rattle.state.specs.Lent.{lent, sound, causeOf};
 ghost use Rattle.state.specs.Meaning.{databaseOf, schemeOf};
 ghost use Rattle.catalog.specs.Catalog.{Catalogued};
 ghost use Rattle.slice.specs.Fetches.{fetchesIn, fetchesFit, asLack};
@@ -67,8 +67,51 @@ pub fn missing_lawful(
     )
 }
 
-// The same for whatever is lent: 7 where the words are fewer than five for each fetch or the rows' buffers are too short, 12 where the state is unlawful, 5 where a fetch
-// names no column, value or span of the design, or they don't rise. The cost of `cause`, one look at each fetch, and that of `missing_lawful`.
+// The same for whatever fetches are lent, over a state to which neither cause 7 nor 12 applies: 7 where the words are fewer than five for each fetch, 5 where a fetch
+// names no column, value or span of the design, or they don't rise. One look at each fetch, and the cost of `missing_lawful`.
+pub fn missing_catalogued(
+    design: Design,
+    cells: &[u32],
+    issues: &[u8],
+    tables: &[u8],
+    catalog: &[u16; 16449],
+    keys: &[u64; 4096],
+    marks: &[u8],
+    held: &[u32; 358],
+    words: &[u32],
+    n: usize,
+) -> Next
+    requires { ⌜ (causeOf (lent design (cellsIn (now cells) (now issues)) (now tables) (now marks) (wordsHeld (now held))) (now held) ≡ 0)
+        × Catalogued (schemeOf design) (databaseOf (cellsIn (now cells) (now issues)) (now tables)) (now catalog) (now keys) ⌝ }
+    ensures { λ r. ⌜ replyOf r ≡ replyAt (lent design (cellsIn (now (cells .entry)) (now (issues .entry))) (now (tables .entry)) (now (marks .entry)) (wordsHeld (now (held .entry))))
+        (now (held .entry)) (now (words .entry)) n ⌝ }
+{
+    if words.len() / 5 < n {
+        return Next::Refused(7);
+    }
+    if !fetches_fit(design, words, n) {
+        return Next::Refused(5);
+    }
+    let l = missing_lawful(
+        design,
+        cells,
+        issues,
+        tables,
+        catalog,
+        keys,
+        marks,
+        held,
+        words,
+        n,
+    );
+    if l.found {
+        let f = l.fetch;
+        return Next::Lacks(f);
+    }
+    Next::Nothing
+}
+
+// The same for whatever is lent: 7 for too few words or too short buffers for rows, 12 for an unlawful state, then as above. The cost of `cause`, besides.
 pub fn missing(
     design: Design,
     cells: &[u32],
@@ -100,10 +143,7 @@ pub fn missing(
     if c != 0 {
         return Next::Refused(c);
     }
-    if !fetches_fit(design, words, n) {
-        return Next::Refused(5);
-    }
-    let l = missing_lawful(
+    missing_catalogued(
         design,
         cells,
         issues,
@@ -114,10 +154,5 @@ pub fn missing(
         held,
         words,
         n,
-    );
-    if l.found {
-        let f = l.fetch;
-        return Next::Lacks(f);
-    }
-    Next::Nothing
+    )
 }

@@ -27,19 +27,19 @@ shut-past-requires : tie.Need-shut-past-requires Inv-loop μ-loop
 shut-past-requires c κs = c .before .before .before .pre
 
 returns : tie.Need-returns Inv-loop μ-loop
-returns c = λ D i. walk-hit _ D _ _ _ _ _ (c .before .before .loop-test .taken) (c .before .shut-past .ensures D i) (c .if1 .taken) ∙ sym (c .before .before .before .loop .inv D i)
+returns c = λ D i. walk-hit _ D _ _ (c .before .before .before .loop .x) (c .before .before .before .before .before .args .high) _ (omega (arith, c .before .before .loop-test .taken)) (c .before .shut-past .ensures D i) (c .if1 .taken) ∙ sym (c .before .before .before .loop .inv D i)
 
 loop-less : tie.Need-loop-less Inv-loop μ-loop
 loop-less c = omega arith
 
 loop-again : tie.Need-loop-again Inv-loop μ-loop
-loop-again c = λ D i. c .before .before .before .loop .inv D i ∙ walk-on _ D _ _ _ _ _ (c .before .before .loop-test .taken) (c .before .shut-past .ensures D i)
+loop-again c = λ D i. c .before .before .before .loop .inv D i ∙ walk-on _ D _ _ (c .before .before .before .loop .x) (c .before .before .before .before .before .args .high) _ (omega (arith, c .before .before .loop-test .taken)) (c .before .shut-past .ensures D i)
 
 add-result : tie.Need-add-result Inv-loop μ-loop
 add-result c = omega arith
 
 returns-2 : tie.Need-returns-2 Inv-loop μ-loop
-returns-2 c = λ D i. walk-end _ D _ _ _ _ (c .loop-test .left) ∙ sym (c .before .loop .inv D i)
+returns-2 c = λ D i. walk-end _ D _ _ (c .before .loop .x) (c .before .before .before .args .high) (omega (arith, c .loop-test .left)) ∙ sym (c .before .loop .inv D i)
 
 pub first-open-spec : {M : Type 1} → statement M
 first-open-spec =

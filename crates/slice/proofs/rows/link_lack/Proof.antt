@@ -1,4 +1,5 @@
 -- `slice::rows::link_lack` meets its contract. Assumes nothing.
+use native.Mathlib.Omega.{arith}
 use mathlib.Core.Path.{_∙_}
 use Rattle.slice.proofs.LackLaws.{row-other, row-there}
 use borrow.Author.Needs.{needs}
@@ -27,7 +28,12 @@ cell-at-requires : tie.Need-cell-at-requires
 cell-at-requires c κs = let s = c .before .before .before .before .before .before .before .before .before .before in (s .pre .3, s .pre .0 .source _, s .pre .1 .rows, s .pre .1 .issued)
 
 lack-of-requires : tie.Need-lack-of-requires
-lack-of-requires c κs = let s = c .before .before .before .before .before .before .before .before .before .before .before in (s .pre .0 .target-table _, s .pre .0 .target _, s .pre .2)
+lack-of-requires c κs =
+    let s = c .before .before .before .before .before .before .before .before .before .before .before in (
+      omega (arith, s .pre .0 .target-table (s .args .i), s .pre .0 .source-table (s .args .i)),
+      omega (arith, s .pre .0 .target (s .args .i), s .pre .0 .source (s .args .i)),
+      s .pre .2,
+    )
 
 returns-2 : tie.Need-returns-2
 returns-2 c = λ x. let s = c .before .before .before .before .before .before .before .before .before .before .before .before in row-there _ _ _ _ _ _ _ (s .pre .0 .source _) (c .before .before .before .if1 .left) (c .before .cell-at .ensures) (c .lack-of .ensures _ x)

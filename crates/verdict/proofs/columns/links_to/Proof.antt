@@ -1,4 +1,5 @@
 -- `verdict::columns::links_to` meets its contract. Assumes nothing.
+use native.Mathlib.Omega.{arith}
 use mathlib.Core.Path.{sym, _∙_}
 use borrow.Author.Tests.{not-true, not-false}
 use Rattle.finite.proofs.Bools.{and-go, and-stop}
@@ -26,7 +27,9 @@ cast-result : tie.Need-cast-result
 cast-result c = search needs
 
 array-read-result : tie.Need-array-read-result
-array-read-result c = c .before .before .before .before .pre .0 .source-table _
+array-read-result c =
+    let s = c .before .before .before .before in
+    omega (arith, s .pre .0 .source-table (s .args .i), s .pre .0 .target-table (s .args .i))
 
 returns-2 : tie.Need-returns-2
 unfolding linksTo schemeOf
