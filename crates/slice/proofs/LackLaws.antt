@@ -3,7 +3,7 @@ use Prim.Native.Nat.{ℕ, suc, _+_, _-_, _<_, _≤_}
 use native.Mathlib.Omega.{arith}
 use mathlib.Core.Path.{_≡_, refl, sym, ap, subst, _∙_}
 use mathlib.Core.Logic.{_⊎_, inl, inr, ⊎-elim}
-use mathlib.Core.Bool.{Bool, true, false, not, cond, _||_, or-true}
+use mathlib.Core.Bool.{Bool, true, false, not, cond, _||_, or-true, or-false, _&&_}
 use mathlib.Core.List.{List, [], _∷_}
 use borrow.Author.Tests.{eq-eqb, ne-eqb, ltb-true, ltb-false, lt-ltb, le-leb, lt-leb, leb-true, leb-false}
 use lib.Dec.{eqb, leb, ltb}
@@ -14,13 +14,14 @@ use Rattle.finite.proofs.Bools.{clash, cond-true, cond-false, dec, refute}
 use Rattle.finite.proofs.First.{first-from, first-is, first-through, first-here, first-past, first-none}
 use Rattle.model.specs.Cache.{RowSet}
 use Rattle.model.specs.Cell.{Cell, blank, issued, numbered, isBlank}
-use Rattle.model.specs.Database.{Database}
+use Rattle.model.specs.Database.{Database, has}
 use Rattle.model.specs.Holding.{Holding, allRanges}
 use Rattle.model.specs.Missing as Model
 use Rattle.model.specs.Ranges.{Range}
 use Rattle.model.specs.Runs.{marked}
 use Rattle.model.specs.Scheme.{Column, Scheme}
 use Rattle.model.proofs.MissingLaws.{spanned-known}
+use Rattle.model.proofs.RangeLaws.{or-second}
 use Rattle.model.proofs.MissingLoops.{first-any, lack-hit, lack-more, lack-end, lack-append, lack-tab}
 use Rattle.state.specs.Cells.{Cells}
 use Rattle.state.specs.declared.cell.Cell as Declared-cell
@@ -53,6 +54,14 @@ pub below-any : (n r : ℕ) (p : ℕ → Bool) → n ≡ 512 → r ≡ firstFrom
 below-any n r p e f = ap (λ (x : ℕ). ltb x 512) f ∙ first-any 512 p ∙ ap (λ (m : ℕ). any m p) (sym e)
 
 module _ (S : Scheme) (D : Database) (fs : List Model.Fetch) (k : Column) (v : Cell) where
+  pub only-known : S .unique k && any (D .size) (has D k v) ≡ true → true ≡ Model.known S D fs k v
+  unfolding Model.known
+  only-known e = sym (or-second (Model.isFetched fs k v) _ e)
+
+  pub fetched-known : {r : Bool} → S .unique k && any (D .size) (has D k v) ≡ false → r ≡ Model.isFetched fs k v → r ≡ Model.known S D fs k v
+  unfolding Model.known
+  fetched-known e h = h ∙ sym (ap (λ (b : Bool). Model.isFetched fs k v || b) e ∙ or-false (Model.isFetched fs k v))
+
   pub open-blank : isBlank v ≡ true → false ≡ Model.isOpen S D fs k v
   unfolding Model.isOpen
   open-blank e = sym (ap (λ (b : Bool). not (b || Model.known S D fs k v)) e)

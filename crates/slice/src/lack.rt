@@ -1,7 +1,9 @@
 // Whether one value must still be fetched where it is needed. A search by halves of the fetches, and one of the directory.
 ghost use Prim.Native.Nat.{_<_};
+ghost use mathlib.Core.Bool.{_&&_};
 ghost use mathlib.Core.Path.{_≡_};
-ghost use Rattle.model.specs.Database.{Database};
+ghost use Rattle.finite.specs.Finite.{any};
+ghost use Rattle.model.specs.Database.{Database, has};
 ghost use Rattle.model.specs.Missing as Model;
 ghost use Rattle.state.specs.Meaning.{cellOf, columnOf, schemeOf};
 ghost use Rattle.catalog.specs.Catalog.{Indexed};
@@ -16,7 +18,19 @@ use state::Column;
 use state::Design;
 use state::is_blank;
 
-// Whether the value is known to be whole: it was fetched, or the column is unique and a row has it there.
+// Whether the column is unique and a row has the value there: then no other row of the database does. A search of the directory.
+fn is_only(d: Design, catalog: &[u16; 16449], keys: &[u64; 4096], k: Column, v: Cell) -> bool
+    requires { ⌜ (k .table < 8) × (k .place < 8) ⌝ }
+    ensures { λ r. ⌜ ((D : Database) → Indexed D (now (catalog .entry)) (now (keys .entry))
+        → r ≡ schemeOf d .unique (columnOf k) && any (D .size) (has D (columnOf k) (cellOf v))) ⌝ }
+{
+    if !is_unique(d, k) {
+        return false;
+    }
+    find(catalog, keys, k, v) < Design::ROWS
+}
+
+// Whether the value is known to be whole: it is the only one, or was fetched.
 fn is_known(
     d: Design,
     catalog: &[u16; 16449],
@@ -30,13 +44,10 @@ fn is_known(
     ensures { λ r. ⌜ ((D : Database) → Indexed D (now (catalog .entry)) (now (keys .entry))
         → r ≡ Model.known (schemeOf d) D (fetchesIn (now (words .entry)) n) (columnOf k) (cellOf v)) ⌝ }
 {
-    if is_fetched(words, n, k, v) {
+    if is_only(d, catalog, keys, k, v) {
         return true;
     }
-    if !is_unique(d, k) {
-        return false;
-    }
-    find(catalog, keys, k, v) < Design::ROWS
+    is_fetched(words, n, k, v)
 }
 
 // Whether it must still be fetched: it is neither blank nor known.
