@@ -1,4 +1,4 @@
--- The entry point's answers, test by test. Assumes nothing.
+-- The answers, test by test. Assumes nothing.
 use Prim.Native.Nat.{ℕ, _*_, _/_, _<_, _≤_}
 use native.Mathlib.Omega.{arith}
 use mathlib.Core.Path.{_≡_, sym, ap, _∙_}
@@ -9,43 +9,54 @@ use lib.Dec.{leb}
 use lib.ListN.{length}
 use Rattle.finite.proofs.Bools.{cond-true, cond-false}
 use Rattle.model.specs.Missing as Model
-use Rattle.state.specs.Lent.{State, scheme, causeOf}
+use Rattle.state.specs.Cells.{Cells}
+use Rattle.state.specs.declared.design.Design.{Design}
+use Rattle.state.specs.declared.held.Held.{Held}
+use Rattle.state.specs.HeldWords.{firstWords, wordsHeld}
+use Rattle.state.specs.Lent.{State, lent, scheme, causeOf}
+use Rattle.cache.proofs.CauseWords.{own-means}
 use Rattle.slice.specs.declared.fetch.Lack.{Lack}
 use Rattle.slice.specs.Fetches.{fetchOf, fetchesIn, fetchesFit, asLack}
-use Rattle.slice.specs.Replies.{lack, refused, missingAt, refusalAt, replyAt}
+use Rattle.slice.specs.Replies.{Reply, lack, refused, missingAt, replyIn, replyAt}
 use Rattle.slice.proofs.LackLaws.{found-says, unfound-says}
 
-module _ (s : State) (held words : List ℕ) (n : ℕ) where
-  -- a cause that applies is answered
-  reply-refused : (c : ℕ) → refusalAt s held words n ≡ c → (c ≡ 0 → ⊥) → refused c ≡ replyAt s held words n
+-- ---- a sound state
+
+module _ (s : State) (words : List ℕ) (n : ℕ) where
+  pub reply-short : length words / 5 < n → refused 7 ≡ replyIn s words n
+  unfolding replyIn
+  reply-short l = sym (cond-true _ _ _ (ap not (lt-leb (5 * n) (length words) (omega arith))))
+
+  module _ (l : n ≤ length words / 5) where
+    long : not (leb (5 * n) (length words)) ≡ false
+    long = ap not (le-leb (5 * n) (length words) (omega arith))
+
+    pub reply-unfit : fetchesFit (scheme s) words n ≡ false → refused 5 ≡ replyIn s words n
+    unfolding replyIn
+    reply-unfit f = sym (cond-false _ _ _ long ∙ cond-true _ _ _ (ap not f))
+
+    reply-lack : fetchesFit (scheme s) words n ≡ true → lack (missingAt s (fetchesIn words n)) ≡ replyIn s words n
+    unfolding replyIn
+    reply-lack f = sym (cond-false _ _ _ long ∙ cond-false _ _ _ (ap not f))
+
+    pub reply-found : (k : Lack) → fetchesFit (scheme s) words n ≡ true → asLack k ≡ missingAt s (fetchesIn words n) → k .found ≡ true →
+        lack (Model.lacks (fetchOf (k .fetch))) ≡ replyIn s words n
+    reply-found k f g t = ap lack (sym (found-says k t) ∙ g) ∙ reply-lack f
+
+    pub reply-none : (k : Lack) → fetchesFit (scheme s) words n ≡ true → asLack k ≡ missingAt s (fetchesIn words n) → k .found ≡ false →
+        lack Model.nothing ≡ replyIn s words n
+    reply-none k f g t = ap lack (sym (unfound-says k t) ∙ g) ∙ reply-lack f
+
+-- ---- whatever is lent
+
+module _ (d : Design) (cs : Cells) (ts ms held words : List ℕ) (n c : ℕ) (e : c ≡ causeOf (lent d cs ts ms (wordsHeld held)) held) where
+  pub reply-cause : (c ≡ 0 → ⊥) → refused c ≡ replyAt (lent d cs ts ms (wordsHeld held)) held words n
   unfolding replyAt
-  reply-refused c e z = ap refused (sym e) ∙ sym (cond-false _ _ _ (ne-eqb _ 0 (λ x. z (sym e ∙ x))))
+  reply-cause z = ap refused e ∙ sym (cond-false _ _ _ (ne-eqb _ 0 (λ x. z (e ∙ x))))
 
-  pub reply-short : length words / 5 < n → refused 7 ≡ replyAt s held words n
-  unfolding refusalAt
-  reply-short l = reply-refused 7 (cond-true _ _ _ (ap not (lt-leb (5 * n) (length words) (omega arith)))) (λ x. omega arith)
-
-  long : n ≤ length words / 5 → not (leb (5 * n) (length words)) ≡ false
-  long l = ap not (le-leb (5 * n) (length words) (omega arith))
-
-  pub reply-cause : (c : ℕ) → n ≤ length words / 5 → c ≡ causeOf s held → (c ≡ 0 → ⊥) → refused c ≡ replyAt s held words n
-  unfolding refusalAt
-  reply-cause c l e z = reply-refused c (cond-false _ _ _ (long l) ∙ cond-true _ _ _ (ap not (ne-eqb (causeOf s held) 0 (λ x. z (e ∙ x)))) ∙ sym e) z
-
-  pub reply-unfit : n ≤ length words / 5 → causeOf s held ≡ 0 → fetchesFit (scheme s) words n ≡ false → refused 5 ≡ replyAt s held words n
-  unfolding refusalAt
-  reply-unfit l e f =
-      reply-refused 5 (cond-false _ _ _ (long l) ∙ cond-false _ _ _ (ap not (eq-eqb (causeOf s held) 0 e)) ∙ cond-true _ _ _ (ap not f)) (λ x. omega arith)
-
-  reply-lack : n ≤ length words / 5 → causeOf s held ≡ 0 → fetchesFit (scheme s) words n ≡ true → lack (missingAt s (fetchesIn words n)) ≡ replyAt s held words n
-  unfolding replyAt refusalAt
-  reply-lack l e f =
-      sym (cond-true _ _ _ (eq-eqb _ 0 (cond-false _ _ _ (long l) ∙ cond-false _ _ _ (ap not (eq-eqb (causeOf s held) 0 e)) ∙ cond-false _ _ _ (ap not f))))
-
-  pub reply-found : (l : Lack) → n ≤ length words / 5 → causeOf s held ≡ 0 → fetchesFit (scheme s) words n ≡ true → asLack l ≡ missingAt s (fetchesIn words n) →
-      l .found ≡ true → lack (Model.lacks (fetchOf (l .fetch))) ≡ replyAt s held words n
-  reply-found l b e f g t = ap lack (sym (found-says l t) ∙ g) ∙ reply-lack b e f
-
-  pub reply-none : (l : Lack) → n ≤ length words / 5 → causeOf s held ≡ 0 → fetchesFit (scheme s) words n ≡ true → asLack l ≡ missingAt s (fetchesIn words n) →
-      l .found ≡ false → lack Model.nothing ≡ replyAt s held words n
-  reply-none l b e f g t = ap lack (sym (unfound-says l t) ∙ g) ∙ reply-lack b e f
+  -- no cause applies: what the first words answer
+  pub reply-own : c ≡ 0 → (own : List ℕ) → own ≡ firstWords held → (r : Reply) → r ≡ replyIn (lent d cs ts ms (wordsHeld own)) words n →
+      r ≡ replyAt (lent d cs ts ms (wordsHeld held)) held words n
+  unfolding replyAt
+  reply-own z own is r h =
+      h ∙ ap (λ (x : Held). replyIn (lent d cs ts ms x) words n) (own-means d cs ts ms held own is) ∙ sym (cond-true _ _ _ (eq-eqb _ 0 (sym e ∙ z)))

@@ -31,7 +31,7 @@ use Rattle.lawful.proofs.HeldLaws.{holding-back}
 use Rattle.lawful.proofs.SoundState.{parts, sound-fresh, sound-smallest, fresh-long, after, after-fit, held-after, marks-after, answer-at, words-at, sound-after}
 use Rattle.cache.proofs.CauseWords.{cause-clear}
 use Rattle.slice.specs.Fetches.{fetchesIn, fetchesFit}
-use Rattle.slice.specs.Replies.{lack, refused, missingAt, refusalAt, replyAt}
+use Rattle.slice.specs.Replies.{Reply, lack, refused, missingAt, replyIn, replyAt}
 use Rattle.slice.specs.Fed.{Fed, fullCache}
 
 -- ---- the state that an operation leaves
@@ -103,27 +103,20 @@ same-lack e = cc
 -- THEOREM: where the entry point says that nothing lacks, the state is sound, the words are accepted, and nothing lacks
 pub reply-nothing : (s : State) (held words : List ℕ) (n : ℕ) → replyAt s held words n ≡ lack Model.nothing →
     (sound s ≡ true) × (fetchesFit (scheme s) words n ≡ true) × (missingAt s (fetchesIn words n) ≡ Model.nothing)
-unfolding replyAt refusalAt
+unfolding replyAt replyIn
 reply-nothing s held words n h =
-    let q = said (eqb (refusalAt s held words n) 0) (missingAt s (fetchesIn words n)) (refusalAt s held words n) h in
-    let c = clear (leb (5 * n) (length words)) (causeOf s held) (fetchesFit (scheme s) words n) (eqb-true _ 0 (q .0)) in
-    (cause-clear s held (c .0) .0, c .1, q .1)
+    let q = unrefused (eqb (causeOf s held) 0) (replyIn s words n) (causeOf s held) h in
+    let f = fits (leb (5 * n) (length words)) (fetchesFit (scheme s) words n) (missingAt s (fetchesIn words n)) (q .1) in
+    (cause-clear s held (eqb-true _ 0 (q .0)) .sound, f .0, f .1)
   where
-    said : (b : Bool) (m : Model.Lack) (k : ℕ) {l : Model.Lack} → cond b (lack m) (refused k) ≡ lack l → (b ≡ true) × (m ≡ l)
-    said true m k e = (refl, same-lack e)
-    said false m k e = absurd (lack-not e)
+    unrefused : (b : Bool) (r : Reply) (k : ℕ) {l : Model.Lack} → cond b r (refused k) ≡ lack l → (b ≡ true) × (r ≡ lack l)
+    unrefused true r k e = (refl, e)
+    unrefused false r k e = absurd (lack-not e)
 
-    clear : (a : Bool) (c : ℕ) (b : Bool) → _≡_ {A = ℕ} (cond (not a) 7 (cond (not (eqb c 0)) c (cond (not b) 5 0))) 0 → (c ≡ 0) × (b ≡ true)
-    clear false c b e = absurd (omega arith)
-    clear true c b e = ⊎-elim (λ z. none z b (subst (λ (t : Bool). _≡_ {A = ℕ} (cond (not t) c (cond (not b) 5 0)) 0) z e))
-        (λ z. absurd (some z (subst (λ (t : Bool). _≡_ {A = ℕ} (cond (not t) c (cond (not b) 5 0)) 0) z e))) (dec (eqb c 0))
-      where
-        none : eqb c 0 ≡ true → (b : Bool) → _≡_ {A = ℕ} (cond (not b) 5 0) 0 → (c ≡ 0) × (b ≡ true)
-        none z true e = (eqb-true c 0 z, refl)
-        none z false e = absurd (omega arith)
-
-        some : eqb c 0 ≡ false → c ≡ 0 → ⊥
-        some z e = clash (eq-eqb c 0 e) z
+    fits : (a b : Bool) (m : Model.Lack) {l : Model.Lack} → cond (not a) (refused 7) (cond (not b) (refused 5) (lack m)) ≡ lack l → (b ≡ true) × (m ≡ l)
+    fits false b m e = absurd (lack-not e)
+    fits true false m e = absurd (lack-not e)
+    fits true true m e = (refl, same-lack e)
 
 -- THEOREM: if the entry point says of the states before and after an operation that nothing lacks, the operation answered what it answers over the whole database
 pub missing-answers : (s : State) (held held′ words : List ℕ) (n : ℕ) (o : Operation) → replyAt s held words n ≡ lack Model.nothing →

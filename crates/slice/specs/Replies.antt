@@ -24,10 +24,13 @@ replyOf (N.Refused n) = refused n
 unfoldable pub missingAt : State → List Model.Fetch → Model.Lack
 missingAt s fs = Model.missing (scheme s) (database s) (cache s .held) (marked (cache s .marks)) fs
 
--- the cause, 0 if none applies: 7 for fewer than five words a fetch, 7 and 12 for the state, with what is held as words, and 5 for words of no fetch or out of order
-unfoldable pub refusalAt : State → List ℕ → List ℕ → ℕ → ℕ
-refusalAt s held words n =
-    cond (not (leb (5 * n) (length words))) 7 (cond (not (eqb (causeOf s held) 0)) (causeOf s held) (cond (not (fetchesFit (scheme s) words n)) 5 0))
+-- the answer for a sound state and whatever fetches are lent: 7 for fewer than five words a fetch, 5 for words of no fetch or out of order, else what the slice lacks
+unfoldable pub replyIn : State → List ℕ → ℕ → Reply
+replyIn s words n =
+    cond (not (leb (5 * n) (length words))) (refused 7)
+    (cond (not (fetchesFit (scheme s) words n)) (refused 5)
+    (lack (missingAt s (fetchesIn words n))))
 
+-- and for whatever is lent: causes 7 and 12 of the state, with what is held as words, first
 unfoldable pub replyAt : State → List ℕ → List ℕ → ℕ → Reply
-replyAt s held words n = cond (eqb (refusalAt s held words n) 0) (lack (missingAt s (fetchesIn words n))) (refused (refusalAt s held words n))
+replyAt s held words n = cond (eqb (causeOf s held) 0) (replyIn s words n) (refused (causeOf s held))

@@ -5,11 +5,11 @@ ghost use mathlib.Core.Path.{_≡_};
 ghost use lib.ListN.{length};
 ghost use Rattle.state.specs.Cells.{cellsIn};
 ghost use Rattle.state.specs.HeldWords.{wordsHeld};
-ghost use Rattle.state.specs.Lent.{lent, sound, causeOf};
+ghost use Rattle.state.specs.Lent.{lent, sound};
 ghost use Rattle.state.specs.Meaning.{databaseOf, schemeOf};
 ghost use Rattle.catalog.specs.Catalog.{Catalogued};
 ghost use Rattle.slice.specs.Fetches.{fetchesIn, fetchesFit, asLack};
-ghost use Rattle.slice.specs.Replies.{missingAt, replyOf, replyAt};
+ghost use Rattle.slice.specs.Replies.{missingAt, replyOf, replyIn, replyAt};
 use crate::accepted::fetches_fit;
 use crate::fetch::Fetch;
 use crate::fetch::Lack;
@@ -18,6 +18,7 @@ use crate::ranges::ranges_lack;
 use crate::rows::rows_lack;
 use cache::cause;
 use state::Design;
+use state::first_words;
 
 // What must be fetched next: nothing, this, or it isn't said since what is lent is refused.
 pub enum Next {
@@ -67,7 +68,7 @@ pub fn missing_lawful(
     )
 }
 
-// The same for whatever fetches are lent, over a state to which neither cause 7 nor 12 applies: 7 where the words are fewer than five for each fetch, 5 where a fetch
+// The same for whatever fetches are lent, over a sound state with its catalog: 7 where the words are fewer than five for each fetch, 5 where a fetch
 // names no column, value or span of the design, or they don't rise. One look at each fetch, and the cost of `missing_lawful`.
 pub fn missing_catalogued(
     design: Design,
@@ -81,10 +82,10 @@ pub fn missing_catalogued(
     words: &[u32],
     n: usize,
 ) -> Next
-    requires { ⌜ (causeOf (lent design (cellsIn (now cells) (now issues)) (now tables) (now marks) (wordsHeld (now held))) (now held) ≡ 0)
+    requires { ⌜ (sound (lent design (cellsIn (now cells) (now issues)) (now tables) (now marks) (wordsHeld (now held))) ≡ true)
         × Catalogued (schemeOf design) (databaseOf (cellsIn (now cells) (now issues)) (now tables)) (now catalog) (now keys) ⌝ }
-    ensures { λ r. ⌜ replyOf r ≡ replyAt (lent design (cellsIn (now (cells .entry)) (now (issues .entry))) (now (tables .entry)) (now (marks .entry)) (wordsHeld (now (held .entry))))
-        (now (held .entry)) (now (words .entry)) n ⌝ }
+    ensures { λ r. ⌜ replyOf r ≡ replyIn (lent design (cellsIn (now (cells .entry)) (now (issues .entry))) (now (tables .entry)) (now (marks .entry)) (wordsHeld (now (held .entry))))
+        (now (words .entry)) n ⌝ }
 {
     if words.len() / 5 < n {
         return Next::Refused(7);
@@ -111,23 +112,20 @@ pub fn missing_catalogued(
     Next::Nothing
 }
 
-// The same for whatever is lent: 7 for too few words or too short buffers for rows, 12 for an unlawful state, then as above. The cost of `cause`, besides.
+// The same for whatever is lent: 7 for buffers too short for rows or for what is held, 12 for an unlawful state, then as above. The cost of `cause`, besides.
 pub fn missing(
     design: Design,
     cells: &[u32],
     issues: &[u8],
     tables: &[u8],
     marks: &[u8],
-    held: &[u32; 358],
+    held: &[u32],
     words: &[u32],
     n: usize,
 ) -> Next
     ensures { λ r. ⌜ replyOf r ≡ replyAt (lent design (cellsIn (now (cells .entry)) (now (issues .entry))) (now (tables .entry)) (now (marks .entry)) (wordsHeld (now (held .entry))))
         (now (held .entry)) (now (words .entry)) n ⌝ }
 {
-    if words.len() / 5 < n {
-        return Next::Refused(7);
-    }
     let mut catalog = [0u16; 16449];
     let mut keys = [0u64; 4096];
     let c = cause(
@@ -143,6 +141,7 @@ pub fn missing(
     if c != 0 {
         return Next::Refused(c);
     }
+    let own = first_words(held);
     missing_catalogued(
         design,
         cells,
@@ -151,7 +150,7 @@ pub fn missing(
         &catalog,
         &keys,
         marks,
-        held,
+        &own,
         words,
         n,
     )

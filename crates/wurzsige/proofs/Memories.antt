@@ -143,6 +143,15 @@ module _ (m : Memory) where
       go true false e = absurd (omega (arith, e))
       go true true e = refl
 
+  pub sound-cause : soundMemory m ≡ true → memoryCause m ≡ 0
+  unfolding memoryCause
+  sound-cause = go (longMemory m) (lawfulMemory m)
+    where
+      go : (l g : Bool) → l && g ≡ true → causes l g ≡ 0
+      go true true e = refl
+      go true false e = clash {b = false} e refl
+      go false g e = clash {b = false} e refl
+
   pub cause-unsound : (memoryCause m ≡ 0 → ⊥) → soundMemory m ≡ false
   unfolding memoryCause
   cause-unsound = go (longMemory m) (lawfulMemory m)

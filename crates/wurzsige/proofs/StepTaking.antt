@@ -208,13 +208,13 @@ module _ (ds hs own : List ℕ) (cs : Cells) (ts ms : List ℕ) (is : own ≡ fi
   parts-of : Parts whole-m
   parts-of = memory-parts whole-m good
 
-  own-state : stateIn own-m ≡ stateIn whole-m
+  pub own-state : stateIn own-m ≡ stateIn whole-m
   own-state = let e = ap wordsHeld is ∙ first-means hs in λ x. lent (wordsDesign ds) cs ts ms (e x)
 
   pub own-long : length own ≡ heldLength
   own-long = ap length is ∙ length-tab heldLength (wordAt hs)
 
-  own-good : soundMemory own-m ≡ true
+  pub own-good : soundMemory own-m ≡ true
   own-good =
       from-parts own-m (record {
         design = parts-of .design;

@@ -1,25 +1,25 @@
--- `slice::whole::missing` meets its contract. Assumes nothing.
+-- `slice::whole::missing` meets its contract: causes 7 and 12, then what the first words answer. Assumes nothing.
 use mathlib.Core.Path.{sym, _∙_}
-use Rattle.slice.proofs.ReplyLaws.{reply-short, reply-cause}
 use borrow.Author.Needs.{needs}
+use Rattle.cache.proofs.CauseWords.{cause-clear, own-sound}
+use Rattle.slice.proofs.ReplyLaws.{reply-cause, reply-own}
 use Rattle.slice.proofs.whole.missing.Statement.{statement}
 use Rattle.slice.proofs.whole.missing.Tie as tie
-
-returns : tie.Need-returns
-returns c = reply-short _ _ _ _ (c .if1 .taken)
 
 cause-requires : tie.Need-cause-requires
 cause-requires c κs = search needs
 
-returns-2 : tie.Need-returns-2
-returns-2 c = reply-cause _ _ _ _ _ (c .before .before .before .before .if1 .left) (c .before .cause .ensures .0) (c .if2 .taken)
+returns : tie.Need-returns
+returns c = reply-cause _ _ _ _ _ _ _ _ (c .before .cause .ensures .0) (c .if1 .taken)
+
+first-words-requires : tie.Need-first-words-requires
+first-words-requires c κs = cause-clear _ _ (sym (c .before .cause .ensures .0) ∙ c .if1 .left) .long
 
 missing-catalogued-requires : tie.Need-missing-catalogued-requires
-missing-catalogued-requires c κs = (sym (c .before .before .before .cause .ensures .0) ∙ c .before .before .if2 .left, c .before .before .before .cause .ensures .1 (c .before .before .if2 .left))
+missing-catalogued-requires c κs = (own-sound _ _ _ _ _ _ (c .before .before .before .first-words .ensures) _ (c .before .before .before .before .before .cause .ensures .0) (c .before .before .before .before .if1 .left), c .before .before .before .before .before .cause .ensures .1 (c .before .before .before .before .if1 .left))
 
-returns-3 : tie.Need-returns-3
-returns-3 c = search needs
+returns-2 : tie.Need-returns-2
+returns-2 c = reply-own _ _ _ _ _ _ _ _ (c .before .before .before .before .before .before .cause .ensures .0) (c .before .before .before .before .before .if1 .left) _ (c .before .before .before .before .first-words .ensures) _ (c .missing-catalogued .ensures)
 
 pub missing-spec : {M : Type 1} → statement M
-missing-spec =
-    tie.close (tie.spec returns cause-requires returns-2 missing-catalogued-requires returns-3)
+missing-spec = tie.close (tie.spec cause-requires returns first-words-requires missing-catalogued-requires returns-2)
