@@ -1,6 +1,6 @@
 /*
- * A review desk in C: opens a design, carries out operations and prints what they are answered, asks for lists and for the reason for a row, writes the
- * design out, and shows that a desk which somebody else has written into is refused and left alone.
+ * A review desk in C: opens a design, carries out operations and prints what they are answered, asks for lists and for the reason for a row, shows what the
+ * desk has, writes the design out, and shows that a desk which somebody else has written into is refused and left alone.
  *
  *     review            the design and operations below
  *     review SCRIPT     those of a file, as the notation's assembler writes it
@@ -12,35 +12,49 @@
 #include <string.h>
 #include <wurzsige.h>
 
+/* What the library keeps and writes. A desk is too large for some stacks, so it is static here. */
+static struct wurzsige desk;
+static uint32_t words[4096];
+static uint8_t text[WURZSIGE_MOST_TEXT];
+
 /* Case A: subjects (number, ward), recordings (number, subject) and events (recording, kind); a subject brings its recordings, a recording its events. */
-#define U32(n) (n) & 255, (n) >> 8 & 255, (n) >> 16 & 255, (n) >> 24
-#define ROW(table, a, b) 0x04, (table), U32(a), U32(b), U32(0), U32(0), U32(0), U32(0), U32(0), U32(0)
-static const uint8_t case_a[] = {
-    0x01, 2, 1, /* TABLE of 2 columns, of which column 0 is unique */
-    0x01, 2, 1,
-    0x01, 2, 0,
-    0x02, 0, 0, 1, 1, /* CONSTRAINT 0.0 -> 1.1 */
-    0x02, 1, 0, 2, 0,
-    0x03, 0, 1, U32(1), U32(99), /* FILLING of 0.1: wards 1 to 99 */
-    ROW(0, 7, 3), ROW(0, 8, 3), ROW(0, 9, 4), ROW(1, 20, 7), ROW(1, 21, 9), ROW(2, 20, 5), ROW(2, 20, 6), ROW(2, 21, 5),
-    0x05, /* END */
-    0x10, 0, U32(3), /* REFER ward 3 */
-    0x12, 1, 1, U32(8), /* PROBE 1.1 = 8: no recording of subject 8, and that is certain */
-    0x12, 1, 1, U32(9), /* PROBE 1.1 = 9: nothing is known of subject 9 */
-    0x13, 0, 1, U32(3), 2, 0, 0, 1, 1, 0, 0, 0, 0, /* QUERY 0.1 = 3 with two joins */
-    0x18, 5, 0, /* the reason for row 5 */
-    0x11, 0, U32(4), /* DROP of ward 4, which isn't held */
-};
+static size_t write_case_a(uint8_t *script) {
+    static const uint8_t unique[] = {1, 1, 0}; /* bit 0: column 0 */
+    static const struct {
+        uint8_t table;
+        struct wurzsige_value cells[2];
+    } rows[] = {
+        {0, {{7, 0}, {3, 0}}}, {0, {{8, 0}, {3, 0}}}, {0, {{9, 0}, {4, 0}}}, {1, {{20, 0}, {7, 0}}},
+        {1, {{21, 0}, {9, 0}}}, {2, {{20, 0}, {5, 0}}}, {2, {{20, 0}, {6, 0}}}, {2, {{21, 0}, {5, 0}}},
+    };
+    static const struct wurzsige_join joins[] = {{0, 0}, {1, 1}};
+    const struct wurzsige_column ward = wurzsige_column_at(0, 1), subject = wurzsige_column_at(1, 1);
+    size_t n = 0;
+    for (size_t table = 0; table < 3; table++) {
+        n += wurzsige_add_table(script + n, 2, unique[table]);
+    }
+    n += wurzsige_add_constraint(script + n, wurzsige_column_at(0, 0), subject);
+    n += wurzsige_add_constraint(script + n, wurzsige_column_at(1, 0), wurzsige_column_at(2, 0));
+    n += wurzsige_add_filling(script + n, ward, 1, 99);
+    for (size_t row = 0; row < sizeof rows / sizeof *rows; row++) {
+        n += wurzsige_add_row(script + n, rows[row].table, rows[row].cells, 2);
+    }
+    n += wurzsige_end(script + n);
+    n += wurzsige_refer(script + n, 0, wurzsige_plain(3));
+    n += wurzsige_probe(script + n, subject, wurzsige_plain(8)); /* no recording of subject 8, and that is certain */
+    n += wurzsige_probe(script + n, subject, wurzsige_plain(9)); /* nothing is known of subject 9 */
+    n += wurzsige_query(script + n, ward, wurzsige_plain(3), joins, 2);
+    n += wurzsige_reason(script + n, 5);
+    n += wurzsige_drop(script + n, 0, wurzsige_plain(4)); /* ward 4 isn't held */
+    n += wurzsige_name_desk(script + n, 2);
+    n += wurzsige_hold(script + n, 0, 50, 59);
+    return n;
+}
 
 static const char *const words_of_answers[] = {
     "loaded", "held", "no candidate", "dropped", "ground", "sent", "answer", "refused", "even", "uneven",
     "total", "knot", "desk", "open", "opener", "none", "absent", "reason", "rows", "design",
 };
-
-/* What the library keeps and writes. A desk is too large for some stacks, so it is static here. */
-static struct wurzsige desk;
-static uint32_t words[4096];
-static uint8_t text[WURZSIGE_MOST_TEXT];
 
 static void print_answer(const struct wurzsige_answer *answer, const uint8_t *command) {
     printf("%s", words_of_answers[answer->word]);
@@ -67,9 +81,9 @@ static void print_answer(const struct wurzsige_answer *answer, const uint8_t *co
 
 /* Takes a step, and lends more words if the lists need them and they are no more than a million. */
 static void take_step(const uint8_t *script, size_t length, size_t at, struct wurzsige_answer *answer) {
-    struct wurzsige_sizes sizes;
+    struct wurzsige_room sizes;
     wurzsige_step_trusted(&desk, script, length, at, words, 4096, text, sizeof text, answer);
-    if (answer->word != WURZSIGE_REFUSED || answer->numbers[0] != 11) {
+    if (answer->word != WURZSIGE_REFUSED || answer->numbers[0] != WURZSIGE_CAUSE_ANSWER_TOO_LONG) {
         print_answer(answer, script + at);
         return;
     }
@@ -85,11 +99,47 @@ static void take_step(const uint8_t *script, size_t length, size_t at, struct wu
     free(more);
 }
 
+/* What the desk has, read off it: the design, the rows, and what is held. */
+static void print_desk(void) {
+    for (uint8_t i = 0; i < wurzsige_count_tables(&desk); i++) {
+        int unique = wurzsige_is_unique(&desk, wurzsige_column_at(i, 0));
+        printf("table %u: %zu columns%s\n", (unsigned)i, wurzsige_count_columns(&desk, i), unique ? ", the first unique" : "");
+    }
+    for (uint8_t i = 0; i < wurzsige_count_constraints(&desk); i++) {
+        struct wurzsige_column from = wurzsige_source_of(&desk, i), to = wurzsige_target_of(&desk, i);
+        printf("constraint %u: %u.%u -> %u.%u\n", (unsigned)i, (unsigned)from.table, (unsigned)from.column, (unsigned)to.table, (unsigned)to.column);
+    }
+    for (uint8_t i = 0; i < wurzsige_count_fillings(&desk); i++) {
+        struct wurzsige_column of = wurzsige_column_of(&desk, i);
+        struct wurzsige_range range = wurzsige_candidates_of(&desk, i);
+        printf("filling %u: %u.%u, %lu to %lu\n", (unsigned)i, (unsigned)of.table, (unsigned)of.column, (unsigned long)range.low, (unsigned long)range.high);
+    }
+    printf("%zu rows, %zu cached:\n", wurzsige_count_rows(&desk), wurzsige_count_cached(&desk));
+    for (uint16_t row = 0; row < WURZSIGE_ROWS; row++) {
+        if (wurzsige_is_cached(&desk, row)) {
+            struct wurzsige_value first = wurzsige_value_at(&desk, row, 0), second = wurzsige_value_at(&desk, row, 1);
+            printf("  row %u of table %u: ", (unsigned)row, (unsigned)wurzsige_table_of(&desk, row));
+            printf("%lu, %lu\n", (unsigned long)first.number, (unsigned long)second.number);
+        }
+    }
+    for (size_t i = 0; i < wurzsige_count_held(&desk); i++) {
+        struct wurzsige_holding holding = wurzsige_held_at(&desk, i);
+        printf("desk %u holds %lu of filling %u\n", (unsigned)holding.desk, (unsigned long)holding.value.number, (unsigned)holding.filling);
+    }
+    for (uint8_t of = 0; of < WURZSIGE_DESKS; of++) {
+        for (size_t i = 0; i < wurzsige_count_ranges(&desk, of); i++) {
+            struct wurzsige_range range = wurzsige_range_at(&desk, of, i);
+            printf("desk %u holds %lu to %lu of filling %u\n", (unsigned)of, (unsigned long)range.low, (unsigned long)range.high, (unsigned)range.filling);
+        }
+    }
+    printf("desk %u is named\n", (unsigned)wurzsige_named_desk(&desk));
+}
+
 /* Writes the design out, with as much room as it needs, and reads it again. */
 static int write_design(void) {
     static struct wurzsige copy;
     struct wurzsige_answer answer;
-    struct wurzsige_sizes sizes;
+    struct wurzsige_room sizes;
     size_t written = 0;
     if (wurzsige_sizes(&desk, NULL, 0, 0, &sizes) != 0) {
         return 1;
@@ -111,7 +161,7 @@ static int write_design(void) {
 /* Somebody else writes into the desk: plain names refuse it, and leave it and what is lent as they were. */
 static void show_damage(const char *what, uint32_t word) {
     static struct wurzsige before;
-    static const uint8_t even[] = {0x14};
+    static const uint8_t even[] = {WURZSIGE_COMMAND_EVEN};
     struct wurzsige_answer answer;
     uint32_t kept = desk.design[3];
     size_t written = 77;
@@ -138,13 +188,9 @@ static size_t read_script(const char *path, uint8_t *script, size_t room) {
 
 int main(int count, char **arguments) {
     static uint8_t lent[WURZSIGE_MOST_SCRIPT + 1]; /* a byte more, so that a longer file is seen */
-    const uint8_t *script = case_a;
-    size_t length = sizeof case_a;
+    const uint8_t *script = lent;
+    size_t length = count > 1 ? read_script(arguments[1], lent, sizeof lent) : write_case_a(lent);
     struct wurzsige_answer answer;
-    if (count > 1) {
-        length = read_script(arguments[1], lent, sizeof lent);
-        script = lent;
-    }
     printf("a desk has %zu bytes\n", sizeof desk);
     wurzsige_open(&desk, script, length, &answer);
     print_answer(&answer, script);
@@ -154,13 +200,14 @@ int main(int count, char **arguments) {
     while (answer.more && answer.next < length) {
         take_step(script, length, answer.next, &answer);
     }
+    print_desk();
     if (write_design() != 0) {
         return 1;
     }
     show_damage("a table of 200 columns", 200);
     show_damage("a word 256 too high", desk.design[3] + 256);
-    static const uint8_t reason[] = {0x18, 0, 0};
-    wurzsige_step(&desk, reason, sizeof reason, 0, words, 4096, text, sizeof text, &answer);
+    uint8_t reason[WURZSIGE_MOST_COMMAND];
+    wurzsige_step(&desk, reason, wurzsige_reason(reason, 0), 0, words, 4096, text, sizeof text, &answer);
     printf("mended: ");
     print_answer(&answer, reason);
     return 0;

@@ -1,8 +1,11 @@
 //! The functions on a whole desk, as the header has them.
 
+use crate::cause::OTHER_VERSION;
 use crate::memory::Memory;
 use crate::parts;
 use crate::told::{Sizes, Told};
+use crate::version::{library_version, VERSION};
+use crate::word::REFUSED;
 
 /// A call of a step or a run on a desk. They take the same operands up to the text, but
 /// for the held words, which the trusted ones take as an array; what each takes behind
@@ -39,7 +42,19 @@ impl Memory {
     /// Opens the design at the start of a script. The word is [`crate::word::DESIGN`],
     /// or [`crate::word::REFUSED`], which leaves the memory as it was. What stood there
     /// before is free.
+    ///
+    /// ```
+    /// use wurzsige_sys::{word, Memory};
+    ///
+    /// // A table of two columns, and nothing else: one table, no constraint, filling or row.
+    /// let told = Memory::boxed().open(&[0x01, 2, 0, 0x05]);
+    /// assert_eq!((told.word, told.numbers[..4].to_vec()), (word::DESIGN, vec![1, 0, 0, 0]));
+    /// assert_eq!((told.next, told.more), (4, 1));
+    /// ```
     pub fn open(&mut self, script: &[u8]) -> Told {
+        if let Some(told) = other_version(library_version(), 0) {
+            return told;
+        }
         let mut told = Told::default();
         // SAFETY: each pointer goes with its slice's length, and the fields of a struct
         // don't overlap.
@@ -74,7 +89,20 @@ impl Memory {
     /// Takes the step at place `at` of a script on whatever stands here: causes 7 and 12
     /// first. If it isn't refused, this is a desk from then on. A refusal, whatever its
     /// cause, leaves everything as it was.
+    ///
+    /// ```
+    /// use wurzsige_sys::{cause, word, Memory};
+    ///
+    /// let mut memory = Memory::boxed();
+    /// let told = memory.step(&[0x14], 0, &mut [], &mut []);
+    /// assert_eq!((told.word, told.numbers[0]), (word::REFUSED, cause::UNLAWFUL.into()));
+    /// memory.open(&[0x01, 2, 0, 0x05]);
+    /// assert_eq!(memory.step(&[0x14], 0, &mut [], &mut []).word, word::EVEN);
+    /// ```
     pub fn step(&mut self, script: &[u8], at: usize, words: &mut [u32], text: &mut [u8]) -> Told {
+        if let Some(told) = other_version(library_version(), at) {
+            return told;
+        }
         let mut told = Told::default();
         // SAFETY: as in `open`.
         told.word = unsafe {
@@ -100,9 +128,19 @@ impl Memory {
     ///
     /// # Safety
     ///
-    /// This is a desk: [`Memory::open`] has accepted a design here, or [`Memory::step`] has
-    /// taken a step here that wasn't refused, and since then only functions of this crate
-    /// have written it.
+    /// This is a desk, or a copy of one: [`Memory::open`] has accepted a design there, or
+    /// [`Memory::step`] has taken a step there that wasn't refused, and since then only
+    /// functions of this crate that don't end in `_mut` have written it.
+    ///
+    /// ```
+    /// use wurzsige_sys::{word, Memory};
+    ///
+    /// let mut memory = Memory::boxed();
+    /// assert_eq!(memory.open(&[0x01, 2, 0, 0x05]).word, word::DESIGN);
+    /// // SAFETY: a design was opened there.
+    /// let told = unsafe { memory.step_trusted(&[0x17, 2], 0, &mut [], &mut []) };
+    /// assert_eq!((told.word, told.numbers[0]), (word::DESK, 2));
+    /// ```
     pub unsafe fn step_trusted(
         &mut self,
         script: &[u8],
@@ -139,6 +177,19 @@ impl Memory {
     /// # Safety
     ///
     /// This is a desk, as [`Memory::step_trusted`] asks.
+    ///
+    /// ```
+    /// use wurzsige_sys::{word, Memory};
+    ///
+    /// // Desk 2 is named, then desk 3.
+    /// let script = [0x01, 2, 0, 0x05, 0x17, 2, 0x17, 3];
+    /// let mut memory = Memory::boxed();
+    /// let told = memory.open(&script);
+    /// assert_eq!(told.word, word::DESIGN);
+    /// // SAFETY: a design was opened there.
+    /// unsafe { memory.run_trusted(&script, told.next, &mut [], &mut []) };
+    /// assert_eq!(memory.held()[0], 3);
+    /// ```
     pub unsafe fn run_trusted(
         &mut self,
         script: &[u8],
@@ -164,7 +215,21 @@ impl Memory {
 
     /// Writes the design with its rows from the first byte on, as a script that reads as
     /// it: the number of bytes, or the cause of a refusal, which leaves `out` as it was.
+    ///
+    /// ```
+    /// use wurzsige_sys::{cause, Memory};
+    ///
+    /// let mut memory = Memory::boxed();
+    /// memory.open(&[0x01, 2, 0, 0x05]);
+    /// let mut out = [0; 10];
+    /// assert_eq!(memory.write(&mut out), Ok(4));
+    /// assert_eq!(out[..5], [0x01, 2, 0, 0x05, 0]);
+    /// assert_eq!(memory.write(&mut out[..3]), Err(cause::TOO_SHORT));
+    /// ```
     pub fn write(&self, out: &mut [u8]) -> Result<usize, u8> {
+        if library_version() != VERSION {
+            return Err(OTHER_VERSION);
+        }
         let mut written = 0;
         // SAFETY: as in `open`.
         let cause = unsafe {
@@ -196,7 +261,18 @@ impl Memory {
     /// the step at place `at` would write if they were lent; or cause 7 or 12. There are
     /// none for what is no operation, is sent, is refused for another cause than 11, or
     /// stands in a script of over 65,536 bytes.
+    ///
+    /// ```
+    /// use wurzsige_sys::Memory;
+    ///
+    /// let mut memory = Memory::boxed();
+    /// memory.open(&[0x01, 2, 0, 0x05]);
+    /// assert_eq!(memory.sizes(&[], 0).map(|sizes| sizes.bytes), Ok(4));
+    /// ```
     pub fn sizes(&self, script: &[u8], at: usize) -> Result<Sizes, u8> {
+        if library_version() != VERSION {
+            return Err(OTHER_VERSION);
+        }
         let mut told = [0; 3];
         // SAFETY: as in `open`.
         let cause = unsafe {
@@ -224,5 +300,35 @@ impl Memory {
             0 => Ok(Sizes { bytes, words, text }),
             cause => Err(cause),
         }
+    }
+}
+
+/// What a call tells in the place of an answer if the library is of another version.
+fn other_version(linked: u32, at: usize) -> Option<Told> {
+    if linked == VERSION {
+        return None;
+    }
+    let mut told = Told {
+        word: REFUSED,
+        count: 2,
+        next: at,
+        ..Told::default()
+    };
+    told.numbers[0] = OTHER_VERSION.into();
+    told.numbers[1] = linked.into();
+    Some(told)
+}
+
+#[cfg(test)]
+mod tests {
+    use super::*;
+
+    #[test]
+    fn a_library_of_another_version_is_told() {
+        assert_eq!(other_version(VERSION, 7), None);
+        let told = other_version(VERSION + 1, 7).expect("a refusal");
+        assert_eq!((told.word, told.count), (REFUSED, 2));
+        assert_eq!(told.numbers[..3], [255, u64::from(VERSION) + 1, 0]);
+        assert_eq!((told.place, told.next, told.more), (0, 7, 0));
     }
 }

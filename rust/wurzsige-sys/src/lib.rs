@@ -1,21 +1,49 @@
 //! The proved desk's functions for C and Rust, as `include/wurzsige.h` declares them.
 //! That header's comments are the contract; the tests hold what stands here to it.
 //!
-//! - [`parts`] has the exported functions, which take each part of a desk by itself.
-//! - [`Memory`] is C's `struct wurzsige`: all that a desk keeps.
-//! - With the feature `proved` the static library is linked, and `Memory` has the
-//!   functions on a whole desk that the header has too, as methods. Those that can be
-//!   called with anything are safe. Those whose names end in `_trusted` aren't.
+//! [`Memory`] is C's `struct wurzsige`: all that a desk keeps. The functions on a whole desk
+//! are its methods. Those that can be called with anything are safe. Those whose names end
+//! in `_trusted` aren't.
+//!
+//! ```
+//! use wurzsige_sys::{word, Memory};
+//!
+//! // A table of two columns; then whether the design is even.
+//! let script = [0x01, 2, 0, 0x05, 0x14];
+//! let mut memory = Memory::boxed();
+//! let told = memory.open(&script);
+//! assert_eq!(told.word, word::DESIGN);
+//! assert_eq!(memory.step(&script, told.next, &mut [], &mut []).word, word::EVEN);
+//! ```
 //!
 //! A program in Rust is better served by the crate `wurzsige`, which has typed
 //! operations and no function that is unsafe.
+//!
+//! With the feature `proved` the static library is linked: from the folder that the
+//! environment variable `PROVED_DESK` names while this is built, or else from where
+//! pkg-config finds `wurzsige`. Without it nothing is linked, and whoever uses the
+//! functions has to see to that. The crate needs `alloc` and not `std`.
 
-#[cfg(feature = "proved")]
+#![no_std]
+
+extern crate alloc;
+#[cfg(test)]
+extern crate std;
+
+mod access;
 mod calls;
+pub mod cause;
+pub mod command;
+mod limits;
 mod memory;
+// No promise of this crate: what these functions take changes with the layout of `Memory`.
+#[doc(hidden)]
 pub mod parts;
 mod told;
+mod version;
 pub mod word;
 
+pub use limits::{COLUMNS, CONSTRAINTS, DESKS, FILLINGS, FREE, JOINS, RANGES, TABLES, VALUES};
 pub use memory::{Memory, CATALOG, CELLS, DESIGN_WORDS, HELD_WORDS, KEYS, ROWS, WORKING};
-pub use told::{Sizes, Told, MOST_DESIGN, MOST_SCRIPT, MOST_TEXT, NUMBERS};
+pub use told::{Sizes, Told, MOST_COMMAND, MOST_DESIGN, MOST_SCRIPT, MOST_TEXT, NUMBERS};
+pub use version::{library_version, VERSION};

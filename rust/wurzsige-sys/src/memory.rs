@@ -1,6 +1,9 @@
 //! All that a desk keeps.
 
-use std::fmt;
+use alloc::alloc::{alloc_zeroed, handle_alloc_error};
+use alloc::boxed::Box;
+use core::alloc::Layout;
+use core::fmt;
 
 /// Numbers of rows.
 pub const ROWS: usize = 512;
@@ -30,39 +33,70 @@ pub const WORKING: usize = 5_120;
 ///
 /// It is larger than a thread's stack may like, so it is made on the heap by
 /// [`Memory::boxed`] and copied there by [`Memory::boxed_copy`].
+///
+/// ```
+/// use wurzsige_sys::{word, Memory};
+///
+/// let mut memory = Memory::boxed();
+/// assert_eq!(memory.open(&[0x01, 2, 0, 0x05]).word, word::DESIGN);
+/// assert_eq!(memory.design()[..4], [1, 0, 0, 2]); // a table, of two columns
+/// ```
 #[repr(C)]
 #[derive(PartialEq, Eq)]
 pub struct Memory {
     /// The catalog's values.
-    pub keys: [u64; KEYS],
+    pub(crate) keys: [u64; KEYS],
     /// Working memory.
-    pub counts: [u64; WORKING],
+    pub(crate) counts: [u64; WORKING],
     /// The cells' numbers; row r has those from 8 r to 8 r + 7.
-    pub cells: [u32; CELLS],
+    pub(crate) cells: [u32; CELLS],
     /// The design: three counts, then tables, constraints and fillings.
-    pub design: [u32; DESIGN_WORDS],
+    pub(crate) design: [u32; DESIGN_WORDS],
     /// The named desk, the held values, and the ranges of each desk.
-    pub held: [u32; HELD_WORDS],
+    pub(crate) held: [u32; HELD_WORDS],
     /// The catalog's rows.
-    pub catalog: [u16; CATALOG],
+    pub(crate) catalog: [u16; CATALOG],
     /// Working memory.
-    pub places: [u16; WORKING],
+    pub(crate) places: [u16; WORKING],
     /// The cells' issues, in the cells' order.
-    pub issues: [u8; CELLS],
+    pub(crate) issues: [u8; CELLS],
     /// The table of each row; 255 where the number is free.
-    pub tables: [u8; ROWS],
+    pub(crate) tables: [u8; ROWS],
     /// 1 for each cached row, 0 elsewhere.
-    pub marks: [u8; ROWS],
+    pub(crate) marks: [u8; ROWS],
 }
 
 impl Memory {
     /// Zeros on the heap. A design may be opened there; until then it is no desk.
+    ///
+    /// ```
+    /// use wurzsige_sys::Memory;
+    ///
+    /// assert!(Memory::boxed().cells().iter().all(|&cell| cell == 0));
+    /// ```
     pub fn boxed() -> Box<Memory> {
-        // SAFETY: it has integers alone, for which zeros are as good as anything.
-        unsafe { Box::new_zeroed().assume_init() }
+        let layout = Layout::new::<Memory>();
+        // SAFETY: it isn't of no bytes; and it has integers alone, for which zeros are as
+        // good as anything.
+        unsafe {
+            let memory = alloc_zeroed(layout).cast::<Memory>();
+            if memory.is_null() {
+                handle_alloc_error(layout);
+            }
+            Box::from_raw(memory)
+        }
     }
 
-    /// A copy on the heap, made there.
+    /// A copy on the heap, made there. A copy of a desk is a desk.
+    ///
+    /// ```
+    /// use wurzsige_sys::Memory;
+    ///
+    /// let mut memory = Memory::boxed();
+    /// memory.open(&[0x01, 2, 0, 0x05]);
+    /// let copy = memory.boxed_copy();
+    /// assert!(copy == memory && copy.design()[0] == 1);
+    /// ```
     pub fn boxed_copy(&self) -> Box<Memory> {
         let mut copy = Memory::boxed();
         copy.keys.copy_from_slice(&self.keys);

@@ -10,6 +10,13 @@ use crate::memory::{CATALOG, HELD_WORDS, KEYS, WORKING};
 use crate::told::NUMBERS;
 
 extern "C" {
+    /// The library's version, as [`crate::VERSION`] has it.
+    ///
+    /// # Safety
+    ///
+    /// Nothing is asked.
+    pub fn wurzsige_version() -> u32;
+
     /// Opens the design at the start of a script in memory that may hold anything. A
     /// refusal leaves it as it was.
     ///

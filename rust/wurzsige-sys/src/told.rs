@@ -12,9 +12,21 @@ pub const MOST_DESIGN: usize = 21_697;
 /// Bytes of text that always suffice for a reason.
 pub const MOST_TEXT: usize = 16_384;
 
+/// Bytes of the longest command.
+pub const MOST_COMMAND: usize = 44;
+
 /// What a step or an opening tells: C's `struct wurzsige_answer`.
+///
+/// ```
+/// use wurzsige_sys::{cause, word, Memory, Told};
+///
+/// let told: Told = Memory::boxed().open(&[0x01, 2, 0, 0xff]);
+/// assert_eq!((told.word, told.numbers[0]), (word::REFUSED, cause::UNKNOWN_COMMAND.into()));
+/// assert_eq!((told.place, told.next, told.more), (3, 0, 0));
+/// ```
 #[repr(C)]
 #[derive(Clone, Copy, Debug, Default, PartialEq, Eq)]
+#[non_exhaustive]
 pub struct Told {
     /// The numbers behind the word, 0 behind the last of them.
     pub numbers: [u64; NUMBERS],
@@ -32,9 +44,21 @@ pub struct Told {
     pub more: u8,
 }
 
-/// How much is to be lent: C's `struct wurzsige_sizes`.
+/// How much is to be lent: C's `struct wurzsige_room`.
+///
+/// ```
+/// use wurzsige_sys::{Memory, Sizes};
+///
+/// let mut memory = Memory::boxed();
+/// memory.open(&[0x01, 2, 0, 0x05]);
+/// let Ok(Sizes { bytes, words, .. }) = memory.sizes(&[0x14], 0) else {
+///     panic!("it is a desk");
+/// };
+/// assert_eq!((bytes, words), (4, 0));
+/// ```
 #[repr(C)]
 #[derive(Clone, Copy, Debug, Default, PartialEq, Eq)]
+#[non_exhaustive]
 pub struct Sizes {
     /// Bytes that the written design has.
     pub bytes: u64,

@@ -1,5 +1,13 @@
 //! The word of an answer, as the desk's report prints it: C's `enum wurzsige_word`,
 //! which says what numbers stand behind each.
+//!
+//! ```
+//! use wurzsige_sys::{word, Memory};
+//!
+//! let mut memory = Memory::boxed();
+//! assert_eq!(memory.open(&[0x01, 2, 0, 0x05]).word, word::DESIGN);
+//! assert_eq!(memory.step(&[0x1c], 0, &mut [], &mut []).word, word::EVEN);
+//! ```
 
 /// Rows, later rounds.
 pub const LOADED: u8 = 0;

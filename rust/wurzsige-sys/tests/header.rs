@@ -17,7 +17,7 @@ fn read(path: &str) -> String {
 fn parameters(text: &str) -> impl Iterator<Item = &str> {
     let (inside, _) = text.split_once(')').expect("an end of the parameters");
     let parameters = inside.split(',').map(str::trim);
-    parameters.filter(|parameter| !parameter.is_empty())
+    parameters.filter(|&parameter| !parameter.is_empty() && parameter != "void")
 }
 
 /// A text in C without its comments.
@@ -32,12 +32,13 @@ fn without_comments(text: &str) -> String {
 
 /// The functions that the header declares and doesn't define.
 fn in_the_header() -> Vec<Function> {
-    let text = without_comments(&read("../../include/wurzsige.h"));
+    let text = without_comments(&read("include/wurzsige.h"));
     let declared = text.split(';').filter_map(|piece| {
         let (head, rest) = piece.trim().split_once('(')?;
         let (gives, name) = head.split_once(' ')?;
         // The functions on a whole desk, which are defined there, call these.
-        let declared = name.starts_with("wurzsige_parts_") && gives != "return";
+        let exported = name.starts_with("wurzsige_parts_") || name == "wurzsige_version";
+        let declared = exported && gives != "return";
         declared.then_some((gives, name, rest))
     });
     let function = |(gives, name, rest): (&str, &str, &str)| {
@@ -83,14 +84,13 @@ fn here() -> Vec<Function> {
             (name.to_string(), c_type(rust))
         };
         let (_, behind) = rest.split_once(')').expect("an end of the parameters");
-        let gives = if behind.starts_with(" -> u8;") {
-            "uint8_t"
-        } else {
-            assert!(behind.starts_with(';'), "{name} gives something else");
-            "void"
+        let gives = match behind.split_once(';') {
+            Some(("", _)) => "void".to_string(),
+            Some((gives, _)) => c_type(gives.trim_start_matches(" -> ")),
+            None => panic!("{name} has no end"),
         };
         let parameters = parameters(rest).map(parameter).collect();
-        (name.to_string(), gives.to_string(), parameters)
+        (name.to_string(), gives, parameters)
     };
     text.split("pub fn ").skip(1).map(function).collect()
 }
@@ -98,6 +98,6 @@ fn here() -> Vec<Function> {
 #[test]
 fn the_functions_are_declared_as_in_the_header() {
     let (there, here) = (in_the_header(), here());
-    assert_eq!(there.len(), 6);
+    assert_eq!(there.len(), 7);
     assert_eq!(here, there);
 }

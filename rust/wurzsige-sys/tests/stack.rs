@@ -9,8 +9,8 @@ fn a_small_stack_is_enough_for_a_desk_s_memory() {
     let thread = thread::Builder::new().stack_size(64 * 1024);
     let copied = thread.spawn(|| {
         let mut memory = Memory::boxed();
-        memory.cells[4_095] = 7;
-        memory.marks[511] = 1;
+        memory.cells_mut()[4_095] = 7;
+        memory.marks_mut()[511] = 1;
         let copy = memory.boxed_copy();
         *copy == *memory
     });

@@ -18,8 +18,8 @@ fn opened() -> Box<Memory> {
 /// The same with a catalog that means nothing.
 fn lent() -> Box<Memory> {
     let mut memory = opened();
-    memory.catalog.fill(u16::MAX);
-    memory.keys.fill(u64::MAX);
+    memory.catalog_mut().fill(u16::MAX);
+    memory.keys_mut().fill(u64::MAX);
     memory
 }
 

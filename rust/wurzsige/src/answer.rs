@@ -1,40 +1,24 @@
 //! What any operation answers.
 
-use std::fmt;
-use std::ops::Index;
-use std::slice::ChunksExact;
+use alloc::string::String;
+use alloc::vec::Vec;
+use core::fmt;
+use core::ops::Index;
+use core::slice::ChunksExact;
 
 use wurzsige_sys::{word, Told};
 
 use crate::operand::Value;
+use crate::reason::Reason;
 use crate::refusal::{Cause, Refusal};
 
-/// How much of each kind there is.
-#[derive(Clone, Copy, Debug, PartialEq, Eq)]
-pub struct Design {
-    /// Tables.
-    pub tables: usize,
-    /// Constraints.
-    pub constraints: usize,
-    /// Fillings.
-    pub fillings: usize,
-    /// Backend rows.
-    pub rows: usize,
-}
-
-impl fmt::Display for Design {
-    fn fmt(&self, out: &mut fmt::Formatter<'_>) -> fmt::Result {
-        let Design {
-            tables,
-            constraints,
-            fillings,
-            rows,
-        } = self;
-        write!(out, "design {tables} {constraints} {fillings} {rows}")
-    }
-}
-
 /// Why a value is known to be complete in a column.
+///
+/// ```
+/// use wurzsige::Ground;
+///
+/// assert_eq!([Ground::Held, Ground::Linked, Ground::Unique].map(Ground::number), [1, 2, 3]);
+/// ```
 #[derive(Clone, Copy, Debug, PartialEq, Eq, Hash)]
 #[repr(u8)]
 pub enum Ground {
@@ -65,6 +49,27 @@ impl Ground {
 
 /// The lists of row numbers that fit a query, in rising order of the first number, then
 /// the second, and so on. Each has a number for each of the query's positions.
+///
+/// ```
+/// use wurzsige::{Answered, Builder, Named::Plain, Query, Row};
+///
+/// let mut builder = Builder::new();
+/// let [number, ward] = builder.table("subjects", [Plain("number"), Plain("ward")]);
+/// let [_, subject] = builder.table("recordings", [Plain("number"), Plain("subject")]);
+/// let brings = builder.constraint(number, subject);
+/// builder.filling(ward, 1..=99);
+/// for row in [Row::new(0, [7, 3]), Row::new(1, [20, 7]), Row::new(1, [21, 7])] {
+///     builder.row(row);
+/// }
+/// let mut desk = builder.open()?;
+/// let Answered::Lists(lists) = desk.query(&Query::new(ward, 3).join(0, brings))? else {
+///     panic!("ask the backend");
+/// };
+/// assert_eq!((lists.len(), lists.positions(), lists.is_empty()), (2, 2, false));
+/// assert_eq!(lists[1], [0, 2]);
+/// assert_eq!(lists.iter().collect::<Vec<_>>(), [[0, 1], [0, 2]]);
+/// # Ok::<(), Box<dyn std::error::Error>>(())
+/// ```
 #[derive(Clone, Debug, PartialEq, Eq)]
 pub struct Lists {
     positions: usize,
@@ -123,7 +128,18 @@ impl<'a> IntoIterator for &'a Lists {
 
 /// What an operation answers, whichever it is. Its text is what the desk's report has
 /// behind the number of the operation; lists stand on lines after it.
+///
+/// ```
+/// use wurzsige::{Answer, Desk};
+///
+/// let script = [0x01, 1, 0, 0x05, 0x14, 0x17, 2];
+/// let mut desk = Desk::open(&script)?;
+/// assert_eq!(desk.step(&script, 4).answer, Answer::Even);
+/// assert_eq!(desk.step(&script, 5).answer.to_string(), "desk 2");
+/// # Ok::<(), wurzsige::Refusal>(())
+/// ```
 #[derive(Clone, Debug, PartialEq, Eq)]
+#[non_exhaustive]
 pub enum Answer {
     /// The value or range is held now.
     Loaded {
@@ -183,7 +199,7 @@ pub enum Answer {
     /// The row isn't cached.
     Absent,
     /// Why the row is cached.
-    Reason(String),
+    Reason(Reason),
     /// A row was put in or removed.
     Changed {
         /// Rows that came to the cache.
@@ -235,8 +251,9 @@ impl Answer {
             word::NO_OPENER => Answer::NoOpener,
             word::ABSENT => Answer::Absent,
             word::REASON => {
-                let sentence = text[..count(first)].to_vec();
-                Answer::Reason(String::from_utf8(sentence).expect("words and numbers"))
+                let sentence = String::from_utf8(text[..count(first)].to_vec());
+                let reason = sentence.ok().and_then(Reason::read);
+                Answer::Reason(reason.expect("a sentence of the desk"))
             }
             word::CHANGED => Answer::Changed {
                 came: count(first),
@@ -249,10 +266,11 @@ impl Answer {
 
 /// The refusal that was told.
 pub(crate) fn refusal(told: &Told) -> Refusal {
-    let cause = Cause::with_number(number(told.numbers[0]));
+    let cause = Cause::with_number(number(told.numbers[0])).expect("a cause that there is");
     Refusal {
-        cause: cause.expect("one of thirteen causes"),
-        place: told.place,
+        cause,
+        place: (cause != Cause::OtherVersion).then_some(told.place),
+        operand: None,
     }
 }
 
@@ -281,8 +299,9 @@ impl fmt::Display for Answer {
                 }
                 Ok(())
             }
-            Answer::Refused(Refusal { cause, place }) => {
-                write!(out, "refused {} {place}", cause.number())
+            Answer::Refused(refusal) => {
+                let place = refusal.place.unwrap_or(0);
+                write!(out, "refused {} {place}", refusal.cause.number())
             }
             Answer::Even => write!(out, "even"),
             Answer::Uneven { i, j } => write!(out, "uneven {i} {j}"),
@@ -298,7 +317,7 @@ impl fmt::Display for Answer {
             }
             Answer::NoOpener => write!(out, "none"),
             Answer::Absent => write!(out, "absent"),
-            Answer::Reason(sentence) => write!(out, "{sentence}"),
+            Answer::Reason(reason) => write!(out, "{reason}"),
             Answer::Changed { came, went } => write!(out, "rows {came} {went}"),
         }
     }

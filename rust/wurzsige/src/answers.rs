@@ -1,10 +1,27 @@
 //! What each operation answers, as types of their own.
 
+use alloc::vec::Vec;
+
 use crate::answer::{Answer, Ground, Lists};
 use crate::operand::Value;
+use crate::reason::Reason;
 use crate::refusal::Refusal;
 
 /// What comes of a load.
+///
+/// ```
+/// use wurzsige::{Builder, Named::Plain, Referred, Row};
+///
+/// let mut builder = Builder::new();
+/// let [ward] = builder.table("wards", [Plain("ward")]);
+/// builder.filling(ward, 1..=99);
+/// builder.row(Row::new(0, [3]));
+/// let mut desk = builder.open()?;
+/// assert_eq!(desk.refer(0, 3)?, Referred::Loaded { rows: 1, rounds: 0 });
+/// assert_eq!(desk.refer(0, 3)?, Referred::Held);
+/// assert_eq!(desk.refer(0, 100)?, Referred::NoCandidate);
+/// # Ok::<(), Box<dyn std::error::Error>>(())
+/// ```
 #[derive(Clone, Copy, Debug, PartialEq, Eq)]
 pub enum Referred {
     /// It is held from now on.
@@ -21,6 +38,19 @@ pub enum Referred {
 }
 
 /// What comes of a drop.
+///
+/// ```
+/// use wurzsige::{Builder, Dropped, Named::Plain, Row};
+///
+/// let mut builder = Builder::new();
+/// let [ward] = builder.table("wards", [Plain("ward")]);
+/// builder.filling(ward, 1..=99);
+/// builder.row(Row::new(0, [3]));
+/// let mut desk = builder.open()?;
+/// desk.refer(0, 3)?;
+/// assert_eq!(desk.drop_value(0, 3)?, Dropped { rows: 1 });
+/// # Ok::<(), Box<dyn std::error::Error>>(())
+/// ```
 #[derive(Clone, Copy, Debug, PartialEq, Eq)]
 pub struct Dropped {
     /// Rows that went.
@@ -28,6 +58,19 @@ pub struct Dropped {
 }
 
 /// What a probe finds.
+///
+/// ```
+/// use wurzsige::{Builder, Ground, Named::Plain, Probed};
+///
+/// let mut builder = Builder::new();
+/// let [ward] = builder.table("wards", [Plain("ward")]);
+/// builder.filling(ward, 1..=99);
+/// let mut desk = builder.open()?;
+/// assert_eq!(desk.probe(ward, 3)?, Probed::Sent);
+/// desk.refer(0, 3)?;
+/// assert_eq!(desk.probe(ward, 3)?, Probed::Ground { ground: Ground::Held, rows: 0 });
+/// # Ok::<(), Box<dyn std::error::Error>>(())
+/// ```
 #[derive(Clone, Copy, Debug, PartialEq, Eq)]
 pub enum Probed {
     /// The value is complete in the column.
@@ -42,6 +85,21 @@ pub enum Probed {
 }
 
 /// What a query is answered.
+///
+/// ```
+/// use wurzsige::{Answered, Builder, Named::Plain, Query};
+///
+/// let mut builder = Builder::new();
+/// let [ward, name] = builder.table("wards", [Plain("ward"), Plain("name")]);
+/// builder.filling(ward, 1..=99);
+/// let mut desk = builder.open()?;
+/// assert_eq!(desk.query(&Query::new(name, 7))?, Answered::Sent);
+/// let Answered::Lists(lists) = desk.query(&Query::new(ward, 3))? else {
+///     panic!("it is a candidate");
+/// };
+/// assert!(lists.is_empty());
+/// # Ok::<(), Box<dyn std::error::Error>>(())
+/// ```
 #[derive(Clone, Debug, PartialEq, Eq)]
 pub enum Answered {
     /// Every fitting list, as the backend would give them.
@@ -51,6 +109,20 @@ pub enum Answered {
 }
 
 /// What a total comes to.
+///
+/// ```
+/// use wurzsige::{Builder, Named::Plain, Query, Row, Totalled};
+///
+/// let mut builder = Builder::new();
+/// let [ward, beds] = builder.table("wards", [Plain("ward"), Plain("beds")]);
+/// builder.filling(ward, 1..=99);
+/// builder.row(Row::new(0, [3, 12]));
+/// builder.row(Row::new(0, [3, 8]));
+/// let mut desk = builder.open()?;
+/// assert_eq!(desk.total(&Query::new(ward, 3), 0, beds.column)?, Totalled::Total(20));
+/// assert_eq!(desk.total(&Query::new(beds, 8), 0, 0)?, Totalled::Sent);
+/// # Ok::<(), Box<dyn std::error::Error>>(())
+/// ```
 #[derive(Clone, Copy, Debug, PartialEq, Eq)]
 pub enum Totalled {
     /// The sum over all lists of the query.
@@ -60,6 +132,17 @@ pub enum Totalled {
 }
 
 /// Whether loads come to an end after few rounds.
+///
+/// ```
+/// use wurzsige::{Builder, Evenness, Named::Plain};
+///
+/// let mut builder = Builder::new();
+/// let [number, supervisor] = builder.table("staff", [Plain("number"), Plain("supervisor")]);
+/// assert_eq!(builder.open()?.evenness(), Evenness::Even);
+/// builder.constraint(supervisor, number);
+/// assert_eq!(builder.open()?.evenness(), Evenness::Uneven { i: 0, j: 0 });
+/// # Ok::<(), Box<dyn std::error::Error>>(())
+/// ```
 #[derive(Clone, Copy, Debug, PartialEq, Eq)]
 pub enum Evenness {
     /// In T tables no load takes more than 2 T - 1 later rounds.
@@ -74,6 +157,17 @@ pub enum Evenness {
 }
 
 /// The smallest knot.
+///
+/// ```
+/// use wurzsige::{Builder, Knot, Named::Plain};
+///
+/// let mut builder = Builder::new();
+/// let [number, supervisor] = builder.table("staff", [Plain("number"), Plain("supervisor")]);
+/// assert_eq!(builder.open()?.knot(), Knot::Even);
+/// builder.constraint(supervisor, number);
+/// assert_eq!(builder.open()?.knot(), Knot::Constraints(vec![0]));
+/// # Ok::<(), Box<dyn std::error::Error>>(())
+/// ```
 #[derive(Clone, Debug, PartialEq, Eq)]
 pub enum Knot {
     /// The design is even and has none.
@@ -83,15 +177,43 @@ pub enum Knot {
 }
 
 /// Why a row is cached.
+///
+/// ```
+/// use wurzsige::{Builder, Named::Plain, Reasoned, Row};
+///
+/// let mut builder = Builder::new();
+/// let [ward] = builder.table("wards", [Plain("ward")]);
+/// builder.filling(ward, 1..=99);
+/// builder.row(Row::new(0, [3]));
+/// let mut desk = builder.open()?;
+/// assert_eq!(desk.reason(0)?, Reasoned::Absent);
+/// desk.refer(0, 3)?;
+/// assert!(matches!(desk.reason(0)?, Reasoned::Reason(reason) if reason.steps().is_empty()));
+/// # Ok::<(), Box<dyn std::error::Error>>(())
+/// ```
 #[derive(Clone, Debug, PartialEq, Eq)]
 pub enum Reasoned {
-    /// The shortest chain of demands, in words.
-    Reason(String),
+    /// The shortest chain of demands.
+    Reason(Reason),
     /// It isn't.
     Absent,
 }
 
 /// What would give a probe a ground.
+///
+/// ```
+/// use wurzsige::{Builder, Named::Plain, Opener};
+///
+/// let mut builder = Builder::new();
+/// let [ward, name] = builder.table("wards", [Plain("ward"), Plain("name")]);
+/// builder.filling(ward, 1..=99);
+/// let mut desk = builder.open()?;
+/// assert_eq!(desk.opener(ward, 3)?, Opener::Value { filling: 0, value: 3.into() });
+/// assert_eq!(desk.opener(name, 3)?, Opener::None);
+/// desk.refer(0, 3)?;
+/// assert_eq!(desk.opener(ward, 3)?, Opener::Open);
+/// # Ok::<(), Box<dyn std::error::Error>>(())
+/// ```
 #[derive(Clone, Copy, Debug, PartialEq, Eq)]
 pub enum Opener {
     /// It has one already.
@@ -108,6 +230,18 @@ pub enum Opener {
 }
 
 /// What a row that came or went did to the cache.
+///
+/// ```
+/// use wurzsige::{Builder, Changed, Named::Plain, Row};
+///
+/// let mut builder = Builder::new();
+/// let [ward] = builder.table("wards", [Plain("ward")]);
+/// builder.filling(ward, 1..=99);
+/// let mut desk = builder.open()?;
+/// desk.refer(0, 3)?;
+/// assert_eq!(desk.put_row(0, &Row::new(0, [3]))?, Changed { came: 1, went: 0 });
+/// # Ok::<(), Box<dyn std::error::Error>>(())
+/// ```
 #[derive(Clone, Copy, Debug, PartialEq, Eq)]
 pub struct Changed {
     /// Rows that came, the row itself among them if it is cached.
@@ -204,7 +338,7 @@ impl Typed for Knot {
 impl Typed for Reasoned {
     fn typed(answer: Answer) -> Result<Reasoned, Answer> {
         Ok(match answer {
-            Answer::Reason(sentence) => Reasoned::Reason(sentence),
+            Answer::Reason(reason) => Reasoned::Reason(reason),
             Answer::Absent => Reasoned::Absent,
             other => return Err(other),
         })

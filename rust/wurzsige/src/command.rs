@@ -1,44 +1,58 @@
-//! Operations as bytes: the one place of this crate that knows command bytes and
-//! operand widths, beside the place of a query's number of joins.
+//! Commands as bytes: the one place of this crate that knows operand widths, beside the
+//! place of a query's number of joins.
+
+use wurzsige_sys::command::{
+    CONSTRAINT, DESK, DROP, END, EVEN, FILLING, HOLD, KNOT, OPENER, PROBE, PUT, QUERY, REASON,
+    REFER, RELEASE, REMOVE, ROW, ROW_ISSUED, TABLE, TOTAL,
+};
+use wurzsige_sys::{JOINS, MOST_COMMAND};
 
 use crate::operand::{Column, Join, Query, Range, Row, Value};
-
-const REFER: u8 = 0x10;
-const DROP: u8 = 0x11;
-const PROBE: u8 = 0x12;
-const QUERY: u8 = 0x13;
-const EVEN: u8 = 0x14;
-const TOTAL: u8 = 0x15;
-const DESK: u8 = 0x17;
-const REASON: u8 = 0x18;
-const OPENER: u8 = 0x19;
-const HOLD: u8 = 0x1a;
-const RELEASE: u8 = 0x1b;
-const KNOT: u8 = 0x1c;
-const PUT: u8 = 0x1d;
-const REMOVE: u8 = 0x1e;
+use crate::parts::{Constraint, Filling, Table};
 
 /// What the byte of an operation on a value is greater by if an issue byte ends its
 /// operands.
 const WITH_ISSUE: u8 = 0x10;
 
-/// Pairs of every query, however many it uses.
-const PAIRS: usize = 4;
-
 /// The place of the number of joins, from where a query's bytes begin.
-const JOINS: usize = 7;
+const JOINS_AT: usize = 7;
 
-/// The longest operation: one that puts a row in.
-const LONGEST: usize = 44;
-
-/// The bytes of one operation.
+/// The bytes of one command.
 #[derive(Clone, Copy)]
 pub(crate) struct Command {
-    bytes: [u8; LONGEST],
+    bytes: [u8; MOST_COMMAND],
     length: usize,
 }
 
 impl Command {
+    pub fn table(table: &Table) -> Command {
+        Command::new(TABLE).u8(table.columns).u8(table.unique)
+    }
+
+    pub fn constraint(constraint: &Constraint) -> Command {
+        let command = Command::new(CONSTRAINT);
+        command.column(constraint.source).column(constraint.target)
+    }
+
+    pub fn filling(filling: &Filling) -> Command {
+        let command = Command::new(FILLING).column(filling.column);
+        command.u32(filling.low).u32(filling.high)
+    }
+
+    pub fn row(row: &Row) -> Command {
+        if row.cells.iter().all(|cell| cell.issue == 0) {
+            return Command::new(ROW).u8(row.table).cells(row);
+        }
+        Command::new(ROW_ISSUED)
+            .u8(row.table)
+            .cells(row)
+            .issues(row)
+    }
+
+    pub fn end() -> Command {
+        Command::new(END)
+    }
+
     pub fn refer(filling: u8, value: Value) -> Command {
         Command::of_value(REFER, value, |command| {
             command.u8(filling).u32(value.number)
@@ -96,10 +110,7 @@ impl Command {
 
     pub fn put(number: u16, row: &Row) -> Command {
         let command = Command::new(PUT).u16(number).u8(row.table);
-        let cells = row.cells.iter();
-        let command = cells.fold(command, |command, cell| command.u32(cell.number));
-        let cells = row.cells.iter();
-        cells.fold(command, |command, cell| command.u8(cell.issue))
+        command.cells(row).issues(row)
     }
 
     pub fn remove(number: u16) -> Command {
@@ -113,7 +124,7 @@ impl Command {
 
     fn new(byte: u8) -> Command {
         let command = Command {
-            bytes: [0; LONGEST],
+            bytes: [0; MOST_COMMAND],
             length: 0,
         };
         command.u8(byte)
@@ -153,12 +164,22 @@ impl Command {
         self.u8(range.filling).u32(range.low).u32(range.high)
     }
 
+    fn cells(self, row: &Row) -> Command {
+        let cells = row.cells.iter();
+        cells.fold(self, |command, cell| command.u32(cell.number))
+    }
+
+    fn issues(self, row: &Row) -> Command {
+        let cells = row.cells.iter();
+        cells.fold(self, |command, cell| command.u8(cell.issue))
+    }
+
     /// A query's operands. Of more than four joins only the count goes across, for which
     /// the query is refused.
     fn operands(self, query: &Query) -> Command {
         let joins = u8::try_from(query.joins.len()).unwrap_or(u8::MAX);
         let command = self.column(query.column).u32(query.value.number).u8(joins);
-        (0..PAIRS).fold(command, |command, pair| {
+        (0..JOINS).fold(command, |command, pair| {
             let Join {
                 position,
                 constraint,
@@ -170,6 +191,6 @@ impl Command {
 
 /// How many row numbers the lists have of the query that begins at a place.
 pub(crate) fn positions_at(script: &[u8], at: usize) -> usize {
-    let joins = script.get(at..).and_then(|command| command.get(JOINS));
+    let joins = script.get(at..).and_then(|command| command.get(JOINS_AT));
     joins.map_or(1, |&joins| usize::from(joins) + 1)
 }

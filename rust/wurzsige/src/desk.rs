@@ -1,32 +1,57 @@
-//! A desk at work.
+//! A desk: opening it, its memory, and steps of scripts. [`crate::operations`] has what
+//! changes it, and [`crate::questions`] what doesn't.
 
-use std::fmt;
+use alloc::boxed::Box;
+use alloc::vec;
+use alloc::vec::Vec;
+use core::cell::RefCell;
+use core::fmt;
 
 use wurzsige_sys::{Memory, Sizes, MOST_DESIGN, MOST_TEXT};
 
-use crate::answer::{Answer, Design};
-use crate::answers::{
-    typed, Answered, Changed, Dropped, Evenness, Knot, Opener, Probed, Reasoned, Referred,
-    Totalled, Typed,
-};
+use crate::answer::Answer;
+use crate::answers::{typed, Typed};
 use crate::command::{positions_at, Command};
-use crate::operand::{Column, Query, Range, Row, Value};
-use crate::refusal::{Cause, Refusal};
+use crate::fault::{explained, Fault};
+use crate::refusal::Refusal;
 use crate::sound::Sound;
 
 /// Words that a step is lent, as the program `desk` lends them.
-const WORDS: usize = 4_096;
+pub(crate) const WORDS: usize = 4_096;
 
-/// The row table of a number without a row.
-const FREE: u8 = 255;
-
-/// A design with its backend rows, what the desks hold of it, and the cached rows.
+/// A review desk's row cache: a design with its backend rows, what is held of it, and the
+/// cached rows.
+///
+/// The word has a second sense. A `Desk` is the whole, and four people may work at it: the
+/// desks 0 to 3 of [`Desk::name_desk`], each with places of its own for what it holds. They
+/// share the design, the rows and what is cached.
 ///
 /// A desk keeps all of its memory on the heap, in one piece. It can be sent to another
-/// thread; a clone is a desk of its own.
+/// thread; a clone is a desk of its own. It can't be shared between threads without a lock
+/// (a `Mutex`, since it isn't `Sync`): questions take `&self`, but use its working memory.
+///
+/// ```
+/// use wurzsige::{Builder, Named::Plain, Row};
+///
+/// let mut builder = Builder::new();
+/// let [ward] = builder.table("wards", [Plain("ward")]);
+/// let wards = builder.filling(ward, 1..=99);
+/// builder.row(Row::new(0, [3]));
+///
+/// let mut desk = builder.open()?;
+/// desk.refer(wards, 3)?;
+/// assert_eq!(desk.cached().collect::<Vec<_>>(), [0]);
+/// # Ok::<(), Box<dyn std::error::Error>>(())
+/// ```
 pub struct Desk {
-    sound: Sound,
+    inner: RefCell<Inner>,
     operations_at: usize,
+}
+
+/// What steps write. No reference to it ever leaves a method, so that it is never borrowed
+/// where one begins.
+struct Inner {
+    sound: Sound,
     room: Room,
 }
 
@@ -50,7 +75,18 @@ impl Room {
 }
 
 /// A step that was taken.
+///
+/// ```
+/// use wurzsige::{Answer, Desk};
+///
+/// let script = [0x01, 1, 0, 0x05, 0x14];
+/// let mut desk = Desk::open(&script)?;
+/// let step = desk.step(&script, desk.operations_at());
+/// assert_eq!((step.answer, step.next, step.more), (Answer::Even, 5, true));
+/// # Ok::<(), wurzsige::Refusal>(())
+/// ```
 #[derive(Clone, Debug, PartialEq, Eq)]
+#[non_exhaustive]
 pub struct Step {
     /// What the command was answered.
     pub answer: Answer,
@@ -68,296 +104,107 @@ impl Desk {
 
     /// Opens the design at the start of a script. What stands behind its END is read no
     /// further, except that the whole script may not have over 65,536 bytes.
-    ///
-    /// ```
-    /// use wurzsige::{Cause, Desk, Design};
-    ///
-    /// // A table of two columns, and a row of it.
-    /// let script = notation::assemble("table 2\nrow 0 7 3\nend\n")?;
-    /// let desk = Desk::open(&script)?;
-    /// let design = Design { tables: 1, constraints: 0, fillings: 0, rows: 1 };
-    /// assert_eq!(desk.design(), design);
-    /// assert_eq!(Desk::open(&[]).unwrap_err().cause, Cause::TooFewBytes);
-    /// # Ok::<(), Box<dyn std::error::Error>>(())
-    /// ```
-    pub fn open(script: &[u8]) -> Result<Desk, Refusal> {
-        let (sound, operations_at) = Sound::open(script)?;
-        Ok(Desk {
-            sound,
-            operations_at,
-            room: Room::default(),
-        })
-    }
-
-    /// Takes memory that may hold anything. It is a desk, or refused with
-    /// [`Cause::Unlawful`]: the test looks at every row and loads everything held.
+    /// [`Builder`](crate::Builder) makes such scripts.
     ///
     /// ```
     /// use wurzsige::{Cause, Desk};
     ///
-    /// let desk = Desk::open(&notation::assemble("table 2\nrow 0 7 3\nend\n")?)?;
-    /// let mut memory = desk.into_memory();
-    /// memory.design[3] = 200; // table 0 is to have 200 columns
-    /// assert_eq!(Desk::from_memory(memory).unwrap_err().cause, Cause::Unlawful);
-    /// # Ok::<(), Box<dyn std::error::Error>>(())
+    /// // A table of two columns, of which the first is unique.
+    /// let desk = Desk::open(&[0x01, 2, 1, 0x05])?;
+    /// assert!(desk.design().tables[0].is_unique(0));
+    /// assert_eq!(Desk::open(&[]).unwrap_err().cause, Cause::TooFewBytes);
+    /// # Ok::<(), wurzsige::Refusal>(())
     /// ```
-    pub fn from_memory(memory: Box<Memory>) -> Result<Desk, Refusal> {
-        Ok(Desk {
-            sound: Sound::tested(memory)?,
-            operations_at: 0,
-            room: Room::default(),
-        })
+    pub fn open(script: &[u8]) -> Result<Desk, Refusal> {
+        let (sound, operations_at) = Sound::open(script)?;
+        Ok(Desk::of(sound, operations_at))
     }
 
-    /// The desk's memory, to be looked at.
-    pub fn memory(&self) -> &Memory {
-        self.sound.memory()
+    /// Takes memory that may hold anything. It is a desk, or refused with
+    /// [`Cause::Unlawful`](crate::Cause::Unlawful): the test looks at every row and loads
+    /// everything held.
+    ///
+    /// ```
+    /// use wurzsige::{Cause, Desk};
+    ///
+    /// let desk = Desk::open(&[0x01, 2, 0, 0x05])?;
+    /// let mut memory = desk.into_memory();
+    /// memory.design_mut()[3] = 200; // table 0 is to have 200 columns
+    /// assert_eq!(Desk::from_memory(memory).unwrap_err().cause, Cause::Unlawful);
+    /// # Ok::<(), wurzsige::Refusal>(())
+    /// ```
+    pub fn from_memory(memory: Box<Memory>) -> Result<Desk, Refusal> {
+        Ok(Desk::of(Sound::tested(memory)?, 0))
+    }
+
+    /// A copy of the desk's memory.
+    ///
+    /// ```
+    /// use wurzsige::Desk;
+    ///
+    /// let desk = Desk::open(&[0x01, 2, 0, 0x05])?;
+    /// assert_eq!(desk.to_memory().design()[..4], [1, 0, 0, 2]);
+    /// # Ok::<(), wurzsige::Refusal>(())
+    /// ```
+    pub fn to_memory(&self) -> Box<Memory> {
+        self.look(Memory::boxed_copy)
     }
 
     /// The desk's memory, to be kept or lent elsewhere.
+    ///
+    /// ```
+    /// use wurzsige::Desk;
+    ///
+    /// let desk = Desk::open(&[0x01, 2, 0, 0x05])?;
+    /// let again = Desk::from_memory(desk.into_memory())?;
+    /// assert_eq!(again.counts().tables, 1);
+    /// # Ok::<(), wurzsige::Refusal>(())
+    /// ```
     pub fn into_memory(self) -> Box<Memory> {
-        self.sound.into_memory()
-    }
-
-    /// How many tables, constraints and fillings there are, and how many rows there are
-    /// now.
-    pub fn design(&self) -> Design {
-        let memory = self.memory();
-        let count = |place: usize| memory.design[place] as usize;
-        Design {
-            tables: count(0),
-            constraints: count(1),
-            fillings: count(2),
-            rows: memory.tables.iter().filter(|&&table| table != FREE).count(),
-        }
+        self.inner.into_inner().sound.into_memory()
     }
 
     /// The place behind the design's END in the script that was opened, where operations
     /// begin; 0 for a desk that was taken from memory.
+    ///
+    /// ```
+    /// use wurzsige::Desk;
+    ///
+    /// assert_eq!(Desk::open(&[0x01, 2, 0, 0x05, 0x14])?.operations_at(), 4);
+    /// # Ok::<(), wurzsige::Refusal>(())
+    /// ```
     pub fn operations_at(&self) -> usize {
         self.operations_at
-    }
-
-    /// The backend row with a number, if the number isn't free.
-    ///
-    /// ```
-    /// use wurzsige::{Desk, Row};
-    ///
-    /// let desk = Desk::open(&notation::assemble("table 2\nrow 0 7 3#1\nend\n")?)?;
-    /// assert_eq!(desk.row(0), Some(Row::new(0, [(7, 0), (3, 1)])));
-    /// assert_eq!(desk.row(1), None);
-    /// # Ok::<(), Box<dyn std::error::Error>>(())
-    /// ```
-    pub fn row(&self, number: u16) -> Option<Row> {
-        let memory = self.memory();
-        let number = usize::from(number);
-        let table = *memory.tables.get(number).filter(|&&table| table != FREE)?;
-        let mut cells = [Value::BLANK; Row::CELLS];
-        for (column, cell) in cells.iter_mut().enumerate() {
-            let place = Row::CELLS * number + column;
-            *cell = (memory.cells[place], memory.issues[place]).into();
-        }
-        Some(Row { table, cells })
-    }
-
-    /// Whether the row with a number is cached.
-    pub fn is_cached(&self, row: u16) -> bool {
-        self.memory().marks.get(usize::from(row)) == Some(&1)
-    }
-
-    /// The desk that is named, from 0 to 3. What is loaded and dropped is for this desk.
-    pub fn named_desk(&self) -> u8 {
-        self.memory().held[0] as u8
-    }
-
-    /// Holds a value of a filling from now on, and caches its rows with all that the
-    /// constraints demand.
-    ///
-    /// Refused: a filling that isn't there (5), the number 0 (9), a candidate that the
-    /// desk doesn't hold yet while it holds 16 values (8).
-    pub fn refer(&mut self, filling: u8, value: impl Into<Value>) -> Result<Referred, Refusal> {
-        self.ask(&Command::refer(filling, value.into()))
-    }
-
-    /// Stops holding a value. Rows go that nothing else demands.
-    ///
-    /// Refused: a filling that isn't there (5), the number 0 (9), a value that the desk
-    /// doesn't hold (10).
-    pub fn drop_value(&mut self, filling: u8, value: impl Into<Value>) -> Result<Dropped, Refusal> {
-        self.ask(&Command::drop(filling, value.into()))
-    }
-
-    /// Asks whether a value is complete in a column.
-    ///
-    /// Refused: a column that isn't there (5), the number 0 (9).
-    pub fn probe(&mut self, column: Column, value: impl Into<Value>) -> Result<Probed, Refusal> {
-        self.ask(&Command::probe(column, value.into()))
-    }
-
-    /// Asks for every fitting list of rows. A value without a ground is referred first,
-    /// if the column has a filling, the value is a candidate and the desk has room for
-    /// it; it stays held then.
-    ///
-    /// Up to [`Desk::MOST_WORDS`] words are lent for the lists, which have a word for
-    /// each of their rows; [`Desk::query_within`] sets another limit.
-    ///
-    /// Refused: an operand that names nothing, or more than four joins (5), the number 0
-    /// (9), lists that need more words (11).
-    pub fn query(&mut self, query: &Query) -> Result<Answered, Refusal> {
-        self.query_within(query, Desk::MOST_WORDS)
-    }
-
-    /// The same with a limit for the words that are lent. A query with four joins can
-    /// have 2^45 lists, so there has to be one.
-    ///
-    /// The first 4,096 words are lent at once. If they aren't enough, the desk is asked
-    /// how many are needed ([`Desk::sizes`]), and the query is put once more with so
-    /// many, unless they are more than `most_words` or can't be had.
-    ///
-    /// ```
-    /// use wurzsige::{Answered, Cause, Column, Desk, Query};
-    ///
-    /// let text = std::fs::read_to_string("../../examples/case-a.desk")?;
-    /// let mut desk = Desk::open(&notation::assemble(&text)?)?;
-    /// let query = Query::new(Column::new(0, 1), 3).join(0, 0).join(1, 1);
-    /// let refusal = desk.query_within(&query, 5).unwrap_err();
-    /// assert_eq!(refusal.cause, Cause::AnswerTooLong);
-    /// assert!(matches!(desk.query_within(&query, 6)?, Answered::Lists(lists) if lists.len() == 2));
-    /// # Ok::<(), Box<dyn std::error::Error>>(())
-    /// ```
-    pub fn query_within(&mut self, query: &Query, most_words: usize) -> Result<Answered, Refusal> {
-        let command = Command::query(query);
-        let lent = &mut self.room.words()[..WORDS.min(most_words)];
-        let told = self.sound.step(command.bytes(), 0, lent, &mut []);
-        let answer = Answer::told(&told, query.positions(), lent, &[]);
-        let too_long = |answer: &Answer| matches!(answer, Answer::Refused(refusal) if refusal.cause == Cause::AnswerTooLong);
-        if most_words <= WORDS || !too_long(&answer) {
-            return typed(answer);
-        }
-        let needed = usize::try_from(self.sizes(command.bytes(), 0).words);
-        let needed = needed.ok().filter(|&needed| needed <= most_words);
-        let Some(mut words) = needed.and_then(zeros) else {
-            return typed(answer);
-        };
-        let told = self.sound.step(command.bytes(), 0, &mut words, &mut []);
-        typed(Answer::told(&told, query.positions(), &words, &[]))
-    }
-
-    /// Asks for the sum of a cell over all lists of a query, however many they are: the
-    /// cell in a column of the row at a position. Blanks count 0. A value without a
-    /// ground is referred first, as for a query.
-    ///
-    /// Refused: as for a query, and a position or column that isn't there (5), and a sum
-    /// above 2^64 - 1 (13); but never for its lists.
-    pub fn total(&mut self, query: &Query, position: u8, column: u8) -> Result<Totalled, Refusal> {
-        self.ask(&Command::total(query, position, column))
-    }
-
-    /// Asks whether the design is even.
-    pub fn evenness(&mut self) -> Evenness {
-        never_refused(self.ask(&Command::even()))
-    }
-
-    /// Asks for the smallest knot.
-    pub fn knot(&mut self) -> Knot {
-        never_refused(self.ask(&Command::knot()))
-    }
-
-    /// Names the desk, from 0 to 3, for what follows.
-    ///
-    /// Refused: a desk above 3 (5).
-    pub fn name_desk(&mut self, desk: u8) -> Result<(), Refusal> {
-        match self.answer(&Command::desk(desk)) {
-            Answer::Refused(refusal) => Err(refusal),
-            _ => Ok(()),
-        }
-    }
-
-    /// Asks why a row is cached. As much text is lent as the longest reason needs.
-    ///
-    /// Refused: a number without a row (5).
-    pub fn reason(&mut self, row: u16) -> Result<Reasoned, Refusal> {
-        let text = self.room.text();
-        let command = Command::reason(row);
-        let told = self.sound.step(command.bytes(), 0, &mut [], text);
-        typed(Answer::told(&told, 1, &[], text))
-    }
-
-    /// Asks for the value whose reference would give a probe a ground. Whether a desk
-    /// has room for it isn't asked.
-    ///
-    /// Refused: as for a probe.
-    pub fn opener(&mut self, column: Column, value: impl Into<Value>) -> Result<Opener, Refusal> {
-        self.ask(&Command::opener(column, value.into()))
-    }
-
-    /// Holds a range of a filling's values at issue 0. Ranges of the desk that overlap
-    /// or touch become one.
-    ///
-    /// Refused: a filling that isn't there, low 0 or above high (5), a range that would
-    /// leave the desk more than 8 (8).
-    pub fn hold_range(&mut self, range: Range) -> Result<Referred, Refusal> {
-        self.ask(&Command::hold(range))
-    }
-
-    /// Stops holding a range, which has to be exactly one that is held.
-    ///
-    /// Refused: a filling that isn't there, low 0 or above high (5), another range than
-    /// the desk holds (10).
-    pub fn release_range(&mut self, range: Range) -> Result<Dropped, Refusal> {
-        self.ask(&Command::release(range))
-    }
-
-    /// Puts a backend row in, at a free number below 512.
-    ///
-    /// Refused: a number that is taken or above 511, a table that isn't there, a cell
-    /// past its columns, an issue on a blank (5), a value other than blank twice in a
-    /// unique column (6).
-    ///
-    /// ```
-    /// use wurzsige::{Changed, Desk, Row};
-    ///
-    /// let text = std::fs::read_to_string("../../examples/case-a.desk")?;
-    /// let mut desk = Desk::open(&notation::assemble(&text)?)?;
-    /// desk.refer(0, 3)?;
-    /// // Subject 8 gets a recording, which the held ward demands.
-    /// assert_eq!(desk.put_row(8, &Row::new(1, [22, 8]))?, Changed { came: 1, went: 0 });
-    /// assert!(desk.is_cached(8));
-    /// assert_eq!(desk.remove_row(8)?, Changed { came: 0, went: 1 });
-    /// # Ok::<(), Box<dyn std::error::Error>>(())
-    /// ```
-    pub fn put_row(&mut self, number: u16, row: &Row) -> Result<Changed, Refusal> {
-        self.ask(&Command::put(number, row))
-    }
-
-    /// Removes a backend row. Its number is free then.
-    ///
-    /// Refused: a number without a row (5).
-    pub fn remove_row(&mut self, number: u16) -> Result<Changed, Refusal> {
-        self.ask(&Command::remove(number))
     }
 
     /// Takes the step at a place of a script: the command that begins there. 4,096 words
     /// and 16,384 bytes of text are lent, as the program `desk` lends them.
     ///
     /// ```
-    /// use wurzsige::{Answer, Desk};
+    /// use wurzsige::{Answer, Builder, Desk, Named::Plain, Row};
     ///
-    /// let text = "table 2\nfilling 0.1 1..9\nrow 0 7 3\nend\nrefer 0 3\nprobe 0.1 = 3\n";
-    /// let script = notation::assemble(text)?;
+    /// let mut builder = Builder::new();
+    /// let [number, ward] = builder.table("subjects", [Plain("number"), Plain("ward")]);
+    /// builder.filling(ward, 1..=9);
+    /// builder.row(Row::new(0, [7, 3]));
+    /// let mut script = builder.script();
+    /// script.extend([0x10, 0, 3, 0, 0, 0]); // refer the value 3 of filling 0
+    /// script.extend([0x12, 0, 1, 3, 0, 0, 0]); // probe column 0.1 for 3
+    ///
     /// let mut desk = Desk::open(&script)?;
     /// let step = desk.step(&script, desk.operations_at());
     /// assert_eq!(step.answer, Answer::Loaded { rows: 1, rounds: 0 });
     /// let step = desk.step(&script, step.next);
     /// assert_eq!(step.answer.to_string(), "ground 1 1");
     /// assert_eq!(step.next, script.len());
-    /// # Ok::<(), Box<dyn std::error::Error>>(())
+    /// # Ok::<(), wurzsige::Refusal>(())
     /// ```
     pub fn step(&mut self, script: &[u8], at: usize) -> Step {
-        self.room.words();
-        self.room.text();
-        let Room { words, text } = &mut self.room;
-        let told = self.sound.step(script, at, words, text);
+        let Inner { sound, room } = self.inner.get_mut();
+        room.words();
+        room.text();
+        let Room { words, text } = room;
+        let told = sound.step(script, at, words, text);
         Step {
             answer: Answer::told(&told, positions_at(script, at), words, text),
             next: told.next,
@@ -367,60 +214,116 @@ impl Desk {
 
     /// Tells how many bytes the written design has, and how many words and bytes of text
     /// the step at a place of a script would write, however much that is.
+    ///
+    /// ```
+    /// use wurzsige::Desk;
+    ///
+    /// let desk = Desk::open(&[0x01, 2, 0, 0x05])?;
+    /// let sizes = desk.sizes(&[0x14], 0);
+    /// assert_eq!((sizes.bytes, sizes.words, sizes.text), (4, 0, 0));
+    /// # Ok::<(), wurzsige::Refusal>(())
+    /// ```
     pub fn sizes(&self, script: &[u8], at: usize) -> Sizes {
-        let sizes = self.memory().sizes(script, at);
+        let sizes = self.look(|memory| memory.sizes(script, at));
         sizes.unwrap_or_else(|cause| unreachable!("a desk is refused for cause {cause}"))
     }
 
     /// The design with its rows, as a script that reads as it. The rows are numbered
     /// anew there, without gaps; what is held isn't in it.
+    ///
+    /// ```
+    /// use wurzsige::Desk;
+    ///
+    /// assert_eq!(Desk::open(&[0x01, 2, 0, 0x05, 0x14])?.write(), [0x01, 2, 0, 0x05]);
+    /// # Ok::<(), wurzsige::Refusal>(())
+    /// ```
     pub fn write(&self) -> Vec<u8> {
         let mut script = vec![0; MOST_DESIGN];
-        match self.memory().write(&mut script) {
+        match self.look(|memory| memory.write(&mut script)) {
             Ok(written) => script.truncate(written),
             Err(cause) => unreachable!("a desk is refused for cause {cause}"),
         }
         script
     }
 
-    /// Carries out an operation that writes neither lists nor text.
-    fn answer(&mut self, command: &Command) -> Answer {
-        let told = self.sound.step(command.bytes(), 0, &mut [], &mut []);
+    fn of(sound: Sound, operations_at: usize) -> Desk {
+        let room = Room::default();
+        Desk {
+            inner: RefCell::new(Inner { sound, room }),
+            operations_at,
+        }
+    }
+
+    /// Looks at the memory.
+    pub(crate) fn look<T>(&self, at: impl FnOnce(&Memory) -> T) -> T {
+        at(self.inner.borrow().sound.memory())
+    }
+
+    /// Carries out a command that writes neither lists nor text. It is for the caller to
+    /// see to it that one which changes the desk is given by a `&mut Desk` alone.
+    pub(crate) fn answer(&self, command: &Command) -> Answer {
+        let Inner { sound, .. } = &mut *self.inner.borrow_mut();
+        let told = sound.step(command.bytes(), 0, &mut [], &mut []);
         Answer::told(&told, 1, &[], &[])
     }
 
-    fn ask<T: Typed>(&mut self, command: &Command) -> Result<T, Refusal> {
-        typed(self.answer(command))
+    /// The same with the answer of the operation, or its refusal with the operand that is
+    /// wrong.
+    pub(crate) fn ask<T: Typed>(
+        &self,
+        command: &Command,
+        fault: impl FnOnce(&Desk) -> Option<Fault>,
+    ) -> Result<T, Refusal> {
+        let answer = typed(self.answer(command));
+        answer.map_err(|refusal| explained(refusal, fault(self)))
     }
-}
 
-/// So many zeros, if they can be had.
-fn zeros(count: usize) -> Option<Vec<u32>> {
-    let mut zeros = Vec::new();
-    zeros.try_reserve_exact(count).ok()?;
-    zeros.resize(count, 0);
-    Some(zeros)
-}
+    /// The same for a command that writes text.
+    pub(crate) fn ask_in_words<T: Typed>(
+        &self,
+        command: &Command,
+        fault: impl FnOnce(&Desk) -> Option<Fault>,
+    ) -> Result<T, Refusal> {
+        let answer = {
+            let Inner { sound, room } = &mut *self.inner.borrow_mut();
+            let text = room.text();
+            let told = sound.step(command.bytes(), 0, &mut [], text);
+            typed(Answer::told(&told, 1, &[], text))
+        };
+        answer.map_err(|refusal| explained(refusal, fault(self)))
+    }
 
-/// The answer of a report that every desk answers.
-fn never_refused<T>(answer: Result<T, Refusal>) -> T {
-    answer.unwrap_or_else(|refusal| unreachable!("a report without operands: {refusal}"))
+    /// Carries out a query that is lent so many words, at most those that are at hand, or
+    /// all of the given ones.
+    pub(crate) fn list(&mut self, command: &Command, positions: usize, most: usize) -> Answer {
+        let Inner { sound, room } = self.inner.get_mut();
+        let lent = &mut room.words()[..WORDS.min(most)];
+        let told = sound.step(command.bytes(), 0, lent, &mut []);
+        Answer::told(&told, positions, lent, &[])
+    }
+
+    pub(crate) fn list_in(
+        &mut self,
+        command: &Command,
+        positions: usize,
+        words: &mut [u32],
+    ) -> Answer {
+        let sound = &mut self.inner.get_mut().sound;
+        let told = sound.step(command.bytes(), 0, words, &mut []);
+        Answer::told(&told, positions, words, &[])
+    }
 }
 
 impl Clone for Desk {
     fn clone(&self) -> Desk {
-        Desk {
-            sound: self.sound.clone(),
-            operations_at: self.operations_at,
-            room: Room::default(),
-        }
+        Desk::of(self.inner.borrow().sound.clone(), self.operations_at)
     }
 }
 
 impl fmt::Debug for Desk {
     fn fmt(&self, out: &mut fmt::Formatter<'_>) -> fmt::Result {
         out.debug_struct("Desk")
-            .field("sound", &self.sound)
+            .field("sound", &self.inner.borrow().sound)
             .field("operations_at", &self.operations_at)
             .finish_non_exhaustive()
     }

@@ -1,6 +1,7 @@
 //! What operations are about.
 
-use std::fmt;
+use alloc::vec::Vec;
+use core::fmt;
 
 /// A cell, or what an operation looks for in cells: a number and its issue. Two are
 /// equal only if both are; the number 0 is blank.
@@ -53,6 +54,12 @@ impl fmt::Display for Value {
 }
 
 /// A column of a table, both by number from 0.
+///
+/// ```
+/// use wurzsige::Column;
+///
+/// assert_eq!(Column::new(1, 0).to_string(), "1.0");
+/// ```
 #[derive(Clone, Copy, Debug, PartialEq, Eq, PartialOrd, Ord, Hash)]
 pub struct Column {
     /// The table's number.
@@ -68,8 +75,22 @@ impl Column {
     }
 }
 
+/// As the notation writes it: `1.0`.
+impl fmt::Display for Column {
+    fn fmt(&self, out: &mut fmt::Formatter<'_>) -> fmt::Result {
+        write!(out, "{}.{}", self.table, self.column)
+    }
+}
+
 /// One more position of a query: the rows that a constraint demands of the row at an
 /// earlier position.
+///
+/// ```
+/// use wurzsige::{Column, Join, Query};
+///
+/// let query = Query::new(Column::new(0, 1), 3).join(0, 2);
+/// assert_eq!(query.joins, [Join { position: 0, constraint: 2 }]);
+/// ```
 #[derive(Clone, Copy, Debug, Default, PartialEq, Eq, Hash)]
 pub struct Join {
     /// The earlier position, from 0.
@@ -126,6 +147,13 @@ impl Query {
 }
 
 /// A filling and a range of numbers at issue 0, both ends counted.
+///
+/// ```
+/// use wurzsige::Range;
+///
+/// let week = Range { filling: 0, low: 5000, high: 5099 };
+/// assert_eq!(week.to_string(), "5000..5099 of filling 0");
+/// ```
 #[derive(Clone, Copy, Debug, PartialEq, Eq, PartialOrd, Ord, Hash)]
 pub struct Range {
     /// The filling's number.
@@ -134,6 +162,13 @@ pub struct Range {
     pub low: u32,
     /// The highest number.
     pub high: u32,
+}
+
+impl fmt::Display for Range {
+    fn fmt(&self, out: &mut fmt::Formatter<'_>) -> fmt::Result {
+        let Range { filling, low, high } = self;
+        write!(out, "{low}..{high} of filling {filling}")
+    }
 }
 
 /// A backend row.

@@ -1,17 +1,28 @@
 //! The report of the program `desk`, line by line.
 
-use std::fmt;
+use alloc::vec::Vec;
+use core::fmt;
 
-use crate::answer::{Answer, Design};
+use crate::answer::Answer;
 use crate::desk::Desk;
+use crate::parts::Counts;
 use crate::refusal::Refusal;
 
 /// A line of the report, with the lists that stand on lines after it. Its text has no
 /// line end behind it.
+///
+/// ```
+/// use wurzsige::{lines, Answer, Line};
+///
+/// let mut lines = lines(&[0x01, 1, 0, 0x05, 0x14]);
+/// assert!(matches!(lines.next(), Some(Line::Design(counts)) if counts.tables == 1));
+/// assert_eq!(lines.next(), Some(Line::Operation { number: 0, answer: Answer::Even }));
+/// ```
 #[derive(Clone, Debug, PartialEq, Eq)]
+#[non_exhaustive]
 pub enum Line {
     /// The design was accepted.
-    Design(Design),
+    Design(Counts),
     /// The design was refused, and there is no line after it.
     Refused(Refusal),
     /// A command behind END.
@@ -26,7 +37,7 @@ pub enum Line {
 impl fmt::Display for Line {
     fn fmt(&self, out: &mut fmt::Formatter<'_>) -> fmt::Result {
         match self {
-            Line::Design(design) => design.fmt(out),
+            Line::Design(counts) => counts.fmt(out),
             Line::Refused(refusal) => Answer::Refused(*refusal).fmt(out),
             Line::Operation { number, answer } => write!(out, "{number} {answer}"),
         }
@@ -34,6 +45,12 @@ impl fmt::Display for Line {
 }
 
 /// The lines of a script's report, each made when it is asked for: see [`lines`].
+///
+/// ```
+/// let mut lines: wurzsige::Lines = wurzsige::lines(&[]);
+/// assert_eq!(lines.next().map(|line| line.to_string()).as_deref(), Some("refused 1 0"));
+/// assert!(lines.next().is_none());
+/// ```
 #[derive(Clone, Debug)]
 pub struct Lines<'a> {
     script: &'a [u8],
@@ -55,10 +72,10 @@ enum State {
 /// another. Some scripts have reports of hundreds of megabytes.
 ///
 /// ```
-/// let script = notation::assemble("table 1\nend\nprobe 0.0 = 7\nprobe 1.0 = 7\n")?;
+/// // A table of a column; a probe of it for 7; a probe of a table that isn't there.
+/// let script = [0x01, 1, 0, 0x05, 0x12, 0, 0, 7, 0, 0, 0, 0x12, 1, 0, 7, 0, 0, 0];
 /// let lines: Vec<String> = wurzsige::lines(&script).map(|line| line.to_string()).collect();
 /// assert_eq!(lines, ["design 1 0 0 0", "0 sent", "1 refused 5 11"]);
-/// # Ok::<(), Box<dyn std::error::Error>>(())
 /// ```
 pub fn lines(script: &[u8]) -> Lines<'_> {
     Lines {
@@ -96,13 +113,13 @@ impl Lines<'_> {
     fn open(&mut self) -> Line {
         match Desk::open(self.script) {
             Ok(desk) => {
-                let design = desk.design();
+                let counts = desk.counts();
                 self.state = State::Open {
                     at: desk.operations_at(),
                     number: 0,
                     desk,
                 };
-                Line::Design(design)
+                Line::Design(counts)
             }
             Err(refusal) => {
                 self.state = State::Ended;
@@ -112,8 +129,14 @@ impl Lines<'_> {
     }
 }
 
-/// A script that was carried out.
+/// A script that was carried out. Its text is the report, byte for byte as the program
+/// `desk` prints it.
+///
+/// ```
+/// assert_eq!(wurzsige::run(&[0x05]).lines.len(), 1);
+/// ```
 #[derive(Clone, Debug, PartialEq, Eq)]
+#[non_exhaustive]
 pub struct Run {
     /// The lines of its report.
     pub lines: Vec<Line>,
@@ -124,14 +147,11 @@ pub struct Run {
 /// ```
 /// use wurzsige::{run, Answer, Line};
 ///
-/// let text = std::fs::read_to_string("../../examples/ward.desk")?;
-/// let run = run(&notation::assemble(&text)?);
-/// let queries = run.lines.iter().filter(|line| {
-///     matches!(line, Line::Operation { answer: Answer::Lists(_), .. })
-/// });
-/// assert!(queries.count() > 0);
-/// assert_eq!(run.to_string(), std::fs::read_to_string("../../examples/ward.report")?);
-/// # Ok::<(), Box<dyn std::error::Error>>(())
+/// // A table of a column; whether the design is even; desk 2 is named.
+/// let run = run(&[0x01, 1, 0, 0x05, 0x14, 0x17, 2]);
+/// let even = Line::Operation { number: 0, answer: Answer::Even };
+/// assert_eq!(run.lines[1], even);
+/// assert_eq!(run.to_string(), "design 1 0 0 0\n0 even\n1 desk 2\n");
 /// ```
 pub fn run(script: &[u8]) -> Run {
     Run {

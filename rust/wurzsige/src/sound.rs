@@ -2,6 +2,8 @@
 
 #![allow(unsafe_code)]
 
+use alloc::boxed::Box;
+
 use wurzsige_sys::{word, Memory, Told};
 
 use crate::answer::refusal;
@@ -29,7 +31,7 @@ impl Sound {
     pub fn tested(mut memory: Box<Memory>) -> Result<Sound, Refusal> {
         let told = memory.step(Command::even().bytes(), 0, &mut [], &mut []);
         match told.word {
-            word::REFUSED => Err(refusal(&told)),
+            word::REFUSED => Err(refusal(&told).of_method(None)),
             _ => Ok(Sound(memory)),
         }
     }

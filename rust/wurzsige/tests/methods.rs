@@ -39,6 +39,26 @@ fn answer<T>(answer: Result<T, Refusal>, of: impl Fn(T) -> Answer) -> Answer {
     answer.map_or_else(Answer::Refused, of)
 }
 
+/// Holds an answer by a method to the same command's as bytes. Of a refusal the method
+/// tells no place, but an operand: exactly for the causes that are an operand's.
+fn hold_to_step(answer: &Answer, step: &Answer, command: &Command) {
+    let (Answer::Refused(refusal), Answer::Refused(of_step)) = (answer, step) else {
+        return assert_eq!(answer, step, "{command:?}");
+    };
+    assert_eq!(refusal.cause, of_step.cause, "{command:?}");
+    assert_eq!((of_step.place, of_step.operand), (Some(0), None));
+    assert_eq!(refusal.place, None, "{command:?}");
+    let causes = [
+        Cause::WrongOperand,
+        Cause::ValueTwice,
+        Cause::ValueZero,
+        Cause::NotHeld,
+    ];
+    let operand = causes.contains(&refusal.cause);
+    assert_eq!(refusal.operand.is_some(), operand, "{command:?}: {refusal}");
+    assert!(!refusal.to_string().contains("byte"), "{refusal}");
+}
+
 fn referred(referred: Referred) -> Answer {
     match referred {
         Referred::Loaded { rows, rounds } => Answer::Loaded { rows, rounds },
@@ -78,7 +98,7 @@ fn totalled(totalled: Totalled) -> Answer {
 
 fn reasoned(reasoned: Reasoned) -> Answer {
     match reasoned {
-        Reasoned::Reason(sentence) => Answer::Reason(sentence),
+        Reasoned::Reason(reason) => Answer::Reason(reason),
         Reasoned::Absent => Answer::Absent,
     }
 }
@@ -153,14 +173,16 @@ fn hold_methods_to_steps(script: &[u8]) -> usize {
         let bytes = command.bytes();
         // An operation without a method is taken by both as bytes.
         let answer = by_method(&mut desk, &command);
-        let answer = answer.unwrap_or_else(|| desk.step(&bytes, 0).answer);
         let step = other.step(&bytes, 0);
-        assert_eq!(answer, step.answer, "{command:?}");
+        match answer {
+            Some(answer) => hold_to_step(&answer, &step.answer, &command),
+            None => assert_eq!(desk.step(&bytes, 0), step),
+        }
         assert_eq!((step.next, step.more), (bytes.len(), true), "{command:?}");
         assert_eq!(desk.named_desk(), other.named_desk());
         count += 1;
     }
-    assert!(kept(desk.memory()) == kept(other.memory()));
+    assert!(kept(&desk) == kept(&other));
     count
 }
 
@@ -185,14 +207,14 @@ const CHAIN: &str = "table 2 unique 0\nconstraint 0.1 -> 0.0\nfilling 0.0 1..9\n
 #[test]
 fn what_a_desk_has_can_be_looked_at() {
     let mut desk = opened(CHAIN);
-    assert_eq!(desk.design().to_string(), "design 1 1 1 3");
+    assert_eq!(desk.counts().to_string(), "design 1 1 1 3");
     desk.refer(0, 2).expect("a load");
     let cached: Vec<bool> = (0..4).map(|row| desk.is_cached(row)).collect();
     assert_eq!(cached, [false, true, true, false]);
     assert!(!desk.is_cached(512) && desk.row(512).is_none());
     assert_eq!(desk.row(2), Some(Row::new(0, [3])));
     desk.remove_row(1).expect("a row");
-    assert_eq!((desk.row(1), desk.design().rows), (None, 2));
+    assert_eq!((desk.row(1), desk.counts().rows), (None, 2));
 }
 
 #[test]

@@ -26,7 +26,7 @@ fn every_design_is_written_as_it_was_read() {
         assert_eq!(desk.write(), design, "{name}");
         assert_eq!(desk.sizes(&[], 0).bytes, design.len() as u64, "{name}");
         let again = Desk::open(&desk.write()).expect("a design");
-        assert_eq!(again.memory(), desk.memory(), "{name}");
+        assert_eq!(again.to_memory(), desk.to_memory(), "{name}");
     }
 }
 

@@ -17,7 +17,9 @@ use crate::measure::{measure_runs, Run, Timing};
 use crate::table::{ratio, time};
 use crate::work::growing::chain_design;
 use crate::work::laboratory::{laboratory, WARDS};
-use crate::work::{column, drop, join, opener, probe, query, refer, MOST_ROWS};
+use crate::work::{
+    column, constraint, drop, filling, join, opener, probe, query, refer, table, MOST_ROWS,
+};
 use page::markdown;
 use stack::touched;
 
@@ -87,7 +89,7 @@ fn sizes() -> Vec<Vec<String>> {
     vec![
         size("`struct wurzsige`, `Memory`", size_of::<Memory>()),
         size("`struct wurzsige_answer`", size_of::<Told>()),
-        size("`struct wurzsige_sizes`", size_of::<Sizes>()),
+        size("`struct wurzsige_room`", size_of::<Sizes>()),
         size(
             "words for lists, as the program lends them",
             4 * ANSWER_WORDS,
@@ -152,8 +154,38 @@ fn least(operations: &[Vec<u8>], mut step: impl FnMut(&[u8]) -> Told) -> Timing 
     measure_runs(vec![run])[0]
 }
 
+/// The lists of the deepest query: by 511 rows at the first position, which lead to the
+/// first row alone, by 510 at each of the next three, and by 511 at the last.
+const DEEP_LISTS: u64 = 2_552;
+
+/// All rows have 1 in their first cell. All but the last lead to the first row alone, and
+/// the last leads to all but the first: a query with four joins has few lists, and at each
+/// position goes through all rows to the last.
+fn deep_design(rows: usize) -> Design {
+    let mut design = Design {
+        tables: vec![table(3, 0)],
+        constraints: vec![constraint(column(0, 1), column(0, 2))],
+        fillings: vec![filling(column(0, 0))],
+        rows: Vec::new(),
+    };
+    for number in 0..rows {
+        let from = if number + 1 == rows { 7 } else { 8 };
+        let to = if number == 0 { 8 } else { 7 };
+        design.add_row(0, &[1, from, to]);
+    }
+    design
+}
+
+/// A query whose lists go deepest, and a desk with words for them.
+fn deepest_query() -> (Lent, Vec<u8>) {
+    let joins: Vec<_> = (0..4).map(|position| join(position, 0)).collect();
+    let mut lent = Lent::new(&deep_design(MOST_ROWS), &[refer(0, 1)]);
+    lent.words.resize(5 * DEEP_LISTS as usize, 0);
+    (lent, query(column(0, 0), 1, &joins).bytes())
+}
+
 /// The calls that go deepest, on the largest designs: a chain in which each row demands
-/// the next, and a crowd in which each demands all.
+/// the next, and the lists that go deepest.
 fn stacks() -> Vec<Vec<String>> {
     let chain = chain_design(MOST_ROWS);
     let script = encode(&chain.commands());
@@ -185,6 +217,10 @@ fn stacks() -> Vec<Vec<String>> {
     let open = touched(|| {
         opened.open(&script);
     });
+    let (deep, lists) = deepest_query();
+    let plain_lists = plain("QUERY of 2,552 lists", deep, &lists);
+    let (deep, lists) = deepest_query();
+    let trusted_lists = trusted("QUERY of 2,552 lists", deep, &lists);
     let lent = full();
     let write = touched(|| {
         lent.memory.write(&mut out).expect("a written design");
@@ -197,6 +233,7 @@ fn stacks() -> Vec<Vec<String>> {
         plain("PROBE", full(), &asked),
         plain("REFER of 512 rows in 511 rounds", empty(), &first),
         plain("QUERY with 4 joins", full(), &listed),
+        plain_lists,
         plain("a reason of 511 links", full(), &reason),
         plain("an opener through 512 rows", empty(), &opened_by),
         plain("even", full(), &even),
@@ -204,6 +241,7 @@ fn stacks() -> Vec<Vec<String>> {
         trusted("PROBE", full(), &asked),
         trusted("REFER of 512 rows in 511 rounds", empty(), &first),
         trusted("QUERY with 4 joins", full(), &listed),
+        trusted_lists,
         trusted("a reason of 511 links", full(), &reason),
         row("write, 512 rows", write),
         row("sizes of a QUERY with 4 joins", sizes),
@@ -218,16 +256,23 @@ mod tests {
     fn works_leave_the_desk_as_it_was() {
         for rows in SIZES {
             for (name, mut lent, operations) in works(rows) {
-                let before = lent.memory.marks;
+                let before = *lent.memory.marks();
                 assert!(before.contains(&1), "{name}: nothing is cached");
                 for operation in &operations {
                     let told = lent.checked(&operation.bytes());
                     assert_ne!(told.word, word::REFUSED, "{name}");
                     assert_ne!(told.word, word::SENT, "{name}");
                 }
-                assert_eq!(lent.memory.marks, before, "{name}");
+                assert_eq!(*lent.memory.marks(), before, "{name}");
             }
         }
+    }
+
+    #[test]
+    fn the_deepest_query_has_2552_lists() {
+        let (mut lent, lists) = deepest_query();
+        let told = lent.trusted(&lists);
+        assert_eq!((told.word, told.numbers[0]), (word::LISTS, DEEP_LISTS));
     }
 
     #[test]

@@ -74,7 +74,7 @@ pub fn all() -> Vec<Work> {
     works
 }
 
-fn table(columns: u8, unique: u8) -> Table {
+pub(crate) fn table(columns: u8, unique: u8) -> Table {
     Table { columns, unique }
 }
 
@@ -82,12 +82,12 @@ pub(crate) fn column(table: u8, column: u8) -> Column {
     Column { table, column }
 }
 
-fn constraint(source: Column, target: Column) -> Constraint {
+pub(crate) fn constraint(source: Column, target: Column) -> Constraint {
     Constraint { source, target }
 }
 
 /// A filling for which every value is a candidate.
-fn filling(column: Column) -> Filling {
+pub(crate) fn filling(column: Column) -> Filling {
     Filling {
         column,
         low: 1,

@@ -23,9 +23,9 @@ pub fn opened(text: &str) -> Desk {
 
 /// Everything that a desk keeps between two calls: all but its working memory.
 #[allow(dead_code)]
-pub fn kept(memory: &Memory) -> Box<Memory> {
-    let mut kept = memory.boxed_copy();
-    kept.counts.fill(0);
-    kept.places.fill(0);
+pub fn kept(desk: &Desk) -> Box<Memory> {
+    let mut kept = desk.to_memory();
+    kept.counts_mut().fill(0);
+    kept.places_mut().fill(0);
     kept
 }
