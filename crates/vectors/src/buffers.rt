@@ -1,13 +1,11 @@
 // Lent buffers of several lengths, each filled with 9: one place too short, just long enough, and longer.
 use crate::lent::Causes;
-use crate::lent::State;
 use crate::lent::held_3;
 use crate::lent::operated;
 use format::Verdict;
 use format::read_design;
 use operate::perform;
 use state::Design;
-use state::Held;
 use state::Operation;
 
 // The cause of a refusal, 0 for none; and whether what had to stay untouched did.
@@ -39,11 +37,16 @@ pub(crate) fn are_bytes_left(bytes: &[u8], from: usize) -> bool {
     true
 }
 
-// Whether two buffers have the same cells. One step for each.
-pub(crate) fn are_same_cells(cells: &[u32; 4096], others: &[u32; 4096]) -> bool {
+// A word; 0 past the end. Constant time.
+fn word_at(words: &[u32], i: usize) -> u32 {
+    if i < words.len() { words[i] } else { 0 }
+}
+
+// Whether the words of a buffer are those of another, which is as long. One step for each.
+pub(crate) fn are_same_words(words: &[u32], others: &[u32]) -> bool {
     let mut i = 0;
-    while i < Design::CELLS {
-        if cells[i] != others[i] {
+    while i < words.len() {
+        if word_at(words, i) != word_at(others, i) {
             return false;
         }
         i += 1;
@@ -128,42 +131,58 @@ pub struct Tried {
 
 // The seven operations on buffers of 9s, of which one is too short: they leave everything.
 fn try_short(
-    s: State,
+    design: Design,
     cells: &mut [u32],
     issues: &mut [u8],
     tables: &mut [u8],
     marks: &mut [u8],
+    held: &mut [u32],
 ) -> Tried {
     let mut words = [9u32; 8];
     let mut text = [9u8; 512];
     let mut out = [9u8; 512];
-    let d = s.design;
-    let h = s.held;
     let causes = operated(
-        d,
+        design,
         cells,
         issues,
         tables,
         marks,
-        h,
+        held,
         &mut words,
         &mut text,
         &mut out,
     );
     let is_left = are_left(7, cells, issues, tables, marks)
+        && are_cells_left(held, 0)
         && are_cells_left(&words, 0)
         && are_bytes_left(&text, 0)
         && are_bytes_left(&out, 0);
-    Tried {
-        causes,
-        is_left: is_left && causes.is_held,
-    }
+    Tried { causes, is_left }
 }
 
-// A design, and what is held.
-struct Loaded {
+// REFER 0 3.
+fn refer_3(
     design: Design,
-    held: Held,
+    cells: &[u32],
+    issues: &[u8],
+    tables: &[u8],
+    marks: &mut [u8],
+    held: &mut [u32],
+) {
+    let mut words = [0u32; 8];
+    let mut text = [0u8; 512];
+    let refer = Operation::Refer(held_3());
+    perform(
+        refer,
+        design,
+        cells,
+        issues,
+        tables,
+        marks,
+        held,
+        &mut words,
+        &mut text,
+    );
 }
 
 // The script's design, with REFER 0 3.
@@ -173,48 +192,33 @@ fn load_3(
     issues: &mut [u8],
     tables: &mut [u8],
     marks: &mut [u8],
-) -> Loaded {
+    held: &mut [u32],
+) -> Design {
     let r = read_design(script, cells, issues, tables, marks);
     let design = r.design;
-    let none = Held::none();
-    let mut words = [0u32; 8];
-    let mut text = [0u8; 512];
-    let refer = Operation::Refer(held_3());
-    let o = perform(
-        refer,
+    refer_3(design, cells, issues, tables, marks, held);
+    design
+}
+
+// The seven operations on a lawful state: past the sizes they leave everything.
+fn try_long(
+    design: Design,
+    cells: &mut [u32],
+    issues: &mut [u8],
+    tables: &mut [u8],
+    marks: &mut [u8],
+    held: &mut [u32],
+) -> Tried {
+    let mut words = [9u32; 8];
+    let mut text = [9u8; 512];
+    let mut out = [9u8; 512];
+    let causes = operated(
         design,
         cells,
         issues,
         tables,
         marks,
-        none,
-        &mut words,
-        &mut text,
-    );
-    let held = o.held;
-    Loaded { design, held }
-}
-
-// The seven operations on a lawful state: past the sizes they leave everything.
-fn try_long(
-    l: Loaded,
-    cells: &mut [u32],
-    issues: &mut [u8],
-    tables: &mut [u8],
-    marks: &mut [u8],
-) -> Tried {
-    let mut words = [9u32; 8];
-    let mut text = [9u8; 512];
-    let mut out = [9u8; 512];
-    let d = l.design;
-    let h = l.held;
-    let causes = operated(
-        d,
-        cells,
-        issues,
-        tables,
-        marks,
-        h,
+        held,
         &mut words,
         &mut text,
         &mut out,
@@ -231,32 +235,76 @@ fn try_longer(script: &[u8]) -> Tried {
     let mut issues = [9u8; 4101];
     let mut tables = [9u8; 514];
     let mut marks = [9u8; 514];
-    let l = load_3(script, &mut cells, &mut issues, &mut tables, &mut marks);
-    try_long(l, &mut cells, &mut issues, &mut tables, &mut marks)
+    let mut held = [0u32; 358];
+    let design = load_3(
+        script,
+        &mut cells,
+        &mut issues,
+        &mut tables,
+        &mut marks,
+        &mut held,
+    );
+    try_long(
+        design,
+        &mut cells,
+        &mut issues,
+        &mut tables,
+        &mut marks,
+        &mut held,
+    )
 }
 
 // One place too short, and unlawful besides: 0 the cells, 1 the row tables, 2 the marks, 4 the issues; else longer buffers.
-pub(crate) fn operations(script: &[u8], s: State, kind: usize) -> Tried {
+pub(crate) fn operations(script: &[u8], design: Design, kind: usize) -> Tried {
     let mut cells = [9u32; 4096];
     let mut issues = [9u8; 4096];
     let mut tables = [9u8; 512];
     let mut marks = [9u8; 512];
+    let mut held = [9u32; 358];
     match kind {
         0 => {
             let mut few = [9u32; 4095];
-            try_short(s, &mut few, &mut issues, &mut tables, &mut marks)
+            try_short(
+                design,
+                &mut few,
+                &mut issues,
+                &mut tables,
+                &mut marks,
+                &mut held,
+            )
         }
         1 => {
             let mut few = [9u8; 511];
-            try_short(s, &mut cells, &mut issues, &mut few, &mut marks)
+            try_short(
+                design,
+                &mut cells,
+                &mut issues,
+                &mut few,
+                &mut marks,
+                &mut held,
+            )
         }
         2 => {
             let mut few = [9u8; 511];
-            try_short(s, &mut cells, &mut issues, &mut tables, &mut few)
+            try_short(
+                design,
+                &mut cells,
+                &mut issues,
+                &mut tables,
+                &mut few,
+                &mut held,
+            )
         }
         4 => {
             let mut few = [9u8; 4095];
-            try_short(s, &mut cells, &mut few, &mut tables, &mut marks)
+            try_short(
+                design,
+                &mut cells,
+                &mut few,
+                &mut tables,
+                &mut marks,
+                &mut held,
+            )
         }
         _ => try_longer(script),
     }

@@ -1,7 +1,6 @@
 // A lent state, changed in one place or two, and the operations of the library that take whatever is lent.
 use crate::held::low_byte;
 use crate::held::low_word;
-use crate::held::same_held;
 use crate::held::with_held;
 use crate::scripts::step_of;
 use format::Verdict;
@@ -16,7 +15,6 @@ use state::Column;
 use state::Constraint;
 use state::Design;
 use state::Filling;
-use state::Held;
 use state::HeldValue;
 use state::Join;
 use state::Operation;
@@ -30,7 +28,7 @@ pub struct State {
     pub issues: [u8; 4096],
     pub tables: [u8; 512],
     pub marks: [u8; 512],
-    pub held: Held,
+    pub held: [u32; 358],
 }
 
 // The state that a script leaves behind its command with this number; the empty one if its design is refused. The cost of the operations.
@@ -44,9 +42,9 @@ pub(crate) fn state_after(script: &[u8], number: usize) -> State {
     let reading = read_design(script, &mut cells, &mut issues, &mut tables, &mut marks);
     let design = reading.design;
     let verdict = reading.verdict;
-    let mut held = Held::none();
+    let mut held = [0u32; 358];
     if let Verdict::Accepted(at) = verdict {
-        let t = step_of(
+        step_of(
             script,
             at,
             design,
@@ -54,12 +52,11 @@ pub(crate) fn state_after(script: &[u8], number: usize) -> State {
             &mut issues,
             &mut tables,
             &mut marks,
+            &mut held,
             number,
             &mut words,
             &mut text,
         );
-        let kept = t.held;
-        held = kept;
     }
     State {
         design,
@@ -162,7 +159,8 @@ pub(crate) fn changed(mut s: State, kind: usize, i: usize, v: usize) -> State {
     }
     if kind == 3 || kind == 4 || (13 < kind && kind < 17) {
         let h = s.held;
-        s.held = with_held(h, kind, i, v);
+        let changed = with_held(h, kind, i, v);
+        s.held = changed;
         return s;
     }
     if 12 < kind {
@@ -179,9 +177,8 @@ pub(crate) fn changed(mut s: State, kind: usize, i: usize, v: usize) -> State {
 
 // ---- operations, which a lawful state allows
 
-// The causes of refusal of the seven operations, 0 for none; and whether the held values that they gave back were the ones that they were lent.
+// The causes of refusal of the seven operations, 0 for none.
 pub struct Causes {
-    pub is_held: bool,
     pub refer: u8,
     pub drop: u8,
     pub probe: u8,
@@ -241,13 +238,7 @@ fn plain_query() -> Query {
     }
 }
 
-// An operation's cause, and whether it gave back the held values that it was lent.
-struct Asked {
-    cause: u8,
-    is_held: bool,
-}
-
-// One operation that leaves a lawful state as it was.
+// One operation's cause. The cost of the operation and of the test for cause 12, as for each function below.
 fn ask(
     op: Operation,
     design: Design,
@@ -255,17 +246,11 @@ fn ask(
     issues: &[u8],
     tables: &[u8],
     marks: &mut [u8],
-    held: Held,
+    held: &mut [u32],
     words: &mut [u32],
     text: &mut [u8],
-) -> Asked {
-    let o = perform(op, design, cells, issues, tables, marks, held, words, text);
-    let answer = o.answer;
-    let kept = o.held;
-    Asked {
-        cause: cause_of(answer),
-        is_held: same_held(held, kept),
-    }
+) -> u8 {
+    cause_of(perform(op, design, cells, issues, tables, marks, held, words, text))
 }
 
 fn step_4(
@@ -274,8 +259,8 @@ fn step_4(
     issues: &mut [u8],
     tables: &mut [u8],
     marks: &mut [u8],
-    held: Held,
-) -> Asked {
+    held: &mut [u32],
+) -> u8 {
     let mut words = [0u32; 8];
     let mut text = [0u8; 512];
     let script = b"\x10\x00\x04\x00\x00\x00";
@@ -292,11 +277,7 @@ fn step_4(
         &mut text,
     );
     let answer = t.answer;
-    let kept = t.held;
-    Asked {
-        cause: cause_of(answer),
-        is_held: same_held(held, kept),
-    }
+    cause_of(answer)
 }
 
 fn write_out(
@@ -305,7 +286,7 @@ fn write_out(
     issues: &[u8],
     tables: &[u8],
     marks: &[u8],
-    held: Held,
+    held: &[u32],
     out: &mut [u8],
 ) -> u8 {
     cause_of_writing(write(design, cells, issues, tables, marks, held, out))
@@ -318,13 +299,13 @@ fn drop_and_refer(
     issues: &[u8],
     tables: &[u8],
     marks: &mut [u8],
-    held: Held,
+    held: &mut [u32],
     words: &mut [u32],
     text: &mut [u8],
 ) -> Causes {
-    let drop = Operation::Drop(held_3());
-    let o = perform(
-        drop,
+    let gone = Operation::Drop(held_3());
+    let drop = ask(
+        gone,
         design,
         cells,
         issues,
@@ -334,26 +315,21 @@ fn drop_and_refer(
         words,
         text,
     );
-    let a = o.answer;
-    let kept = o.held;
-    let refer = Operation::Refer(held_3());
-    let p = perform(
-        refer,
+    let again = Operation::Refer(held_3());
+    let refer = ask(
+        again,
         design,
         cells,
         issues,
         tables,
         marks,
-        kept,
+        held,
         words,
         text,
     );
-    let b = p.answer;
-    let last = p.held;
     Causes {
-        is_held: same_held(held, last),
-        refer: cause_of(b),
-        drop: cause_of(a),
+        refer,
+        drop,
         probe: 0,
         query: 0,
         step: 0,
@@ -370,12 +346,12 @@ fn probe_and_query(
     issues: &[u8],
     tables: &[u8],
     marks: &mut [u8],
-    held: Held,
+    held: &mut [u32],
     words: &mut [u32],
     text: &mut [u8],
 ) -> Causes {
     let probe = Operation::Probe(column_1(), value_3());
-    let p = ask(
+    c.probe = ask(
         probe,
         design,
         cells,
@@ -387,7 +363,7 @@ fn probe_and_query(
         text,
     );
     let query = Operation::Query(plain_query());
-    let q = ask(
+    c.query = ask(
         query,
         design,
         cells,
@@ -398,9 +374,6 @@ fn probe_and_query(
         words,
         text,
     );
-    c.probe = p.cause;
-    c.query = q.cause;
-    c.is_held = c.is_held && p.is_held && q.is_held;
     c
 }
 
@@ -411,7 +384,7 @@ fn four(
     issues: &[u8],
     tables: &[u8],
     marks: &mut [u8],
-    held: Held,
+    held: &mut [u32],
     words: &mut [u32],
     text: &mut [u8],
 ) -> Causes {
@@ -419,7 +392,7 @@ fn four(
     probe_and_query(two, design, cells, issues, tables, marks, held, words, text)
 }
 
-// The causes c, with those of a step and of the reason for row 0. The step is last: it is the only one that leaves a lawful state changed.
+// The causes c, with those of a step and of the reason for row 0. The step is behind the reason: it is the only one that leaves a lawful state changed.
 fn reason_and_step(
     mut c: Causes,
     design: Design,
@@ -427,12 +400,12 @@ fn reason_and_step(
     issues: &mut [u8],
     tables: &mut [u8],
     marks: &mut [u8],
-    held: Held,
+    held: &mut [u32],
     words: &mut [u32],
     text: &mut [u8],
 ) -> Causes {
     let reason = Operation::Reason(0);
-    let r = ask(
+    c.reason = ask(
         reason,
         design,
         cells,
@@ -443,26 +416,38 @@ fn reason_and_step(
         words,
         text,
     );
-    let t = step_4(design, cells, issues, tables, marks, held);
-    c.reason = r.cause;
-    c.step = t.cause;
-    c.is_held = c.is_held && r.is_held && t.is_held;
+    c.step = step_4(design, cells, issues, tables, marks, held);
     c
 }
 
-// All seven on one state.
+// All but the writing on one state.
+fn six(
+    design: Design,
+    cells: &mut [u32],
+    issues: &mut [u8],
+    tables: &mut [u8],
+    marks: &mut [u8],
+    held: &mut [u32],
+    words: &mut [u32],
+    text: &mut [u8],
+) -> Causes {
+    let c = four(design, cells, issues, tables, marks, held, words, text);
+    reason_and_step(c, design, cells, issues, tables, marks, held, words, text)
+}
+
+// All seven on one state. The step leaves a lawful state lawful, so that the writing stands behind it.
 pub(crate) fn operated(
     design: Design,
     cells: &mut [u32],
     issues: &mut [u8],
     tables: &mut [u8],
     marks: &mut [u8],
-    held: Held,
+    held: &mut [u32],
     words: &mut [u32],
     text: &mut [u8],
     out: &mut [u8],
 ) -> Causes {
-    let mut c = four(design, cells, issues, tables, marks, held, words, text);
+    let mut c = six(design, cells, issues, tables, marks, held, words, text);
     c.write = write_out(design, cells, issues, tables, marks, held, out);
-    reason_and_step(c, design, cells, issues, tables, marks, held, words, text)
+    c
 }

@@ -7,7 +7,6 @@ use report::put_refusal_line;
 use script::Step;
 use script::step;
 use state::Design;
-use state::Held;
 
 // A line, with how many bytes it has without its end.
 pub struct Line {
@@ -29,7 +28,7 @@ fn line_of(bytes: [u8; 1024], n: usize) -> Line {
 // More commands than a script can have.
 const MOST_COMMANDS: usize = 65537;
 
-// The step of the command with this number behind the END, whatever was answered before it. The cost of the operations, and of the test for cause
+// The step of the command with this number behind the END, whatever was answered before it, from what is held on. The cost of the operations, and of the test for cause
 // 12 before each.
 pub(crate) fn step_of(
     script: &[u8],
@@ -39,11 +38,11 @@ pub(crate) fn step_of(
     issues: &mut [u8],
     tables: &mut [u8],
     marks: &mut [u8],
+    held: &mut [u32],
     number: usize,
     words: &mut [u32],
     text: &mut [u8],
 ) -> Step {
-    let none = Held::none();
     let mut t = step(
         script,
         at,
@@ -52,7 +51,7 @@ pub(crate) fn step_of(
         issues,
         tables,
         marks,
-        none,
+        held,
         words,
         text,
     );
@@ -62,7 +61,6 @@ pub(crate) fn step_of(
             return t;
         }
         i += 1;
-        let held = t.held;
         let next = step(
             script,
             t.next,
@@ -110,6 +108,7 @@ fn told_at(
     issues: &mut [u8],
     tables: &mut [u8],
     marks: &mut [u8],
+    held: &mut [u32],
     number: usize,
     words: &mut [u32],
     room: usize,
@@ -124,6 +123,7 @@ fn told_at(
         issues,
         tables,
         marks,
+        held,
         number,
         words,
         &mut text[..n],
@@ -145,6 +145,7 @@ pub(crate) fn line_at(script: &[u8], number: usize, words: &mut [u32], room: usi
     let mut issues = [0u8; 4096];
     let mut tables = [0u8; 512];
     let mut marks = [0u8; 512];
+    let mut held = [0u32; 358];
     let reading = read_design(script, &mut cells, &mut issues, &mut tables, &mut marks);
     let design = reading.design;
     let verdict = reading.verdict;
@@ -157,6 +158,7 @@ pub(crate) fn line_at(script: &[u8], number: usize, words: &mut [u32], room: usi
             &mut issues,
             &mut tables,
             &mut marks,
+            &mut held,
             number,
             words,
             room,

@@ -1,7 +1,7 @@
 // One vector: what it gives, beside what was expected.
 use crate::buffers::are_bytes_left;
 use crate::buffers::are_cells_left;
-use crate::buffers::are_same_cells;
+use crate::buffers::are_same_words;
 use crate::buffers::operations;
 use crate::buffers::reading;
 use crate::lent::Causes;
@@ -93,7 +93,8 @@ fn state_line(s: State) -> Line {
     let mut tables = s.tables;
     let mut marks = s.marks;
     let design = s.design;
-    let held = s.held;
+    let held_before = s.held;
+    let mut held = s.held;
     let mut words = [9u32; 8];
     let mut text = [9u8; 512];
     let mut out = [9u8; 512];
@@ -103,19 +104,20 @@ fn state_line(s: State) -> Line {
         &mut issues,
         &mut tables,
         &mut marks,
-        held,
+        &mut held,
         &mut words,
         &mut text,
         &mut out,
     );
-    let is_left = are_same_cells(&cells, &cells_before)
+    let is_left = are_same_words(&cells, &cells_before)
         && check::same(&issues, &issues_before)
         && check::same(&tables, &tables_before)
         && check::same(&marks, &marks_before)
+        && are_same_words(&held, &held_before)
         && are_cells_left(&words, 0)
         && are_bytes_left(&text, 0)
         && are_bytes_left(&out, 0);
-    causes_line(c, is_left && c.is_held)
+    causes_line(c, is_left)
 }
 
 // The state behind a command, with two changes.
@@ -209,7 +211,7 @@ fn line_of(text: &[u8], kind: u8, f: Fields, script: &[u8], words: usize, room: 
         b'r' => reading_line(script, number_at(text, f.rest, f.end).value),
         _ => {
             let s = state_after(script, 0);
-            let o = operations(script, s, number_at(text, f.rest, f.end).value);
+            let o = operations(script, s.design, number_at(text, f.rest, f.end).value);
             let c = o.causes;
             causes_line(c, o.is_left)
         }

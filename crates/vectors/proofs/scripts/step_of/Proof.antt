@@ -8,21 +8,18 @@ use Rattle.vectors.proofs.scripts.step_of.Statement.{statement}
 use Rattle.vectors.proofs.scripts.step_of.Tie as tie
 
 abbrev Inv-loop : tie.InvT-loop
-Inv-loop script at design cells₀ issues₀ tables₀ marks₀ number words₀ text₀ t₀ i₀ cells issues tables marks words text t i =
+Inv-loop script at design cells₀ issues₀ tables₀ marks₀ held₀ number words₀ text₀ t₀ i₀ cells issues tables marks held words text t i =
     (length cells ≡ length cells₀) × (length issues ≡ length issues₀) × (length tables ≡ length tables₀) × (length marks ≡ length marks₀) ×
-    (length words ≡ length words₀) × (length text ≡ length text₀)
+    (length held ≡ length held₀) × (length words ≡ length words₀) × (length text ≡ length text₀)
 
 abbrev μ-loop : tie.MeasureT-loop
-μ-loop script at design cells₀ issues₀ tables₀ marks₀ number words₀ text₀ t₀ i₀ cells issues tables marks words text t i = 65537 - i
-
-none-requires : tie.Need-none-requires Inv-loop μ-loop
-none-requires c κs = search needs
+μ-loop script at design cells₀ issues₀ tables₀ marks₀ held₀ number words₀ text₀ t₀ i₀ cells issues tables marks held words text t i = 65537 - i
 
 step-requires : tie.Need-step-requires Inv-loop μ-loop
 step-requires c κs = search needs
 
 loop-holds : tie.Need-loop-holds Inv-loop μ-loop
-loop-holds c = (refl, refl, refl, refl, refl, refl)
+loop-holds c = (refl, refl, refl, refl, refl, refl, refl)
 
 same-length : tie.Need-same-length Inv-loop μ-loop
 same-length c = omega arith
@@ -42,6 +39,9 @@ same-length-5 c = omega arith
 same-length-6 : tie.Need-same-length-6 Inv-loop μ-loop
 same-length-6 c = omega arith
 
+same-length-7 : tie.Need-same-length-7 Inv-loop μ-loop
+same-length-7 c = omega arith
+
 returns : tie.Need-returns Inv-loop μ-loop
 returns c = tt
 
@@ -55,10 +55,7 @@ loop-less : tie.Need-loop-less Inv-loop μ-loop
 loop-less c = omega arith
 
 loop-again : tie.Need-loop-again Inv-loop μ-loop
-loop-again c = (omega arith, omega arith, omega arith, omega arith, omega arith, omega arith)
-
-same-length-7 : tie.Need-same-length-7 Inv-loop μ-loop
-same-length-7 c = omega arith
+loop-again c = (omega arith, omega arith, omega arith, omega arith, omega arith, omega arith, omega arith)
 
 same-length-8 : tie.Need-same-length-8 Inv-loop μ-loop
 same-length-8 c = omega arith
@@ -75,6 +72,12 @@ same-length-11 c = omega arith
 same-length-12 : tie.Need-same-length-12 Inv-loop μ-loop
 same-length-12 c = omega arith
 
+same-length-13 : tie.Need-same-length-13 Inv-loop μ-loop
+same-length-13 c = omega arith
+
+same-length-14 : tie.Need-same-length-14 Inv-loop μ-loop
+same-length-14 c = omega arith
+
 returns-2 : tie.Need-returns-2 Inv-loop μ-loop
 returns-2 c = tt
 
@@ -84,7 +87,6 @@ step-of-spec =
     (tie.spec
     Inv-loop
     μ-loop
-    none-requires
     step-requires
     loop-holds
     same-length
@@ -93,15 +95,17 @@ step-of-spec =
     same-length-4
     same-length-5
     same-length-6
+    same-length-7
     returns
     add-i
     step-requires-2
     loop-less
     loop-again
-    same-length-7
     same-length-8
     same-length-9
     same-length-10
     same-length-11
     same-length-12
+    same-length-13
+    same-length-14
     returns-2)

@@ -13,7 +13,7 @@ array-borrow-prefix-text : tie.Need-array-borrow-prefix-text
 array-borrow-prefix-text c = search needs
 
 slice-aggregate-step-of : tie.Need-slice-aggregate-step-of
-slice-aggregate-step-of c = let n = c .before .before .before .before .before .before .bytes-lent in sym (length-take-le (n .result) (replicate 512 46) (n .ensures))
+slice-aggregate-step-of c = let n = c .before .before .before .before .before .before .before .bytes-lent in sym (length-take-le (n .result) (replicate 512 46) (n .ensures))
 
 step-of-requires : tie.Need-step-of-requires
 step-of-requires c κs = search needs
@@ -36,6 +36,9 @@ same-length-4 c = search needs
 same-length-5 : tie.Need-same-length-5
 same-length-5 c = search needs
 
+same-length-6 : tie.Need-same-length-6
+same-length-6 c = search needs
+
 returns : tie.Need-returns
 returns c = search needs
 
@@ -53,4 +56,5 @@ told-at-spec =
     same-length-3
     same-length-4
     same-length-5
+    same-length-6
     returns)
