@@ -13,6 +13,17 @@ use crate::read::{Reading, Spans};
 use crate::span::Span;
 use crate::{labels, limits, links, loads, questions, types};
 
+/// What an indented line belongs to.
+#[derive(Clone, Copy)]
+enum Open {
+    /// Nothing: no table came before.
+    None,
+    /// A table.
+    Table(usize),
+    /// A table whose name can't be read, or none, which was told already.
+    Lost,
+}
+
 pub(crate) struct Builder<'a> {
     pub(crate) text: &'a str,
     pub(crate) design: Design,
@@ -37,8 +48,7 @@ pub(crate) struct Builder<'a> {
     issues: Vec<(Place, Name)>,
     title: Option<Span>,
     source: Option<Span>,
-    /// Whether a table's line, readable or not, came before.
-    pub(crate) in_table: bool,
+    open: Open,
 }
 
 impl<'a> Builder<'a> {
@@ -60,7 +70,7 @@ impl<'a> Builder<'a> {
             issues: Vec::new(),
             title: None,
             source: None,
-            in_table: false,
+            open: Open::None,
         }
     }
 
@@ -71,11 +81,7 @@ impl<'a> Builder<'a> {
     /// Remembers what a line that can't be read was about: its first word and, if it has one, the name that it gives.
     pub(crate) fn faulty_line(&mut self, indented: bool, first: Option<&str>, name: Option<Name>) {
         match (indented, first, name) {
-            (true, _, Some(name)) if self.in_table => self.untyped_column(name),
-            (true, ..) => {
-                self.lost_columns
-                    .extend(self.design.tables.len().checked_sub(1));
-            }
+            (true, _, name) => self.faulty_column(name),
             (false, Some("table"), Some(name)) => self.add_table(name, None, None),
             (false, Some("link"), _) => self.lost_links = true,
             (false, Some("load" | "question" | "source"), _) => {}
@@ -83,13 +89,17 @@ impl<'a> Builder<'a> {
             _ => {
                 self.lost_tables = true;
                 self.lost_links = true;
-                self.in_table = true;
+                self.open = Open::Lost;
             }
         }
     }
 
-    fn untyped_column(&mut self, name: Name) {
-        let Some(table) = self.design.tables.len().checked_sub(1) else {
+    fn faulty_column(&mut self, name: Option<Name>) {
+        let Open::Table(table) = self.open else {
+            return;
+        };
+        let Some(name) = name else {
+            self.lost_columns.insert(table);
             return;
         };
         let column = Column {
@@ -136,7 +146,7 @@ impl<'a> Builder<'a> {
     }
 
     fn add_table(&mut self, name: Name, from: Option<String>, label: Option<String>) {
-        self.in_table = true;
+        self.open = Open::Table(self.design.tables.len());
         let same = |table: &Table| table.name == name.text;
         if let Some(first) = self.design.tables.iter().position(same) {
             let message = format!("there are two tables `{}`", name.text);
@@ -159,12 +169,21 @@ impl<'a> Builder<'a> {
 
     /// The table that an indented line belongs to; without one it is a mistake.
     fn open_table(&mut self, span: &Span) -> Option<usize> {
-        let table = self.design.tables.len().checked_sub(1);
-        if table.is_none() && !self.in_table {
-            let message = "this line is indented, and there is no table before it";
-            self.problem(Problem::new(Code::E009, span.clone(), message));
+        match self.open {
+            Open::Table(table) => return Some(table),
+            Open::Lost => {}
+            Open::None => {
+                let message = "this line is indented, and there is no table before it";
+                self.problem(Problem::new(Code::E009, span.clone(), message));
+                self.open = Open::Lost;
+            }
         }
-        table
+        None
+    }
+
+    /// Whether there is a table that an indented line would belong to.
+    pub(crate) fn is_in_table(&self) -> bool {
+        matches!(self.open, Open::Table(_))
     }
 
     pub(crate) fn column(&mut self, item: ColumnItem) {
@@ -276,7 +295,7 @@ impl<'a> Builder<'a> {
             let names = columns.iter().map(|column| column.name.as_str());
             problem.meant(wanted, names.clone(), || list("column", names))
         };
-        self.problem(problem.also(self.spans.tables[table].clone(), ""));
+        self.problem(problem);
         None
     }
 

@@ -53,7 +53,8 @@ fn head(design: &Design) -> String {
     head
 }
 
-fn table(table: &Table) -> String {
+/// A table's own line.
+pub fn table_line(table: &Table) -> String {
     let mut text = format!("table {}", name(&table.name));
     if let Some(from) = &table.from {
         text += &format!(" from {from}");
@@ -61,7 +62,11 @@ fn table(table: &Table) -> String {
     if let Some(label) = &table.label {
         text += &format!(" {}", string(label));
     }
-    text.push('\n');
+    text
+}
+
+fn table(table: &Table) -> String {
+    let mut text = table_line(table) + "\n";
     let written = table.columns.iter().map(|column| column_name(&column.name));
     let width = written.map(|name| name.chars().count()).max().unwrap_or(0);
     text += &lines(
@@ -85,6 +90,12 @@ fn column_name(column: &str) -> String {
 }
 
 fn column_line(column: &Column, width: usize) -> String {
+    let name = column_name(&column.name);
+    format!("    {name:width$} {}", column_kind(column))
+}
+
+/// What stands behind a column's name on its line.
+pub fn column_kind(column: &Column) -> String {
     let role = match column.role {
         Role::Plain => "",
         Role::Key => "key ",
@@ -95,11 +106,7 @@ fn column_line(column: &Column, width: usize) -> String {
         Some(issue) => format!(" issue {}", name(issue)),
         None => String::new(),
     };
-    format!(
-        "    {:width$} {role}{}{issue}",
-        column_name(&column.name),
-        column.kind
-    )
+    format!("{role}{}{issue}", column.kind)
 }
 
 /// A link's line.

@@ -87,7 +87,7 @@ pub struct Problem {
     pub message: String,
     /// Where.
     pub at: Label,
-    /// What else in the text has to do with it.
+    /// What else in the text has to do with it. Without a remark it is part of the mistake.
     pub also: Vec<Label>,
     /// What to do, and what else is to be known.
     pub notes: Vec<String>,

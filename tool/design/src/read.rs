@@ -6,7 +6,7 @@ use crate::item::{Item, Name};
 use crate::parse;
 use crate::problem::{Code, Problem, Severity};
 use crate::span::Span;
-use crate::token::{tokens, Token};
+use crate::token::{is_word, tokens, Token};
 
 /// What was read of a text.
 #[derive(Clone, Debug)]
@@ -68,7 +68,8 @@ fn read_line(builder: &mut Builder, start: usize, line: &str) {
     let tokens = match tokens(line, start) {
         Ok(tokens) => tokens,
         Err(problem) => {
-            builder.faulty_line(indented, line.split_whitespace().next(), None);
+            let name = word(line, start, usize::from(!indented));
+            builder.faulty_line(indented, line.split_whitespace().next(), name);
             return builder.problem(problem);
         }
     };
@@ -95,10 +96,23 @@ fn read_line(builder: &mut Builder, start: usize, line: &str) {
     }
 }
 
+/// The name in a line that can't be cut into tokens: its first word, or the one behind it.
+fn word(line: &str, start: usize, index: usize) -> Option<Name> {
+    let word = line
+        .split_whitespace()
+        .nth(index)
+        .filter(|word| is_word(word))?;
+    let begins = start + (word.as_ptr() as usize - line.as_ptr() as usize);
+    Some(Name {
+        text: word.to_string(),
+        span: begins..begins + word.len(),
+    })
+}
+
 /// What a line would be with another indentation, if that is its mistake.
 fn otherwise(builder: &Builder, problem: &Problem, tokens: &[Token]) -> Option<Item> {
     match problem.code {
-        Code::E005 if builder.in_table && parse::meant(&tokens[0]).is_none() => {
+        Code::E005 if builder.is_in_table() && parse::meant(&tokens[0]).is_none() => {
             parse::table_item(tokens).ok()
         }
         Code::E009 => parse::item(tokens).ok(),

@@ -1,4 +1,5 @@
 //! Designs made by chance: every part that a text can have, within the limits.
+#![allow(dead_code)] // each test file uses some of it
 
 use std::collections::HashSet;
 
@@ -23,7 +24,7 @@ impl Random {
         mixed ^ (mixed >> 31)
     }
 
-    fn below(&mut self, limit: usize) -> usize {
+    pub fn below(&mut self, limit: usize) -> usize {
         (self.next() % limit as u64) as usize
     }
 
@@ -31,7 +32,7 @@ impl Random {
         self.below(count) == 0
     }
 
-    fn pick<'a, T>(&mut self, items: &'a [T]) -> &'a T {
+    pub fn pick<'a, T>(&mut self, items: &'a [T]) -> &'a T {
         &items[self.below(items.len())]
     }
 }

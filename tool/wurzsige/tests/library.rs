@@ -1,0 +1,112 @@
+//! What is given to the proved library and what it says, on designs made by chance from fixed seeds and beside the second implementation.
+
+#[path = "../../design/tests/generate/mod.rs"]
+mod generate;
+mod program;
+
+use design::{read, script, script_with, Design};
+use generate::Random;
+use program::{scratch, wurzsige, SLEEP};
+use tool::facts::Facts;
+use tool::library::Library;
+
+fn sleep() -> Design {
+    read(&program::text(SLEEP)).design.expect("a design")
+}
+
+fn designs(count: u64) -> impl Iterator<Item = Design> {
+    (0..count).map(|seed| generate::design(&mut Random::new(seed)))
+}
+
+/// Byte for byte.
+#[test]
+fn the_desk_writes_back_what_the_tool_writes() {
+    for design in designs(500).chain([sleep()]) {
+        let bytes = script(&design);
+        let library = Library::open(&bytes).expect("a design that the desk accepts");
+        assert_eq!(library.write(), bytes);
+    }
+}
+
+#[test]
+fn the_script_of_the_sleep_laboratory() {
+    let bytes = script(&sleep());
+    assert_eq!(
+        notation::disassemble(&bytes),
+        program::expected("sleep.desk")
+    );
+    assert_eq!(wurzsige(&["script", SLEEP]).bytes, bytes);
+    let path = scratch("sleep.script");
+    let ran = wurzsige(&["script", SLEEP, "-o", path.to_str().expect("a name")]);
+    assert_eq!((ran.output.as_str(), ran.status), ("", 0));
+    assert_eq!(std::fs::read(path).expect("bytes"), bytes);
+}
+
+/// Whether the second implementation calls a design with some of its links uneven.
+fn is_uneven(design: &Design, links: &[usize]) -> bool {
+    let (design, _) =
+        reference::design::Design::read(&script_with(design, links)).expect("accepted");
+    design.evenness() != reference::desk::Answer::Even
+}
+
+fn without(links: &[usize], out: usize) -> Vec<usize> {
+    links.iter().copied().filter(|&link| link != out).collect()
+}
+
+/// Every set of links that is uneven, but not without any one of its links.
+fn all_knots(design: &Design) -> Vec<Vec<usize>> {
+    let sets = 0..1u32 << design.links.len();
+    let links = |set: u32| {
+        (0..design.links.len())
+            .filter(move |link| set >> link & 1 == 1)
+            .collect::<Vec<_>>()
+    };
+    let is_knot = |links: &Vec<usize>| {
+        is_uneven(design, links)
+            && links
+                .iter()
+                .all(|&out| !is_uneven(design, &without(links, out)))
+    };
+    sets.map(links).filter(is_knot).collect()
+}
+
+#[test]
+fn knots_are_all_knots() {
+    let mut uneven = 0;
+    let mut several = 0;
+    for mut design in designs(400) {
+        design.questions.clear();
+        design.links.truncate(7);
+        let facts = Facts::of(&design).expect("accepted");
+        let mut found = facts.knots.clone();
+        let smallest = found.iter().map(Vec::len).min();
+        assert_eq!(
+            found.first().map(Vec::len),
+            smallest,
+            "the smallest comes first"
+        );
+        found.sort();
+        let mut expected = all_knots(&design);
+        expected.sort();
+        assert_eq!(found, expected);
+        assert!(!facts.more_knots);
+        uneven += usize::from(!facts.is_even());
+        several += usize::from(found.len() > 1);
+    }
+    assert!(uneven > 20 && several > 20, "{uneven} {several}");
+}
+
+#[test]
+fn links_that_untie_a_design_do() {
+    for mut design in designs(300) {
+        design.questions.clear();
+        let all: Vec<usize> = (0..design.links.len()).collect();
+        let facts = Facts::of(&design).expect("accepted");
+        assert_eq!(facts.is_even(), !is_uneven(&design, &all));
+        let unties = |link: &usize| !facts.is_even() && !is_uneven(&design, &without(&all, *link));
+        assert_eq!(
+            facts.untied_by,
+            all.iter().copied().filter(unties).collect::<Vec<_>>()
+        );
+    }
+}
