@@ -1,7 +1,7 @@
 //! `diff`: what came and went between two designs, by names; knots before and after; and which questions are answered more or less often.
 
 use codespan_reporting::term::termcolor::Color;
-use design::{column_kind, link_line, load_line, question_line, table_line, Design, Place};
+use design::{column_kind, link_line, load_line, name, question_line, table_line, Design, Place};
 use serde::Serialize;
 
 use crate::facts::{Facts, Outcome};
@@ -11,22 +11,31 @@ use crate::library::Refused;
 use crate::output::Page;
 use crate::status::Status;
 
-/// What came and what went, each as its line.
-#[derive(Debug, Default, PartialEq, Eq, Serialize)]
+/// A line of a design, by which it is known, and where it stands.
+#[derive(Clone, Debug, Serialize)]
+#[serde(transparent)]
+struct Line {
+    text: String,
+    #[serde(skip)]
+    number: usize,
+}
+
+/// What came and what went.
+#[derive(Debug, Default, Serialize)]
 pub struct CameAndWent {
-    came: Vec<String>,
-    went: Vec<String>,
+    came: Vec<Line>,
+    went: Vec<Line>,
 }
 
 /// Knots before and after, by the links' texts.
-#[derive(Debug, PartialEq, Eq, Serialize)]
+#[derive(Debug, Serialize)]
 pub struct Knots {
     before: Vec<Vec<String>>,
     after: Vec<Vec<String>>,
 }
 
 /// A question of both designs whose verdict is another one.
-#[derive(Debug, PartialEq, Eq, Serialize)]
+#[derive(Debug, Serialize)]
 pub struct Changed {
     text: String,
     before: &'static str,
@@ -36,7 +45,7 @@ pub struct Changed {
 }
 
 /// All changes.
-#[derive(Debug, PartialEq, Eq, Serialize)]
+#[derive(Debug, Serialize)]
 pub struct Changes {
     tables: CameAndWent,
     links: CameAndWent,
@@ -56,10 +65,10 @@ impl Changes {
         };
         let (old_facts, new_facts) = (Facts::of(before)?, Facts::of(after)?);
         Ok(Changes {
-            tables: came_and_went(tables(before), tables(after)),
-            links: came_and_went(links(before), links(after)),
-            loads: came_and_went(loads(before), loads(after)),
-            questions: came_and_went(questions(before), questions(after)),
+            tables: came_and_went(&tables(old, before), &tables(new, after)),
+            links: came_and_went(&links(old, before), &links(new, after)),
+            loads: came_and_went(&loads(old, before), &loads(new, after)),
+            questions: came_and_went(&questions(old, before), &questions(new, after)),
             knots: Knots {
                 before: knots(before, &old_facts),
                 after: knots(after, &new_facts),
@@ -85,73 +94,67 @@ impl Changes {
 
     fn is_empty(&self) -> bool {
         let kinds = [&self.tables, &self.links, &self.loads, &self.questions];
-        kinds.iter().all(|kind| **kind == CameAndWent::default())
+        kinds
+            .iter()
+            .all(|kind| kind.came.is_empty() && kind.went.is_empty())
     }
 }
 
-fn came_and_went(before: Vec<String>, after: Vec<String>) -> CameAndWent {
+fn came_and_went(before: &[Line], after: &[Line]) -> CameAndWent {
+    let without = |lines: &[Line], others: &[Line]| {
+        let is_new = |line: &&Line| others.iter().all(|other| other.text != line.text);
+        lines.iter().filter(is_new).cloned().collect()
+    };
     CameAndWent {
-        came: after
-            .iter()
-            .filter(|line| !before.contains(line))
-            .cloned()
-            .collect(),
-        went: before
-            .iter()
-            .filter(|line| !after.contains(line))
-            .cloned()
-            .collect(),
+        came: without(after, before),
+        went: without(before, after),
     }
 }
 
 /// A table's own line, and one for each of its columns and of what it shows.
-fn tables(design: &Design) -> Vec<String> {
+fn tables(file: &File, design: &Design) -> Vec<Line> {
+    let spans = &file.reading.spans;
     let mut lines = Vec::new();
     for (number, table) in design.tables.iter().enumerate() {
-        let name = design::name(&table.name);
-        lines.push(table_line(table));
+        let own = file.line(&spans.tables[number]);
+        lines.push(line(table_line(table), own));
         for (column, declared) in table.columns.iter().enumerate() {
             let place = Place {
                 table: number,
                 column,
             };
-            lines.push(format!(
-                "column {} {}",
-                design.column_name(place),
-                column_kind(declared)
-            ));
+            let name = design.column_name(place);
+            let text = format!("column {name} {}", column_kind(declared));
+            lines.push(line(text, file.line(&spans.columns[number][column])));
         }
-        lines.extend(
-            table
-                .show
-                .iter()
-                .map(|shown| format!("show {name}.{}", design::name(shown))),
-        );
+        let shows = |shown: &String| format!("show {}.{}", name(&table.name), name(shown));
+        lines.extend(table.show.iter().map(|shown| line(shows(shown), own)));
     }
     lines
 }
 
-fn links(design: &Design) -> Vec<String> {
-    design
-        .links
-        .iter()
-        .map(|link| link_line(design, link))
+fn line(text: String, number: usize) -> Line {
+    Line { text, number }
+}
+
+fn links(file: &File, design: &Design) -> Vec<Line> {
+    let numbered = design.links.iter().enumerate();
+    numbered
+        .map(|(number, link)| line(link_line(design, link), file.link_line(number)))
         .collect()
 }
 
-fn loads(design: &Design) -> Vec<String> {
-    design
-        .loads
-        .iter()
-        .map(|load| load_line(design, load))
+fn loads(file: &File, design: &Design) -> Vec<Line> {
+    let loads = design.loads.iter().zip(&file.reading.spans.loads);
+    loads
+        .map(|(load, span)| line(load_line(design, load), file.line(span)))
         .collect()
 }
 
-fn questions(design: &Design) -> Vec<String> {
-    design
-        .questions
-        .iter()
-        .map(|question| question_line(design, question))
+fn questions(file: &File, design: &Design) -> Vec<Line> {
+    let questions = design.questions.iter().zip(&file.reading.spans.questions);
+    questions
+        .map(|(question, span)| line(question_line(design, question), file.line(span)))
         .collect()
 }
 
@@ -207,11 +210,11 @@ pub fn report(page: &mut Page, old: &File, new: &File, changes: &Changes) {
         &changes.loads,
         &changes.questions,
     ] {
-        for line in &kind.went {
-            page.coloured(Color::Red, &format!("- {line}\n"));
-        }
-        for line in &kind.came {
-            page.coloured(Color::Green, &format!("+ {line}\n"));
+        let went = kind.went.iter().map(|line| (Color::Red, '-', line));
+        let came = kind.came.iter().map(|line| (Color::Green, '+', line));
+        for (color, sign, Line { text, number }) in went.chain(came) {
+            page.coloured(color, &format!("{sign} {text}"));
+            page.text(&format!("  (line {number})\n"));
         }
     }
     report_knots(page, old, new, &changes.knots);

@@ -25,6 +25,11 @@ fn check_tells_what_the_library_says() {
         "check-even.json",
     );
     assert_written(&wurzsige(&["check", &design("full")]), 1, "check-full.txt");
+    assert_written(
+        &wurzsige(&["check", &design("knots")]),
+        1,
+        "check-knots.txt",
+    );
 }
 
 #[test]
@@ -141,27 +146,35 @@ fn explain_has_a_page_for_every_code() {
     assert_eq!(ran.status, 2);
 }
 
-/// The examples of the two codes for which the library is asked.
+/// The example of a code for which the library is asked.
 #[test]
-fn the_pages_of_warnings_hold() {
-    for code in [design::Code::W01, design::Code::W02] {
-        let (text, place) = code.page().wrong().expect("an example");
-        let ran = program::wurzsige_reading(&["check", "--format", "json", "-"], text.as_bytes());
-        let (line, column) = place.split_once(':').expect("a line and a column");
-        let told = format!(
-            r#""problems":[{{"code":"{}","severity":"warning","line":{line},"column":{column},"#,
-            code.name()
-        );
-        assert!(ran.output.contains(&told), "{told}\n{}", ran.output);
-        assert_eq!(
-            (ran.output.matches(r#""code""#).count(), ran.status),
-            (1, 1)
-        );
-        let right = code.page().right().expect("an example");
-        let ran = program::wurzsige_reading(&["check", "--format", "json", "-"], right.as_bytes());
-        assert!(ran.output.ends_with("\"problems\":[]}\n"), "{}", ran.output);
-        assert_eq!(ran.status, 0);
-    }
+fn the_page_of_knots_holds() {
+    assert_page_holds(design::Code::W01);
+}
+
+fn assert_page_holds(code: design::Code) {
+    let check = |text: String| {
+        program::wurzsige_reading(&["check", "--format", "json", "-"], text.as_bytes())
+    };
+    let (text, place) = code.page().wrong().expect("an example");
+    let (line, column) = place.split_once(':').expect("a line and a column");
+    let told = format!(
+        r#""problems":[{{"code":"{}","severity":"warning","line":{line},"column":{column},"#,
+        code.name()
+    );
+    let wrong = check(text);
+    assert!(wrong.output.contains(&told), "{told}\n{}", wrong.output);
+    assert_eq!(
+        (wrong.output.matches(r#""code""#).count(), wrong.status),
+        (1, 1)
+    );
+    let right = check(code.page().right().expect("an example"));
+    assert!(
+        right.output.ends_with("\"problems\":[]}\n"),
+        "{}",
+        right.output
+    );
+    assert_eq!(right.status, 0);
 }
 
 #[test]
