@@ -2,7 +2,7 @@
 
 mod program;
 
-use program::{design, expected, scratch, wurzsige, SLEEP};
+use program::{design, expected, scratch, wurzsige, wurzsige_alone, SLEEP};
 
 #[test]
 fn the_picture_in_dot() {
@@ -92,4 +92,19 @@ fn a_picture_of_another_kind_is_refused() {
         wurzsige(&["draw", SLEEP, "-o", path.to_str().expect("a name")]).status,
         3
     );
+}
+
+#[test]
+fn without_graphviz_there_is_dot_text() {
+    let path = scratch("alone.svg");
+    let ran = wurzsige_alone(&["draw", SLEEP, "-o", path.to_str().expect("a name")]);
+    assert!(
+        ran.errors
+            .starts_with("wurzsige: Graphviz's `dot` can't be run: "),
+        "{}",
+        ran.errors
+    );
+    assert_eq!(ran.status, 3);
+    let ran = wurzsige_alone(&["draw", SLEEP]);
+    assert_eq!((ran.output, ran.status), (expected("sleep.dot"), 0));
 }

@@ -49,11 +49,26 @@ pub fn wurzsige(arguments: &[&str]) -> Ran {
 
 /// Runs it with something on standard input.
 pub fn wurzsige_reading(arguments: &[&str], input: &[u8]) -> Ran {
+    run(command(arguments), input)
+}
+
+/// Runs it where no other program can be found.
+pub fn wurzsige_alone(arguments: &[&str]) -> Ran {
+    let mut command = command(arguments);
+    command.env("PATH", "");
+    run(command, b"")
+}
+
+fn command(arguments: &[&str]) -> Command {
     let mut command = Command::new(env!("CARGO_BIN_EXE_wurzsige"));
     command
         .args(arguments)
         .current_dir(top())
         .env_remove("NO_COLOR");
+    command
+}
+
+fn run(mut command: Command, input: &[u8]) -> Ran {
     command
         .stdin(Stdio::piped())
         .stdout(Stdio::piped())
