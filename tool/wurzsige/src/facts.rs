@@ -73,9 +73,10 @@ impl Facts {
     }
 }
 
-/// After how many later rounds every load is over in an even design of so many tables (02, Req 01; proved for every database).
+/// After how many later rounds every load is over in an even design of so many tables (02, Req 01; proved for every database). Without tables
+/// there is none.
 pub fn rounds(tables: usize) -> usize {
-    2 * tables - 1
+    (2 * tables).saturating_sub(1)
 }
 
 /// What becomes of a question.

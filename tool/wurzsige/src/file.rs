@@ -36,12 +36,17 @@ impl File {
         };
         let bytes = bytes.map_err(|error| Unreadable::Failed(format!("{name}: {error}")))?;
         match text(&bytes) {
-            Ok(text) => Ok(File {
-                reading: read(text),
-                text: text.to_string(),
-                name,
-            }),
+            Ok(text) => Ok(File::new(name, text)),
             Err(not_text) => Err(Unreadable::NotText(name, not_text)),
+        }
+    }
+
+    /// Reads a text.
+    pub fn new(name: String, text: &str) -> File {
+        File {
+            reading: read(text),
+            text: text.to_string(),
+            name,
         }
     }
 

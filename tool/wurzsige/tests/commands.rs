@@ -77,6 +77,25 @@ fn a_file_that_is_no_text_is_told_as_such() {
 }
 
 #[test]
+fn an_empty_file_is_no_design() {
+    let ran = program::wurzsige_reading(&["check", "-"], b"");
+    assert!(
+        ran.output
+            .starts_with("error[E060]: the design has no title\n"),
+        "{}",
+        ran.output
+    );
+    assert_eq!((ran.errors.as_str(), ran.status), ("", 2));
+    let ran = program::wurzsige_reading(&["check", "-"], b"design \"Nothing\"");
+    assert!(
+        ran.output.contains("  accepted   0 of 8 tables"),
+        "{}",
+        ran.output
+    );
+    assert_eq!(ran.status, 0);
+}
+
+#[test]
 fn a_file_that_is_not_there_is_told_for_every_command() {
     for command in ["check", "draw", "script"] {
         let ran = wurzsige(&[command, "nowhere.design"]);

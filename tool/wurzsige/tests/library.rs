@@ -4,11 +4,18 @@
 mod generate;
 mod program;
 
-use design::{read, script, script_with, Design};
+use design::{print, read, script, script_with, Design};
 use generate::Random;
 use program::{scratch, wurzsige, SLEEP};
+use tool::check::Checked;
+use tool::diff::Changes;
+use tool::draw::dot;
 use tool::facts::Facts;
+use tool::file::File;
+use tool::json;
 use tool::library::Library;
+use tool::output::{Page, When};
+use tool::report::report;
 
 fn sleep() -> Design {
     read(&program::text(SLEEP)).design.expect("a design")
@@ -108,5 +115,34 @@ fn links_that_untie_a_design_do() {
             facts.untied_by,
             all.iter().copied().filter(unties).collect::<Vec<_>>()
         );
+    }
+}
+
+/// Whatever a design has, it can be shown to people and programs, drawn and compared.
+#[test]
+fn every_design_can_be_shown() {
+    let file = |design: &Design| File::new("design".into(), &print(design));
+    let mut last = file(&Design::default());
+    for design in designs(200) {
+        let file = file(&design);
+        let checked = Checked::of(&file).expect("accepted");
+        let mut page = Page::for_output(When::Never);
+        report(&mut page, &file, &checked);
+        let shown = String::from_utf8(page.into_bytes()).expect("text");
+        assert!(shown.contains("  accepted   "), "{shown}");
+        let line = json::line(&json::Check::of(&file, &checked));
+        let object: serde_json::Value = serde_json::from_slice(&line).expect("an object");
+        assert_eq!(
+            object["even"] == true,
+            shown.contains("  even       "),
+            "{shown}"
+        );
+        assert!(dot(&file).expect("accepted").ends_with("}\n"));
+        let changes = Changes::between(&last, &file).expect("accepted");
+        let object: serde_json::Value =
+            serde_json::from_slice(&json::line(&changes)).expect("an object");
+        let links = object["links"]["came"].as_array().map(Vec::len);
+        assert!(links <= Some(design.links.len()));
+        last = file;
     }
 }
