@@ -7,6 +7,7 @@ use crate::command::{
     Value, CELLS, PAIRS,
 };
 use crate::token::{tokens, Token};
+use crate::widths::Widths;
 
 /// What is wrong in a text, and where; line and column are counted from 1.
 #[derive(Clone, Debug, PartialEq, Eq)]
@@ -32,11 +33,29 @@ impl fmt::Display for Error {
 
 impl std::error::Error for Error {}
 
+impl Error {
+    /// The error with the line of the text in which it is, and a caret below its place.
+    ///
+    /// ```
+    /// let text = "table 1\nend\nprobe 0.0 = x\n";
+    /// let error = notation::assemble(text).unwrap_err();
+    /// let shown = "line 3, column 13: expected a value, found `x`\n  probe 0.0 = x\n              ^";
+    /// assert_eq!(error.shown_in(text), shown);
+    /// ```
+    pub fn shown_in(&self, text: &str) -> String {
+        let line = text.lines().nth(self.line - 1).unwrap_or_default();
+        let before = line.chars().take(self.column - 1);
+        let blanks: String = before.map(|c| if c == '\t' { c } else { ' ' }).collect();
+        format!("{self}\n  {line}\n  {blanks}^")
+    }
+}
+
 /// The script that a text stands for.
 pub fn assemble(text: &str) -> Result<Vec<u8>, Error> {
     let mut script = Vec::new();
+    let mut widths = Widths::default();
     for (index, line) in text.lines().enumerate() {
-        let bytes = line_bytes(line).map_err(|fault| Error {
+        let bytes = line_bytes(line, &mut widths).map_err(|fault| Error {
             line: index + 1,
             column: fault.column,
             message: fault.message,
@@ -52,10 +71,10 @@ struct Fault {
     message: String,
 }
 
-fn line_bytes(line: &str) -> Result<Vec<u8>, Fault> {
+fn line_bytes(line: &str, widths: &mut Widths) -> Result<Vec<u8>, Fault> {
     let tokens = tokens(line).map_err(|stray| Fault {
         column: stray.column,
-        message: format!("`{}` has no meaning here", stray.character),
+        message: stray.message,
     })?;
     let Some((&name, operands)) = tokens.split_first() else {
         return Ok(Vec::new());
@@ -63,21 +82,29 @@ fn line_bytes(line: &str) -> Result<Vec<u8>, Fault> {
     let mut operands = Operands {
         rest: operands,
         last: name,
+        widths,
     };
-    let bytes = operands.bytes_of(name)?;
+    if name.text == "bytes" {
+        let bytes = operands.raw_bytes()?;
+        widths.see_bytes();
+        return Ok(bytes);
+    }
+    let command = operands.command(name)?;
     operands.finish()?;
-    Ok(bytes)
+    widths.see(&command);
+    Ok(command.bytes())
 }
 
 /// The tokens after a command's name, taken one after another.
 struct Operands<'a> {
     rest: &'a [Token<'a>],
     last: Token<'a>,
+    widths: &'a Widths,
 }
 
 impl<'a> Operands<'a> {
-    fn bytes_of(&mut self, name: Token<'a>) -> Result<Vec<u8>, Fault> {
-        let command = match name.text {
+    fn command(&mut self, name: Token<'a>) -> Result<Command, Fault> {
+        Ok(match name.text {
             "table" => Command::Table(self.table()?),
             "constraint" => Command::Constraint(self.constraint()?),
             "filling" => Command::Filling(self.filling()?),
@@ -97,10 +124,8 @@ impl<'a> Operands<'a> {
             "take" => Command::Take(self.u16("a row's number")?),
             "opener" => Command::Opener(self.probe()?),
             "desk" => Command::Desk(self.u8("a desk's number")?),
-            "bytes" => return self.raw_bytes(),
             other => return fault(name.column, format!("`{other}` is no command")),
-        };
-        Ok(command.bytes())
+        })
     }
 
     fn table(&mut self) -> Result<Table, Fault> {
@@ -146,7 +171,23 @@ impl<'a> Operands<'a> {
         while cells.len() < CELLS && !self.rest.is_empty() {
             cells.push(self.cell()?);
         }
-        Ok(Row::new(table, &cells))
+        match self.widths.cells(table) {
+            Some(columns) if cells.len() < columns => self.too_few(table, columns, cells.len()),
+            _ => Ok(Row::new(table, &cells)),
+        }
+    }
+
+    /// The fault that a row has fewer cells than its table has columns.
+    fn too_few(&self, table: u8, columns: usize, given: usize) -> Result<Row, Fault> {
+        let count = |count: usize, what: &str| match count {
+            1 => format!("1 {what}"),
+            _ => format!("{count} {what}s"),
+        };
+        let (columns, cells) = (count(columns, "column"), count(given, "cell"));
+        let message = format!(
+            "table {table} has {columns}, and the row {cells}; a blank cell is written `-`"
+        );
+        fault(self.last.column + self.last.text.len(), message)
     }
 
     fn put(&mut self) -> Result<Put, Fault> {

@@ -7,23 +7,55 @@ use crate::command::{
     Column, Command, Constraint, Filling, Join, Pair, Probe, Put, Query, Range, Row, Table, Total,
     Value, CELLS,
 };
+use crate::widths::Widths;
 
 const BYTES_ON_A_LINE: usize = 16;
 
 /// The text of a script. [`crate::assemble`] gives the same bytes for it.
 pub fn disassemble(script: &[u8]) -> String {
-    split(script)
-        .iter()
-        .map(|piece| format!("{piece}\n"))
-        .collect()
+    let lines = pieces(script).into_iter().map(|(_, text)| text + "\n");
+    lines.collect()
 }
 
-impl fmt::Display for Piece {
-    fn fmt(&self, out: &mut fmt::Formatter<'_>) -> fmt::Result {
-        match self {
-            Piece::Command(command) => command.fmt(out),
-            Piece::Rest(bytes) => write_bytes(out, bytes),
+/// The same, with the byte at which it begins behind each command, as a comment: the place that
+/// a refusal names.
+///
+/// ```
+/// let text = "table 1  # byte 0\nend  # byte 3\n";
+/// assert_eq!(notation::disassemble_with_offsets(&[1, 1, 0, 5]), text);
+/// ```
+pub fn disassemble_with_offsets(script: &[u8]) -> String {
+    let line = |(offset, text): (usize, String)| match text.split_once('\n') {
+        Some((first, rest)) => format!("{first}  # byte {offset}\n{rest}\n"),
+        None => format!("{text}  # byte {offset}\n"),
+    };
+    pieces(script).into_iter().map(line).collect()
+}
+
+/// The texts of a script's pieces, each with the byte at which it begins.
+fn pieces(script: &[u8]) -> Vec<(usize, String)> {
+    let mut widths = Widths::default();
+    let mut offset = 0;
+    let mut texts = Vec::new();
+    for piece in split(script) {
+        let bytes = piece.bytes();
+        texts.push((offset, piece_text(&piece, &bytes, &widths)));
+        offset += bytes.len();
+        if let Piece::Command(command) = &piece {
+            widths.see(command);
         }
+    }
+    texts
+}
+
+fn piece_text(piece: &Piece, bytes: &[u8], widths: &Widths) -> String {
+    match piece {
+        Piece::Command(Command::Row(row)) => format!("row {}", RowText::new(row, widths)),
+        Piece::Command(Command::Put(Put { number, row })) => {
+            format!("put {number} {}", RowText::new(row, widths))
+        }
+        Piece::Command(command) => command.to_string(),
+        Piece::Rest(_) => bytes_text(bytes),
     }
 }
 
@@ -37,17 +69,14 @@ impl fmt::Display for Command {
             Command::Filling(Filling { column, low, high }) => {
                 write!(out, "filling {column} {low}..{high}")
             }
-            Command::Row(row) => {
-                write!(out, "row ")?;
-                write_row(out, row)
-            }
+            Command::Row(row) => write!(out, "row {}", RowText::new(row, &Widths::default())),
             Command::End => write!(out, "end"),
             Command::Refer(Pair { filling, value }) => write!(out, "refer {filling} {value}"),
             Command::Drop(Pair { filling, value }) => write!(out, "drop {filling} {value}"),
             Command::Probe(Probe { column, value }) => write!(out, "probe {column} = {value}"),
             Command::Query(query) => match query.plain_joins() {
                 Some(joins) => write_query(out, "query", query, joins),
-                None => write_bytes(out, &self.bytes()),
+                None => out.write_str(&bytes_text(&self.bytes())),
             },
             Command::Even => write!(out, "even"),
             Command::Total(Total {
@@ -59,7 +88,7 @@ impl fmt::Display for Command {
                     write_query(out, "total", query, joins)?;
                     write!(out, " of {position} column {column}")
                 }
-                None => write_bytes(out, &self.bytes()),
+                None => out.write_str(&bytes_text(&self.bytes())),
             },
             Command::Knot => write!(out, "knot"),
             Command::Desk(desk) => write!(out, "desk {desk}"),
@@ -67,8 +96,11 @@ impl fmt::Display for Command {
             Command::Hold(range) => write!(out, "hold {range}"),
             Command::Release(range) => write!(out, "release {range}"),
             Command::Put(Put { number, row }) => {
-                write!(out, "put {number} ")?;
-                write_row(out, row)
+                write!(
+                    out,
+                    "put {number} {}",
+                    RowText::new(row, &Widths::default())
+                )
             }
             Command::Take(number) => write!(out, "take {number}"),
             Command::Opener(Probe { column, value }) => write!(out, "opener {column} = {value}"),
@@ -110,27 +142,44 @@ fn write_table(out: &mut fmt::Formatter<'_>, table: &Table) -> fmt::Result {
     Ok(())
 }
 
-/// The table and the cells up to the last that isn't blank. If there are places for issues and
-/// all are 0, the first cell says so.
-fn write_row(out: &mut fmt::Formatter<'_>, row: &Row) -> fmt::Result {
-    write!(out, "{}", row.table)?;
-    let blank = Value::new(0, 0);
-    let last = (0..CELLS).rposition(|column| row.cell(column) != blank);
-    let without_issue = row.issues == Some([0; CELLS]);
-    let given = last.map_or(usize::from(without_issue), |last| last + 1);
-    for column in 0..given {
-        let Value { number, issue } = row.cell(column);
-        match number {
-            0 => write!(out, " -")?,
-            number => write!(out, " {number}")?,
-        }
-        match issue {
-            None if without_issue && column == 0 => write!(out, "#0")?,
-            None => {}
-            Some(issue) => write!(out, "#{issue}")?,
-        }
+/// A row with so many of its cells.
+struct RowText<'a> {
+    row: &'a Row,
+    cells: usize,
+}
+
+impl RowText<'_> {
+    /// With a cell for each of its table's columns, and all up to the last that isn't blank.
+    fn new<'a>(row: &'a Row, widths: &Widths) -> RowText<'a> {
+        let blank = Value::new(0, 0);
+        let last = (0..CELLS).rposition(|column| row.cell(column) != blank);
+        let with_issues = usize::from(row.issues.is_some());
+        let least = widths.cells(row.table).unwrap_or(0).max(with_issues);
+        let cells = last.map_or(least, |last| least.max(last + 1));
+        RowText { row, cells }
     }
-    Ok(())
+}
+
+/// The table and the cells. If there are places for issues and all are 0, the first cell says so.
+impl fmt::Display for RowText<'_> {
+    fn fmt(&self, out: &mut fmt::Formatter<'_>) -> fmt::Result {
+        let RowText { row, cells } = self;
+        write!(out, "{}", row.table)?;
+        let without_issue = row.issues == Some([0; CELLS]);
+        for column in 0..*cells {
+            let Value { number, issue } = row.cell(column);
+            match number {
+                0 => write!(out, " -")?,
+                number => write!(out, " {number}")?,
+            }
+            match issue {
+                None if without_issue && column == 0 => write!(out, "#0")?,
+                None => {}
+                Some(issue) => write!(out, "#{issue}")?,
+            }
+        }
+        Ok(())
+    }
 }
 
 /// A query behind a command's name.
@@ -147,9 +196,9 @@ fn write_query(
     Ok(())
 }
 
-fn write_bytes(out: &mut fmt::Formatter<'_>, bytes: &[u8]) -> fmt::Result {
+fn bytes_text(bytes: &[u8]) -> String {
     let lines: Vec<String> = bytes.chunks(BYTES_ON_A_LINE).map(bytes_line).collect();
-    write!(out, "{}", lines.join("\n"))
+    lines.join("\n")
 }
 
 fn bytes_line(bytes: &[u8]) -> String {

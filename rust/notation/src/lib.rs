@@ -29,17 +29,19 @@
 //! bytes BYTE ..                                 bytes 0xff 0x01
 //! ```
 //!
-//! A blank cell is written `-`, and only so: a cell `0` is an error. Cells past
-//! those given are blank. A value or cell with an issue is written `7#1`, and then
-//! the command is the one that has a place for issues, even where it is `7#0`, if
-//! there are two. The
-//! notation checks that operands fit their widths and nothing else, so that scripts
-//! which the desk refuses can be written too.
+//! A blank cell is written `-`, with space around it, and only so: a cell `0` is an
+//! error. A row has at least a cell for each column of its table. If the table isn't
+//! there, or `bytes` stand before the row, so that its table can't be known, any number
+//! of cells will do. Those past the ones given are blank. A value or cell with an issue is
+//! written `7#1`, and then the command is the one that has a place for issues, even
+//! where it is `7#0`, if there are two. The notation checks nothing else but that
+//! operands fit their widths, so that scripts which the desk refuses can be written
+//! too.
 //!
 //! [`disassemble`] is defined for every byte string, and [`assemble`] turns its
 //! text into the same bytes again. What has no words (a QUERY or a total with
-//! unused pairs that aren't 0, a command cut short, an unknown byte) becomes
-//! `bytes`.
+//! unused pairs that aren't 0, a command cut short, an unknown byte) becomes `bytes`. [`disassemble_with_offsets`] says in a
+//! comment where each command begins.
 
 #![forbid(unsafe_code)]
 
@@ -50,6 +52,7 @@ mod design;
 mod disassemble;
 pub mod filter;
 mod token;
+mod widths;
 
 pub use assemble::{assemble, Error};
 pub use bytes::{encode, split, Piece, COMMAND_BYTES};
@@ -58,4 +61,4 @@ pub use command::{
     Value, CELLS, PAIRS,
 };
 pub use design::Design;
-pub use disassemble::disassemble;
+pub use disassemble::{disassemble, disassemble_with_offsets};

@@ -14,11 +14,14 @@ pub struct Token<'a> {
     pub column: usize,
 }
 
-/// A character that begins no token.
+/// The sign for a blank cell.
+const BLANK: &str = "-";
+
+/// Something that is no token.
 #[derive(Debug, PartialEq, Eq)]
 pub struct Stray {
-    /// The character.
-    pub character: char,
+    /// What is wrong with it.
+    pub message: String,
     /// Where it stands, in characters from 1.
     pub column: usize,
 }
@@ -35,11 +38,18 @@ pub fn tokens(line: &str) -> Result<Vec<Token<'_>>, Stray> {
         let length = match token_length(rest) {
             Some(length) => {
                 let text = &rest[..length];
+                if text == BLANK && !stands_alone(tokens.last(), column, &rest[length..]) {
+                    let message = "`-` stands for a blank cell, and has space around it".into();
+                    return Err(Stray { message, column });
+                }
                 tokens.push(Token { text, column });
                 length
             }
             None if character.is_whitespace() => character.len_utf8(),
-            None => return Err(Stray { character, column }),
+            None => {
+                let message = format!("`{character}` has no meaning here");
+                return Err(Stray { message, column });
+            }
         };
         column += rest[..length].chars().count();
         rest = &rest[length..];
@@ -53,6 +63,14 @@ fn is_issue(last: Option<&Token>, column: usize, text: &str) -> bool {
     let behind = last.is_some_and(|last| last.column + last.text.len() == column);
     let issue = text.strip_prefix(ISSUE);
     behind && issue.is_some_and(|issue| issue.starts_with(|c: char| c.is_ascii_digit()))
+}
+
+/// Whether there is space, or the line's end, before and behind a sign; an issue or a comment may
+/// follow it.
+fn stands_alone(last: Option<&Token>, column: usize, behind: &str) -> bool {
+    let touches = last.is_some_and(|last| last.column + last.text.len() == column);
+    let apart = |c: char| c.is_whitespace() || c == '#';
+    !touches && (behind.is_empty() || behind.starts_with(apart))
 }
 
 /// The length in bytes of the token at the head of the text.

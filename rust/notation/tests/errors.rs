@@ -144,8 +144,50 @@ fn messages() {
         ("bytes", 6, "expected a byte, found the end of the line"),
         ("bytes 0x100", 7, "a byte is at most 255, not 0x100"),
         ("probe 0.0 = 1;", 14, "`;` has no meaning here"),
+        (
+            "row 0 2025-03-04 3",
+            11,
+            "`-` stands for a blank cell, and has space around it",
+        ),
+        (
+            "row 0 -5 3",
+            7,
+            "`-` stands for a blank cell, and has space around it",
+        ),
+        (
+            "row 0 5- 3",
+            8,
+            "`-` stands for a blank cell, and has space around it",
+        ),
+        (
+            "row 0 -- 3",
+            7,
+            "`-` stands for a blank cell, and has space around it",
+        ),
     ];
     for (text, column, message) in cases {
         assert_eq!(error(text), format!("line 1, column {column}: {message}"));
     }
+}
+
+/// A row of a table that the text declares has no fewer cells than the table has columns.
+#[test]
+fn the_number_of_cells() {
+    let few =
+        "line 2, column 8: table 0 has 3 columns, and the row 1 cell; a blank cell is written `-`";
+    assert_eq!(error("table 3\nrow 0 7\n"), few);
+    let none =
+        "line 2, column 6: table 0 has 1 column, and the row 0 cells; a blank cell is written `-`";
+    assert_eq!(error("table 1\nrow 0\n"), none);
+    let put =
+        "line 3, column 10: table 0 has 2 columns, and the row 1 cell; a blank cell is written `-`";
+    assert_eq!(error("table 2\nend\nput 5 0 7\n"), put);
+}
+
+#[test]
+fn an_error_is_shown_with_its_line() {
+    let text = "table 1\r\n\trow 0 é\r\n";
+    let error = assemble(text).expect_err("a mistake");
+    let shown = "line 2, column 8: `é` has no meaning here\n  \trow 0 é\n  \t      ^";
+    assert_eq!(error.shown_in(text), shown);
 }

@@ -1,6 +1,6 @@
 //! Each command's words and bytes, both ways, and what else a text may hold.
 
-use notation::{assemble, disassemble};
+use notation::{assemble, disassemble, disassemble_with_offsets};
 
 /// A command in its canonical words, and its bytes.
 const COMMANDS: [(&str, &[u8]); 40] = [
@@ -20,16 +20,16 @@ const COMMANDS: [(&str, &[u8]); 40] = [
         ],
     ),
     (
-        "row 0 258 - 3",
+        "row 5 258 - 3",
         &[
-            4, 0, 2, 1, 0, 0, 0, 0, 0, 0, 3, 0, 0, 0, 0, 0, 0, 0, //
+            4, 5, 2, 1, 0, 0, 0, 0, 0, 0, 3, 0, 0, 0, 0, 0, 0, 0, //
             0, 0, 0, 0, 0, 0, 0, 0, 0, 0, 0, 0, 0, 0, 0, 0,
         ],
     ),
     (
-        "row 0 1 2 3 4 5 6 7 8",
+        "row 5 1 2 3 4 5 6 7 8",
         &[
-            4, 0, 1, 0, 0, 0, 2, 0, 0, 0, 3, 0, 0, 0, 4, 0, 0, 0, //
+            4, 5, 1, 0, 0, 0, 2, 0, 0, 0, 3, 0, 0, 0, 4, 0, 0, 0, //
             5, 0, 0, 0, 6, 0, 0, 0, 7, 0, 0, 0, 8, 0, 0, 0,
         ],
     ),
@@ -181,6 +181,65 @@ fn queries_without_words_become_bytes() {
         assert!(text.starts_with("bytes 0x23 0x00 0x01 "), "{text}");
         assert!(text.ends_with("\nend\n"), "{text}");
     }
+}
+
+/// A row of a table that the script declares has a cell for each of its columns, blank or not.
+#[test]
+fn rows_are_as_wide_as_their_tables() {
+    let text = "table 3\ntable 1 unique 0\nrow 0 7 - -\nrow 0 - - -\nrow 1 -\nrow 1 7#2\nrow 1 -#0\nend\nput 4 0 - - 3\n";
+    let script = assemble(text).expect("a right text");
+    assert_eq!(disassemble(&script), text);
+}
+
+/// Where the table can't be known, the cells end with the last that isn't blank: in a table that
+/// isn't there, or has no or too many columns, or is declared behind `end`.
+#[test]
+fn rows_of_unknown_width() {
+    for text in [
+        "row 0 7\n",
+        "table 9\nrow 0 7 - 3\n",
+        "table 0\nrow 0 7 - 3\n",
+        "table 2\nend\ntable 3\nput 1 1 7\n",
+    ] {
+        let script = assemble(text).expect("a right text");
+        assert_eq!(disassemble(&script), text);
+    }
+    let script = assemble("bytes 1 3 0\nrow 0 7\n").expect("a right text");
+    assert_eq!(disassemble(&script), "table 3\nrow 0 7 - -\n");
+}
+
+/// The desk refuses them, so they can be written.
+#[test]
+fn rows_with_cells_past_their_table() {
+    for text in [
+        "table 1\nrow 0 7 8\n",
+        "table 1\nrow 0 7 -#1\n",
+        "table 2\nrow 0 - - 1\n",
+    ] {
+        let script = assemble(text).expect("a right text");
+        assert_eq!(disassemble(&script), text);
+    }
+}
+
+#[test]
+fn offsets_stand_behind_the_commands() {
+    let script = assemble("table 2\nrow 0 7 8\nend\nprobe 0.0 = 7\n").expect("a right text");
+    let mut cut = script.clone();
+    cut.extend([0x1d; 20]);
+    let text = disassemble_with_offsets(&cut);
+    let lines: Vec<&str> = text.lines().collect();
+    assert_eq!(
+        lines[..4],
+        [
+            "table 2  # byte 0",
+            "row 0 7 8  # byte 3",
+            "end  # byte 37",
+            "probe 0.0 = 7  # byte 38",
+        ]
+    );
+    assert!(lines[4].ends_with("0x1d  # byte 45"), "{text}");
+    assert_eq!(lines.len(), 6);
+    assert_eq!(assemble(&text), Ok(cut));
 }
 
 #[test]

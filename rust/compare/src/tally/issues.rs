@@ -180,7 +180,7 @@ mod tests {
     #[test]
     fn operations_with_issues() {
         let text = "table 2 unique 0\ntable 1\nconstraint 0.0 -> 1.0\nfilling 0.0 1..9\n\
-            row 0 7\nrow 0 7#1\nrow 0 7#255\nrow 1 7#1\nend\nrefer 0 7\nprobe 0.0 = 7#1\n\
+            row 0 7 -\nrow 0 7#1 -\nrow 0 7#255 -\nrow 1 7#1\nend\nrefer 0 7\nprobe 0.0 = 7#1\n\
             drop 0 7#1\nquery 0.0 = 7#1\nprobe 0.0 = 7#1\nprobe 1.0 = 7#1\nrefer 0 7#255\n\
             refer 0 10#1\nprobe 0.0 = 0#3\nprobe 1.0 = 7#2\ntotal 1.0 = 7#1 of 0 column 0\n\
             drop 0 7#1\nprobe 0.0 = 7#0\n";
@@ -212,10 +212,10 @@ mod tests {
     fn designs_with_issues() {
         let design = "table 2 unique 0\n";
         for (rows, expected) in [
-            ("row 0 7\nrow 0 8\n", &[][..]),
-            ("row 0 7\nrow 0 8#1\n", &["design accepted with issues"]),
+            ("row 0 7 -\nrow 0 8 -\n", &[][..]),
+            ("row 0 7 -\nrow 0 8#1 -\n", &["design accepted with issues"]),
             (
-                "row 0 7\nrow 0 7#1\n",
+                "row 0 7 -\nrow 0 7#1 -\n",
                 &[
                     "design accepted with issues",
                     "unique column with two issues of a number",
@@ -228,9 +228,9 @@ mod tests {
             assert_eq!(accepted(&pieces), expected, "{rows}");
         }
         for (row, cause, expected) in [
-            ("row 0 7#0", "5", Some("design refused 5 for no issue")),
+            ("row 0 7#0 -", "5", Some("design refused 5 for no issue")),
             (
-                "row 0 -#1",
+                "row 0 -#1 -",
                 "5",
                 Some("design refused 5 for the issue of a blank"),
             ),
@@ -239,8 +239,8 @@ mod tests {
                 "5",
                 Some("design refused 5 for an issue past the columns"),
             ),
-            ("row 0 7#1", "6", Some("design refused 6 for an issue")),
-            ("row 0 7", "6", None),
+            ("row 0 7#1 -", "6", Some("design refused 6 for an issue")),
+            ("row 0 7 -", "6", None),
             ("row 1 7#1", "5", None),
         ] {
             let script = assemble(&format!("{design}{row}\n"));

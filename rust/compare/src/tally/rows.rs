@@ -193,11 +193,11 @@ mod tests {
     #[test]
     fn rows_that_come_and_go() {
         let text = "table 2 unique 0\nconstraint 0.1 -> 0.0\nfilling 0.0 1..9\nrow 0 1 2\n\
-            row 0 3\nend\nrefer 0 1\nput 2 0 2 3\ntake 2\nput 2 0 2 4\nput 511 0 7#1\n\
-            put 3 0 7#1\nput 3 0 1\nput 3 0 - - 1\nput 3 1 8\nput 3 0 -#1\nput 2 0 8\n\
-            put 512 0 8\nput 65535 0 8\ntake 1\ntake 1\ntake 512\ntake 65535\n\
+            row 0 3 -\nend\nrefer 0 1\nput 2 0 2 3\ntake 2\nput 2 0 2 4\nput 511 0 7#1 -\n\
+            put 3 0 7#1 -\nput 3 0 1 -\nput 3 0 - - 1\nput 3 1 8\nput 3 0 -#1 -\nput 2 0 8 -\n\
+            put 512 0 8 -\nput 65535 0 8 -\ntake 1\ntake 1\ntake 512\ntake 65535\n\
             reason 1\nreason 4\ndesk 1\nhold 0 3..4\ndesk 2\nrefer 0 8\ndesk 3\n\
-            refer 0 9\nput 9 0 3\nput 10 0 8\n";
+            refer 0 9\nput 9 0 3 -\nput 10 0 8 -\n";
         let script = assemble(text).expect("a right text");
         let mut replay = Replay::new(&script).expect("an accepted design");
         let mut watch = Watch::default();

@@ -2,9 +2,28 @@
 
 use std::process::ExitCode;
 
+use notation::filter::{run, Program};
+
+const HELP: &str = "\
+assemble: the bytes of a script that is written in the notation
+
+usage: assemble [FILE]
+
+FILE, or standard input, is the text; the bytes go to standard output. docs/USING.md
+has the notation.
+
+  --help     show this
+  --version  show the version
+";
+
 fn main() -> ExitCode {
-    notation::filter::run("assemble", |bytes| {
+    let program = Program {
+        name: "assemble",
+        help: HELP,
+        options: &[],
+    };
+    run(&program, |bytes, _| {
         let text = String::from_utf8(bytes).map_err(|error| error.to_string())?;
-        notation::assemble(&text).map_err(|error| error.to_string())
+        notation::assemble(&text).map_err(|error| error.shown_in(&text))
     })
 }

@@ -1,0 +1,95 @@
+//! The command line.
+
+use std::path::PathBuf;
+
+use clap::{Parser, Subcommand, ValueEnum};
+
+use crate::output::When;
+
+const EXIT: &str = "Exit status: 0 good; 1 a warning was found, such as a knot; 2 the design or the command is refused; 3 a file can't be read or written.";
+
+/// Designs for the review desk, decided by the proved desk
+#[derive(Debug, Parser)]
+#[command(name = "wurzsige", version, after_help = EXIT, max_term_width = 100)]
+pub struct Arguments {
+    /// What to do
+    #[command(subcommand)]
+    pub command: Command,
+
+    /// Where to use colour; auto: on a terminal, unless NO_COLOR is set
+    #[arg(long, global = true, value_name = "WHEN", default_value = "auto")]
+    pub color: When,
+}
+
+/// What the tool can do.
+#[derive(Debug, Subcommand)]
+pub enum Command {
+    /// Tell all mistakes of a design, and whether it has knots
+    #[command(after_help = EXIT)]
+    Check {
+        /// The design's file, or - for standard input
+        design: PathBuf,
+
+        /// Text for people, or a line of JSON for programs
+        #[arg(long, value_name = "FORMAT", default_value = "text")]
+        format: Format,
+    },
+
+    /// Draw a design: tables, links and loads, with a knot's links red
+    #[command(after_help = EXIT)]
+    Draw {
+        /// The design's file, or - for standard input
+        design: PathBuf,
+
+        /// Where to draw it: .svg, .png or .pdf, by Graphviz's `dot`, or .dot; without it DOT text on standard output
+        #[arg(short, long, value_name = "FILE")]
+        output: Option<PathBuf>,
+    },
+
+    /// Tell what a change of a design adds and loses
+    #[command(
+        after_help = "Exit status: 0 nothing got worse; 1 a knot came; 2 a design or the command is refused; 3 a file can't be read."
+    )]
+    Diff {
+        /// The design before
+        old: PathBuf,
+
+        /// The design after
+        new: PathBuf,
+
+        /// Text for people, or a line of JSON for programs
+        #[arg(long, value_name = "FORMAT", default_value = "text")]
+        format: Format,
+    },
+
+    /// Write the bytes for `desk`: tables, constraints and fillings
+    #[command(after_help = EXIT)]
+    Script {
+        /// The design's file, or - for standard input
+        design: PathBuf,
+
+        /// Where to write them; without it standard output
+        #[arg(short, long, value_name = "FILE")]
+        output: Option<PathBuf>,
+    },
+
+    /// Show the page on a mistake, with an example; without a code list all of them
+    Explain {
+        /// The code, such as E012
+        code: Option<String>,
+    },
+
+    /// Write a shell's completions for this program
+    Completion {
+        /// The shell
+        shell: clap_complete::Shell,
+    },
+}
+
+/// For whom the output is: people or programs.
+#[derive(Clone, Copy, Debug, PartialEq, Eq, ValueEnum)]
+#[allow(missing_docs)] // they would be part of the command line's help
+pub enum Format {
+    Text,
+    Json,
+}

@@ -1,0 +1,223 @@
+//! `draw`: a design as a picture, in DOT, which Graphviz's `dot` turns into others.
+
+use std::io::Write;
+use std::path::Path;
+use std::process::{Command, Stdio};
+
+use design::{Cells, Design, Link, Place};
+
+use crate::facts::Facts;
+use crate::file::File;
+use crate::library::Refused;
+
+const FONT: &str = "DejaVu Sans,Verdana,sans-serif";
+const HEAD: &str = "#d9e2f0";
+const SEEN: &str = "#dff3e0";
+const FAINT: &str = "#8a8a8a";
+const LOAD: &str = "#1a5fb4";
+const LINK: &str = "#5a5f66";
+const KNOT: &str = "#c4161c";
+
+/// What a picture is drawn as.
+#[derive(Clone, Copy, Debug, PartialEq, Eq)]
+pub enum Form {
+    /// DOT text.
+    Dot,
+    /// Another one, by the name that `dot` has for it.
+    Other(&'static str),
+}
+
+/// The form that a file's name asks for; DOT without one.
+pub fn form(output: Option<&Path>) -> Result<Form, String> {
+    let Some(path) = output else {
+        return Ok(Form::Dot);
+    };
+    let ending = path.extension().and_then(|ending| ending.to_str());
+    match ending.map(str::to_lowercase).as_deref() {
+        Some("dot" | "gv") => Ok(Form::Dot),
+        Some("svg") => Ok(Form::Other("svg")),
+        Some("png") => Ok(Form::Other("png")),
+        Some("pdf") => Ok(Form::Other("pdf")),
+        _ => Err(format!(
+            "{}: a picture's name ends with .svg, .png, .pdf or .dot",
+            path.display()
+        )),
+    }
+}
+
+/// The picture in a form, by `dot` where that is another than DOT.
+pub fn rendered(dot: String, form: Form) -> Result<Vec<u8>, String> {
+    let Form::Other(name) = form else {
+        return Ok(dot.into_bytes());
+    };
+    let mut command = Command::new("dot");
+    command.arg(format!("-T{name}"));
+    if name == "png" {
+        command.arg("-Gdpi=144");
+    }
+    let failed = |error: std::io::Error| {
+        format!("Graphviz's `dot` can't be run: {error} (Debian has it in the package graphviz)")
+    };
+    let child = command
+        .stdin(Stdio::piped())
+        .stdout(Stdio::piped())
+        .stderr(Stdio::piped())
+        .spawn();
+    let mut child = child.map_err(failed)?;
+    let input = child.stdin.take();
+    let writer = std::thread::spawn(move || input.map(|mut input| input.write_all(dot.as_bytes())));
+    let output = child.wait_with_output().map_err(failed)?;
+    let written = writer.join();
+    if !output.status.success() {
+        return Err(format!(
+            "Graphviz's `dot` failed: {}",
+            String::from_utf8_lossy(&output.stderr).trim()
+        ));
+    }
+    match written {
+        Ok(Some(Ok(()))) => Ok(output.stdout),
+        _ => Err("Graphviz's `dot` didn't read the whole picture".into()),
+    }
+}
+
+/// The picture of a design without errors.
+pub fn dot(file: &File) -> Result<String, Refused> {
+    match file.design() {
+        Some(design) => Ok(picture(design, &Facts::of(design)?)),
+        None => Ok(String::new()),
+    }
+}
+
+fn picture(design: &Design, facts: &Facts) -> String {
+    let cells = Cells::of(design);
+    let mut dot = String::from("digraph design {\n");
+    dot += &format!("  graph [rankdir=LR, nodesep=0.35, ranksep=1.1, pad=0.3, fontname=\"{FONT}\", labelloc=t, labeljust=l, label=<{}>];\n", title(design, facts));
+    dot += &format!("  node [shape=plain, fontname=\"{FONT}\", fontsize=11];\n");
+    dot += &format!("  edge [color=\"{LINK}\", penwidth=1.2, arrowsize=0.8];\n");
+    for table in 0..design.tables.len() {
+        dot += &format!(
+            "  t{table} [label=<{}>];\n",
+            node(design, facts, &cells, table)
+        );
+    }
+    for (number, link) in design.links.iter().enumerate() {
+        dot += &edge(
+            design,
+            link,
+            facts.knots.iter().any(|knot| knot.contains(&number)),
+        );
+    }
+    dot + "}\n"
+}
+
+/// The design's title, and below it what the signs mean that the picture has.
+fn title(design: &Design, facts: &Facts) -> String {
+    let mut signs = vec!["<b>bold</b> no value twice".to_string()];
+    if !design.loads.is_empty() {
+        signs.push(format!("<font color=\"{LOAD}\">◂</font> can be loaded"));
+    }
+    if !facts.seen_is_all(design).is_empty() {
+        signs.push("<font color=\"#2e7d32\">green</font> what is seen is complete".into());
+    }
+    if !facts.is_even() {
+        signs.push(format!(
+            "<font color=\"{KNOT}\"><b>red</b></font> links that feed themselves"
+        ));
+    }
+    signs.push(format!("<font color=\"{FAINT}\">grey</font> takes no cell"));
+    let title = escaped(&design.title);
+    format!("<font point-size=\"17\"><b>{title}</b></font><br align=\"left\"/><font point-size=\"5\"> </font><br align=\"left\"/><font point-size=\"10\">{}</font><br align=\"left\"/><font point-size=\"12\"> </font><br/>", signs.join("  ·  "))
+}
+
+fn node(design: &Design, facts: &Facts, cells: &Cells, table: usize) -> String {
+    let name = escaped(&design.tables[table].name);
+    let mut rows = format!("<tr><td bgcolor=\"{HEAD}\"><b>{name}</b></td></tr>");
+    let seen = facts.seen_is_all(design);
+    for column in 0..design.tables[table].columns.len() {
+        let place = Place { table, column };
+        rows += &row(
+            design,
+            place,
+            cells.cell(place).is_some(),
+            seen.contains(&place),
+        );
+    }
+    format!("<table border=\"0\" cellborder=\"1\" cellspacing=\"0\" cellpadding=\"4\" color=\"#3b4252\">{rows}</table>")
+}
+
+fn row(design: &Design, place: Place, takes_cell: bool, seen: bool) -> String {
+    let column = design.column(place);
+    let mut name = escaped(&column.name);
+    if column.role.is_unique() {
+        name = format!("<b>{name}</b>");
+    }
+    if !takes_cell {
+        name = format!("<font color=\"{FAINT}\">{name}</font>");
+    }
+    let kind = escaped(&kind(design, place));
+    let mut text = format!("{name}  <font color=\"{FAINT}\" point-size=\"9\">{kind}</font>");
+    for load in design.loads.iter().filter(|load| load.column == place) {
+        text += &format!("  <font color=\"{LOAD}\">◂ {}</font>", escaped(&load.name));
+    }
+    let color = if seen {
+        format!(" bgcolor=\"{SEEN}\"")
+    } else {
+        String::new()
+    };
+    format!(
+        "<tr><td port=\"c{}\" align=\"left\"{color}>{text}</td></tr>",
+        place.column
+    )
+}
+
+/// A column's type, tuples as such.
+fn kind(design: &Design, place: Place) -> String {
+    let column = design.column(place);
+    match (column.role, column.kind.name()) {
+        (design::Role::Measure, _) => "measure".into(),
+        (_, Some(name)) => name.into(),
+        (_, None) => column.kind.to_string(),
+    }
+}
+
+fn edge(design: &Design, link: &Link, in_knot: bool) -> String {
+    let side = if link.source.table == link.target.table {
+        ":e"
+    } else {
+        ""
+    };
+    let end = |place: Place| format!("t{}:c{}{side}", place.table, place.column);
+    let tooltip = match &link.words {
+        Some(words) => format!("{}: {words}", design.link_name(link)),
+        None => design.link_name(link),
+    };
+    let knot = if in_knot {
+        format!(", color=\"{KNOT}\", penwidth=2.2")
+    } else {
+        String::new()
+    };
+    format!(
+        "  {} -> {} [tooltip=\"{}\"{knot}];\n",
+        end(link.source),
+        end(link.target),
+        quoted(&tooltip)
+    )
+}
+
+/// Text in labels of HTML's kind.
+fn escaped(text: &str) -> String {
+    let escape = |character| match character {
+        '&' => "&amp;".to_string(),
+        '<' => "&lt;".into(),
+        '>' => "&gt;".into(),
+        '"' => "&quot;".into(),
+        _ if char::is_control(character) => " ".into(),
+        _ => character.to_string(),
+    };
+    text.chars().map(escape).collect()
+}
+
+/// Text in strings of DOT. A backslash would begin an escape of its own there.
+fn quoted(text: &str) -> String {
+    text.replace('\\', "\\\\").replace('"', "\\\"")
+}

@@ -1,0 +1,98 @@
+//! What the tool asks of the proved library, and nothing else: whether a design is accepted, its smallest knot, and the verdicts on its columns.
+//! Here no rule is decided; bytes go in and answers come out.
+
+use std::fmt;
+
+use wurzsige::{Answer, Desk};
+
+/// The operation that asks for the smallest knot (02, Req 11).
+const KNOT: u8 = 0x1c;
+
+/// Why the desk doesn't take a design, in the library's words.
+#[derive(Clone, Debug, PartialEq, Eq)]
+pub struct Refused(String);
+
+impl fmt::Display for Refused {
+    fn fmt(&self, out: &mut fmt::Formatter<'_>) -> fmt::Result {
+        write!(out, "the desk says of the design: {}", self.0)
+    }
+}
+
+/// A design that the desk has accepted.
+pub struct Library(Desk);
+
+impl Library {
+    /// Gives a design's script to the desk.
+    pub fn open(script: &[u8]) -> Result<Library, Refused> {
+        match Desk::open(script) {
+            Ok(desk) => Ok(Library(desk)),
+            Err(refusal) => Err(Refused(refusal.to_string())),
+        }
+    }
+
+    /// The fewest links that feed themselves without the others, rising; none in an even design.
+    pub fn knot(&mut self) -> Vec<usize> {
+        match self.0.step(&[KNOT], 0).answer {
+            Answer::Knot(links) => links.into_iter().map(usize::from).collect(),
+            Answer::Even => Vec::new(),
+            other => unreachable!("a report without operands answers {other}"),
+        }
+    }
+
+    /// The design as the desk writes it back.
+    pub fn write(&self) -> Vec<u8> {
+        self.0.write()
+    }
+
+    /// The verdicts on the design's columns, if the library that is linked gives them.
+    pub fn verdicts(&self) -> Option<Verdicts> {
+        None
+    }
+}
+
+/// What a design decides of a column before any row is there, as the library's word has it.
+#[derive(Clone, Copy, Debug, PartialEq, Eq)]
+pub struct Verdict(u32);
+
+impl Verdict {
+    /// A load can be asked for the column's values.
+    pub fn fetches(self) -> bool {
+        self.0 & 1 != 0
+    }
+
+    /// A value is complete once a row that is here has it at the source of this link, the lowest of those that can.
+    pub fn once_linked(self) -> Option<usize> {
+        (self.0 & 2 != 0).then_some((self.0 >> 8) as usize)
+    }
+
+    /// A value is complete once a row that is here has it in the column, which is unique.
+    pub fn once_unique(self) -> bool {
+        self.0 & 4 != 0
+    }
+
+    /// Every value of the column is sent, always.
+    pub fn never(self) -> bool {
+        self.0 & 8 != 0
+    }
+
+    /// A value that is seen in the column is complete (02, Req 13).
+    pub fn seen_is_all(self) -> bool {
+        self.0 & 16 != 0
+    }
+}
+
+/// The verdicts on all columns that there can be: column c of table t at 8 t + c.
+#[derive(Clone, Debug, PartialEq, Eq)]
+pub struct Verdicts(Vec<u32>);
+
+impl Verdicts {
+    /// The words as the library has filled them.
+    pub fn from_words(words: &[u32; 64]) -> Verdicts {
+        Verdicts(words.to_vec())
+    }
+
+    /// The verdict on a column, by the numbers of the script.
+    pub fn of(&self, table: usize, column: usize) -> Verdict {
+        Verdict(self.0[8 * table + column])
+    }
+}

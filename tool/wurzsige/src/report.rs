@@ -1,0 +1,176 @@
+//! The report of `check` for people.
+
+use codespan_reporting::term::termcolor::Color;
+use design::{Code, Design, Problem, Question, Role, Severity};
+
+use crate::check::{one_of, Checked};
+use crate::facts::{rounds, Facts, Outcome};
+use crate::file::File;
+use crate::output::Page;
+
+/// How many knots are shown, at most.
+const SHOWN_KNOTS: usize = 8;
+
+/// Adds the report to a page.
+pub fn report(page: &mut Page, file: &File, checked: &Checked) {
+    let Checked { facts, problems } = checked;
+    let (Some(design), Some(facts)) = (file.design(), facts) else {
+        problems
+            .iter()
+            .for_each(|problem| page.problem(file, problem));
+        return refused(page, file, problems);
+    };
+    accepted(page, file, design);
+    for problem in shown(problems) {
+        page.problem(file, problem);
+    }
+    evenness(page, file, design, facts);
+    if facts.has_verdicts() {
+        seen(page, design, facts);
+        questions(page, file, design, checked, facts);
+    }
+}
+
+/// The warnings that are shown with their lines: not too many knots, and no questions, which stand in a list of their own.
+fn shown(problems: &[Problem]) -> impl Iterator<Item = &Problem> {
+    let mut knots = 0;
+    problems.iter().filter(move |problem| {
+        knots += usize::from(problem.code == Code::W01);
+        match problem.code {
+            Code::W01 => knots <= SHOWN_KNOTS,
+            code => code != Code::W02,
+        }
+    })
+}
+
+fn accepted(page: &mut Page, file: &File, design: &Design) {
+    page.text(&format!("{}: {}\n", file.name, design.title));
+    let (tables, links, loads) = (design.tables.len(), design.links.len(), design.loads.len());
+    page.coloured(Color::Green, "  accepted   ");
+    page.text(&format!(
+        "{tables} of 8 tables, {links} of 16 links, {loads} of 8 loads\n\n"
+    ));
+}
+
+fn refused(page: &mut Page, file: &File, problems: &[Problem]) {
+    let is_error = |problem: &&Problem| problem.code.severity() == Severity::Error;
+    let mistakes = match problems.iter().filter(is_error).count() {
+        1 => "1 mistake".to_string(),
+        count => format!("{count} mistakes"),
+    };
+    page.coloured(Color::Red, "refused");
+    page.text(&format!(
+        ": {} has {mistakes}; `wurzsige explain CODE` has a page on each\n",
+        file.name
+    ));
+}
+
+fn evenness(page: &mut Page, file: &File, design: &Design, facts: &Facts) {
+    let rounds = rounds(design.tables.len());
+    let bound =
+        format!("every load is over after at most {rounds} rounds, whatever the rows (proved)");
+    if facts.is_even() {
+        page.coloured(Color::Green, "  even       ");
+        return page.text(&format!("{bound}\n"));
+    }
+    page.coloured(Color::Yellow, "  uneven     ");
+    page.text(&match (facts.knots.len(), facts.more_knots) {
+        (1, false) => "1 knot".to_string(),
+        (count, false) => format!("{count} knots"),
+        (count, true) => format!("{count} knots and perhaps more"),
+    });
+    if facts.knots.len() > SHOWN_KNOTS {
+        page.text(&format!(", of which {SHOWN_KNOTS} are shown"));
+    }
+    match &facts.untied_by[..] {
+        [] => page.text("; no single link makes the design even by being taken out\n"),
+        links => page.text(&format!(
+            "; even without {}: then {bound}\n",
+            one_of(file, links)
+        )),
+    }
+}
+
+fn seen(page: &mut Page, design: &Design, facts: &Facts) {
+    let seen = facts.seen_is_all(design).into_iter();
+    let names: Vec<String> = seen.map(|place| design.column_name(place)).collect();
+    if !names.is_empty() {
+        page.coloured(Color::Green, "  seen = all ");
+        page.text(&format!("{}\n", names.join(", ")));
+        page.text("             a value on the screen in these columns needs no grey\n");
+    }
+}
+
+fn questions(page: &mut Page, file: &File, design: &Design, checked: &Checked, facts: &Facts) {
+    if !design.questions.is_empty() {
+        page.text("  Questions\n");
+    }
+    let widths = design
+        .questions
+        .iter()
+        .map(|question| question.text.chars().count());
+    let width = widths.max().unwrap_or(0);
+    for (question, span) in design.questions.iter().zip(&file.reading.spans.questions) {
+        let Some(outcome) = Outcome::of(facts, question) else {
+            continue;
+        };
+        page.coloured(color(outcome), &format!("    {:9}", outcome.name()));
+        let reason = reason(file, design, facts, question);
+        page.text(&format!("  {:width$}  {reason}\n", question.text));
+        let warnings = checked
+            .problems
+            .iter()
+            .filter(|problem| problem.code == Code::W02 && problem.at.span == *span);
+        for note in warnings.flat_map(|problem| &problem.notes) {
+            page.text(&format!("{:1$}{note}\n", "", 4 + 9 + 2 + width + 2));
+        }
+    }
+}
+
+fn color(outcome: Outcome) -> Color {
+    match outcome {
+        Outcome::Always => Color::Green,
+        Outcome::OnceHere => Color::Yellow,
+        Outcome::Never => Color::Red,
+    }
+}
+
+/// Why a question has its outcome.
+fn reason(file: &File, design: &Design, facts: &Facts, question: &Question) -> String {
+    let Some(verdict) = facts.verdict(question.column) else {
+        return String::new();
+    };
+    let table = |table: usize| design::name(&design.tables[table].name);
+    let load = design
+        .loads
+        .iter()
+        .find(|load| load.column == question.column);
+    if let Some(load) = load.filter(|_| verdict.fetches()) {
+        let name = design::name(&load.name);
+        return format!("loads the {name} itself, while this desk holds fewer than 16");
+    }
+    if let Some(link) = verdict.once_linked() {
+        let source = table(design.links[link].source.table);
+        return format!(
+            "as soon as the {source} is here (line {})",
+            file.link_line(link)
+        );
+    }
+    if verdict.once_unique() {
+        let column = design.column(question.column);
+        let what = if column.role == Role::Key {
+            "the key"
+        } else {
+            "unique"
+        };
+        let name = design::name(&column.name);
+        return format!(
+            "as soon as the {} is here ({name} is {what})",
+            table(question.column.table)
+        );
+    }
+    format!(
+        "no load, link or key leads to {} (W02)",
+        design.column_name(question.column)
+    )
+}

@@ -1,0 +1,62 @@
+//! What the pages say of designs.
+
+mod program;
+
+use program::{text, wurzsige, SLEEP};
+
+/// The design that `docs/USING.md` shows is one.
+#[test]
+fn the_design_of_the_page_for_users() {
+    let page = text("docs/USING.md");
+    let lines = page
+        .lines()
+        .skip_while(|line| !line.starts_with("    design \""));
+    let lines = lines.take_while(|line| line.starts_with("    "));
+    let shown: String = lines.map(|line| format!("{}\n", &line[4..])).collect();
+    assert!(shown.contains("question \"Apnoea"), "{shown}");
+    let reading = design::read(&shown);
+    assert_eq!(reading.problems, []);
+}
+
+/// Every command, type, kind of item and code that the page names is there, and none is left out.
+#[test]
+fn the_page_for_users_is_whole() {
+    let page = text("docs/USING.md");
+    for command in program::commands()
+        .iter()
+        .filter(|command| *command != "help")
+    {
+        assert!(page.contains(&format!("`wurzsige {command}")), "{command}");
+    }
+    for kind in design::Type::NAMED.iter().filter_map(design::Type::name) {
+        assert!(page.contains(&format!("`{kind}`")), "{kind}");
+    }
+}
+
+/// The picture of the pages is that of the design: each of its names is in it.
+#[test]
+fn the_picture_of_the_pages() {
+    let svg = text("examples/sleep.svg");
+    let design = design::read(&text(SLEEP)).design.expect("a design");
+    for table in &design.tables {
+        assert!(
+            svg.contains(&format!(">{}</text>", table.name)),
+            "{}",
+            table.name
+        );
+    }
+    for link in &design.links {
+        let name = design
+            .link_name(link)
+            .replace('>', "&gt;")
+            .replace('-', "&#45;");
+        assert!(svg.contains(&name), "{name}");
+    }
+    let dot = wurzsige(&["draw", SLEEP]).output;
+    let knots = dot.matches("#c4161c\", penwidth").count();
+    assert_eq!(
+        svg.matches("stroke=\"#c4161c\"").count(),
+        2 * knots,
+        "a line and its head for each link of a knot"
+    );
+}

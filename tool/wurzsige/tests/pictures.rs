@@ -1,0 +1,110 @@
+//! What `draw` draws, by its DOT text, and that Graphviz takes it.
+
+mod program;
+
+use program::{design, expected, scratch, wurzsige, wurzsige_alone, SLEEP};
+
+#[test]
+fn the_picture_in_dot() {
+    let ran = wurzsige(&["draw", SLEEP]);
+    assert_eq!(ran.output, expected("sleep.dot"));
+    assert_eq!((ran.errors.as_str(), ran.status), ("", 0));
+}
+
+/// Keys bold, a knot's links red, loads named.
+#[test]
+fn colours_mean_something() {
+    let dot = wurzsige(&["draw", SLEEP]).output;
+    let red: Vec<&str> = dot
+        .lines()
+        .filter(|line| line.contains("#c4161c\", penwidth"))
+        .collect();
+    assert_eq!(red.len(), 1);
+    assert!(
+        red[0].contains("staff.supervisor_id -> staff.id: supervises"),
+        "{}",
+        red[0]
+    );
+    assert!(dot.contains("◂ ward</font>") && dot.contains("◂ night</font>"));
+    assert!(dot.contains("<b>hospital_no</b>") && !dot.contains("<b>ward_code</b>"));
+    let even = wurzsige(&["draw", &design("even")]).output;
+    assert!(!even.contains("#c4161c"), "{even}");
+}
+
+#[test]
+fn graphviz_draws_it() {
+    for (name, head) in [
+        ("sleep.svg", &b"<?xml"[..]),
+        ("sleep.png", b"\x89PNG\r\n"),
+        ("sleep.pdf", b"%PDF"),
+    ] {
+        for design in [SLEEP, &design("full")] {
+            let path = scratch(name);
+            let ran = wurzsige(&["draw", design, "--output", path.to_str().expect("a name")]);
+            assert_eq!(
+                (ran.output.as_str(), ran.errors.as_str(), ran.status),
+                ("", "", 0),
+                "{name}"
+            );
+            assert!(
+                std::fs::read(&path).expect(name).starts_with(head),
+                "{name}"
+            );
+        }
+    }
+    let path = scratch("sleep.dot");
+    let ran = wurzsige(&["draw", SLEEP, "-o", path.to_str().expect("a name")]);
+    assert_eq!((ran.output.as_str(), ran.status), ("", 0));
+    assert_eq!(
+        std::fs::read_to_string(&path).expect("DOT"),
+        expected("sleep.dot")
+    );
+}
+
+/// Names are only names, whatever characters they have.
+#[test]
+fn names_are_escaped() {
+    let text = "design \"<b>&\\\"\\\\\"\ntable `</table>`\n    `a<b>&\"c` key text\nload `<i>` by `</table>`.`a<b>&\"c`\nlink `</table>`.`a<b>&\"c` -> `</table>`.`a<b>&\"c` \"\\\\N \\\"quoted\\\"\"\n";
+    let path = scratch("names.svg");
+    let ran = program::wurzsige_reading(
+        &["draw", "-", "-o", path.to_str().expect("a name")],
+        text.as_bytes(),
+    );
+    assert_eq!((ran.errors.as_str(), ran.status), ("", 0));
+    let svg = std::fs::read_to_string(&path).expect("a picture");
+    assert!(
+        svg.contains("&lt;/table&gt;") && svg.contains("a&lt;b&gt;&amp;&quot;c"),
+        "{svg}"
+    );
+    assert!(svg.contains("\\N &quot;quoted&quot;"), "{svg}");
+}
+
+#[test]
+fn a_picture_of_another_kind_is_refused() {
+    let ran = wurzsige(&["draw", SLEEP, "-o", "sleep.jpeg"]);
+    assert_eq!(
+        ran.errors,
+        "wurzsige: sleep.jpeg: a picture's name ends with .svg, .png, .pdf or .dot\n"
+    );
+    assert_eq!(ran.status, 2);
+    let path = scratch("nowhere/sleep.dot");
+    assert_eq!(
+        wurzsige(&["draw", SLEEP, "-o", path.to_str().expect("a name")]).status,
+        3
+    );
+}
+
+#[test]
+fn without_graphviz_there_is_dot_text() {
+    let path = scratch("alone.svg");
+    let ran = wurzsige_alone(&["draw", SLEEP, "-o", path.to_str().expect("a name")]);
+    assert!(
+        ran.errors
+            .starts_with("wurzsige: Graphviz's `dot` can't be run: "),
+        "{}",
+        ran.errors
+    );
+    assert_eq!(ran.status, 3);
+    let ran = wurzsige_alone(&["draw", SLEEP]);
+    assert_eq!((ran.output, ran.status), (expected("sleep.dot"), 0));
+}
