@@ -109,7 +109,7 @@ pub fn one_of(file: &File, links: &[usize]) -> String {
 fn never_answered(file: &File, design: &Design, facts: &Facts) -> Result<Vec<Problem>, Refused> {
     let mut problems = Vec::new();
     for (question, span) in design.questions.iter().zip(&file.reading.spans.questions) {
-        if Outcome::of(facts, question) != Some(Outcome::Never) {
+        if Outcome::of(facts, question) != Outcome::Never {
             continue;
         }
         let message = format!("the desk never answers \"{}\"", question.text);
@@ -133,10 +133,8 @@ fn opening_load(design: &Design, question: &Question) -> Result<Option<String>, 
         values: None,
     };
     let line = design::load_line(design, &load);
-    let outcome = outcome_with(design, load, question)?;
-    Ok(outcome
-        .filter(|&outcome| outcome > Outcome::Never)
-        .map(|_| line))
+    let opened = outcome_with(design, load, question)? > Outcome::Never;
+    Ok(opened.then_some(line))
 }
 
 /// A name for a load by a column that no load has yet.

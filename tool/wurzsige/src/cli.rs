@@ -6,7 +6,7 @@ use clap::{Parser, Subcommand, ValueEnum};
 
 use crate::output::When;
 
-const EXIT: &str = "Exit status: 0 good; 1 a warning was found, such as a knot; 2 the design or the command is refused; 3 a file can't be read or written.";
+const EXIT: &str = "Exit status: 0 good; 1 a warning was found (knots, questions that are never answered); 2 the design or the command is refused; 3 a file can't be read or written.";
 
 /// Designs for the review desk, decided by the proved desk
 #[derive(Debug, Parser)]
@@ -24,7 +24,7 @@ pub struct Arguments {
 /// What the tool can do.
 #[derive(Debug, Subcommand)]
 pub enum Command {
-    /// Tell all mistakes of a design, and whether it has knots
+    /// Tell all mistakes of a design; whether it has knots; which questions are answered here
     #[command(after_help = EXIT)]
     Check {
         /// The design's file, or - for standard input
@@ -35,7 +35,7 @@ pub enum Command {
         format: Format,
     },
 
-    /// Draw a design: tables, links and loads, with a knot's links red
+    /// Draw a design: tables, links, loads; knots red, columns where seeing is enough green
     #[command(after_help = EXIT)]
     Draw {
         /// The design's file, or - for standard input
@@ -48,7 +48,7 @@ pub enum Command {
 
     /// Tell what a change of a design adds and loses
     #[command(
-        after_help = "Exit status: 0 nothing got worse; 1 a knot came; 2 a design or the command is refused; 3 a file can't be read."
+        after_help = "Exit status: 0 nothing got worse; 1 a knot came, or a question is answered less often or not at all; 2 a design or the command is refused; 3 a file can't be read."
     )]
     Diff {
         /// The design before

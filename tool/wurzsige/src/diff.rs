@@ -173,7 +173,7 @@ fn verdicts(before: &Design, old: &Facts, after: &Design, new: &Facts) -> Vec<Ch
             .questions
             .iter()
             .find(|other| other.text == question.text)?;
-        let (was, is) = (Outcome::of(old, same)?, Outcome::of(new, question)?);
+        let (was, is) = (Outcome::of(old, same), Outcome::of(new, question));
         (was != is).then(|| Changed {
             text: question.text.clone(),
             before: was.name(),
@@ -195,7 +195,7 @@ fn never(before: &Design, after: &Design, new: &Facts) -> Vec<String> {
         .questions
         .iter()
         .filter(|question| is_new(&question.text));
-    let never = questions.filter(|question| Outcome::of(new, question) == Some(Outcome::Never));
+    let never = questions.filter(|question| Outcome::of(new, question) == Outcome::Never);
     never.map(|question| question.text.clone()).collect()
 }
 

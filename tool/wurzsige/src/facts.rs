@@ -18,8 +18,7 @@ pub struct Facts {
     pub more_knots: bool,
     /// The links of which each, taken out alone, leaves an even design; none for an even one.
     pub untied_by: Vec<usize>,
-    /// The verdicts on columns, if the library gives them.
-    verdicts: Option<Verdicts>,
+    verdicts: Verdicts,
     cells: Cells,
 }
 
@@ -45,15 +44,16 @@ impl Facts {
         self.knots.is_empty()
     }
 
-    /// Whether the library gives verdicts.
-    pub fn has_verdicts(&self) -> bool {
-        self.verdicts.is_some()
+    /// The verdict on a column, if it takes a cell.
+    fn verdict(&self, place: Place) -> Option<Verdict> {
+        let cell = self.cells.cell(place)?;
+        Some(self.verdicts.of(place.table, cell))
     }
 
-    /// The verdict on a column that takes a cell.
-    pub fn verdict(&self, place: Place) -> Option<Verdict> {
-        let cell = self.cells.cell(place)?;
-        Some(self.verdicts.as_ref()?.of(place.table, cell))
+    /// The verdict on the column that a question of the design asks for.
+    pub fn verdict_on(&self, question: &Question) -> Verdict {
+        let cell = cell_of(&self.cells, question);
+        self.verdicts.of(question.column.table, cell)
     }
 
     /// The columns in which a value that is seen is complete, and some can be seen.
@@ -100,9 +100,9 @@ impl Outcome {
         }
     }
 
-    /// What becomes of a question, if the library gives verdicts.
-    pub fn of(facts: &Facts, question: &Question) -> Option<Outcome> {
-        facts.verdict(question.column).map(Outcome::by)
+    /// What becomes of a question.
+    pub fn of(facts: &Facts, question: &Question) -> Outcome {
+        Outcome::by(facts.verdict_on(question))
     }
 
     fn by(verdict: Verdict) -> Outcome {
@@ -114,20 +114,21 @@ impl Outcome {
     }
 }
 
-/// What would become of a question with one load more, if the library gives verdicts.
-pub fn outcome_with(
-    design: &Design,
-    load: Load,
-    question: &Question,
-) -> Result<Option<Outcome>, Refused> {
+/// What would become of a question with one load more.
+pub fn outcome_with(design: &Design, load: Load, question: &Question) -> Result<Outcome, Refused> {
     let mut design = design.clone();
     design.loads.push(load);
     let verdicts = Library::open(&script(&design))?.verdicts();
-    let cell = Cells::of(&design).cell(question.column);
-    let verdict = verdicts
-        .zip(cell)
-        .map(|(verdicts, cell)| verdicts.of(question.column.table, cell));
-    Ok(verdict.map(Outcome::by))
+    let cell = cell_of(&Cells::of(&design), question);
+    Ok(Outcome::by(verdicts.of(question.column.table, cell)))
+}
+
+/// The cell of the column that a question asks for.
+fn cell_of(cells: &Cells, question: &Question) -> usize {
+    let Some(cell) = cells.cell(question.column) else {
+        unreachable!("a column that a question uses takes a cell");
+    };
+    cell
 }
 
 /// A set of links, bit i for link i.

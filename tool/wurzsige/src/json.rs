@@ -16,7 +16,7 @@ pub struct Check {
     knots: Vec<Vec<String>>,
     untied_by: Vec<String>,
     rounds: Option<usize>,
-    seen_is_all: Option<Vec<String>>,
+    seen_is_all: Vec<String>,
     questions: Vec<Question>,
     problems: Vec<Told>,
 }
@@ -25,7 +25,7 @@ pub struct Check {
 #[derive(Serialize)]
 struct Question {
     text: String,
-    verdict: Option<&'static str>,
+    verdict: &'static str,
 }
 
 /// A mistake or warning.
@@ -93,7 +93,7 @@ impl Check {
             knots: Vec::new(),
             untied_by: Vec::new(),
             rounds: None,
-            seen_is_all: None,
+            seen_is_all: Vec::new(),
             questions: Vec::new(),
             problems,
         }
@@ -110,11 +110,10 @@ impl Check {
         self.untied_by = link_names(design, &facts.untied_by);
         self.rounds = facts.is_even().then(|| rounds(design.tables.len()));
         let seen = facts.seen_is_all(design).into_iter();
-        let seen: Vec<String> = seen.map(|place| design.column_name(place)).collect();
-        self.seen_is_all = facts.has_verdicts().then_some(seen);
+        self.seen_is_all = seen.map(|place| design.column_name(place)).collect();
         let questions = design.questions.iter().map(|question| Question {
             text: question.text.clone(),
-            verdict: Outcome::of(facts, question).map(Outcome::name),
+            verdict: Outcome::of(facts, question).name(),
         });
         self.questions = questions.collect();
     }

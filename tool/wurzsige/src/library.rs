@@ -44,9 +44,9 @@ impl Library {
         self.0.write()
     }
 
-    /// The verdicts on the design's columns, if the library that is linked gives them.
-    pub fn verdicts(&self) -> Option<Verdicts> {
-        None
+    /// The verdicts on the design's columns.
+    pub fn verdicts(&self) -> Verdicts {
+        Verdicts(self.0.verdicts())
     }
 }
 
@@ -83,14 +83,9 @@ impl Verdict {
 
 /// The verdicts on all columns that there can be: column c of table t at 8 t + c.
 #[derive(Clone, Debug, PartialEq, Eq)]
-pub struct Verdicts(Vec<u32>);
+pub struct Verdicts([u32; 64]);
 
 impl Verdicts {
-    /// The words as the library has filled them.
-    pub fn from_words(words: &[u32; 64]) -> Verdicts {
-        Verdicts(words.to_vec())
-    }
-
     /// The verdict on a column, by the numbers of the script.
     pub fn of(&self, table: usize, column: usize) -> Verdict {
         Verdict(self.0[8 * table + column])

@@ -25,10 +25,8 @@ pub fn report(page: &mut Page, file: &File, checked: &Checked) {
         page.problem(file, problem);
     }
     evenness(page, file, design, facts);
-    if facts.has_verdicts() {
-        seen(page, design, facts);
-        questions(page, file, design, checked, facts);
-    }
+    seen(page, design, facts);
+    questions(page, file, design, checked, facts);
 }
 
 /// The warnings that are shown with their lines: not too many knots, and no questions, which stand in a list of their own.
@@ -111,9 +109,7 @@ fn questions(page: &mut Page, file: &File, design: &Design, checked: &Checked, f
         .map(|question| question.text.chars().count());
     let width = widths.max().unwrap_or(0);
     for (question, span) in design.questions.iter().zip(&file.reading.spans.questions) {
-        let Some(outcome) = Outcome::of(facts, question) else {
-            continue;
-        };
+        let outcome = Outcome::of(facts, question);
         page.coloured(color(outcome), &format!("    {:9}", outcome.name()));
         let reason = reason(file, design, facts, question);
         page.text(&format!("  {:width$}  {reason}\n", question.text));
@@ -137,9 +133,7 @@ fn color(outcome: Outcome) -> Color {
 
 /// Why a question has its outcome.
 fn reason(file: &File, design: &Design, facts: &Facts, question: &Question) -> String {
-    let Some(verdict) = facts.verdict(question.column) else {
-        return String::new();
-    };
+    let verdict = facts.verdict_on(question);
     let table = |table: usize| design::name(&design.tables[table].name);
     let load = design
         .loads
@@ -147,7 +141,11 @@ fn reason(file: &File, design: &Design, facts: &Facts, question: &Question) -> S
         .find(|load| load.column == question.column);
     if let Some(load) = load.filter(|_| verdict.fetches()) {
         let name = design::name(&load.name);
-        return format!("loads the {name} itself, while this desk holds fewer than 16");
+        let values = match load.values {
+            Some((low, high)) => format!(" if it is one of {low}..{high},"),
+            None => String::new(),
+        };
+        return format!("loads the {name} itself,{values} while this desk holds fewer than 16");
     }
     if let Some(link) = verdict.once_linked() {
         let source = table(design.links[link].source.table);

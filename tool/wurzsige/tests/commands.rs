@@ -165,10 +165,11 @@ fn explain_has_a_page_for_every_code() {
     assert_eq!(ran.status, 2);
 }
 
-/// The example of a code for which the library is asked.
+/// The examples of the codes for which the library is asked.
 #[test]
-fn the_page_of_knots_holds() {
+fn the_pages_of_warnings_hold() {
     assert_page_holds(design::Code::W01);
+    assert_page_holds(design::Code::W02);
 }
 
 fn assert_page_holds(code: design::Code) {

@@ -11,7 +11,7 @@ fn the_picture_in_dot() {
     assert_eq!((ran.errors.as_str(), ran.status), ("", 0));
 }
 
-/// Keys bold, a knot's links red, loads named.
+/// Keys bold, a knot's links red, columns where seeing is enough green, loads named.
 #[test]
 fn colours_mean_something() {
     let dot = wurzsige(&["draw", SLEEP]).output;
@@ -25,6 +25,7 @@ fn colours_mean_something() {
         "{}",
         red[0]
     );
+    assert_eq!(dot.matches("bgcolor=\"#dff3e0\"").count(), 5);
     assert!(dot.contains("◂ ward</font>") && dot.contains("◂ night</font>"));
     assert!(dot.contains("<b>hospital_no</b>") && !dot.contains("<b>ward_code</b>"));
     let even = wurzsige(&["draw", &design("even")]).output;
