@@ -1,7 +1,7 @@
 -- Demand 3 with row sets as any predicates: the smallest among the tests is the smallest among all sets, in every database. Assumes nothing.
 use Prim.Native.Nat.{ℕ, zero, suc, _<_}
 use native.Mathlib.Omega.{arith}
-use mathlib.Core.Path.{_≡_, refl, sym}
+use mathlib.Core.Path.{_≡_, refl}
 use mathlib.Core.Bool.{true, false}
 use mathlib.Core.List.{List}
 use Rattle.finite.proofs.Bools.{clash}
@@ -9,7 +9,7 @@ use lib.ListN.{take}
 use Rattle.model.specs.Cell.{Cell}
 use Rattle.model.specs.Scheme.{Column, Scheme}
 use Rattle.model.specs.Database.{Database}
-use Rattle.model.specs.Cache.{RowSet, Complete, Holds, Meets, Smallest, Alike}
+use Rattle.model.specs.Cache.{RowSet, Complete, Holds, Smallest, Alike}
 use Rattle.model.specs.Rounds.{level, load}
 use Rattle.model.specs.Holding.{Holding, heldIn, wanted}
 use Rattle.model.specs.Runs.{marked, cachedFor, reloadLevels}
