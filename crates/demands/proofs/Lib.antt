@@ -19,6 +19,8 @@ pub mod Designs
 pub mod Openers
 pub mod Counted
 pub mod Seeing
+pub mod Holdings
+pub mod Orders
 pub mod Given
 pub mod RowSets
 pub mod Unissued

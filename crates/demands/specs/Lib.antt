@@ -8,6 +8,7 @@ pub mod Queried
 pub mod Explained
 pub mod Opening
 pub mod Seeing
+pub mod Orders
 pub mod Given
 pub mod RowSets
 pub mod Unissued
