@@ -40,8 +40,6 @@ use Rattle.format.specs.Reading.{draft, cellsAfter}
 use Rattle.format.specs.Reading.DesignRead.{accepted}
 use Rattle.format.specs.Writing.{designBytes, Dense}
 use Rattle.format.proofs.CommandLaws.{width-remove, operands-remove, at-end, at-whole}
-use Rattle.finite.proofs.Standing.{Stands, stands-here, stands-at, stands-long}
-use Rattle.format.proofs.Standing.{Reads}
 use Rattle.format.proofs.Small.{small-design}
 use Rattle.format.proofs.Reached.{Sizes}
 use Rattle.format.proofs.ReadBack.{Numbers}
@@ -53,6 +51,10 @@ use Rattle.script.proofs.Places.{put-sized}
 use Rattle.script.proofs.LongerRows.{RowsSized, sized-after}
 use Rattle.demands.proofs.Runs.{points-hold}
 use Rattle.demands.specs.Given.{GivenBy}
+use Rattle.model.specs.Holding.{Holding, nothingHeld}
+use Rattle.demands.specs.Orders.{Order, removing, orderAction, OrderFits, ordersBytes, ordersActions}
+use Rattle.demands.proofs.Holdings.{behind, behind-append}
+use Rattle.demands.proofs.Orders.{Within, within-one, within-append, AllFit, fit-more, orders-within, orders-long, actions-are}
 
 -- ---- what a script gives is lawful
 
@@ -102,8 +104,8 @@ module _ (d : Design) (h : lawfulDesign d ≡ true) where
     from-fine zero i m f = f
     from-fine (suc n) i m f = then-fine i (actionsFrom n script rooms (i + widthOf (byteAt script i))) (from-fine n (i + widthOf (byteAt script i))) (commandAt script i) m f
 
-given-lawful : (d : Design) (cells : Cells) (tables script : List ℕ) → GivenBy d cells tables script → (lawfulDesign d ≡ true) × (lawfulRows d cells tables ≡ true)
-given-lawful d cells tables script g =
+given-lawful : (d : Design) (cells : Cells) (tables : List ℕ) (h : Holding) (script : List ℕ) → GivenBy d cells tables h script → (lawfulDesign d ≡ true) × (lawfulRows d cells tables ≡ true)
+given-lawful d cells tables h script g =
     let p = g .draft in
     let a = accepted-lawful script (record { at = g .bytes }) p (g .place) (g .read) in
     let z = a .2 in
@@ -112,7 +114,7 @@ given-lawful d cells tables script g =
     (record { lawful = a .1; sized = record { numbers = z .cells; issues = z .issues; tables = z .tables } }) in (
       ap lawfulDesign (sym (g .design)) ∙ a .0,
       subst (λ (e : Design). lawfulRows e cells tables ≡ true) (g .design)
-          (subst (λ (R : Rows). lawfulRows (p .design) (R .cells) (R .tables) ≡ true) (g .rows none) (f .lawful)),
+          (subst (λ (R : Rows). lawfulRows (p .design) (R .cells) (R .tables) ≡ true) (ap (λ (m : Moment). m .rows) (g .moment none)) (f .lawful)),
     )
 
 positive-tables : (d : Design) → 0 < d .tables → 0 < schemeOf d .tables
@@ -123,75 +125,21 @@ no-tables : (d : Design) → d .tables ≡ 0 → (t : ℕ) → t < schemeOf d .t
 unfolding schemeOf
 no-tables d e t l = omega (arith, e, l)
 
--- ---- numbers below a bound
-
-abbrev Within : ℕ → List ℕ → Type 0
-Within m xs = (j : ℕ) → getD xs j 0 < m
-
-within-one : (m x : ℕ) (xs : List ℕ) → x < m → Within m xs → Within m (x ∷ xs)
-within-one m x xs h s zero = h
-within-one m x xs h s (suc j) = s j
-
-within-append : (m : ℕ) (xs ys : List ℕ) → Within m xs → Within m ys → Within m (xs ++ ys)
-within-append m [] ys a b = b
-within-append m (x ∷ xs) ys a b = within-one m x (xs ++ ys) (a 0) (within-append m xs ys (λ j. a (suc j)) b)
-
 -- ---- 0x1E, for each of a list of numbers
 
-abbrev removal : ℕ → List ℕ
-removal n = 0x1E ∷ n % 256 ∷ n / 256 ∷ []
-
-removals : List ℕ → List ℕ
+removals : List ℕ → List Order
 removals [] = []
-removals (n ∷ ns) = removal n ++ removals ns
+removals (n ∷ ns) = removing n ∷ removals ns
 
-removes : List ℕ → List Action
-removes [] = []
-removes (n ∷ ns) = change (remove n) ∷ removes ns
-
-length-removals : (ns : List ℕ) → length (removals ns) ≡ 3 * length ns
+length-removals : (ns : List ℕ) → length (removals ns) ≡ length ns
 unfolding removals
 length-removals [] = refl
-length-removals (n ∷ ns) = let e = length-removals ns in omega (arith, e)
+length-removals (n ∷ ns) = ap suc (length-removals ns)
 
-removals-small : (ns : List ℕ) → Within 65536 ns → Within 256 (removals ns)
-unfolding removals
-removals-small [] w = λ j. lit< tt
-removals-small (n ∷ ns) w =
-    let l = w 0 in
-    within-append 256 (removal n) (removals ns)
-    (within-one 256 0x1E (n % 256 ∷ n / 256 ∷ []) (lit< tt) (within-one 256 (n % 256) (n / 256 ∷ []) (omega arith) (within-one 256 (n / 256) [] (omega (arith, l)) (λ j. lit< tt))))
-    (removals-small ns (λ j. w (suc j)))
-
-reads-removal : (s : List ℕ) (i n : ℕ) → n < 65536 → Stands s i (removal n) → Reads s i 3 (Remove n)
-unfolding u16At
-reads-removal s i n l h =
-    let b : byteAt s i ≡ 30 = stands-here s _ i h (omega arith) in
-    let low : byteAt s (i + 1) ≡ n % 256 = stands-at s _ i h 1 (omega arith) in
-    let high : byteAt s (i + 2) ≡ n / 256 = stands-at s _ i h 2 (omega arith) in
-    let high′ : byteAt s (i + 1 + 1) ≡ n / 256 = ap (byteAt s) (omega arith) ∙ high in
-    let r : n ≡ u16At s (i + 1) = omega (arith, low, high′) in
-    let w : widthOf (byteAt s i) ≡ 3 = width-remove (byteAt s i) b in
-    let long : i + 3 ≤ length s = stands-long s _ i h in
-    record {
-      command = sym (operands-remove (byteAt s i) s i n r b ∙ at-whole s i (omega arith) (λ (z : widthOf (byteAt s i) ≡ 0). omega arith) (omega arith));
-      width = w;
-    }
-
-module _ (s : List ℕ) (rooms : Rooms) where
-  actions-are : (ns : List ℕ) → Within 65536 ns → (front : List ℕ) → s ≡ front ++ removals ns → (n : ℕ) → length ns ≤ n → actionsFrom n s rooms (length front) ≡ removes ns
-  unfolding actionsFrom removals removes
-  actions-are [] w front e zero l = refl
-  actions-are [] w front e (suc n) l =
-      let long : length s ≤ length front = omega (arith, ap length (e ∙ append-nil front)) in
-      ap (λ (c : Command). actionThen s (length front) c rooms (actionsFrom n s rooms (length front + widthOf (byteAt s (length front))))) (sym (at-end s (length front) long))
-  actions-are (m ∷ ns) w front e zero l = absurd (omega (arith, l))
-  actions-are (m ∷ ns) w front e (suc n) l =
-      let r = reads-removal s (length front) m (w 0) (record { front = front; behind = removals ns; is = e; place = refl }) in
-      let next : length front + widthOf (byteAt s (length front)) ≡ length (front ++ removal m) = omega (arith, r .width, length-append front (removal m)) in
-      ap₂ (λ (c : Command) (j : ℕ). actionThen s (length front) c rooms (actionsFrom n s rooms j)) (r .command) next ∙
-      ap (λ (acts : List Action). change (remove m) ∷ acts)
-      (actions-are ns (λ j. w (suc j)) (front ++ removal m) (e ∙ sym (append-assoc front (removal m) (removals ns))) n (omega (arith, l)))
+removals-fit : (ns : List ℕ) → Within 65536 ns → (more : List Order) → AllFit more → AllFit (removals ns ++ more)
+unfolding removals OrderFits
+removals-fit [] w more f = f
+removals-fit (n ∷ ns) w more f = fit-more (removing n) (removals ns ++ more) (w 0) (removals-fit ns (λ j. w (suc j)) more f)
 
 -- the rows behind them
 removed : Scheme → Rows → List ℕ → Rows
@@ -203,32 +151,41 @@ unfolding removed
 removed-append S R [] ys = refl
 removed-append S R (x ∷ xs) ys = removed-append S (rowsAfter S R (remove x)) xs ys
 
-moment-rows : (S : Scheme) (ns : List ℕ) (m : Moment) → momentFrom S m (removes ns) .rows ≡ removed S (m .rows) ns
-unfolding momentFrom momentAfter removes removed
-moment-rows S [] m = refl
-moment-rows S (n ∷ ns) m = moment-rows S ns (momentAfter S m (change (remove n)))
+removed-moment : (S : Scheme) (ns : List ℕ) (m : Moment) → behind S m (removals ns) ≡ record { rows = removed S (m .rows) ns; held = m .held }
+unfolding momentFrom momentAfter removals removed ordersActions orderAction
+removed-moment S [] m = refl
+removed-moment S (n ∷ ns) m = removed-moment S ns (momentAfter S m (change (remove n)))
 
 -- ---- a design with rows without gaps, from which some are removed
 
-module _ (d : Design) (cells : Cells) (tables : List ℕ) (h : lawfulDesign d ≡ true) (z : Sizes (draft d 0 cells tables)) (numbers : Numbers d cells) where
-  given-from : (k : ℕ) (from : List ℕ) → length from ≡ 512 → lawfulRows d cells from ≡ true → Dense k cells from → (ns : List ℕ) → Within 65536 ns → length ns ≤ 512 →
-      removed (schemeOf d) (rowsIn cells from) ns ≡ rowsIn cells tables → GivenBy d cells tables (designBytes d cells from ++ removals ns)
-  given-from k from long g dense ns w few is =
+-- `more` is what the script does behind that, by which k is held
+module _ (d : Design) (cells : Cells) (tables : List ℕ) (h : lawfulDesign d ≡ true) (z : Sizes (draft d 0 cells tables)) (numbers : Numbers d cells) (more : List Order)
+    (fit : AllFit more) (few-more : length more ≤ 200) (k : Holding)
+    (gives : (m : Moment) → m .held ≡ nothingHeld → behind (schemeOf d) m more ≡ record { rows = m .rows; held = k }) where
+  given-from : (n : ℕ) (from : List ℕ) → length from ≡ 512 → lawfulRows d cells from ≡ true → Dense n cells from → (ns : List ℕ) → Within 65536 ns → length ns ≤ 512 →
+      removed (schemeOf d) (rowsIn cells from) ns ≡ rowsIn cells tables → GivenBy d cells tables k (designBytes d cells from ++ ordersBytes (removals ns ++ more))
+  given-from n from long g dense ns w few is =
       let front = designBytes d cells from in
-      let s = front ++ removals ns in
-      let size : length s ≤ 65536 = omega (arith, length-append front (removals ns), design-short d cells from h, length-removals ns, few) in
+      let os = removals ns ++ more in
+      let s = front ++ ordersBytes os in
+      let all : AllFit os = removals-fit ns w more fit in
+      let count : length os ≤ 712 = omega (arith, length-append (removals ns) more, length-removals ns, few, few-more) in
+      let wide = orders-long os in
+      let size : length s ≤ 65536 = omega (arith, length-append front (ordersBytes os), design-short d cells from h, wide .1, count) in
+      let S = schemeOf d in
+      let m = beginning (draft d n cells from) in
       record {
-        bytes = within-append 256 front (removals ns) (small-design d cells from (numbers .issue) h g .at) (removals-small ns w);
-        draft = draft d k cells from;
+        bytes = within-append 256 front (ordersBytes os) (small-design d cells from (numbers .issue) h g .at) (orders-within os all);
+        draft = draft d n cells from;
         place = length front;
         read =
-            read-written d k cells from h g dense
-            (record { table = z .table; constraint = z .constraint; filling = z .filling; cells = z .cells; issues = z .issues; tables = long }) numbers (removals ns) size;
+            read-written d n cells from h g dense
+            (record { table = z .table; constraint = z .constraint; filling = z .filling; cells = z .cells; issues = z .issues; tables = long }) numbers (ordersBytes os) size;
         design = refl;
-        rows = λ rooms.
-            ap (λ (acts : List Action). momentFrom (schemeOf d) (beginning (draft d k cells from)) acts .rows)
-            (actions-are s rooms ns w front refl (length s) (omega (arith, length-append front (removals ns), length-removals ns))) ∙
-            moment-rows (schemeOf d) ns (beginning (draft d k cells from)) ∙ is;
+        moment = λ rooms.
+            ap (momentFrom S m) (actions-are s rooms os all front refl (length s) (omega (arith, length-append front (ordersBytes os), wide .0))) ∙
+            behind-append S m (removals ns) more ∙ ap (λ (x : Moment). behind S x more) (removed-moment S ns m) ∙ gives _ refl ∙
+            (λ i. record { rows = is i; held = k });
       }
 
   -- ---- rows with gaps: a row of table 0 that is blank stands in each gap, and is removed again
@@ -419,7 +376,7 @@ module _ (d : Design) (cells : Cells) (tables : List ℕ) (h : lawfulDesign d �
     unfolding gaps one
     gaps-few = omega (arith, collect-most 512 1 isGap one (λ i. omega arith))
 
-    with-gaps : 0 < d .tables → GivenBy d cells tables (designBytes d cells filled ++ removals (gaps 512))
+    with-gaps : 0 < d .tables → GivenBy d cells tables k (designBytes d cells filled ++ ordersBytes (removals (gaps 512) ++ more))
     unfolding filled
     with-gaps some =
         let a = rows-at 512 (omega arith) in
@@ -428,7 +385,7 @@ module _ (d : Design) (cells : Cells) (tables : List ℕ) (h : lawfulDesign d �
         sym (tab-of 0 512 (λ r. getD tables r 0) tables (z .tables) (λ r l. refl))) i))
 
     -- a design without tables has no row
-    without : d .tables ≡ 0 → GivenBy d cells tables (designBytes d cells tables ++ removals [])
+    without : d .tables ≡ 0 → GivenBy d cells tables k (designBytes d cells tables ++ ordersBytes (removals [] ++ more))
     unfolding removed
     without none =
         given-from 0 tables (z .tables) g
@@ -439,29 +396,27 @@ module _ (d : Design) (cells : Cells) (tables : List ℕ) (h : lawfulDesign d �
         dead r =
             ⊎-elim (λ (e : D .live r ≡ true). absurd (no-tables d none (D .table r) (rows .database .tables r e))) (λ (e : D .live r ≡ false). e) (dec (D .live r))
 
+    -- with gaps or without
+    pub some-script : (script : List ℕ) × GivenBy d cells tables k script
+    some-script =
+        ⊎-elim (λ (e : d .tables ≡ 0). (designBytes d cells tables ++ ordersBytes (removals [] ++ more), without e))
+        (λ (e : d .tables ≡ 0 → ⊥). (designBytes d cells filled ++ ordersBytes (removals (gaps 512) ++ more), with-gaps (omega arith)))
+        (same-number (d .tables) 0)
+
+nothing-more : (S : Scheme) (m : Moment) → m .held ≡ nothingHeld → behind S m [] ≡ record { rows = m .rows; held = nothingHeld }
+unfolding ordersActions momentFrom
+nothing-more S m e = λ i. record { rows = m .rows; held = e i }
+
 -- THEOREM. 01, cause 12: "a design or rows that no script gives"; 02, Req 12: "Operation 0x1D .. puts a row in; 0x1E takes a row number and removes it .. A removed number can
 -- be taken by a later row. From now on a free number has row table 255 and all else 0, after reading a design too, and gaps are lawful under 12." A design with rows is
 -- lawful if and only if some script gives it. The arrays have their places, and the numbers are u32 and the issues u8, as their types say.
 pub lawful-given : (d : Design) (cells : Cells) (tables : List ℕ) → Sizes (draft d 0 cells tables) → Numbers d cells →
-    ((lawfulDesign d ≡ true) × (lawfulRows d cells tables ≡ true)) ↔ ((script : List ℕ) × GivenBy d cells tables script)
+    ((lawfulDesign d ≡ true) × (lawfulRows d cells tables ≡ true)) ↔ ((script : List ℕ) × GivenBy d cells tables nothingHeld script)
 lawful-given d cells tables z n = (
-  λ h. ⊎-elim (λ (e : d .tables ≡ 0). (designBytes d cells tables ++ removals [], without d cells tables (h .0) z n (h .1) e))
-      (λ (e : d .tables ≡ 0 → ⊥). (designBytes d cells (filled d cells tables (h .0) z n (h .1)) ++ removals (gaps d cells tables (h .0) z n (h .1) 512), with-gaps d cells tables (h .0) z n (h .1) (omega arith)))
-      (same-number (d .tables) 0),
-  λ g. given-lawful d cells tables (g .0) (g .1),
+  λ h. some-script d cells tables (h .0) z n [] (record { each = λ front behind o e. absurd (empty front behind o e) }) (omega arith) nothingHeld (nothing-more (schemeOf d)) (h .1),
+  λ g. given-lawful d cells tables nothingHeld (g .0) (g .1),
 )
-
--- THEOREM: and such a script, run with buffers that are long enough, leaves that design and these rows, with whatever lay past them. The cells are u32 numbers with u8
--- issues, as their types say.
-pub given-left : (d : Design) (cells : Cells) (tables script : List ℕ) (g : GivenBy d cells tables script) (b : Buffers) →
-    readingOf script b ≡ accepted (g .draft) (g .place) → Stored (cellsAfter (accepted (g .draft) (g .place)) (b .cells)) →
-    (leftFrom (length script) script (justRead (accepted (g .draft) (g .place)) b) (b .outputs) (g .place) .state .design ≡ d) ×
-    (leftFrom (length script) script (justRead (accepted (g .draft) (g .place)) b) (b .outputs) (g .place) .state .cells ≡ longer cells (pastCells 4096 (b .cells))) ×
-    (leftFrom (length script) script (justRead (accepted (g .draft) (g .place)) b) (b .outputs) (g .place) .state .tables ≡ tables ++ past 512 (b .tables))
-given-left d cells tables script g b read stored =
-    let at = points-hold script (record { at = g .bytes }) b (g .draft) (g .place) read stored .point (length script) in
-    let is = g .rows (roomsIn b) in (
-      at .design ∙ g .design,
-      at .cells ∙ ap (λ (R : Rows). longer (R .cells) (pastCells 4096 (b .cells))) is,
-      at .tables ∙ ap (λ (R : Rows). R .tables ++ past 512 (b .tables)) is,
-    )
+  where
+    empty : (front behind : List Order) (o : Order) → [] ≡ front ++ (o ∷ behind) → ⊥
+    empty [] behind o e = let z = ap length e in omega (arith, z)
+    empty (x ∷ front) behind o e = let z = ap length e in omega (arith, z)

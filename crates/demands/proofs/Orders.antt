@@ -165,6 +165,13 @@ fit-first o os f = f .each [] os o refl
 pub fit-rest : (o : Order) (os : List Order) → AllFit (o ∷ os) → AllFit os
 fit-rest o os f = record { each = λ front behind x e. f .each (o ∷ front) behind x (ap (λ (l : List Order). o ∷ l) e) }
 
+pub fit-more : (o : Order) (os : List Order) → OrderFits o → AllFit os → AllFit (o ∷ os)
+fit-more o os f a = record { each = λ front behind x e. go front behind x e }
+  where
+    go : (front behind : List Order) (x : Order) → o ∷ os ≡ front ++ (x ∷ behind) → OrderFits x
+    go [] behind x e = let z : o ≡ x = cc in subst OrderFits z f
+    go (y ∷ front) behind x e = let z : os ≡ front ++ (x ∷ behind) = cc in a .each front behind x z
+
 pub orders-within : (os : List Order) → AllFit os → Within 256 (ordersBytes os)
 unfolding ordersBytes
 orders-within [] f = none-within
