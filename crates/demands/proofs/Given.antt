@@ -1,14 +1,14 @@
 -- A design with rows is lawful if and only if some script gives it, by its design commands and by 0x1D and 0x1E behind its END. Assumes nothing.
-use Prim.Native.Nat.{ℕ, zero, suc, _+_, _*_, _/_, _%_, _≤_, _<_}
+use Prim.Native.Nat.{ℕ, zero, suc, _+_, _*_, _≤_, _<_}
 use native.Mathlib.Numerals.{add-one}
 use native.Mathlib.Omega.{arith}
-use mathlib.Core.Path.{_≡_, refl, sym, ap, ap₂, subst, _∙_}
+use mathlib.Core.Path.{_≡_, refl, sym, ap, subst, _∙_}
 use mathlib.Core.Bool.{Bool, true, false, not, cond}
-use mathlib.Core.List.{List, [], _∷_, _++_, append-nil, append-assoc}
+use mathlib.Core.List.{List, [], _∷_, _++_}
 use mathlib.Core.Logic.{_↔_, ⊎-elim}
 use borrow.Author.Tests.{eqb-true, ne-eqb, ltb-true, lt-ltb, le-ltb}
 use lib.Dec.{eqb, ltb, lit<}
-use lib.ListN.{length, getD, set, drop as past, length-append}
+use lib.ListN.{length, getD, set, length-append}
 use lib.Seq.{sets, set-getD}
 use Rattle.finite.specs.Finite.{tab, collect}
 use Rattle.finite.proofs.Bools.{dec, clash, both, same-number, and-right, cond-true, cond-false}
@@ -29,27 +29,24 @@ use Rattle.state.specs.Lawful.{lawfulDesign, lawfulRows}
 use Rattle.state.specs.Changes.{Change, put, remove, Rows, rowsIn, tablesOf, rowOf, stored, changeCause, rowsAfter}
 use Rattle.lawful.specs.LawfulState.{LawfulRows}
 use Rattle.lawful.proofs.DesignLaws.{design-says}
-use Rattle.lawful.proofs.RowsLaws.{Stored, live-below, rows-say, rows-if}
+use Rattle.lawful.proofs.RowsLaws.{live-below, rows-say, rows-if}
 use Rattle.lawful.proofs.StoredLaws.{RowSized, free-sized, put-lawful, removed-lawful}
 use Rattle.lawful.proofs.SoundChange.{put-free, remove-cause, number-below, rows-changed, rows-unchanged}
 use Rattle.format.specs.declared.command.Command.{Command}
 use Rattle.format.specs.declared.command.Command.the-variants.{Table, Constraint, Filling, Row, End, Operate, Put, Remove, Unknown, Short}
-use Rattle.format.specs.Bytes.{byteAt, u16At}
+use Rattle.format.specs.Bytes.{byteAt}
 use Rattle.format.specs.Commands.{commandAt, widthOf, putRowAt}
-use Rattle.format.specs.Reading.{draft, cellsAfter}
-use Rattle.format.specs.Reading.DesignRead.{accepted}
+use Rattle.format.specs.Reading.{draft}
 use Rattle.format.specs.Writing.{designBytes, Dense}
-use Rattle.format.proofs.CommandLaws.{width-remove, operands-remove, at-end, at-whole}
 use Rattle.format.proofs.Small.{small-design}
 use Rattle.format.proofs.Reached.{Sizes}
 use Rattle.format.proofs.ReadBack.{Numbers}
 use Rattle.format.proofs.RoundTrip.{design-short, read-written, accepted-lawful}
 use Rattle.script.specs.Moments.{Action, change, Moment, momentAfter, momentFrom}
 use Rattle.script.specs.Step.{Rooms}
-use Rattle.script.specs.Runs.{actionThen, actionsFrom, leftFrom, Buffers, roomsIn, readingOf, justRead, beginning, longer, pastCells}
+use Rattle.script.specs.Runs.{actionThen, actionsFrom, beginning}
 use Rattle.script.proofs.Places.{put-sized}
 use Rattle.script.proofs.LongerRows.{RowsSized, sized-after}
-use Rattle.demands.proofs.Runs.{points-hold}
 use Rattle.demands.specs.Given.{GivenBy}
 use Rattle.model.specs.Holding.{Holding, nothingHeld}
 use Rattle.demands.specs.Orders.{Order, removing, orderAction, OrderFits, ordersBytes, ordersActions}
@@ -182,6 +179,7 @@ module _ (d : Design) (cells : Cells) (tables : List ℕ) (h : lawfulDesign d �
             read-written d n cells from h g dense
             (record { table = z .table; constraint = z .constraint; filling = z .filling; cells = z .cells; issues = z .issues; tables = long }) numbers (ordersBytes os) size;
         design = refl;
+        stored = record { number = numbers .cell; issue = numbers .issue };
         moment = λ rooms.
             ap (momentFrom S m) (actions-are s rooms os all front refl (length s) (omega (arith, length-append front (ordersBytes os), wide .0))) ∙
             behind-append S m (removals ns) more ∙ ap (λ (x : Moment). behind S x more) (removed-moment S ns m) ∙ gives _ refl ∙
@@ -403,6 +401,14 @@ module _ (d : Design) (cells : Cells) (tables : List ℕ) (h : lawfulDesign d �
         (λ (e : d .tables ≡ 0 → ⊥). (designBytes d cells filled ++ ordersBytes (removals (gaps 512) ++ more), with-gaps (omega arith)))
         (same-number (d .tables) 0)
 
+-- no commands
+pub none-fit : AllFit []
+none-fit = record { each = λ front behind o e. absurd (empty front behind o e) }
+  where
+    empty : (front behind : List Order) (o : Order) → [] ≡ front ++ (o ∷ behind) → ⊥
+    empty [] behind o e = let z = ap length e in omega (arith, z)
+    empty (x ∷ front) behind o e = let z = ap length e in omega (arith, z)
+
 nothing-more : (S : Scheme) (m : Moment) → m .held ≡ nothingHeld → behind S m [] ≡ record { rows = m .rows; held = nothingHeld }
 unfolding ordersActions momentFrom
 nothing-more S m e = λ i. record { rows = m .rows; held = e i }
@@ -413,10 +419,6 @@ nothing-more S m e = λ i. record { rows = m .rows; held = e i }
 pub lawful-given : (d : Design) (cells : Cells) (tables : List ℕ) → Sizes (draft d 0 cells tables) → Numbers d cells →
     ((lawfulDesign d ≡ true) × (lawfulRows d cells tables ≡ true)) ↔ ((script : List ℕ) × GivenBy d cells tables nothingHeld script)
 lawful-given d cells tables z n = (
-  λ h. some-script d cells tables (h .0) z n [] (record { each = λ front behind o e. absurd (empty front behind o e) }) (omega arith) nothingHeld (nothing-more (schemeOf d)) (h .1),
+  λ h. some-script d cells tables (h .0) z n [] none-fit (omega arith) nothingHeld (nothing-more (schemeOf d)) (h .1),
   λ g. given-lawful d cells tables nothingHeld (g .0) (g .1),
 )
-  where
-    empty : (front behind : List Order) (o : Order) → [] ≡ front ++ (o ∷ behind) → ⊥
-    empty [] behind o e = let z = ap length e in omega (arith, z)
-    empty (x ∷ front) behind o e = let z = ap length e in omega (arith, z)

@@ -1,25 +1,24 @@
 -- What a state may hold, some commands reach: naming a desk before each REFER and before each range gives any holding that fits, in its order. Assumes nothing.
-use Prim.Native.Nat.{ℕ, zero, suc, _+_, _≤_, _<_}
+use Prim.Native.Nat.{ℕ, zero, suc, _+_, _<_}
 use native.Mathlib.Omega.{arith}
 use mathlib.Core.Path.{_≡_, refl, sym, ap, ap₂, subst, _∙_}
-use mathlib.Core.Bool.{Bool, true, false, not, cond, _&&_, _||_, and-eq-true-iff}
+use mathlib.Core.Bool.{true, false, not, cond, _||_, and-eq-true-iff}
 use mathlib.Core.List.{List, [], _∷_, _++_, append-nil, append-assoc}
 use mathlib.Core.Logic.{_≢_, ⊎-elim}
 use borrow.Author.Tests.{eqb-true, eq-eqb, lt-ltb, le-leb, leb-true}
 use lib.Dec.{eqb, leb, ltb}
-use lib.ListN.{length, getD, length-append, List·getD-append}
+use lib.ListN.{length, length-append, List·getD-append}
 use lib.Seq.{ext-getD, getD-append-seam}
 use Rattle.finite.specs.Finite.{tab}
 use Rattle.finite.specs.Sameness.{listed}
-use Rattle.finite.proofs.Bools.{dec, clash, both, cond-true, same-number}
-use Rattle.finite.proofs.Tables.{length-tab}
+use Rattle.finite.proofs.Bools.{dec, both, cond-true}
 use Rattle.model.specs.Scheme.{Scheme, candidate}
 use Rattle.model.specs.Ranges.{Range, contains, joined}
-use Rattle.model.specs.Holding.{desks, places, mostRanges, Pair, Owned, sameOwned, ownAmong, Holding, nothingHeld, withDesk, mine, noOwned, hasRoom, withPair, rangesOf, withList, ownRanges, withRange}
+use Rattle.model.specs.Holding.{desks, places, mostRanges, Owned, sameOwned, ownAmong, Holding, nothingHeld, withDesk, noOwned, withPair, rangesOf, withList, ownRanges, withRange}
 use Rattle.model.specs.Runs.{taken, rangeTaken, heldAfter}
 use Rattle.model.proofs.RangeLaws.{Before, before-on, says-before, Full, Rising, Every, none, one, more, every-of, RangeFits, fits-range, fits-candidates}
 use Rattle.model.proofs.RangesHeld.{list-own, list-other, list-count}
-use Rattle.model.proofs.RangesFit.{RangesFit, ListsFit}
+use Rattle.model.proofs.RangesFit.{RangesFit}
 use Rattle.model.proofs.HoldingLaws.{ownedAt, own-end, ValuesFit, HoldingFits}
 use Rattle.script.specs.Moments.{Action, Moment, momentAfter, momentFrom}
 use Rattle.demands.specs.Orders.{Order, naming, referring, holdingRange, orderAction, ordersActions}
@@ -44,7 +43,7 @@ behind-append S m xs ys = ap (momentFrom S m) (actions-append xs ys) ∙ from-ap
 
 -- ---- the values, in order of reference
 
-pub valueOrders : List Owned → List Order
+unfoldable pub valueOrders : List Owned → List Order
 valueOrders [] = []
 valueOrders (o ∷ os) = naming (o .desk) ∷ referring (o .pair) ∷ valueOrders os
 
@@ -132,7 +131,7 @@ module _ (S : Scheme) where
 
 -- ---- the ranges of a desk, rising
 
-pub rangeOrders : ℕ → List Range → List Order
+unfoldable pub rangeOrders : ℕ → List Range → List Order
 rangeOrders d [] = []
 rangeOrders d (r ∷ rs) = naming d ∷ holdingRange r ∷ rangeOrders d rs
 
@@ -242,7 +241,7 @@ last-named S n h l a b =
     ap (λ (g : Holding). let k : Moment = record { rows = n .rows; held = g } in k) (cond-true (ltb (h .desk) desks) (withDesk (n .held) (h .desk)) (n .held) (lt-ltb _ _ l)) ∙
     (λ i. record { rows = n .rows; held = record { desk = h .desk; values = a i; ranges = b i } })
 
-pub holdingOrders : Holding → List Order
+unfoldable pub holdingOrders : Holding → List Order
 holdingOrders h =
     valueOrders (h .values) ++ (rangeOrders 0 (rangesOf (h .ranges) 0) ++ (rangeOrders 1 (rangesOf (h .ranges) 1) ++
     (rangeOrders 2 (rangesOf (h .ranges) 2) ++ (rangeOrders 3 (rangesOf (h .ranges) 3) ++ (naming (h .desk) ∷ [])))))

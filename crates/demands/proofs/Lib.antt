@@ -22,5 +22,6 @@ pub mod Seeing
 pub mod Holdings
 pub mod Orders
 pub mod Given
+pub mod States
 pub mod RowSets
 pub mod Unissued

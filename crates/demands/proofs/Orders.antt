@@ -1,15 +1,11 @@
 -- The commands of Orders, where their bytes stand in a script: each is read as itself, and a list of them as the actions in its order. Assumes nothing.
-use Prim.Native.Nat.{ℕ, zero, suc, _+_, _-_, _*_, _/_, _%_, _^_, _≤_, _<_}
+use Prim.Native.Nat.{ℕ, zero, suc, _+_, _-_, _*_, _/_, _%_, _≤_, _<_}
 use native.Mathlib.Omega.{arith}
 use mathlib.Core.Path.{_≡_, refl, sym, ap, ap₂, subst, _∙_}
 use mathlib.Core.List.{List, [], _∷_, _++_, append-nil, append-assoc}
 use lib.Dec.{lit<}
 use lib.ListN.{length, getD, length-append}
 use Rattle.finite.proofs.Standing.{Stands, stands-part, stands-here, stands-at, stands-long}
-use Rattle.model.specs.Holding.{Pair}
-use Rattle.model.specs.Ranges.{Range}
-use Rattle.state.specs.declared.cell.Cell.{Cell}
-use Rattle.state.specs.declared.held.HeldValue.{HeldValue}
 use Rattle.state.specs.declared.held.Range as State-range
 use Rattle.state.specs.declared.operation.Operation.{Operation}
 use Rattle.state.specs.declared.operation.Operation.the-variants as O
@@ -17,7 +13,7 @@ use Rattle.state.specs.Meaning.{pairBack, rangeBack}
 use Rattle.format.specs.declared.command.Command.{Command}
 use Rattle.format.specs.declared.command.Command.the-variants.{Operate, Remove}
 use Rattle.format.specs.Bytes.{byteAt, u16At, u32At, u32Bytes}
-use Rattle.format.specs.Commands.{operationWidth, widthOf, issuedAt, operationAt, heldValueAt, rangeAt, commandAt}
+use Rattle.format.specs.Commands.{operationWidth, widthOf, operationAt, heldValueAt}
 use Rattle.format.proofs.CommandLaws.{width-remove, width-operation, operands-remove, operands-operation, operation-old, operation-new, operation-refer, operation-name, operation-refer-range, at-end, at-whole}
 use Rattle.format.proofs.Standing.{Reads, u32-stands}
 use Rattle.format.proofs.WritingLaws.{length-u32}

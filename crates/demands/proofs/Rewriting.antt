@@ -69,6 +69,49 @@ module _ (R O : Rows) (z : RowsSized R) where
   unfolding designBytes
   bytes-front d = rw rows-front
 
+-- ---- the rows of a sound state, in the first 4,096 cells and 512 row tables
+
+module _ (s : State) (e : sound s ≡ true) (n : Numbers (s .design) (s .cells)) where
+  abbrev pub front : Rows
+  front = rowsIn (firstCells 4096 (s .cells)) (take 512 (s .tables))
+
+  abbrev pub rest : Rows
+  rest = rowsIn (pastCells 4096 (s .cells)) (past 512 (s .tables))
+
+  pub front-sized : RowsSized front
+  front-sized =
+      record {
+        numbers = length-take-le 4096 (s .cells .numbers) (parts s e .long .cells);
+        issues = length-take-le 4096 (s .cells .issues) (parts s e .long .issues);
+        tables = length-take-le 512 (s .tables) (parts s e .long .tables);
+      }
+
+  pub whole : extended front rest ≡ rows s
+  whole =
+      λ i. rowsIn (cellsIn (take-append-drop 4096 (s .cells .numbers) i) (take-append-drop 4096 (s .cells .issues) i)) (take-append-drop 512 (s .tables) i)
+
+  pub same : SameRows (tablesOf front) (database s)
+  same = subst (λ (R : Rows). SameRows (tablesOf front) (tablesOf R)) whole (longer-same front rest front-sized)
+
+  stored : Stored (s .cells)
+  stored = record { number = n .cell; issue = n .issue }
+
+  pub front-stored : Stored (front .cells)
+  front-stored = stored-first (front .cells) (rest .cells) (subst (λ (R : Rows). Stored (R .cells)) (sym whole) stored)
+
+  pub front-lawful : lawfulRows (s .design) (front .cells) (front .tables) ≡ true
+  front-lawful =
+      rows-if
+      (record {
+        database = lawful-same (same-back same) (w .database);
+        cellRest = λ r c l m h.
+            longer-cell front rest front-sized (8 * r + c) (omega arith) ∙
+            subst (λ (R : Rows). cellAt (R .cells) r c ≡ noCell) (sym whole) (w .cellRest r c l m (sym (same .live r) ∙ h));
+      })
+    where
+      w : LawfulRows (s .design) (s .cells) (s .tables)
+      w = rows-say (s .design) (s .cells) (s .tables) stored (parts s e .rows)
+
 -- ---- what `script::write` answers on a sound state, and leaves in its buffer
 
 module _ (s : State) (e : sound s ≡ true) (before : List ℕ) (w : Written) (after : List ℕ) (x : Writes s w before after) where
@@ -142,59 +185,20 @@ module _ (s : State) (e : sound s ≡ true) (z : Sized (s .design)) (n : Numbers
 
   -- ---- rows without gaps keep their numbers
 
-  module _ (k : ℕ) (dense : Dense k (s .cells) (s .tables)) where
-    abbrev front : Rows
-    front = rowsIn (firstCells 4096 (s .cells)) (take 512 (s .tables))
-
-    abbrev rest : Rows
-    rest = rowsIn (pastCells 4096 (s .cells)) (past 512 (s .tables))
-
-    front-sized : RowsSized front
-    front-sized =
-        record {
-          numbers = length-take-le 4096 (s .cells .numbers) (parts s e .long .cells);
-          issues = length-take-le 4096 (s .cells .issues) (parts s e .long .issues);
-          tables = length-take-le 512 (s .tables) (parts s e .long .tables);
-        }
-
-    whole : extended front rest ≡ rows s
-    whole =
-        λ i. rowsIn (cellsIn (take-append-drop 4096 (s .cells .numbers) i) (take-append-drop 4096 (s .cells .issues) i)) (take-append-drop 512 (s .tables) i)
-
-    same : SameRows (tablesOf front) (database s)
-    same = subst (λ (R : Rows). SameRows (tablesOf front) (tablesOf R)) whole (longer-same front rest front-sized)
-
-    stored : Stored (s .cells)
-    stored = record { number = n .cell; issue = n .issue }
-
-    front-stored : Stored (front .cells)
-    front-stored = stored-first (front .cells) (rest .cells) (subst (λ (R : Rows). Stored (R .cells)) (sym whole) stored)
-
-    front-lawful : lawfulRows (s .design) (front .cells) (front .tables) ≡ true
-    front-lawful =
-        rows-if
-        (record {
-          database = lawful-same (same-back same) (w .database);
-          cellRest = λ r c l m h.
-              longer-cell front rest front-sized (8 * r + c) (omega arith) ∙
-              subst (λ (R : Rows). cellAt (R .cells) r c ≡ noCell) (sym whole) (w .cellRest r c l m (sym (same .live r) ∙ h));
-        })
-      where
-        w : LawfulRows (s .design) (s .cells) (s .tables)
-        w = rows-say (s .design) (s .cells) (s .tables) stored (parts s e .rows)
-
-    -- THEOREM: rows without gaps read back under the same numbers
-    pub write-reads-dense : readingOf (bytesOf s) b ≡ accepted (draft (s .design) k (front .cells) (front .tables)) (length (bytesOf s))
-    unfolding readInto
-    write-reads-dense =
-        let f : bytesOf s ≡ designBytes (s .design) (front .cells) (front .tables) =
-        ap (λ (R : Rows). designBytes (s .design) (R .cells) (R .tables)) (sym whole) ∙ bytes-front front rest front-sized (s .design) in
-        cond-true _ _ _ long ∙ ap readDesign f ∙
-        read-written-alone (s .design) k (front .cells) (front .tables) (parts s e .design) front-lawful
-        (record { most = dense .most; live = λ r l. same .live r ∙ dense .live r l })
-        (record { table = z .table; constraint = z .constraint; filling = z .filling; cells = front-sized .numbers; issues = front-sized .issues; tables = front-sized .tables })
-        (record { low = n .low; high = n .high; cell = front-stored .number; issue = front-stored .issue }) ∙
-        ap (λ (xs : List ℕ). accepted (draft (s .design) k (front .cells) (front .tables)) (length xs)) (sym f)
+  -- THEOREM: rows without gaps read back under the same numbers
+  pub write-reads-dense : (k : ℕ) → Dense k (s .cells) (s .tables) →
+      readingOf (bytesOf s) b ≡ accepted (draft (s .design) k (front s e n .cells) (front s e n .tables)) (length (bytesOf s))
+  unfolding readInto
+  write-reads-dense k dense =
+      let F = front s e n in
+      let f : bytesOf s ≡ designBytes (s .design) (F .cells) (F .tables) =
+      ap (λ (R : Rows). designBytes (s .design) (R .cells) (R .tables)) (sym (whole s e n)) ∙ bytes-front F (rest s e n) (front-sized s e n) (s .design) in
+      cond-true _ _ _ long ∙ ap readDesign f ∙
+      read-written-alone (s .design) k (F .cells) (F .tables) (parts s e .design) (front-lawful s e n)
+      (record { most = dense .most; live = λ r l. same s e n .live r ∙ dense .live r l })
+      (record { table = z .table; constraint = z .constraint; filling = z .filling; cells = front-sized s e n .numbers; issues = front-sized s e n .issues; tables = front-sized s e n .tables })
+      (record { low = n .low; high = n .high; cell = front-stored s e n .number; issue = front-stored s e n .issue }) ∙
+      ap (λ (xs : List ℕ). accepted (draft (s .design) k (F .cells) (F .tables)) (length xs)) (sym f)
 
   -- ---- through `script::write`
 

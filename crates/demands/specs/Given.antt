@@ -26,6 +26,8 @@ pub record GivenBy (d : Design) (cells : Cells) (tables : List ℕ) (h : Holding
   pub place : ℕ
   pub read : readDesign script ≡ accepted draft place
   pub design : draft .design ≡ d
+  -- the numbers of its rows are u32 and their issues u8
+  pub stored : Stored (draft .cells)
   pub moment : (rooms : Rooms) → momentAt (length script) script draft rooms place ≡ record { rows = rowsIn cells tables; held = h }
 
 -- arrays have their places, numbers are u32 and issues u8, as the types of a lent state say
