@@ -9,16 +9,21 @@ use lib.Dec.{ltb}
 use lib.ListN.{length, getD}
 use lib.Seq.{sets}
 use Rattle.model.specs.Scheme.{Scheme}
-use Rattle.model.specs.Database.{Database}
+use Rattle.model.specs.Database.{Database, Lawful}
+use Rattle.model.specs.Holding.{Holding}
 use Rattle.model.specs.Cache.{RowSet}
 use Rattle.model.specs.Runs.{ask, reason, marked, Cache, cachedFor}
-use Rattle.model.specs.Reason.{Chain, reasonFor}
+use Rattle.model.specs.Reason.{isHeld, byValue, byRange, hasOrigin, Chain, byHeld, byConstraint, Explains, reasonFor}
 use Rattle.model.specs.Sentence.{reasonText}
 use Rattle.model.specs.Answers.{Answer, absent, explained, unless, orAnswer, shown, hasText, textWith, reasonAnswer, questionAnswer, questionText, answer, written, textOf}
 use Rattle.model.proofs.Marks.{marked-marks-is}
 use Rattle.model.proofs.RunLaws.{held-smallest}
-use Rattle.model.proofs.ReasonLaws.{reason-true, reason-shortest, reason-lowest}
-use Rattle.model.proofs.SentenceLaws.{Counts, reasons-apart}
+use Rattle.model.specs.Cell.{Fits}
+use Rattle.model.proofs.CellLaws.{equal-same}
+use Rattle.model.proofs.DatabaseLaws.{has-Has}
+use Rattle.model.proofs.HoldingLaws.{HoldingFits, held-fits, some-range-fits}
+use Rattle.model.proofs.ReasonLaws.{leads-live, reason-true, reason-shortest, reason-lowest}
+use Rattle.model.proofs.SentenceLaws.{Writable, sentence-once, Counts, reasons-apart}
 use Rattle.state.specs.declared.operation.Operation.the-variants as O
 use Rattle.state.specs.Design.{fillingAt}
 use Rattle.state.specs.Meaning.{schemeOf, databaseOf, holdingOf}
@@ -146,6 +151,38 @@ module _ (s : State) (e : sound s ≡ true) (u : Stored (s .cells)) (highs : (f 
     where
       none : (r room : ℕ) → wordsAt s (ask (reason r room)) ≡ []
       none r room = words-at s e (ask (reason r room))
+
+-- ---- two states
+
+-- a chain that explains a row of a lawful database can be written
+writable : (S : Scheme) (D : Database) (h : Holding) → Counts S D → Lawful S D → HoldingFits S h → (r : ℕ) (c : Chain) → Explains S D h r c → Writable c
+unfolding Explains Writable isHeld hasOrigin
+writable S D h n lawful fits r (byHeld (byValue o)) e =
+    let v = has-Has D _ _ r (e .1) in
+    let q = subst Fits (equal-same _ (o .value) (v .value)) (lawful .cells r _ (v .live)) in
+    let f = held-fits S h fits o (e .0) in
+    (omega (arith, n .fillings), omega (arith, q .number), omega (arith, q .issue))
+writable S D h n lawful fits r (byHeld (byRange q)) e =
+    let f = some-range-fits S h fits q (e .0) in
+    let l = n .candidates (q .filling) (f .filling) in
+    (omega (arith, n .fillings, f .filling), omega (arith, f .full, f .high), omega (arith, f .high))
+writable S D h n lawful fits r (byConstraint i s c) e =
+    (omega (arith, e .0, n .constraints), omega (arith, D .finite s (leads-live D _ s r (e .1)), n .rows), writable S D h n lawful fits s c (e .2))
+
+-- THEOREM. 02, Req 08: "two different chains never give one sentence". Two reasons that are given, of any rows in any two sound states, whatever their designs, have one text
+-- only if they are of one row and by one chain
+pub reasons-differ : (s : State) (e : sound s ≡ true) (u : Stored (s .cells)) (highs : (f : ℕ) → fillingAt (s .design) f .high < 2 ^ 32) →
+    (t : State) (d : sound t ≡ true) (w : Stored (t .cells)) (tops : (f : ℕ) → fillingAt (t .design) f .high < 2 ^ 32) →
+    (r q n m : ℕ) (text : List ℕ) (a b : Chain) → Explained s r n text a → Explained t q m text b → (r ≡ q) × (a ≡ b)
+reasons-differ s e u highs t d w tops r q n m text a b x y =
+    let i = counts s e u highs in
+    let j = counts t d w tops in
+    let k = database s .finite r (x .live) in
+    let l = database t .finite q (y .live) in
+    sentence-once r q a b (omega (arith, k, i .rows)) (omega (arith, l, j .rows))
+    (writable (scheme s) (database s) (holdingOf (s .held)) i (lawful-database (s .design) (s .cells) (s .tables) (parts s e .rows) u) (holding-fits (s .design) (s .held) (parts s e .held)) r a (x .demands))
+    (writable (scheme t) (database t) (holdingOf (t .held)) j (lawful-database (t .design) (t .cells) (t .tables) (parts t d .rows) w) (holding-fits (t .design) (t .held) (parts t d .held)) q b (y .demands))
+    (sym (x .text) ∙ y .text)
 
 -- ---- runs: the numbers of an accepted design are u32, as its script is bytes
 
