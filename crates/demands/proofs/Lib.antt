@@ -11,9 +11,9 @@ pub mod Runs
 pub mod Stepping
 pub mod Operands
 pub mod Highs
-pub mod Probes
 pub mod Demand2
 pub mod Queries
+pub mod Probes
 pub mod Reasons
 pub mod Designs
 pub mod Openers

@@ -3,16 +3,22 @@
 use Prim.Native.Nat.{ℕ, _^_, _≤_, _<_}
 use native.Mathlib.Omega.{arith}
 use mathlib.Core.Path.{_≡_, refl, sym, ap, subst, _∙_}
-use mathlib.Core.Bool.{Bool, true, false}
+use mathlib.Core.Bool.{Bool, true, false, _&&_}
 use mathlib.Core.List.{List}
-use mathlib.Core.Logic.{_⊎_, inl, inr, ⊎-elim}
-use borrow.Author.Tests.{eq-eqb}
+use mathlib.Core.Logic.{_↔_, _⊎_, inl, inr, ⊎-elim}
+use borrow.Author.Tests.{eq-eqb, ltb-false}
 use lib.Dec.{ltb}
 use lib.ListN.{length, take}
+use Rattle.finite.specs.Finite.{count}
 use Rattle.finite.proofs.Bools.{dec, clash}
+use Rattle.finite.proofs.Counting.{count-same}
 use Rattle.model.specs.Cell.{Cell, Fits, numberless}
-use Rattle.model.specs.Scheme.{Column, ColumnOf}
+use Rattle.model.specs.Scheme.{Column, Scheme, ColumnOf}
+use Rattle.model.specs.Database.{Database, has}
+use Rattle.model.specs.Cache.{RowSet}
 use Rattle.model.specs.Probe as Probe
+use Rattle.model.specs.Probe.{cachedRows}
+use Rattle.model.proofs.DatabaseLaws.{has-Has, Has-has}
 use Rattle.model.specs.Holding.{heldIn}
 use Rattle.model.specs.Runs.{ask, probe, marked}
 use Rattle.model.specs.Answers.{Answer, ground, sent, orAnswer, groundOf, Yes}
@@ -31,13 +37,16 @@ use Rattle.format.proofs.Small.{Small}
 use Rattle.script.specs.Moments.{Action, Moment, tablesAt}
 use Rattle.script.specs.Step.{Outputs, Stepped, operated, stepAt}
 use Rattle.script.specs.Runs.{leftFrom, Buffers, roomsIn, readingOf, justRead, momentWith, momentAt}
-use Rattle.script.proofs.Tracking.{Tracks, point}
+use Rattle.script.proofs.SameRows.{SameRows, same-back, has-same}
+use Rattle.script.proofs.Tracking.{Tracks, same, point}
 use Rattle.script.proofs.ExactProbes.{answer-is, answer-exact}
 use Rattle.script.proofs.JustRead.{into-parts}
 use Rattle.script.proofs.WholeRun.{accepted-short, part}
 use Rattle.demands.proofs.Runs.{RowsGiven, called}
 use Rattle.demands.specs.Actions.{stateAfterAll}
+use Rattle.demands.specs.Queried.{cacheAt}
 use Rattle.demands.specs.Settled.{Settled}
+use Rattle.demands.proofs.Queries.{groundless-if, groundless-says}
 use Rattle.demands.proofs.Stepping.{operate-step}
 use Rattle.demands.proofs.Operands.{probe-fits}
 
@@ -57,16 +66,52 @@ value-fits : (v : Cell) → v .number < 2 ^ 32 → v .issue < 2 ^ 8 → numberle
 unfolding numberless
 value-fits v n i full = record { number = n; issue = i; full = λ z. clash (eq-eqb (v .number) 0 z) full }
 
+-- "sent" is the answer without a ground
+ground-sent : (g n : ℕ) → (groundOf g n ≡ sent) ↔ (g ≡ 0)
+ground-sent g n = (
+  λ e. ⊎-elim (λ (q : ltb 0 g ≡ true). absurd (let y : ground g n ≡ sent = sym (ap (λ (b : Bool). orAnswer b (ground g n) sent) q) ∙ e in let z : _≡_ {A = ℕ} 0 1 = cc in omega arith))
+      (λ (q : ltb 0 g ≡ false). omega (arith, ltb-false 0 g q))
+      (dec (ltb 0 g)),
+  λ z. ap (λ (a : ℕ). groundOf a n) z,
+)
+
+-- as many cached rows have a value in databases with the same rows
+rows-same : {D E : Database} → SameRows D E → (X : RowSet) (k : Column) (v : Cell) → cachedRows D X k v ≡ cachedRows E X k v
+unfolding cachedRows
+rows-same {D} {E} w X k v =
+    ap (λ (n : ℕ). count n (λ r. X r && has D k v r)) (w .size) ∙
+    count-same (E .size) _ _ (λ r l. ap (λ (b : Bool). X r && b) (alike (has D k v r) (has E k v r) (λ a. Has-has (has-same w (has-Has D k v r a)))
+    (λ a. Has-has (has-same (same-back w) (has-Has E k v r a)))))
+  where
+    alike : (a b : Bool) → (a ≡ true → b ≡ true) → (b ≡ true → a ≡ true) → a ≡ b
+    alike true b f g = sym (f refl)
+    alike false true f g = g refl
+    alike false false f g = refl
+
 -- at a moment of a run
 module _ (p : Draft) (b : Buffers) (m : Moment) (e : State) (t : Tracks p b m e) where
+  abbrev S : Scheme
+  S = schemeOf (p .design)
+
+  abbrev X : RowSet
+  X = marked (take 512 (e .marks))
+
   pub settled : (k : Column) (v : Cell) → ColumnOf (schemeOf (p .design)) k → Fits v → numberless v ≡ false → (x : Answer) → x ≡ answerAt e (ask (probe k v)) →
       Settled p m e k v x
   settled k v c f n x h =
       let at = point p b m e t in
-      let either : Yes x ⊎ (x ≡ sent) = subst (λ (y : Answer). Yes y ⊎ (y ≡ sent)) (sym (h ∙ answer-is p b m e (t .standing) at k v c n)) (ground-either (Probe.probe (schemeOf (p .design)) (tablesAt m) (heldIn (schemeOf (p .design)) (m .held)) (marked (take 512 (e .marks))) k v) (Probe.cachedRows (database e) (marked (take 512 (e .marks))) k v)) in
+      let g = Probe.probe S (tablesAt m) (heldIn S (m .held)) X k v in
+      let rows = Probe.cachedRows (tablesAt m) X k v in
+      let is : x ≡ groundOf g rows = h ∙ answer-is p b m e (t .standing) at k v c n ∙ ap (groundOf g) (sym (rows-same (same p b m e t) X k v)) in
+      let either : Yes x ⊎ (x ≡ sent) = subst (λ (y : Answer). Yes y ⊎ (y ≡ sent)) (sym is) (ground-either g rows) in
       record {
         unrefused = ground-unrefused x either;
         either = either;
+        rule = is;
+        backend = (
+          λ y. groundless-if S (tablesAt m) (cacheAt m e) k v (ground-sent g rows .0 (sym is ∙ y)),
+          λ y. is ∙ ground-sent g rows .1 (groundless-says S (tablesAt m) (cacheAt m e) k v y),
+        );
         exact = answer-exact p b m e (t .standing) at k v c n f x h;
       }
 

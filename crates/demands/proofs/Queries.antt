@@ -64,7 +64,7 @@ module _ (S : Scheme) (D : Database) (c : Cache) (k : Column) (v : Cell) where
   unfolding Probe.probe
   groundless-if e = let n = none-of _ _ _ e in record { held = n .0; demanded = n .1; seen = n .2 }
 
-  groundless-says : Groundless S D c k v → found ≡ 0
+  pub groundless-says : Groundless S D c k v → found ≡ 0
   unfolding Probe.probe
   groundless-says g = λ i. lowest (g .held i) (g .demanded i) (g .seen i)
 

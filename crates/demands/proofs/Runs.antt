@@ -1,9 +1,10 @@
 -- Demand 3 of any list of calls on a design just read, and of every point of a script's run. Assumes nothing.
 use Prim.Native.Nat.{ℕ}
 use mathlib.Core.Path.{_≡_, refl, ap}
+use mathlib.Core.Bool.{true}
 use mathlib.Core.List.{List, [], _∷_, _++_}
 use Rattle.state.specs.Meaning.{schemeOf}
-use Rattle.state.specs.Lent.{State}
+use Rattle.state.specs.Lent.{State, sound}
 use Rattle.state.specs.Changes.{Change}
 use Rattle.lawful.proofs.RowsLaws.{Stored}
 use Rattle.format.specs.Reading.{Draft, cellsAfter}
@@ -43,3 +44,12 @@ module _ (script : List ℕ) (small : Small script) (b : Buffers) (p : Draft) (i
   -- THEOREM. Demand 3 at every point of a script's run, behind the first n commands
   pub points-hold : Points script p i b
   points-hold = record { point = λ n. point p b (momentAt n script p (roomsIn b) i) (leftFrom n script (justRead (accepted p i) b) (b .outputs) i .state) (part script small b p i e stored n) }
+
+  -- THEOREM. So the states of a run are sound, with u32 numbers and u8 issues: what this crate proves of a sound state it proves of these
+  pub calls-sound : (acts : List Action) → RowsGiven acts →
+      (sound (stateAfterAll (justRead (accepted p i) b) acts) ≡ true) × Stored (stateAfterAll (justRead (accepted p i) b) acts .cells)
+  calls-sound acts g = let t = called acts g in (t .sound, t .stored)
+
+  pub points-sound : (n : ℕ) →
+      (sound (leftFrom n script (justRead (accepted p i) b) (b .outputs) i .state) ≡ true) × Stored (leftFrom n script (justRead (accepted p i) b) (b .outputs) i .state .cells)
+  points-sound n = let t = part script small b p i e stored n in (t .sound, t .stored)

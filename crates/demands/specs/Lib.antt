@@ -3,8 +3,8 @@
 -- 02, Req 09 of what REFER and PROBE then answer. Seeing: 02, Req 13 of what a probe answers. Given: a design with rows that some script gives. RowSets: demand 3 with any
 -- predicate as a row set. Unissued: 02, Req 06 where there are no issues.
 pub mod Actions
-pub mod Settled
 pub mod Queried
+pub mod Settled
 pub mod Explained
 pub mod Opening
 pub mod Seeing
