@@ -27,3 +27,4 @@ pub mod Holdings
 pub mod Orders
 pub mod Given
 pub mod States
+pub mod HeldBytes
