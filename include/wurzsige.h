@@ -36,12 +36,9 @@ enum {
     WURZSIGE_CELLS = 4096,        /* cells, eight to a row */
     WURZSIGE_DESIGN_WORDS = 115,  /* words of a design */
     WURZSIGE_HELD_WORDS = 358,    /* words of what is held */
-    WURZSIGE_NEXT = 4096,         /* the catalog's arrays */
-    WURZSIGE_FIRST = 8192,
+    WURZSIGE_CATALOG = 16449,     /* the catalog's two arrays */
     WURZSIGE_KEYS = 4096,
-    WURZSIGE_HEADS = 4096,
-    WURZSIGE_STARTS = 65,
-    WURZSIGE_POSITIONS = 2560,    /* the working memory of a query: for each of five positions, each row */
+    WURZSIGE_WORKING = 5120,      /* the working memory of a query: two entries for each row at each of five positions */
     WURZSIGE_NUMBERS = 16,        /* numbers that an answer can have */
     WURZSIGE_MOST_SCRIPT = 65536, /* bytes of a script */
     WURZSIGE_MOST_DESIGN = 21697, /* bytes that a written design can have */
@@ -56,22 +53,17 @@ enum {
  * held: the named desk, the count of held values, 64 values (desk, filling, number, issue), then for each of four desks the count of its ranges and 8 of
  *     them (filling, low, high); unused places are 0. A word that stands for a byte is below 256.
  * cells, issues, tables, marks: the rows; row r has cells and issues 8 r to 8 r + 7. A number without a row has table 255 and all else 0.
- * next, first, keys, heads, starts: the catalog of the rows, which follows from the design and the rows.
- * weights, sums, froms, links: the working memory of a query. What stands there means nothing between two calls; only the _trusted functions write it.
+ * catalog, keys: the catalog of the rows, which follows from the design and the rows.
+ * counts, places: the working memory of a query. What stands there means nothing between two calls; only the _trusted functions write it.
  */
 struct wurzsige {
     uint64_t keys[WURZSIGE_KEYS];
-    uint64_t weights[WURZSIGE_POSITIONS];
-    uint64_t sums[WURZSIGE_POSITIONS];
+    uint64_t counts[WURZSIGE_WORKING];
     uint32_t cells[WURZSIGE_CELLS];
     uint32_t design[WURZSIGE_DESIGN_WORDS];
     uint32_t held[WURZSIGE_HELD_WORDS];
-    uint16_t next[WURZSIGE_NEXT];
-    uint16_t first[WURZSIGE_FIRST];
-    uint16_t heads[WURZSIGE_HEADS];
-    uint16_t starts[WURZSIGE_STARTS];
-    uint16_t froms[WURZSIGE_POSITIONS];
-    uint16_t links[WURZSIGE_POSITIONS];
+    uint16_t catalog[WURZSIGE_CATALOG];
+    uint16_t places[WURZSIGE_WORKING];
     uint8_t issues[WURZSIGE_CELLS];
     uint8_t tables[WURZSIGE_ROWS];
     uint8_t marks[WURZSIGE_ROWS];
@@ -122,33 +114,31 @@ struct wurzsige_sizes {
 /* ---- the proved functions, which take each part of a desk by itself: a buffer as a pointer and a length, an array of a fixed length as a pointer ---- */
 
 uint8_t wurzsige_parts_open(const uint8_t *script, size_t script_length, uint32_t *cells, size_t cells_length, uint8_t *issues, size_t issues_length,
-    uint8_t *tables, size_t tables_length, uint16_t *next, uint16_t *first, uint64_t *keys, uint16_t *heads, uint16_t *starts, uint8_t *marks,
-    size_t marks_length, uint32_t *design, size_t design_length, uint32_t *held, size_t held_length, uint64_t *numbers, uint8_t *count, size_t *place,
-    size_t *after, uint8_t *more);
+    uint8_t *tables, size_t tables_length, uint16_t *catalog, uint64_t *keys, uint8_t *marks, size_t marks_length, uint32_t *design,
+    size_t design_length, uint32_t *held, size_t held_length, uint64_t *numbers, uint8_t *count, size_t *place, size_t *after, uint8_t *more);
 
 uint8_t wurzsige_parts_step(const uint8_t *script, size_t script_length, size_t at, uint32_t *cells, size_t cells_length, uint8_t *issues,
-    size_t issues_length, uint8_t *tables, size_t tables_length, uint16_t *next, uint16_t *first, uint64_t *keys, uint16_t *heads, uint16_t *starts,
-    uint8_t *marks, size_t marks_length, const uint32_t *design, size_t design_length, uint32_t *held, size_t held_length, uint32_t *words,
-    size_t words_length, uint8_t *text, size_t text_length, uint64_t *numbers, uint8_t *count, size_t *place, size_t *after, uint8_t *more);
+    size_t issues_length, uint8_t *tables, size_t tables_length, uint16_t *catalog, uint64_t *keys, uint8_t *marks, size_t marks_length,
+    const uint32_t *design, size_t design_length, uint32_t *held, size_t held_length, uint32_t *words, size_t words_length, uint8_t *text,
+    size_t text_length, uint64_t *numbers, uint8_t *count, size_t *place, size_t *after, uint8_t *more);
 
 uint8_t wurzsige_parts_step_trusted(const uint8_t *script, size_t script_length, size_t at, uint32_t *cells, size_t cells_length, uint8_t *issues,
-    size_t issues_length, uint8_t *tables, size_t tables_length, uint16_t *next, uint16_t *first, uint64_t *keys, uint16_t *heads, uint16_t *starts,
-    uint8_t *marks, size_t marks_length, const uint32_t *design, size_t design_length, uint32_t *held, size_t held_length, uint32_t *words,
-    size_t words_length, uint8_t *text, size_t text_length, uint64_t *weights, uint64_t *sums, uint16_t *froms, uint16_t *links, uint64_t *numbers,
-    uint8_t *count, size_t *place, size_t *after, uint8_t *more);
+    size_t issues_length, uint8_t *tables, size_t tables_length, uint16_t *catalog, uint64_t *keys, uint8_t *marks, size_t marks_length,
+    const uint32_t *design, size_t design_length, uint32_t *held, uint32_t *words, size_t words_length, uint8_t *text, size_t text_length,
+    uint64_t *counts, uint16_t *places, uint64_t *numbers, uint8_t *count, size_t *place, size_t *after, uint8_t *more);
 
 void wurzsige_parts_run_trusted(const uint8_t *script, size_t script_length, size_t at, uint32_t *cells, size_t cells_length, uint8_t *issues,
-    size_t issues_length, uint8_t *tables, size_t tables_length, uint16_t *next, uint16_t *first, uint64_t *keys, uint16_t *heads, uint16_t *starts,
-    uint8_t *marks, size_t marks_length, const uint32_t *design, size_t design_length, uint32_t *held, size_t held_length, uint32_t *words,
-    size_t words_length, uint8_t *text, size_t text_length, uint64_t *weights, uint64_t *sums, uint16_t *froms, uint16_t *links);
+    size_t issues_length, uint8_t *tables, size_t tables_length, uint16_t *catalog, uint64_t *keys, uint8_t *marks, size_t marks_length,
+    const uint32_t *design, size_t design_length, uint32_t *held, uint32_t *words, size_t words_length, uint8_t *text, size_t text_length,
+    uint64_t *counts, uint16_t *places);
 
 uint8_t wurzsige_parts_write(const uint32_t *cells, size_t cells_length, const uint8_t *issues, size_t issues_length, const uint8_t *tables,
     size_t tables_length, const uint8_t *marks, size_t marks_length, const uint32_t *design, size_t design_length, const uint32_t *held,
     size_t held_length, uint8_t *out, size_t out_length, size_t *written);
 
-uint8_t wurzsige_parts_sizes(const uint8_t *script, size_t script_length, size_t at, const uint32_t *cells, size_t cells_length, const uint8_t *issues,
-    size_t issues_length, const uint8_t *tables, size_t tables_length, const uint8_t *marks, size_t marks_length, const uint32_t *design,
-    size_t design_length, const uint32_t *held, size_t held_length, uint64_t *sizes);
+uint8_t wurzsige_parts_sizes(const uint8_t *script, size_t script_length, size_t at, const uint32_t *cells, size_t cells_length,
+    const uint8_t *issues, size_t issues_length, const uint8_t *tables, size_t tables_length, const uint8_t *marks, size_t marks_length,
+    const uint32_t *design, size_t design_length, const uint32_t *held, size_t held_length, uint64_t *sizes);
 
 /* ---- the same on a desk ---- */
 
@@ -159,8 +149,8 @@ uint8_t wurzsige_parts_sizes(const uint8_t *script, size_t script_length, size_t
 static inline void wurzsige_open(struct wurzsige *desk, const uint8_t *script, size_t length, struct wurzsige_answer *answer) {
     static const uint8_t nothing = 0;
     answer->word = wurzsige_parts_open(script ? script : &nothing, script ? length : 0, desk->cells, WURZSIGE_CELLS, desk->issues, WURZSIGE_CELLS,
-        desk->tables, WURZSIGE_ROWS, desk->next, desk->first, desk->keys, desk->heads, desk->starts, desk->marks, WURZSIGE_ROWS, desk->design,
-        WURZSIGE_DESIGN_WORDS, desk->held, WURZSIGE_HELD_WORDS, answer->numbers, &answer->count, &answer->place, &answer->next, &answer->more);
+        desk->tables, WURZSIGE_ROWS, desk->catalog, desk->keys, desk->marks, WURZSIGE_ROWS, desk->design, WURZSIGE_DESIGN_WORDS, desk->held,
+        WURZSIGE_HELD_WORDS, answer->numbers, &answer->count, &answer->place, &answer->next, &answer->more);
 }
 
 /*
@@ -174,9 +164,9 @@ static inline void wurzsige_step(struct wurzsige *desk, const uint8_t *script, s
     uint32_t no_word = 0;
     uint8_t no_text = 0;
     answer->word = wurzsige_parts_step(script ? script : &nothing, script ? length : 0, at, desk->cells, WURZSIGE_CELLS, desk->issues, WURZSIGE_CELLS,
-        desk->tables, WURZSIGE_ROWS, desk->next, desk->first, desk->keys, desk->heads, desk->starts, desk->marks, WURZSIGE_ROWS, desk->design,
-        WURZSIGE_DESIGN_WORDS, desk->held, WURZSIGE_HELD_WORDS, words ? words : &no_word, words ? words_length : 0, text ? text : &no_text,
-        text ? text_length : 0, answer->numbers, &answer->count, &answer->place, &answer->next, &answer->more);
+        desk->tables, WURZSIGE_ROWS, desk->catalog, desk->keys, desk->marks, WURZSIGE_ROWS, desk->design, WURZSIGE_DESIGN_WORDS, desk->held,
+        WURZSIGE_HELD_WORDS, words ? words : &no_word, words ? words_length : 0, text ? text : &no_text, text ? text_length : 0, answer->numbers,
+        &answer->count, &answer->place, &answer->next, &answer->more);
 }
 
 /* The same without the tests for causes 7 and 12, for a desk that only functions of this header have written: the cost of the operation alone. */
@@ -186,10 +176,9 @@ static inline void wurzsige_step_trusted(struct wurzsige *desk, const uint8_t *s
     uint32_t no_word = 0;
     uint8_t no_text = 0;
     answer->word = wurzsige_parts_step_trusted(script ? script : &nothing, script ? length : 0, at, desk->cells, WURZSIGE_CELLS, desk->issues,
-        WURZSIGE_CELLS, desk->tables, WURZSIGE_ROWS, desk->next, desk->first, desk->keys, desk->heads, desk->starts, desk->marks, WURZSIGE_ROWS,
-        desk->design, WURZSIGE_DESIGN_WORDS, desk->held, WURZSIGE_HELD_WORDS, words ? words : &no_word, words ? words_length : 0,
-        text ? text : &no_text, text ? text_length : 0, desk->weights, desk->sums, desk->froms, desk->links, answer->numbers, &answer->count,
-        &answer->place, &answer->next, &answer->more);
+        WURZSIGE_CELLS, desk->tables, WURZSIGE_ROWS, desk->catalog, desk->keys, desk->marks, WURZSIGE_ROWS, desk->design, WURZSIGE_DESIGN_WORDS,
+        desk->held, words ? words : &no_word, words ? words_length : 0, text ? text : &no_text, text ? text_length : 0, desk->counts, desk->places,
+        answer->numbers, &answer->count, &answer->place, &answer->next, &answer->more);
 }
 
 /*
@@ -202,9 +191,8 @@ static inline void wurzsige_run_trusted(struct wurzsige *desk, const uint8_t *sc
     uint32_t no_word = 0;
     uint8_t no_text = 0;
     wurzsige_parts_run_trusted(script ? script : &nothing, script ? length : 0, at, desk->cells, WURZSIGE_CELLS, desk->issues, WURZSIGE_CELLS,
-        desk->tables, WURZSIGE_ROWS, desk->next, desk->first, desk->keys, desk->heads, desk->starts, desk->marks, WURZSIGE_ROWS, desk->design,
-        WURZSIGE_DESIGN_WORDS, desk->held, WURZSIGE_HELD_WORDS, words ? words : &no_word, words ? words_length : 0, text ? text : &no_text,
-        text ? text_length : 0, desk->weights, desk->sums, desk->froms, desk->links);
+        desk->tables, WURZSIGE_ROWS, desk->catalog, desk->keys, desk->marks, WURZSIGE_ROWS, desk->design, WURZSIGE_DESIGN_WORDS, desk->held,
+        words ? words : &no_word, words ? words_length : 0, text ? text : &no_text, text ? text_length : 0, desk->counts, desk->places);
 }
 
 /*
@@ -225,8 +213,9 @@ static inline uint8_t wurzsige_write(const struct wurzsige *desk, uint8_t *out, 
 static inline uint8_t wurzsige_sizes(const struct wurzsige *desk, const uint8_t *script, size_t length, size_t at, struct wurzsige_sizes *sizes) {
     static const uint8_t nothing = 0;
     uint64_t told[3] = {0, 0, 0};
-    uint8_t cause = wurzsige_parts_sizes(script ? script : &nothing, script ? length : 0, at, desk->cells, WURZSIGE_CELLS, desk->issues, WURZSIGE_CELLS,
-        desk->tables, WURZSIGE_ROWS, desk->marks, WURZSIGE_ROWS, desk->design, WURZSIGE_DESIGN_WORDS, desk->held, WURZSIGE_HELD_WORDS, told);
+    uint8_t cause = wurzsige_parts_sizes(script ? script : &nothing, script ? length : 0, at, desk->cells, WURZSIGE_CELLS, desk->issues,
+        WURZSIGE_CELLS, desk->tables, WURZSIGE_ROWS, desk->marks, WURZSIGE_ROWS, desk->design, WURZSIGE_DESIGN_WORDS, desk->held, WURZSIGE_HELD_WORDS,
+        told);
     if (cause == 0) {
         sizes->bytes = told[0];
         sizes->words = told[1];

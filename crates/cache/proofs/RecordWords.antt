@@ -1,4 +1,4 @@
--- A record stored as words, value by value and desk by desk, and the words from which that starts, all 0. Assumes nothing.
+-- A record stored as words, value by value and desk by desk. Assumes nothing.
 use Prim.Native.Nat.{ℕ, _+_, _≤_, _<_}
 use native.Mathlib.Omega.{arith}
 use mathlib.Core.Path.{_≡_, refl, sym, ap, subst, _∙_}
@@ -20,12 +20,6 @@ use Rattle.state.specs.Held.{noValue, noRanges, heldAt, rangesAt}
 use Rattle.state.specs.HeldWords.{wordsHeld, isByte, narrowTwo, narrowValue, narrowRanges, narrowHeld, Whole, Holds, withNamed, withCount, withValueAt, withRangesAt}
 use Rattle.state.proofs.Arrays.{HeldSized}
 use Rattle.state.proofs.HeldWords.{words-sized, whole-words, holds-whole}
-
--- ---- all words 0
-
-pub zero-whole : Whole (replicate 358 0)
-unfolding isByte narrowTwo narrowValue narrowRanges narrowHeld all
-zero-whole = whole-words (replicate 358 0) (length-replicate {A = ℕ} 358 0) refl
 
 -- ---- the first i values are stored
 

@@ -19,6 +19,8 @@ use lawful::rows_stand;
 use load::load_held;
 use load::marks_agree;
 use state::Design;
+use state::HELD_WORDS;
+use state::first_words;
 
 // Whether the buffers have room for 512 rows. Constant time.
 fn is_long_enough(cells: &[u32], issues: &[u8], tables: &[u8], marks: &[u8]) -> bool
@@ -81,16 +83,20 @@ pub fn cause(
     catalog: &mut [u16; 16449],
     keys: &mut [u64; 4096],
     marks: &[u8],
-    held: &[u32; 358],
+    held: &[u32],
 ) -> u8
     ensures { λ c. ⌜ (c ≡ causeOf (lent design (cellsIn (now (cells .entry)) (now (issues .entry))) (now (tables .entry)) (now (marks .entry)) (wordsHeld (now (held .entry)))) (now (held .entry)))
         × (c ≡ 0 → Catalogued (schemeOf design) (databaseOf (cellsIn (now (cells .entry)) (now (issues .entry))) (now (tables .entry)))
         (now (catalog .exit)) (now (keys .exit))) ⌝ }
 {
+    if held.len() < HELD_WORDS {
+        return 7;
+    }
     if !is_long_enough(cells, issues, tables, marks) {
         return 7;
     }
-    if !is_lawful_catalog(design, cells, issues, tables, catalog, keys, marks, held) {
+    let own = first_words(held);
+    if !is_lawful_catalog(design, cells, issues, tables, catalog, keys, marks, &own) {
         return 12;
     }
     0

@@ -11,7 +11,7 @@ use Rattle.model.specs.Answers.{Answer, refused}
 use Rattle.state.specs.declared.held.Held.{Held}
 use Rattle.state.specs.declared.rows.Row.{Row}
 use Rattle.state.specs.Meaning.{holdingOf, cacheOf}
-use Rattle.state.specs.HeldWords.{narrowHeld}
+use Rattle.state.specs.HeldWords.{recordIn}
 use Rattle.state.specs.Lent.{State, scheme, cache, causeOf}
 use Rattle.state.specs.Changes.{rows, tablesOf, stored, changedAnswer, changedWith, Change, Changed}
 
@@ -28,5 +28,5 @@ pub record Replaced (s : State) (r : ℕ) (x : Row) (a : Answer) (s′ : State) 
 -- the change x of a state s whose held values are lent as words: where they are the words of a record, as of the record; otherwise it is refused by cause 7
 -- or 12, and all stays
 pub record ChangedWords (s : State) (words : List ℕ) (x : Change) (a : Answer) (s′ : State) : Type 0 where
-  pub changed : narrowHeld words ≡ true → Changed s x a s′
-  pub refused : narrowHeld words ≡ false → (a ≡ refused (causeOf s words)) × (s′ ≡ s)
+  pub changed : recordIn words ≡ true → Changed s x a s′
+  pub refused : recordIn words ≡ false → (a ≡ refused (causeOf s words)) × (s′ ≡ s)

@@ -12,6 +12,7 @@ use cache::cause;
 use state::Answer;
 use state::Design;
 use state::Row;
+use state::first_words;
 
 // Puts the row x in at number r.
 pub fn put_row(
@@ -20,7 +21,7 @@ pub fn put_row(
     issues: &mut [u8],
     tables: &mut [u8],
     marks: &mut [u8],
-    held: &[u32; 358],
+    held: &[u32],
     r: u16,
     x: Row,
 ) -> Answer
@@ -43,6 +44,7 @@ pub fn put_row(
     if why != 0 {
         return Answer::Refused(why);
     }
+    let own = first_words(held);
     put_lawful(
         design,
         cells,
@@ -51,7 +53,7 @@ pub fn put_row(
         &mut catalog,
         &mut keys,
         marks,
-        held,
+        &own,
         r,
         x,
     )
@@ -64,7 +66,7 @@ pub fn remove_row(
     issues: &mut [u8],
     tables: &mut [u8],
     marks: &mut [u8],
-    held: &[u32; 358],
+    held: &[u32],
     r: u16,
 ) -> Answer
     ensures { λ a. ⌜ ChangedWords (lent design (cellsIn (now (cells .entry)) (now (issues .entry))) (now (tables .entry)) (now (marks .entry)) (wordsHeld (now (held .entry)))) (now (held .entry))
@@ -86,6 +88,7 @@ pub fn remove_row(
     if why != 0 {
         return Answer::Refused(why);
     }
+    let own = first_words(held);
     remove_lawful(
         design,
         cells,
@@ -94,7 +97,7 @@ pub fn remove_row(
         &mut catalog,
         &mut keys,
         marks,
-        held,
+        &own,
         r,
     )
 }

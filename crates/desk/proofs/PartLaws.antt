@@ -11,11 +11,14 @@ use lib.Seq.{sets-eq, take-at, drop-at, take-append-seam, drop-drop, length-take
 use Rattle.finite.specs.Writing.{Wrote}
 use Rattle.finite.proofs.Bools.{clash, cond-true, cond-false}
 use Rattle.finite.proofs.Writing.{wrote-long}
+use Rattle.model.specs.Database.{Database}
 use Rattle.state.specs.Cells.{Cells}
 use Rattle.state.specs.declared.design.Design.{Design}
 use Rattle.state.specs.declared.held.Held.{Held}
 use Rattle.state.specs.Held.{noneHeld}
+use Rattle.state.specs.Meaning.{schemeOf}
 use Rattle.state.specs.Lent.{State, lent, sound}
+use Rattle.catalog.specs.Catalog.{Catalogued}
 use Rattle.lawful.proofs.RowsLaws.{Stored}
 use Rattle.format.specs.declared.verdict.Verdict.{Verdict}
 use Rattle.format.specs.declared.verdict.Verdict.the-variants.{Accepted, Refused}
@@ -28,7 +31,6 @@ use Rattle.report.proofs.Lengths.{design-line-reach, refusal-line-reach}
 use Rattle.script.specs.Step.{Outputs}
 use Rattle.script.specs.Runs.{Buffers, buffers, justRead}
 use Rattle.desk.specs.declared.reporting.Progress.{Progress}
-use Rattle.desk.specs.declared.parts.Beginning.{Beginning}
 use Rattle.desk.specs.declared.Handed.{Handed}
 use Rattle.desk.specs.Printed.{textAt, restOf, reportOf, Printed}
 use Rattle.desk.specs.Parts.{firstText, firstPlace, anyCommand, First, Part, NextReady, Begins, Continues, lentBuffers, deskReport, Stands, HandedOver}
@@ -46,17 +48,17 @@ front o o′ z w h l =
 
 pub first-accepted : (script : List ℕ) (d : Design) (rows : ℕ) (v : Verdict) (i : ℕ) (o o′ : List ℕ) (p : Progress) → v ≡ Accepted i →
     Wrote o o′ 0 (p .end) (designLine d rows) →
-    p .at ≡ i → p .number ≡ 0 → p .more ≡ ltb i (length script) → p .held ≡ noneHeld → First script d rows v o o′ p
+    p .at ≡ i → p .number ≡ 0 → p .more ≡ ltb i (length script) → p .design ≡ d → First script d rows v o o′ p
 unfolding firstText anyCommand
 first-accepted script d rows v i o o′ p e w a n m h =
-    subst (λ (u : Verdict). First script d rows u o o′ p) (sym e) (record { wrote = w; at = a; number = n; more = m; held = h })
+    subst (λ (u : Verdict). First script d rows u o o′ p) (sym e) (record { wrote = w; at = a; number = n; more = m; design = h })
 
 pub first-refused : (script : List ℕ) (d : Design) (rows : ℕ) (v : Verdict) (n i : ℕ) (o o′ : List ℕ) (p : Progress) → v ≡ Refused n i →
     Wrote o o′ 0 (p .end) (refusalLine n i) →
-    p .at ≡ i → p .number ≡ 0 → p .more ≡ false → p .held ≡ noneHeld → First script d rows v o o′ p
+    p .at ≡ i → p .number ≡ 0 → p .more ≡ false → p .design ≡ d → First script d rows v o o′ p
 unfolding firstText anyCommand
 first-refused script d rows v n i o o′ p e w a k m h =
-    subst (λ (u : Verdict). First script d rows u o o′ p) (sym e) (record { wrote = w; at = a; number = k; more = m; held = h })
+    subst (λ (u : Verdict). First script d rows u o o′ p) (sym e) (record { wrote = w; at = a; number = k; more = m; design = h })
 
 -- a command follows only an accepted design
 pub accepted-more : (script : List ℕ) (d : Design) (rows : ℕ) (v : Verdict) (o o′ : List ℕ) (p : Progress) → First script d rows v o o′ p → p .more ≡ true →
@@ -64,6 +66,10 @@ pub accepted-more : (script : List ℕ) (d : Design) (rows : ℕ) (v : Verdict) 
 unfolding anyCommand
 accepted-more script d rows (Accepted i) o o′ p f m = (i, refl)
 accepted-more script d rows (Refused n i) o o′ p f m = clash m (f .more)
+
+-- the catalog is of the design with which the report goes on
+pub designed : (d e : Design) → e ≡ d → (D : Database) (catalog keys : List ℕ) → Catalogued (schemeOf d) D catalog keys → Catalogued (schemeOf e) D catalog keys
+designed d e h D catalog keys = subst (λ (x : Design). Catalogued (schemeOf x) D catalog keys) (sym h)
 
 first-reach : (o o′ : List ℕ) (z : ℕ) (d : Design) (rows : ℕ) (v : Verdict) → Wrote o o′ 0 z (firstText d rows v) → z ≤ 91
 unfolding firstText
@@ -77,13 +83,13 @@ module _ (script : List ℕ) (cs₀ : Cells) (ts₀ ms₀ : List ℕ) (outs : Ou
   b = buffers cs₀ ts₀ ms₀ outs
 
   -- the state is that of the design just read
-  start-is : (R : DesignRead) → readInto script cs₀ ts₀ ms₀ ≡ R → lent (r .design) cs ts ms (p .held) ≡ justRead R b
+  start-is : (R : DesignRead) → readInto script cs₀ ts₀ ms₀ ≡ R → lent (p .design) cs ts ms noneHeld ≡ justRead R b
   start-is R e =
-      (λ x. lent (read .design x) (read .cells x) (read .tables x) (read .marks x) (first .held x)) ∙ ap (λ (Q : DesignRead). justRead Q b) e
+      (λ x. lent ((first .design ∙ read .design) x) (read .cells x) (read .tables x) (read .marks x) noneHeld) ∙ ap (λ (Q : DesignRead). justRead Q b) e
 
   -- the report is the first text, and what is then still to be printed
   begins-whole : (R : DesignRead) → readInto script cs₀ ts₀ ms₀ ≡ R →
-      reportOf script b R ≡ firstText (r .design) (r .rows) (r .verdict) ++ restOf script (lent (r .design) cs ts ms (p .held)) outs p
+      reportOf script b R ≡ firstText (r .design) (r .rows) (r .verdict) ++ restOf script (lent (p .design) cs ts ms noneHeld) outs p
   unfolding firstText anyCommand
   begins-whole (accepted q i) e =
       let v : r .verdict ≡ Accepted i = read .verdict ∙ ap verdictOf e in
@@ -97,25 +103,25 @@ module _ (script : List ℕ) (cs₀ : Cells) (ts₀ ms₀ : List ℕ) (outs : Ou
       (ap₂ (λ (a c : List ℕ). a ++ c) (ap (firstText (r .design) (r .rows)) v) (report-ends script _ outs p (first .more ∙ ap (anyCommand script) v)) ∙
       append-nil (refusalLine n i))
 
-  begins-ready : Small script → Stored cs → p .more ≡ true → (v : Verdict) → r .verdict ≡ v → NextReady script (lent (r .design) cs ts ms (p .held)) p
+  begins-ready : Small script → Stored cs → p .more ≡ true → (v : Verdict) → r .verdict ≡ v → NextReady script (lent (p .design) cs ts ms noneHeld) p
   unfolding anyCommand
   begins-ready small stored m (Accepted j) v =
       let l : p .at ≡ j = first .at ∙ ap firstPlace v in
       record {
-        sound = ap (λ (h : Held). sound (lent (r .design) cs ts ms h)) (first .held) ∙ started script cs₀ ts₀ ms₀ r cs ts ms read small stored j v;
+        sound = ap (λ (d : Design). sound (lent d cs ts ms noneHeld)) (first .design) ∙ started script cs₀ ts₀ ms₀ r cs ts ms read small stored j v;
         at = omega (arith, l, ltb-true j (length script) (sym (first .more ∙ ap (anyCommand script) v) ∙ m));
         number = omega (arith, first .number);
       }
   begins-ready small stored m (Refused n i) v = clash m (first .more ∙ ap (anyCommand script) v)
 
-  pub begins : Small script → Stored cs → 91 ≤ length o → Begins script b cs ts ms o′ (record { design = r .design; progress = p })
+  pub begins : Small script → Stored cs → 91 ≤ length o → Begins script b cs ts ms o′ p
   begins small stored room =
       let reach = first-reach o o′ (p .end) (r .design) (r .rows) (r .verdict) (first .wrote) in
       record {
         part = record {
           fits = omega (arith, wrote-long o o′ 0 (p .end) _ (first .wrote));
           whole = begins-whole (readInto script cs₀ ts₀ ms₀) refl ∙
-              ap (λ (t : List ℕ). t ++ restOf script (lent (r .design) cs ts ms (p .held)) outs p)
+              ap (λ (t : List ℕ). t ++ restOf script (lent (p .design) cs ts ms noneHeld) outs p)
               (sym (front o o′ (p .end) _ (first .wrote) (omega arith)));
         };
         ready = λ m. begins-ready small stored m (r .verdict) refl;
@@ -148,16 +154,17 @@ pub record Standing (script : List ℕ) (s : State) (outs : Outputs) (p : Progre
   pub ready : p .more ≡ true → NextReady script s p
   pub small : done + p .end + 81920 * turns script p ≤ 81920 * 65540
 
-pub standing-first : (script : List ℕ) (cs : Cells) (ts ms o : List ℕ) (r : Beginning) → Begins script lentBuffers cs ts ms o r → length o ≡ 81920 → length script ≤ 65537 →
-    Standing script (lent (r .design) cs ts ms (r .progress .held)) (lentBuffers .outputs) (r .progress) o 0
+pub standing-first : (script : List ℕ) (cs : Cells) (ts ms o : List ℕ) (p : Progress) → Begins script lentBuffers cs ts ms o p → length o ≡ 81920 → length script ≤ 65537 →
+    (h : Held) → h ≡ noneHeld → Standing script (lent (p .design) cs ts ms h) (lentBuffers .outputs) p o 0
 unfolding deskReport
-standing-first script cs ts ms o r f l k =
-    record {
+standing-first script cs ts ms o p f l k h e =
+    subst (λ (g : Held). Standing script (lent (p .design) cs ts ms g) (lentBuffers .outputs) p o 0) (sym e)
+    (record {
       within = omega arith;
       part = f .part;
       ready = f .ready;
-      small = omega (arith, f .part .fits, turns-few script (r .progress));
-    }
+      small = omega (arith, f .part .fits, turns-few script p);
+    })
 
 module _ (script : List ℕ) (s : State) (outs : Outputs) (p : Progress) (out : List ℕ) (done : ℕ) (h : Standing script s outs p out done) where
   pub stands : Stands (deskReport script) done (take (p .end) out)

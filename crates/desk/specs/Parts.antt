@@ -16,7 +16,6 @@ use Rattle.report.specs.Report.{designLine, refusalLine}
 use Rattle.script.specs.Step.{Outputs, outputs}
 use Rattle.script.specs.Runs.{Buffers, buffers, readingOf}
 use Rattle.desk.specs.declared.reporting.Progress.{Progress}
-use Rattle.desk.specs.declared.parts.Beginning.{Beginning}
 use Rattle.desk.specs.declared.Handed.{Handed}
 use Rattle.desk.specs.Printed.{reportOf, restOf}
 
@@ -42,7 +41,7 @@ pub record First (script : List ℕ) (d : Design) (rows : ℕ) (v : Verdict) (o 
   pub at : p .at ≡ firstPlace v
   pub number : p .number ≡ 0
   pub more : p .more ≡ anyCommand script v
-  pub held : p .held ≡ noneHeld
+  pub design : p .design ≡ d
 
 -- ---- between two parts
 
@@ -57,11 +56,10 @@ pub record NextReady (script : List ℕ) (s : State) (p : Progress) : Type 0 whe
   pub at : p .at < length script
   pub number : p .number ≤ p .at
 
--- what `begin` gives, where b was lent and the rows, their tables and the marks are then cs, ts and ms: the buffer o has the first part of the report
-pub record Begins (script : List ℕ) (b : Buffers) (cs : Cells) (ts ms o : List ℕ) (r : Beginning) : Type 0 where
-  pub part : Part (reportOf script b (readingOf script b)) o (r .progress .end)
-      (restOf script (lent (r .design) cs ts ms (r .progress .held)) (b .outputs) (r .progress))
-  pub ready : r .progress .more ≡ true → NextReady script (lent (r .design) cs ts ms (r .progress .held)) (r .progress)
+-- what `begin` gives, where b was lent and the rows, their tables and the marks are then cs, ts and ms: the buffer o has the first part of the report, and nothing is held
+pub record Begins (script : List ℕ) (b : Buffers) (cs : Cells) (ts ms o : List ℕ) (p : Progress) : Type 0 where
+  pub part : Part (reportOf script b (readingOf script b)) o (p .end) (restOf script (lent (p .design) cs ts ms noneHeld) (b .outputs) p)
+  pub ready : p .more ≡ true → NextReady script (lent (p .design) cs ts ms noneHeld) p
 
 -- what `next_part` gives, from p to q: the buffer o has the next part. The state e, and w, which is lent for
 -- answers, are those afterwards.

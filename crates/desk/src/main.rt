@@ -55,30 +55,21 @@ fn write_report(script: &[u8]) -> Handed
     let mut words = [0u32; 4096];
     let mut text = [0u8; 16384];
     let mut out = [0u8; 81920];
-    let mut next = [512u16; 4096];
-    let mut first = [512u16; 8192];
+    let mut catalog = [0u16; 16449];
     let mut keys = [0u64; 4096];
-    let mut heads = [512u16; 4096];
-    let mut starts = [0u16; 65];
-    let mut weights = [0u64; 2560];
-    let mut sums = [0u64; 2560];
-    let mut froms = [0u16; 2560];
-    let mut links = [0u16; 2560];
-    let beginning = begin(
+    let mut held = [0u32; 358];
+    let mut counts = [0u64; 5120];
+    let mut places = [0u16; 5120];
+    let mut p = begin(
         script,
         &mut cells,
         &mut issues,
         &mut tables,
-        &mut next,
-        &mut first,
+        &mut catalog,
         &mut keys,
-        &mut heads,
-        &mut starts,
         &mut marks,
         &mut out,
     );
-    let design = beginning.design;
-    let mut p = beginning.progress;
     let mut done: usize = 0;
     loop {
         let n = p.end;
@@ -93,22 +84,17 @@ fn write_report(script: &[u8]) -> Handed
         let q = next_part(
             script,
             p,
-            design,
             &mut cells,
             &mut issues,
             &mut tables,
-            &mut next,
-            &mut first,
+            &mut catalog,
             &mut keys,
-            &mut heads,
-            &mut starts,
             &mut marks,
+            &mut held,
             &mut words,
             &mut text,
-            &mut weights,
-            &mut sums,
-            &mut froms,
-            &mut links,
+            &mut counts,
+            &mut places,
             &mut out,
         );
         p = q;

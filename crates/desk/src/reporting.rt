@@ -8,7 +8,8 @@ ghost use lib.ListN.{length, getD};
 ghost use Rattle.finite.specs.Writing.{Wrote};
 ghost use Rattle.model.specs.Answers.{hasLists};
 ghost use Rattle.state.specs.Cells.{cellsIn};
-ghost use Rattle.state.specs.Meaning.{answerOf};
+ghost use Rattle.state.specs.HeldWords.{wordsHeld, Whole};
+ghost use Rattle.state.specs.Meaning.{answerOf, databaseOf, schemeOf};
 ghost use Rattle.state.specs.Lent.{lent, sound};
 ghost use Rattle.catalog.specs.Catalog.{Catalogued};
 ghost use Rattle.script.specs.Step.{outputs};
@@ -18,17 +19,16 @@ use report::put_list_lines;
 use script::step_lawful;
 use state::Answer;
 use state::Design;
-use state::Held;
 use state::Shown;
 use state::has_lists;
 use state::show;
 
-// How far the desk has come: the place of the next command and its number, whether there is one, the held values, and where the buffer's text ends.
+// How far the desk has come with a design: the place of the next command and its number, whether there is one, and where the buffer's text ends.
 pub struct Progress {
+    pub design: Design,
     pub at: usize,
     pub number: usize,
     pub more: bool,
-    pub held: Held,
     pub end: usize,
 }
 
@@ -77,39 +77,34 @@ fn goes_on(script: &[u8], more: bool, after: usize) -> bool
 fn report_step(
     script: &[u8],
     from: Progress,
-    design: Design,
     cells: &mut [u32],
     issues: &mut [u8],
     tables: &mut [u8],
-    next: &mut [u16; 4096],
-    first: &mut [u16; 8192],
+    catalog: &mut [u16; 16449],
     keys: &mut [u64; 4096],
-    heads: &mut [u16; 4096],
-    starts: &mut [u16; 65],
     marks: &mut [u8],
+    held: &mut [u32; 358],
     words: &mut [u32],
     text: &mut [u8],
-    weights: &mut [u64; 2560],
-    sums: &mut [u64; 2560],
-    froms: &mut [u16; 2560],
-    links: &mut [u16; 2560],
+    counts: &mut [u64; 5120],
+    places: &mut [u16; 5120],
     out: &mut [u8],
 ) -> Progress
-    requires { ⌜ (sound (lent design (cellsIn (now cells) (now issues)) (now tables) (now marks) (from .held)) ≡ true)
-        × Catalogued design (cellsIn (now cells) (now issues)) (now tables) (now next) (now first) (now keys) (now heads) (now starts) ⌝ }
+    requires { ⌜ (sound (lent (from .design) (cellsIn (now cells) (now issues)) (now tables) (now marks) (wordsHeld (now held))) ≡ true)
+        × Catalogued (schemeOf (from .design)) (databaseOf (cellsIn (now cells) (now issues)) (now tables)) (now catalog) (now keys) × Whole (now held) ⌝ }
     requires { ⌜ (from .more ≡ true) × (from .at < length (now script)) × (from .number ≤ from .at) × (length (now words) ≤ 4096)
         × (length (now text) ≤ 16384) × (from .end + 61840 ≤ length (now out)) ⌝ }
-    ensures { λ q. ⌜ Printed (now (script .entry)) (lent design (cellsIn (now (cells .entry)) (now (issues .entry))) (now (tables .entry)) (now (marks .entry)) (from .held))
+    ensures { λ q. ⌜ Printed (now (script .entry)) (lent (from .design) (cellsIn (now (cells .entry)) (now (issues .entry))) (now (tables .entry)) (now (marks .entry)) (wordsHeld (now (held .entry))))
         (outputs (now (words .entry)) (now (text .entry))) from (now (out .entry)) (now (out .exit))
-        (lent design (cellsIn (now (cells .exit)) (now (issues .exit))) (now (tables .exit)) (now (marks .exit)) (q .held))
+        (lent (q .design) (cellsIn (now (cells .exit)) (now (issues .exit))) (now (tables .exit)) (now (marks .exit)) (wordsHeld (now (held .exit))))
         (outputs (now (words .exit)) (now (text .exit))) q ⌝ }
     ensures { λ q. ⌜ (q .end ≤ from .end + 61831)
         × (q .more ≡ true → (from .at < q .at) × (q .at < length (now (script .entry))) × (q .number ≤ q .at)) ⌝ }
-    ensures { λ _. ⌜ Catalogued design (cellsIn (now (cells .exit)) (now (issues .exit))) (now (tables .exit)) (now (next .exit)) (now (first .exit))
-        (now (keys .exit)) (now (heads .exit)) (now (starts .exit)) ⌝ }
+    ensures { λ q. ⌜ Catalogued (schemeOf (q .design)) (databaseOf (cellsIn (now (cells .exit)) (now (issues .exit))) (now (tables .exit))) (now (catalog .exit)) (now (keys .exit))
+        × Whole (now (held .exit)) ⌝ }
 {
     let at = from.at;
-    let held = from.held;
+    let design = from.design;
     let step = step_lawful(
         script,
         at,
@@ -117,31 +112,25 @@ fn report_step(
         cells,
         issues,
         tables,
-        next,
-        first,
+        catalog,
         keys,
-        heads,
-        starts,
         marks,
         held,
         words,
         text,
-        weights,
-        sums,
-        froms,
-        links,
+        counts,
+        places,
     );
     let answer = step.answer;
     let z = put_command_line(out, from.end, from.number, answer, step.place, text);
     let p = positions_at(script, at);
     let end = put_lists(out, z, answer, words, p);
-    let kept = step.held;
     let more = goes_on(script, step.more, step.next);
     Progress {
+        design,
         at: step.next,
         number: from.number + 1,
         more,
-        held: kept,
         end,
     }
 }
@@ -153,35 +142,30 @@ const FULL: usize = 16384;
 pub(crate) fn fill(
     script: &[u8],
     from: Progress,
-    design: Design,
     cells: &mut [u32],
     issues: &mut [u8],
     tables: &mut [u8],
-    next: &mut [u16; 4096],
-    first: &mut [u16; 8192],
+    catalog: &mut [u16; 16449],
     keys: &mut [u64; 4096],
-    heads: &mut [u16; 4096],
-    starts: &mut [u16; 65],
     marks: &mut [u8],
+    held: &mut [u32; 358],
     words: &mut [u32],
     text: &mut [u8],
-    weights: &mut [u64; 2560],
-    sums: &mut [u64; 2560],
-    froms: &mut [u16; 2560],
-    links: &mut [u16; 2560],
+    counts: &mut [u64; 5120],
+    places: &mut [u16; 5120],
     out: &mut [u8],
 ) -> Progress
-    requires { ⌜ (sound (lent design (cellsIn (now cells) (now issues)) (now tables) (now marks) (from .held)) ≡ true)
-        × Catalogued design (cellsIn (now cells) (now issues)) (now tables) (now next) (now first) (now keys) (now heads) (now starts) ⌝ }
+    requires { ⌜ (sound (lent (from .design) (cellsIn (now cells) (now issues)) (now tables) (now marks) (wordsHeld (now held))) ≡ true)
+        × Catalogued (schemeOf (from .design)) (databaseOf (cellsIn (now cells) (now issues)) (now tables)) (now catalog) (now keys) × Whole (now held) ⌝ }
     requires { ⌜ (from .more ≡ true → (from .at < length (now script)) × (from .number ≤ from .at)) × (length (now words) ≤ 4096)
         × (length (now text) ≤ 16384) × (from .end ≤ 16384) × (length (now out) ≡ 81920) ⌝ }
-    ensures { λ q. ⌜ Printed (now (script .entry)) (lent design (cellsIn (now (cells .entry)) (now (issues .entry))) (now (tables .entry)) (now (marks .entry)) (from .held))
+    ensures { λ q. ⌜ Printed (now (script .entry)) (lent (from .design) (cellsIn (now (cells .entry)) (now (issues .entry))) (now (tables .entry)) (now (marks .entry)) (wordsHeld (now (held .entry))))
         (outputs (now (words .entry)) (now (text .entry))) from (now (out .entry)) (now (out .exit))
-        (lent design (cellsIn (now (cells .exit)) (now (issues .exit))) (now (tables .exit)) (now (marks .exit)) (q .held))
+        (lent (q .design) (cellsIn (now (cells .exit)) (now (issues .exit))) (now (tables .exit)) (now (marks .exit)) (wordsHeld (now (held .exit))))
         (outputs (now (words .exit)) (now (text .exit))) q ⌝ }
     ensures { λ q. ⌜ (q .end ≤ 81920) × (q .more ≡ true → (from .at < q .at) × (q .at < length (now (script .entry))) × (q .number ≤ q .at)) ⌝ }
-    ensures { λ _. ⌜ Catalogued design (cellsIn (now (cells .exit)) (now (issues .exit))) (now (tables .exit)) (now (next .exit)) (now (first .exit))
-        (now (keys .exit)) (now (heads .exit)) (now (starts .exit)) ⌝ }
+    ensures { λ q. ⌜ Catalogued (schemeOf (q .design)) (databaseOf (cellsIn (now (cells .exit)) (now (issues .exit))) (now (tables .exit))) (now (catalog .exit)) (now (keys .exit))
+        × Whole (now (held .exit)) ⌝ }
 {
     let mut p = from;
     loop {
@@ -194,22 +178,17 @@ pub(crate) fn fill(
         let q = report_step(
             script,
             p,
-            design,
             cells,
             issues,
             tables,
-            next,
-            first,
+            catalog,
             keys,
-            heads,
-            starts,
             marks,
+            held,
             words,
             text,
-            weights,
-            sums,
-            froms,
-            links,
+            counts,
+            places,
             out,
         );
         p = q;

@@ -1,7 +1,7 @@
 -- From what the functions of the operations give to what any operation gives: those that ask change nothing, REFER, DROP, the naming of a desk, and holding
 -- and dropping a range write no words, and a reason alone writes text. (QUERY: QueryCases.) Assumes nothing.
 use Prim.Native.Nat.{ℕ}
-use mathlib.Core.Path.{_≡_, refl, sym, ap, _∙_}
+use mathlib.Core.Path.{_≡_, refl, sym, ap, subst, _∙_}
 use mathlib.Core.Bool.{true}
 use mathlib.Core.List.{List, []}
 use lib.ListN.{length}
@@ -14,11 +14,14 @@ use Rattle.model.specs.Runs.{Question, evenness, smallestKnot, Output, Operatio
 use Rattle.model.specs.Answers.{Answer, refused, evenAnswer, knotAnswer, questionAnswer, questionText, answer, written, textOf}
 use Rattle.state.specs.declared.operation.Operation as State-operation
 use Rattle.state.specs.Meaning.{operationOf}
-use Rattle.state.specs.HeldWords.{Whole}
-use Rattle.state.specs.Lent.{State, cache, scheme, database, sound, causeAt, causeOf, answerAt, wordsAt, textAt, Answered, Worded, Performed}
+use Rattle.state.specs.Cells.{Cells}
+use Rattle.state.specs.declared.design.Design.{Design}
+use Rattle.state.specs.declared.held.Held.{Held}
+use Rattle.state.specs.HeldWords.{firstWords, wordsHeld, Whole}
+use Rattle.state.specs.Lent.{State, lent, cache, scheme, database, sound, causeAt, causeOf, answerAt, wordsAt, textAt, Answered, Worded, Performed}
 use Rattle.state.proofs.Arrays.{HeldSized}
-use Rattle.state.proofs.HeldWords.{whole-words}
-use Rattle.cache.proofs.CauseWords.{cause-narrow, cause-clear}
+use Rattle.state.proofs.LentWords.{same-record-words, stored-record}
+use Rattle.cache.proofs.CauseWords.{cause-record, own-means, own-clear}
 use Rattle.operate.specs.Lending.{PerformedWords}
 use Rattle.lawful.proofs.SoundState.{after, answer-at, unchanged, words-at, text-at, cause-answer, cause-state, cause-words, cause-text}
 
@@ -105,13 +108,29 @@ pub in-case : (s : State) (w t : List ℕ) (room bytes : ℕ) (c d : State-opera
 in-case s w t room bytes c d a s′ w′ t′ e h = rw e h
 
 -- the same where what is held is lent as words
-pub refused-words : (s : State) (h w t : List ℕ) (o : Operation) (c : ℕ) → length h ≡ 358 → c ≡ causeOf s h → (c ≡ 0 → ⊥) → PerformedWords s h w t o (refused c) s h w t
-refused-words s h w t o c l e n =
-    record {
-      performed = λ b. (refused-performs s w t o c (e ∙ cause-narrow s h b) n, whole-words h l b);
-      refused = λ b. (ap refused e, refl, refl, refl, refl);
-    }
+module _ (d : Design) (cs : Cells) (ts ms ws w t : List ℕ) (o : Operation) (c : ℕ) (e : c ≡ causeOf (lent d cs ts ms (wordsHeld ws)) ws) where
+  abbrev s : State
+  s = lent d cs ts ms (wordsHeld ws)
 
-pub performed-words : (s : State) (h w t : List ℕ) (o : Operation) (c : ℕ) → c ≡ causeOf s h → c ≡ 0 → (a : Answer) (s′ : State) (h′ w′ t′ : List ℕ) →
-    Performed s w t o a s′ w′ t′ × Whole h′ → PerformedWords s h w t o a s′ h′ w′ t′
-performed-words s h w t o c e z a s′ h′ w′ t′ p = record { performed = λ b. p; refused = λ b. clash (cause-clear s h (sym e ∙ z) .1) b }
+  pub refused-words : (c ≡ 0 → ⊥) → PerformedWords s ws w t o (refused c) s ws w t
+  refused-words n =
+      record {
+        performed = λ b. (refused-performs s w t o c (e ∙ cause-record s ws b) n, sym (same-record-words ws b));
+        refused = λ b. (ap refused e, refl, refl, refl, refl);
+      }
+
+  -- none applies: the operation is performed on the record in the first words, whose words are stored
+  pub performed-words : c ≡ 0 → (own : List ℕ) → own ≡ firstWords ws → (a : Answer) (cs′ : Cells) (ts′ ms′ own′ ws′ w′ t′ : List ℕ) →
+      Performed (lent d cs ts ms (wordsHeld own)) w t o a (lent d cs′ ts′ ms′ (wordsHeld own′)) w′ t′ × Whole own′ → ws′ ≡ sets ws 0 own′ →
+      PerformedWords s ws w t o a (lent d cs′ ts′ ms′ (wordsHeld ws′)) ws′ w′ t′
+  performed-words z own is a cs′ ts′ ms′ own′ ws′ w′ t′ p stored =
+      let clear = own-clear d cs ts ms ws own is c e z in
+      let back = stored-record ws own′ ws′ (clear .long) (p .1) stored in
+      record {
+        performed = λ b. (
+          subst (λ (h : Held). Performed s w t o a (lent d cs′ ts′ ms′ h) w′ t′) (sym (back .0))
+              (subst (λ (h : Held). Performed (lent d cs ts ms h) w t o a (lent d cs′ ts′ ms′ (wordsHeld own′)) w′ t′) (own-means d cs ts ms ws own is) (p .0)),
+          back .1,
+        );
+        refused = λ b. clash (clear .words) b;
+      }

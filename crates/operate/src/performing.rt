@@ -24,6 +24,8 @@ use reason::reason_lawful;
 use state::Answer;
 use state::Design;
 use state::Operation;
+use state::first_words;
+use state::store_words;
 
 // The operation on a state known sound, with the catalog of its rows: no test for causes 7 and 12. The last two arrays are working memory, whatever
 // stands in them. REFER and the holding of a range cost one load, DROP and the dropping of a range one reload, PROBE a look for the value for each constraint that
@@ -136,11 +138,10 @@ pub fn perform(
     issues: &[u8],
     tables: &[u8],
     marks: &mut [u8],
-    held: &mut [u32; 358],
+    held: &mut [u32],
     words: &mut [u32],
     text: &mut [u8],
 ) -> Answer
-    requires { ⌜ length (now held) ≡ 358 ⌝ }
     ensures { λ a. ⌜ PerformedWords (lent design (cellsIn (now (cells .entry)) (now (issues .entry))) (now (tables .entry)) (now (marks .entry)) (wordsHeld (now (held .entry)))) (now (held .entry)) (now (words .entry))
         (now (text .entry)) (operationOf op (length (now (words .entry))) (length (now (text .entry))))
         (answerOf a) (lent design (cellsIn (now (cells .entry)) (now (issues .entry))) (now (tables .entry)) (now (marks .exit)) (wordsHeld (now (held .exit)))) (now (held .exit)) (now (words .exit))
@@ -161,9 +162,10 @@ pub fn perform(
     if why != 0 {
         return Answer::Refused(why);
     }
+    let mut own = first_words(held);
     let mut counts = [0u64; 5120];
     let mut places = [0u16; 5120];
-    perform_lawful(
+    let answer = perform_lawful(
         op,
         design,
         cells,
@@ -172,10 +174,12 @@ pub fn perform(
         &catalog,
         &keys,
         marks,
-        held,
+        &mut own,
         words,
         text,
         &mut counts,
         &mut places,
-    )
+    );
+    store_words(&own, held);
+    answer
 }

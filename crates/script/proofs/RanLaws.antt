@@ -16,7 +16,7 @@ use Rattle.format.specs.Reading.{Draft, DesignRead, verdictOf, designOf, cellsA
 use Rattle.format.specs.Reading.DesignRead.{accepted, refusedAt}
 use Rattle.format.proofs.Small.{Small}
 use Rattle.script.specs.Runs.{leaving, leftFrom, Buffers, buffers, readingOf, justRead, Ran}
-use Rattle.script.proofs.ZeroWords.{zero-none}
+use Rattle.state.proofs.LentWords.{zero-none}
 use Rattle.script.proofs.JustRead.{begun}
 use Rattle.script.proofs.WholeRun.{operated}
 

@@ -4,6 +4,7 @@ use mathlib.Core.Path.{_≡_, refl, sym, ap, subst, _∙_}
 use mathlib.Core.Bool.{Bool, true, false}
 use mathlib.Core.List.{List}
 use lib.ListN.{length}
+use lib.Seq.{sets}
 use Rattle.model.specs.Answers as Model
 use Rattle.state.specs.declared.answer.Answer.{Answer}
 use Rattle.state.specs.declared.answer.Answer.the-variants.{Refused}
@@ -12,7 +13,8 @@ use Rattle.state.specs.declared.operation.Operation.{Operation}
 use Rattle.state.specs.declared.rows.Row.{Row}
 use Rattle.state.specs.Cells.{Cells}
 use Rattle.state.specs.Meaning.{answerOf}
-use Rattle.state.specs.HeldWords.{Whole}
+use Rattle.state.specs.declared.design.Design.{Design}
+use Rattle.state.specs.HeldWords.{firstWords, wordsHeld, Whole}
 use Rattle.state.specs.Lent.{State, lent, sound, causeAt, causeOf, Performed}
 use Rattle.state.specs.Changes.{Change, put, Changed}
 use Rattle.format.specs.declared.command.Command.{Command}
@@ -22,8 +24,8 @@ use Rattle.format.specs.Reading.{mostBytes}
 use Rattle.script.specs.declared.outcome.Step.{Step}
 use Rattle.script.specs.Step.{Outputs, outputs, roomsOf, operationIn, Stepped, placeOf, refusing, operated, changing, carried, stepAt, Does, DoesWords}
 use Rattle.finite.proofs.Bools.{clash}
-use Rattle.state.proofs.HeldWords.{whole-words}
-use Rattle.cache.proofs.CauseWords.{cause-narrow, cause-clear}
+use Rattle.state.proofs.LentWords.{same-record-words, stored-record}
+use Rattle.cache.proofs.CauseWords.{cause-record, own-means, own-clear}
 use Rattle.script.proofs.StepLaws.{step-caused, step-carried}
 
 -- ---- an operation
@@ -94,11 +96,15 @@ pub in-case : (s : State) (out : Outputs) (script : List ℕ) (i j : ℕ) (c d :
     Does (carried s out script i j d) t s′ w → Does (carried s out script i j c) t s′ w
 in-case s out script i j c d t s′ w e h = rw e h
 
+-- the command that stands there, as the code has read it
+pub as-read : (s : State) (out : Outputs) (script : List ℕ) (i j : ℕ) → j ≡ i + widthOf (byteAt script i) → (c : Command) → c ≡ commandAt script i →
+    (t : Step) (s′ : State) (w : Outputs) → Does (carried s out script i j c) t s′ w → Does (carried s out script i (i + widthOf (byteAt script i)) (commandAt script i)) t s′ w
+as-read s out script i j p c q t s′ w h = rw (← p, ← q) h
+
 -- the step on a sound state is the command's
-pub step-is : (s : State) → sound s ≡ true → (out : Outputs) (script : List ℕ) (i : ℕ) → length script ≤ mostBytes →
-    (j : ℕ) → j ≡ i + widthOf (byteAt script i) → (c : Command) → c ≡ commandAt script i →
-    (t : Step) (s′ : State) (w : Outputs) → Does (carried s out script i j c) t s′ w → Does (stepAt s out script i) t s′ w
-step-is s e out script i l j p c q t s′ w h = rw (step-carried s out script i e l, ← p, ← q) h
+pub step-is : (s : State) → sound s ≡ true → (out : Outputs) (script : List ℕ) (i : ℕ) → length script ≤ mostBytes → (t : Step) (s′ : State) (w : Outputs) →
+    Does (carried s out script i (i + widthOf (byteAt script i)) (commandAt script i)) t s′ w → Does (stepAt s out script i) t s′ w
+step-is s e out script i l t s′ w h = rw (step-carried s out script i e l) h
 
 pub step-case : (R Q : Stepped) (t : Step) (s′ : State) (w : Outputs) → R ≡ Q → Does Q t s′ w → Does R t s′ w
 step-case R Q t s′ w e h = rw e h
@@ -112,14 +118,29 @@ caused-does s out script i c p n t e =
 
 -- ---- whatever is lent, where what is held is lent as words
 
-pub caused-words : (s : State) (h : List ℕ) (out : Outputs) (script : List ℕ) (i c : ℕ) → length h ≡ 358 → c ≡ causeOf s h → (c ≡ 0 → ⊥) →
-    (t : Step) → t ≡ refusal c 0 i false → DoesWords s h out script i t s h out
-caused-words s h out script i c l p n t e =
-    record {
-      done = λ b. (caused-does s out script i c (p ∙ cause-narrow s h b) n t e, whole-words h l b);
-      refused = λ b. (refusing-does s out _ 0 i false t (e ∙ ap (λ (m : ℕ). refusal m 0 i false) p), refl);
-    }
+module _ (d : Design) (cs : Cells) (ts ms ws : List ℕ) (out : Outputs) (script : List ℕ) (i c : ℕ) (p : c ≡ causeOf (lent d cs ts ms (wordsHeld ws)) ws) where
+  abbrev s : State
+  s = lent d cs ts ms (wordsHeld ws)
 
-pub done-words : (s : State) (h : List ℕ) (out : Outputs) (script : List ℕ) (i c : ℕ) → c ≡ causeOf s h → c ≡ 0 → (t : Step) (s′ : State) (h′ : List ℕ) (w : Outputs) →
-    Does (stepAt s out script i) t s′ w → Whole h′ → DoesWords s h out script i t s′ h′ w
-done-words s h out script i c p z t s′ h′ w d x = record { done = λ b. (d, x); refused = λ b. clash (cause-clear s h (sym p ∙ z) .1) b }
+  pub caused-words : (c ≡ 0 → ⊥) → (t : Step) → t ≡ refusal c 0 i false → DoesWords s ws out script i t s ws out
+  caused-words n t e =
+      record {
+        done = λ b. (caused-does s out script i c (p ∙ cause-record s ws b) n t e, sym (same-record-words ws b));
+        refused = λ b. (refusing-does s out _ 0 i false t (e ∙ ap (λ (m : ℕ). refusal m 0 i false) p), refl);
+      }
+
+  -- none applies: the step is that of the record in the first words, whose words are stored
+  pub done-words : c ≡ 0 → (own : List ℕ) → own ≡ firstWords ws → (t : Step) (cs′ : Cells) (ts′ ms′ own′ ws′ : List ℕ) (out′ : Outputs) →
+      Does (stepAt (lent d cs ts ms (wordsHeld own)) out script i) t (lent d cs′ ts′ ms′ (wordsHeld own′)) out′ → Whole own′ → ws′ ≡ sets ws 0 own′ →
+      DoesWords s ws out script i t (lent d cs′ ts′ ms′ (wordsHeld ws′)) ws′ out′
+  done-words z own is t cs′ ts′ ms′ own′ ws′ out′ does whole stored =
+      let clear = own-clear d cs ts ms ws own is c p z in
+      let back = stored-record ws own′ ws′ (clear .long) whole stored in
+      record {
+        done = λ b. (
+          subst (λ (h : Held). Does (stepAt s out script i) t (lent d cs′ ts′ ms′ h) out′) (sym (back .0))
+              (subst (λ (h : Held). Does (stepAt (lent d cs ts ms h) out script i) t (lent d cs′ ts′ ms′ (wordsHeld own′)) out′) (own-means d cs ts ms ws own is) does),
+          back .1,
+        );
+        refused = λ b. clash (clear .words) b;
+      }

@@ -5,14 +5,17 @@ use mathlib.Core.Bool.{false, true}
 use mathlib.Core.List.{List}
 use mathlib.Core.Logic.{⊎-elim}
 use lib.ListN.{length}
+use lib.Seq.{sets}
 use Rattle.finite.proofs.Bools.{dec}
 use Rattle.model.specs.Answers.{refused}
 use Rattle.state.specs.Lent.{State}
 use Rattle.state.proofs.Arrays.{HeldSized}
 use Rattle.format.specs.Commands.{commandAt}
 use Rattle.state.specs.Meaning.{answerOf}
-use Rattle.state.specs.HeldWords.{heldWords, wordsHeld, narrowHeld, Whole}
-use Rattle.state.proofs.HeldWords.{words-sized, whole-words}
+use Rattle.state.specs.declared.held.Held.{Held}
+use Rattle.state.specs.HeldWords.{heldWords, wordsHeld, recordIn}
+use Rattle.state.proofs.HeldWords.{words-sized}
+use Rattle.state.proofs.LentWords.{same-record-words}
 use Rattle.script.specs.declared.outcome.Step.{Step}
 use Rattle.script.specs.Step.{Outputs, roomsOf, operationIn, Stepped, operated, changing, stepAt, DoesWords}
 use Rattle.script.proofs.StepLaws.{step-by, carried-by}
@@ -40,17 +43,14 @@ module _ (s : State) (places : HeldSized (s .held)) (out : Outputs) (script : Li
       (λ m h. record { state = refl; outputs = refl }) (λ m place h. record { state = refl; outputs = refl }) (commandAt script i))
 
 -- THEOREM: of a step where what is held is lent as the words h, whatever stands there: refused, it leaves the state, these words, the answer words and the text
-module _ (s : State) (h : List ℕ) (means : s .held ≡ wordsHeld h) (long : length h ≡ 358) (out : Outputs) (script : List ℕ) (i n : ℕ)
-    (t : Step) (s′ : State) (h′ : List ℕ) (means′ : s′ .held ≡ wordsHeld h′) (w : Outputs) (x : DoesWords s h out script i t s′ h′ w) where
-  same-words : s′ ≡ s → Whole h → Whole h′ → h′ ≡ h
-  same-words e a b = b ∙ ap heldWords (sym means′ ∙ ap (λ (z : State). z .held) e ∙ means) ∙ sym a
-
+module _ (s : State) (h : List ℕ) (means : s .held ≡ wordsHeld h) (out : Outputs) (script : List ℕ) (i n : ℕ)
+    (t : Step) (s′ : State) (h′ : List ℕ) (w : Outputs) (x : DoesWords s h out script i t s′ h′ w) where
   pub refused-words : answerOf (t .answer) ≡ refused n → (s′ ≡ s) × (h′ ≡ h) × (w ≡ out)
   refused-words e =
-      ⊎-elim (λ (b : narrowHeld h ≡ true).
+      ⊎-elim (λ (b : recordIn h ≡ true).
       let d = x .done b in
       let u = refused-unchanged s (subst HeldSized (sym means) (words-sized h)) out script i n (sym (d .0 .answer) ∙ e) in
       let q = d .0 .state ∙ u .state in
-      (q, same-words q (whole-words h long b) (d .1), d .0 .outputs ∙ u .outputs))
-      (λ (b : narrowHeld h ≡ false). let d = x .refused b in (d .0 .state, d .1, d .0 .outputs))
-      (dec (narrowHeld h))
+      (q, d .1 ∙ ap (λ (v : Held). sets h 0 (heldWords v)) (ap (λ (z : State). z .held) q ∙ means) ∙ same-record-words h b, d .0 .outputs ∙ u .outputs))
+      (λ (b : recordIn h ≡ false). let d = x .refused b in (d .0 .state, d .1, d .0 .outputs))
+      (dec (recordIn h))

@@ -8,9 +8,9 @@ use lib.Dec.{leb}
 use lib.ListN.{length}
 use lib.Seq.{sets}
 use Rattle.finite.proofs.Bools.{clash, cond-true, cond-false}
-use Rattle.state.specs.HeldWords.{narrowHeld}
+use Rattle.state.specs.HeldWords.{recordIn}
 use Rattle.state.specs.Lent.{State, sound, causeAt, causeOf}
-use Rattle.cache.proofs.CauseWords.{cause-narrow}
+use Rattle.cache.proofs.CauseWords.{cause-record}
 use Rattle.script.specs.declared.outcome.Written.{Written}
 use Rattle.script.specs.declared.outcome.Written.the-variants.{Bytes, Refused}
 use Rattle.script.specs.Writing.{bytesOf, writtenAt, storedWith, Writes, WritesWords}
@@ -48,7 +48,7 @@ module _ (s : State) (before : List ℕ) where
 
   -- where what is held is lent as words
   pub caused-words : (h : List ℕ) (c : ℕ) → c ≡ causeOf s h → (c ≡ 0 → ⊥) → WritesWords s h (Refused c) before before
-  caused-words h c p n = record { writes = λ b. caused-writes c (p ∙ cause-narrow s h b) n; refused = λ b. (ap Refused p, refl) }
+  caused-words h c p n = record { writes = λ b. caused-writes c (p ∙ cause-record s h b) n; refused = λ b. (ap Refused p, refl) }
 
-  pub writes-words : (h : List ℕ) → narrowHeld h ≡ true → (w : Written) (after : List ℕ) → Writes s w before after → WritesWords s h w before after
+  pub writes-words : (h : List ℕ) → recordIn h ≡ true → (w : Written) (after : List ℕ) → Writes s w before after → WritesWords s h w before after
   writes-words h e w after x = record { writes = λ b. x; refused = λ b. clash e b }

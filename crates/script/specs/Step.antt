@@ -11,7 +11,7 @@ use Rattle.model.specs.Runs as Runs
 use Rattle.model.specs.Answers.{Answer, refused, isRefusal}
 use Rattle.state.specs.declared.operation.Operation.{Operation}
 use Rattle.state.specs.Meaning.{answerOf, operationOf}
-use Rattle.state.specs.HeldWords.{narrowHeld, Whole}
+use Rattle.state.specs.HeldWords.{recordIn, heldWords}
 use Rattle.state.specs.Lent.{State, longEnough, lawful, causeOf, answerAt, stateAfter, wordsAt, textAt}
 use Rattle.state.specs.Changes.{Change, put, remove, changeAnswerAt, stateChanged}
 use Rattle.format.specs.declared.command.Command.{Command}
@@ -121,8 +121,8 @@ pub record Does (R : Stepped) (t : Step) (s′ : State) (out : Outputs) : Type 0
   pub state : s′ ≡ R .state
   pub outputs : out ≡ R .outputs
 
--- the step at place i of a state s whose held values are lent as the words h: where they are the words of a record, as of the record, and they are the words of
--- one afterwards; otherwise it is refused by cause 7 or 12 at place 0, with nothing read, and all stays
+-- the step at place i of a state s whose held values are lent as the words h: where they are the words of a record, as of the record, whose words are
+-- stored from the first on; otherwise it is refused by cause 7 or 12 at place 0, with nothing read, and all stays
 pub record DoesWords (s : State) (h : List ℕ) (out : Outputs) (script : List ℕ) (i : ℕ) (t : Step) (s′ : State) (h′ : List ℕ) (out′ : Outputs) : Type 0 where
-  pub done : narrowHeld h ≡ true → Does (stepAt s out script i) t s′ out′ × Whole h′
-  pub refused : narrowHeld h ≡ false → Does (refusing s out (causeOf s h) 0 i false) t s′ out′ × (h′ ≡ h)
+  pub done : recordIn h ≡ true → Does (stepAt s out script i) t s′ out′ × (h′ ≡ sets h 0 (heldWords (s′ .held)))
+  pub refused : recordIn h ≡ false → Does (refusing s out (causeOf s h) 0 i false) t s′ out′ × (h′ ≡ h)

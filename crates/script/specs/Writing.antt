@@ -6,7 +6,7 @@ use mathlib.Core.List.{List, []}
 use lib.Dec.{leb}
 use lib.ListN.{length}
 use lib.Seq.{sets}
-use Rattle.state.specs.HeldWords.{narrowHeld}
+use Rattle.state.specs.HeldWords.{recordIn}
 use Rattle.state.specs.Lent.{State, longEnough, lawful, causeOf}
 use Rattle.format.specs.Writing.{designBytes}
 use Rattle.script.specs.declared.outcome.Written.{Written}
@@ -37,5 +37,5 @@ pub record Writes (s : State) (w : Written) (before after : List ℕ) : Type 0 w
 -- the same of a state s whose held values are lent as the words h: where they are the words of a record, as of the record; otherwise it is refused by cause 7 or
 -- 12, and the buffer stays
 pub record WritesWords (s : State) (h : List ℕ) (w : Written) (before after : List ℕ) : Type 0 where
-  pub writes : narrowHeld h ≡ true → Writes s w before after
-  pub refused : narrowHeld h ≡ false → (w ≡ Refused (causeOf s h)) × (after ≡ before)
+  pub writes : recordIn h ≡ true → Writes s w before after
+  pub refused : recordIn h ≡ false → (w ≡ Refused (causeOf s h)) × (after ≡ before)

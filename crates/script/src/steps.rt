@@ -26,7 +26,9 @@ use operate::perform_lawful;
 use state::Answer;
 use state::Design;
 use state::Operation;
+use state::first_words;
 use state::is_refusal;
+use state::store_words;
 
 // A refusal, with nothing changed. Constant time.
 fn refusing(cause: u8, place: usize, after: usize, more: bool) -> Step
@@ -78,51 +80,6 @@ fn lower(a: usize, b: usize) -> usize
     ensures { λ r. ⌜ r ≡ min a b ⌝ }
 {
     if a <= b { a } else { b }
-}
-
-// Performs the operation that stands at place `at`, followed by place `after`. The cost is `perform_lawful`'s.
-fn operate_at(
-    op: Operation,
-    at: usize,
-    after: usize,
-    design: Design,
-    cells: &[u32],
-    issues: &[u8],
-    tables: &[u8],
-    catalog: &[u16; 16449],
-    keys: &[u64; 4096],
-    marks: &mut [u8],
-    held: &mut [u32; 358],
-    words: &mut [u32],
-    text: &mut [u8],
-    counts: &mut [u64; 5120],
-    places: &mut [u16; 5120],
-) -> Step
-    requires { ⌜ (sound (lent design (cellsIn (now cells) (now issues)) (now tables) (now marks) (wordsHeld (now held))) ≡ true)
-        × Catalogued (schemeOf design) (databaseOf (cellsIn (now cells) (now issues)) (now tables)) (now catalog) (now keys) × Whole (now held) ⌝ }
-    ensures { λ t. ⌜ Does
-        (operated (lent design (cellsIn (now (cells .entry)) (now (issues .entry))) (now (tables .entry)) (now (marks .entry)) (wordsHeld (now (held .entry))))
-        (outputs (now (words .entry)) (now (text .entry))) op at after)
-        t (lent design (cellsIn (now (cells .entry)) (now (issues .entry))) (now (tables .entry)) (now (marks .exit)) (wordsHeld (now (held .exit))))
-        (outputs (now (words .exit)) (now (text .exit))) ⌝ }
-    ensures { λ _. ⌜ Whole (now (held .exit)) ⌝ }
-{
-    let a = perform_lawful(
-        op,
-        design,
-        cells,
-        issues,
-        tables,
-        catalog,
-        keys,
-        marks,
-        held,
-        words,
-        text,
-        counts,
-        places,
-    );
-    answering(a, at, after)
 }
 
 // Puts in the row that stands at place `at`, followed by place `after`. The cost is `put_lawful`'s.
@@ -189,12 +146,10 @@ fn remove_at(
     answering(a, at, after)
 }
 
-// Carries out the command that stands at place `at`, followed by place `after`. The cost is that of its operation.
+// Carries out the command that stands at place `at`. The cost is that of its operation.
 fn carry_out(
     script: &[u8],
     at: usize,
-    after: usize,
-    command: Command,
     design: Design,
     cells: &mut [u32],
     issues: &mut [u8],
@@ -210,34 +165,36 @@ fn carry_out(
 ) -> Step
     requires { ⌜ (sound (lent design (cellsIn (now cells) (now issues)) (now tables) (now marks) (wordsHeld (now held))) ≡ true)
         × Catalogued (schemeOf design) (databaseOf (cellsIn (now cells) (now issues)) (now tables)) (now catalog) (now keys) × Whole (now held) ⌝ }
-    requires { ⌜ command ≡ commandAt (now script) at ⌝ }
     ensures { λ t. ⌜ Does
         (carried (lent design (cellsIn (now (cells .entry)) (now (issues .entry))) (now (tables .entry)) (now (marks .entry)) (wordsHeld (now (held .entry))))
         (outputs (now (words .entry)) (now (text .entry)))
-        (now (script .entry)) at after command)
+        (now (script .entry)) at (at + widthOf (byteAt (now (script .entry)) at)) (commandAt (now (script .entry)) at))
         t (lent design (cellsIn (now (cells .exit)) (now (issues .exit))) (now (tables .exit)) (now (marks .exit)) (wordsHeld (now (held .exit))))
         (outputs (now (words .exit)) (now (text .exit))) ⌝ }
     ensures { λ _. ⌜ Catalogued (schemeOf design) (databaseOf (cellsIn (now (cells .exit)) (now (issues .exit))) (now (tables .exit))) (now (catalog .exit)) (now (keys .exit))
         × Whole (now (held .exit)) ⌝ }
 {
+    let after = place_after(script, at);
+    let command = command_at(script, at);
     match command {
-        Command::Operate(op) => operate_at(
-            op,
-            at,
-            after,
-            design,
-            cells,
-            issues,
-            tables,
-            catalog,
-            keys,
-            marks,
-            held,
-            words,
-            text,
-            counts,
-            places,
-        ),
+        Command::Operate(op) => {
+            let a = perform_lawful(
+                op,
+                design,
+                cells,
+                issues,
+                tables,
+                catalog,
+                keys,
+                marks,
+                held,
+                words,
+                text,
+                counts,
+                places,
+            );
+            answering(a, at, after)
+        }
         Command::Put(r, _) => put_at(
             script,
             at,
@@ -306,13 +263,9 @@ pub fn step_lawful(
     if MOST_BYTES < script.len() {
         return refusing(4, 0, at, false);
     }
-    let after = place_after(script, at);
-    let command = command_at(script, at);
     carry_out(
         script,
         at,
-        after,
-        command,
         design,
         cells,
         issues,
@@ -338,11 +291,10 @@ pub fn step(
     issues: &mut [u8],
     tables: &mut [u8],
     marks: &mut [u8],
-    held: &mut [u32; 358],
+    held: &mut [u32],
     words: &mut [u32],
     text: &mut [u8],
 ) -> Step
-    requires { ⌜ length (now held) ≡ 358 ⌝ }
     ensures { λ t. ⌜ DoesWords (lent design (cellsIn (now (cells .entry)) (now (issues .entry))) (now (tables .entry)) (now (marks .entry)) (wordsHeld (now (held .entry))))
         (now (held .entry)) (outputs (now (words .entry)) (now (text .entry))) (now (script .entry)) at
         t (lent design (cellsIn (now (cells .exit)) (now (issues .exit))) (now (tables .exit)) (now (marks .exit)) (wordsHeld (now (held .exit)))) (now (held .exit))
@@ -363,9 +315,10 @@ pub fn step(
     if why != 0 {
         return refusing(why, 0, at, false);
     }
+    let mut own = first_words(held);
     let mut counts = [0u64; 5120];
     let mut places = [0u16; 5120];
-    step_lawful(
+    let step = step_lawful(
         script,
         at,
         design,
@@ -375,10 +328,12 @@ pub fn step(
         &mut catalog,
         &mut keys,
         marks,
-        held,
+        &mut own,
         words,
         text,
         &mut counts,
         &mut places,
-    )
+    );
+    store_words(&own, held);
+    step
 }

@@ -17,7 +17,7 @@ pub fn write(
     issues: &[u8],
     tables: &[u8],
     marks: &[u8],
-    held: &[u32; 358],
+    held: &[u32],
     out: &mut [u8],
 ) -> Written
     ensures { λ w. ⌜ WritesWords (lent design (cellsIn (now (cells .entry)) (now (issues .entry))) (now (tables .entry)) (now (marks .entry)) (wordsHeld (now (held .entry))))

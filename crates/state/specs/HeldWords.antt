@@ -5,7 +5,7 @@ use Prim.Native.Nat.{ℕ, _+_, _*_, _%_, _<_}
 use mathlib.Core.Path.{_≡_}
 use mathlib.Core.Bool.{Bool, true, _&&_}
 use mathlib.Core.List.{List, [], _∷_, _++_}
-use lib.Dec.{ltb}
+use lib.Dec.{ltb, leb}
 use lib.ListN.{getD, set, length}
 use Rattle.finite.specs.Finite.{all, tab, collect}
 use Rattle.state.specs.declared.held.OwnedValue.{OwnedValue}
@@ -104,6 +104,18 @@ narrowRanges ws i = all 8 (λ j. isByte ws (i + 1 + 3 * j))
 -- the named desk, the values and the ranges
 unfoldable pub narrowHeld : List ℕ → Bool
 narrowHeld ws = isByte ws 0 && (all 64 (λ i. narrowValue ws (2 + 4 * i)) && all 4 (λ e. narrowRanges ws (258 + 25 * e)))
+
+-- lent words have room for a record; what lies past its 358 words is neither read nor written
+abbrev pub longHeld : List ℕ → Bool
+longHeld ws = leb heldLength (length ws)
+
+-- they are those of a record
+unfoldable pub recordIn : List ℕ → Bool
+recordIn ws = longHeld ws && narrowHeld ws
+
+-- the words of the record, without what lies past them
+abbrev pub firstWords : List ℕ → List ℕ
+firstWords ws = tab heldLength (wordAt ws)
 
 -- what the type of a held record says of it: its arrays have their places, and an issue is a byte
 pub record Typed (h : Held) : Type 0 where

@@ -14,7 +14,7 @@ use Rattle.model.specs.Answers.{Answer, unless, answer, written, textOf}
 use Rattle.state.specs.declared.design.Design.{Design}
 use Rattle.state.specs.declared.held.Held.{Held}
 use Rattle.state.specs.Cells.{Cells}
-use Rattle.state.specs.HeldWords.{narrowHeld}
+use Rattle.state.specs.HeldWords.{longHeld, narrowHeld}
 use Rattle.state.specs.Meaning.{schemeOf, databaseOf, cacheOf, heldOf}
 use Rattle.state.specs.Lawful.{lawfulDesign, lawfulRows, lawfulHeld, lawfulMarks}
 
@@ -59,9 +59,9 @@ sound s = longEnough s && lawful s
 unfoldable pub causeAt : State → ℕ
 causeAt s = cond (not (longEnough s)) 7 (cond (not (lawful s)) 12 0)
 
--- the same where what is held is lent as words: cause 12 applies to words of no record, too
+-- the same where what is held is lent as words: too few of them are a buffer too short, and words of no record are unlawful
 unfoldable pub causeOf : State → List ℕ → ℕ
-causeOf s words = cond (not (longEnough s)) 7 (cond (not (narrowHeld words && lawful s)) 12 0)
+causeOf s words = cond (not (longHeld words && longEnough s)) 7 (cond (not (narrowHeld words && lawful s)) 12 0)
 
 -- the answer that a sound state gets, behind causes 7 and 12
 abbrev pub guarded : State → Answer → Answer

@@ -8,12 +8,37 @@ ghost use lib.ListN.{length, getD};
 ghost use lib.Seq.{sets};
 ghost use Rattle.state.specs.Held.{heldAt, rangeAt, rangesAt};
 ghost use Rattle.state.specs.HeldWords.{wordAt, byteOf, valueFrom, rangeFrom, listFrom, rangesFrom, valueWords, rangeWords, listWords, rangesWords};
-ghost use Rattle.state.specs.HeldWords.{wordsHeld, Whole, Holds, withNamed, withCount, withValueAt, withRangesAt};
+ghost use Rattle.state.specs.HeldWords.{wordsHeld, Whole, Holds, withNamed, withCount, withValueAt, withRangesAt, firstWords};
 use crate::cell::Cell;
 use crate::held::DeskRanges;
 use crate::held::HeldValue;
 use crate::held::OwnedValue;
 use crate::held::Range;
+
+// How many words there are.
+pub const HELD_WORDS: usize = 358;
+
+// The words of a record, of lent words that may be more. One step for each.
+pub fn first_words(words: &[u32]) -> [u32; 358]
+    requires { ⌜ 358 ≤ length (now words) ⌝ }
+    ensures { λ held. ⌜ held ≡ firstWords (now (words .entry)) ⌝ }
+{
+    let mut held = [0u32; 358];
+    for i in 0..358usize {
+        held[i] = words[i];
+    }
+    held
+}
+
+// Stores the words of a record in lent words, of which those past them stay. One step for each.
+pub fn store_words(held: &[u32; 358], words: &mut [u32])
+    requires { ⌜ (length (now held) ≡ 358) × (358 ≤ length (now words)) ⌝ }
+    ensures { λ _. ⌜ now (words .exit) ≡ sets (now (words .entry)) 0 (now (held .entry)) ⌝ }
+{
+    for i in 0..358usize {
+        words[i] = held[i];
+    }
+}
 
 // A word where a u8 is kept.
 fn byte_at(words: &[u32], i: usize) -> u8

@@ -1,4 +1,4 @@
--- A lawful design and lawful held values keep to bytes where their words do. Assumes nothing.
+-- A lawful design keeps to bytes where its words do. Assumes nothing.
 use Prim.Native.Nat.{ℕ, _≤_, _<_}
 use native.Mathlib.Nat.{lt-of-lt-of-le}
 use native.Mathlib.Omega.{arith}
@@ -13,16 +13,12 @@ use Rattle.model.specs.Scheme.{ColumnOf}
 use Rattle.state.specs.declared.design.Table.{Table}
 use Rattle.state.specs.declared.design.Column.{Column}
 use Rattle.state.specs.declared.design.Design.{Design}
-use Rattle.state.specs.declared.held.Held.{Held}
 use Rattle.state.specs.Design.{noTable, noConstraint, noFilling, tableAt, constraintAt, fillingAt}
-use Rattle.state.specs.Held.{noValue, noRange, heldAt, rangeAt, rangesAt}
 use Rattle.state.specs.Meaning.{columnOf, schemeOf}
-use Rattle.state.specs.Lawful.{lawfulDesign, lawfulHeld}
+use Rattle.state.specs.Lawful.{lawfulDesign}
 use Rattle.lawful.specs.LawfulState.{LawfulTable, LawfulDesign}
 use Rattle.lawful.proofs.DesignLaws.{design-says}
-use Rattle.lawful.proofs.HeldLaws.{held-says}
-use Rattle.words.specs.Words.{Typed}
-use Rattle.words.proofs.WordLaws.{NarrowTable, NarrowColumn, NarrowConstraint, NarrowFilling, NarrowHeld, NarrowDesign}
+use Rattle.words.proofs.WordLaws.{NarrowTable, NarrowColumn, NarrowConstraint, NarrowFilling, NarrowDesign}
 
 -- what holds of every place: it holds of the first m, and the rest are e
 in-places : {A : Type 0} (f : ℕ → A) (e : A) (n m : ℕ) (P : A → Type 0) → ((i : ℕ) → i < m → P (f i)) → ((i : ℕ) → i < n → m ≤ i → f i ≡ e) → P e →
@@ -51,25 +47,4 @@ narrow-design d e =
       filling =
           in-places (fillingAt d) noFilling 8 (d .fillings) NarrowFilling
           (λ i l. narrow-column d w _ (w .filling i l .column)) (w .fillingRest) (omega arith, omega arith);
-    }
-
-pub narrow-held : (d : Design) (h : Held) → lawfulDesign d ≡ true → lawfulHeld d h ≡ true → Typed h → NarrowHeld h
-narrow-held d h e f g =
-    let w = held-says d h e f in let v = design-says d e in
-    record {
-      desk = omega (arith, w .named);
-      values = g .values;
-      value = λ i l. (
-        in-places (heldAt h) noValue 64 (h .count) (λ u. u .desk < 256) (λ j b. omega (arith, w .desk j b)) (w .rest) (omega arith) i l,
-        in-places (heldAt h) noValue 64 (h .count) (λ u. u .pair .filling < 256) (λ j b. omega (arith, w .pair j b .filling, v .fillings)) (w .rest) (omega arith) i l,
-        g .issue i l,
-      );
-      desks = g .ranges;
-      ranges = λ x m. let s = rangesAt h x in
-          record {
-            places = g .list x m;
-            filling =
-                in-places (rangeAt s) noRange 8 (s .count) (λ r. r .filling < 256) (λ j b. omega (arith, w .ranges x m .range j b .filling, v .fillings))
-                (w .ranges x m .rest) (omega arith);
-          };
     }

@@ -1,22 +1,16 @@
-// A design and held values from their u32 words (specs/Words.antt).
+// A design from its u32 words (specs/Words.antt).
 ghost use Prim.Native.Nat.{_+_, _≤_, _<_};
 ghost use mathlib.Core.Path.{_≡_};
 ghost use lib.ListN.{length};
-ghost use Rattle.words.specs.Words.{wordAt, byteOf, tableFrom, columnFrom, constraintFrom, fillingFrom, valueFrom, tablesFrom};
-ghost use Rattle.words.specs.Words.{constraintsFrom, fillingsFrom, valuesFrom, rangeFrom, listFrom, rangesFrom, desksFrom, wordsDesign, wordsHeld};
-use state::Cell;
+ghost use Rattle.state.specs.HeldWords.{wordAt, byteOf};
+ghost use Rattle.words.specs.Words.{tableFrom, columnFrom, constraintFrom, fillingFrom, tablesFrom, constraintsFrom, fillingsFrom, wordsDesign};
 use state::Column;
 use state::Constraint;
 use state::Design;
-use state::DeskRanges;
 use state::Filling;
-use state::Held;
-use state::HeldValue;
-use state::OwnedValue;
-use state::Range;
 use state::Table;
 
-// A word where a u8 is kept. Constant time, as are the next seven.
+// A word where a u8 is kept. Constant time, as are the next five.
 fn byte_at(words: &[u32], i: usize) -> u8
     requires { ⌜ i < length (now words) ⌝ }
     ensures { λ b. ⌜ b ≡ byteOf (now (words .entry)) i ⌝ }
@@ -69,29 +63,6 @@ fn filling_from(words: &[u32], at: usize) -> Filling
     Filling { column, low, high }
 }
 
-fn value_from(words: &[u32], at: usize) -> OwnedValue
-    requires { ⌜ at + 4 ≤ length (now words) ⌝ }
-    ensures { λ v. ⌜ v ≡ valueFrom (now (words .entry)) at ⌝ }
-{
-    let desk = byte_at(words, at);
-    let filling = byte_at(words, at + 1);
-    let number = words[at + 2];
-    let issue = byte_at(words, at + 3);
-    let value = Cell { number, issue };
-    let pair = HeldValue { filling, value };
-    OwnedValue { desk, pair }
-}
-
-fn range_from(words: &[u32], at: usize) -> Range
-    requires { ⌜ at + 3 ≤ length (now words) ⌝ }
-    ensures { λ r. ⌜ r ≡ rangeFrom (now (words .entry)) at ⌝ }
-{
-    let filling = byte_at(words, at);
-    let low = words[at + 1];
-    let high = words[at + 2];
-    Range { filling, low, high }
-}
-
 // All places of an array. One step for each.
 fn tables_from(words: &[u32]) -> [Table; 8]
     requires { ⌜ 115 ≤ length (now words) ⌝ }
@@ -141,66 +112,6 @@ fn fillings_from(words: &[u32]) -> [Filling; 8]
     fs
 }
 
-fn values_from(words: &[u32]) -> [OwnedValue; 64]
-    requires { ⌜ 358 ≤ length (now words) ⌝ }
-    ensures { λ vs. ⌜ vs ≡ valuesFrom (now (words .entry)) ⌝ }
-{
-    let mut vs = [OwnedValue {
-        desk: 0,
-        pair: HeldValue {
-            filling: 0,
-            value: Cell {
-                number: 0,
-                issue: 0,
-            },
-        },
-    }; 64];
-    for i in 0..64usize {
-        let v = value_from(words, 2 + 4 * i);
-        vs[i] = v;
-    }
-    vs
-}
-
-// The places of a desk's ranges from word `at` on, and these with their count.
-fn list_from(words: &[u32], at: usize) -> [Range; 8]
-    requires { ⌜ at + 24 ≤ length (now words) ⌝ }
-    ensures { λ rs. ⌜ rs ≡ listFrom (now (words .entry)) at ⌝ }
-{
-    let mut rs = [Range {
-        filling: 0,
-        low: 0,
-        high: 0,
-    }; 8];
-    for i in 0..8usize {
-        let r = range_from(words, at + 3 * i);
-        rs[i] = r;
-    }
-    rs
-}
-
-fn ranges_from(words: &[u32], at: usize) -> DeskRanges
-    requires { ⌜ at + 25 ≤ length (now words) ⌝ }
-    ensures { λ s. ⌜ s ≡ rangesFrom (now (words .entry)) at ⌝ }
-{
-    let count = count_at(words, at);
-    let list = list_from(words, at + 1);
-    DeskRanges { count, list }
-}
-
-fn desks_from(words: &[u32]) -> [DeskRanges; 4]
-    requires { ⌜ 358 ≤ length (now words) ⌝ }
-    ensures { λ ss. ⌜ ss ≡ desksFrom (now (words .entry)) ⌝ }
-{
-    let none = DeskRanges::none();
-    let mut ss = [none; 4];
-    for e in 0..4usize {
-        let s = ranges_from(words, 258 + 25 * e);
-        ss[e] = s;
-    }
-    ss
-}
-
 // The design that the first 115 words stand for. One step for each of its 32 places.
 pub fn design_from(words: &[u32]) -> Design
     requires { ⌜ 115 ≤ length (now words) ⌝ }
@@ -219,22 +130,5 @@ pub fn design_from(words: &[u32]) -> Design
         constraint,
         fillings,
         filling,
-    }
-}
-
-// What the first 358 words hold. One step for each of the 64 places of values and the 32 of ranges.
-pub fn held_from(words: &[u32]) -> Held
-    requires { ⌜ 358 ≤ length (now words) ⌝ }
-    ensures { λ h. ⌜ h ≡ wordsHeld (now (words .entry)) ⌝ }
-{
-    let desk = byte_at(words, 0);
-    let count = count_at(words, 1);
-    let values = values_from(words);
-    let ranges = desks_from(words);
-    Held {
-        desk,
-        count,
-        values,
-        ranges,
     }
 }

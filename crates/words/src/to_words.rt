@@ -1,22 +1,16 @@
-// A design and held values stored as their u32 words (specs/Words.antt), from the first word on.
-ghost use Prim.Native.Nat.{ℕ, _+_, _≤_, _<_};
+// A design stored as its u32 words (specs/Words.antt), from the first word on.
+ghost use Prim.Native.Nat.{_+_, _≤_};
 ghost use mathlib.Core.Path.{_≡_};
 ghost use mathlib.Core.List.{[], _∷_};
-ghost use lib.ListN.{length, getD};
+ghost use lib.ListN.{length};
 ghost use lib.Seq.{sets};
-ghost use Rattle.state.specs.Held.{noValue, noRanges, Tidy};
-ghost use Rattle.words.specs.Words.{tableWords, constraintWords, fillingWords, valueWords, countsWords, tablesWords, constraintsWords};
-ghost use Rattle.words.specs.Words.{fillingsWords, valuesWords, rangeWords, listWords, rangesWords, desksWords, designWords, heldWords, Typed};
+ghost use Rattle.words.specs.Words.{tableWords, constraintWords, fillingWords, countsWords, tablesWords, constraintsWords, fillingsWords, designWords};
 use state::Constraint;
 use state::Design;
-use state::DeskRanges;
 use state::Filling;
-use state::Held;
-use state::OwnedValue;
-use state::Range;
 use state::Table;
 
-// Two words, three, and four, from word `at` on. Constant time, as are the next six.
+// Two words, three, and four, from word `at` on. Constant time, as are the next four.
 fn put_two(words: &mut [u32], at: usize, a: u32, b: u32)
     requires { ⌜ at + 2 ≤ length (now words) ⌝ }
     ensures { λ _. ⌜ now (words .exit) ≡ sets (now (words .entry)) at (a ∷ b ∷ []) ⌝ }
@@ -74,30 +68,6 @@ fn put_filling(words: &mut [u32], at: usize, f: Filling)
     put_four(words, at, k.table as u32, k.place as u32, f.low, f.high);
 }
 
-// The issue is a byte, as its type says: a word that is read as a byte gives it back.
-fn put_value(words: &mut [u32], at: usize, v: OwnedValue)
-    requires { ⌜ at + 4 ≤ length (now words) ⌝ }
-    ensures { λ _. ⌜ (now (words .exit) ≡ sets (now (words .entry)) at (valueWords v)) × (v .pair .value .issue < 256) ⌝ }
-{
-    let pair = v.pair;
-    let value = pair.value;
-    put_four(
-        words,
-        at,
-        v.desk as u32,
-        pair.filling as u32,
-        value.number,
-        value.issue as u32,
-    );
-}
-
-fn put_range(words: &mut [u32], at: usize, r: Range)
-    requires { ⌜ at + 3 ≤ length (now words) ⌝ }
-    ensures { λ _. ⌜ now (words .exit) ≡ sets (now (words .entry)) at (rangeWords r) ⌝ }
-{
-    put_three(words, at, r.filling as u32, r.low, r.high);
-}
-
 // The three counts of a design.
 fn put_counts(d: Design, words: &mut [u32])
     requires { ⌜ (3 ≤ length (now words)) × (d .tables ≤ 8) × (d .constraints ≤ 16) × (d .fillings ≤ 8) ⌝ }
@@ -140,43 +110,6 @@ fn put_fillings(fs: [Filling; 8], words: &mut [u32])
     }
 }
 
-fn put_values(vs: [OwnedValue; 64], words: &mut [u32])
-    requires { ⌜ 358 ≤ length (now words) ⌝ }
-    ensures { λ _. ⌜ (now (words .exit) ≡ sets (now (words .entry)) 2 (valuesWords vs)) × ((i : ℕ) → i < 64 → getD vs i noValue .pair .value .issue < 256) ⌝ }
-{
-    for i in 0..64usize {
-        put_value(words, 2 + 4 * i, vs[i]);
-    }
-}
-
-// The places of a desk's ranges from word `at` on, and these behind their count.
-fn put_list(list: [Range; 8], words: &mut [u32], at: usize)
-    requires { ⌜ at + 24 ≤ length (now words) ⌝ }
-    ensures { λ _. ⌜ now (words .exit) ≡ sets (now (words .entry)) at (listWords list) ⌝ }
-{
-    for i in 0..8usize {
-        put_range(words, at + 3 * i, list[i]);
-    }
-}
-
-fn put_ranges(words: &mut [u32], at: usize, s: DeskRanges)
-    requires { ⌜ (at + 25 ≤ length (now words)) × (s .count ≤ 8) ⌝ }
-    ensures { λ _. ⌜ now (words .exit) ≡ sets (now (words .entry)) at (rangesWords s) ⌝ }
-{
-    words[at] = s.count as u32;
-    let list = s.list;
-    put_list(list, words, at + 1);
-}
-
-fn put_desks(ss: [DeskRanges; 4], words: &mut [u32])
-    requires { ⌜ (358 ≤ length (now words)) × ((e : ℕ) → e < 4 → getD ss e noRanges .count ≤ 8) ⌝ }
-    ensures { λ _. ⌜ now (words .exit) ≡ sets (now (words .entry)) 258 (desksWords ss) ⌝ }
-{
-    for e in 0..4usize {
-        put_ranges(words, 258 + 25 * e, ss[e]);
-    }
-}
-
 // The design as the first 115 words. One step for each of its 32 places.
 pub fn put_design(d: Design, words: &mut [u32])
     requires { ⌜ (115 ≤ length (now words)) × (d .tables ≤ 8) × (d .constraints ≤ 16) × (d .fillings ≤ 8) ⌝ }
@@ -189,16 +122,4 @@ pub fn put_design(d: Design, words: &mut [u32])
     put_constraints(constraint, words);
     let filling = d.filling;
     put_fillings(filling, words);
-}
-
-// What is held as the first 358 words; its arrays have their places, and the issues are bytes, as its type says. One step for each place.
-pub fn put_held(h: Held, words: &mut [u32])
-    requires { ⌜ (358 ≤ length (now words)) × Tidy h ⌝ }
-    ensures { λ _. ⌜ (now (words .exit) ≡ sets (now (words .entry)) 0 (heldWords h)) × Typed h ⌝ }
-{
-    put_two(words, 0, h.desk as u32, h.count as u32);
-    let values = h.values;
-    put_values(values, words);
-    let ranges = h.ranges;
-    put_desks(ranges, words);
 }

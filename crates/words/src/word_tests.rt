@@ -1,11 +1,12 @@
-// Whether lent words are words of a design and of held values: those that stand for a u8 are below 256 (specs/Words.antt).
+// Whether lent words are words of a design: those that stand for a u8 are below 256 (specs/Words.antt).
 ghost use Prim.Native.Nat.{_+_, _*_, _≤_, _<_};
 ghost use mathlib.Core.Path.{_≡_};
 ghost use lib.ListN.{length};
 ghost use Rattle.finite.specs.Finite.{all};
-ghost use Rattle.words.specs.Words.{isByte, narrowTwo, narrowConstraint, narrowValue, narrowRanges, narrowDesign, narrowHeld};
+ghost use Rattle.state.specs.HeldWords.{isByte, narrowTwo};
+ghost use Rattle.words.specs.Words.{narrowConstraint, narrowDesign};
 
-// Constant time, as are the next three.
+// Constant time, as are the next two.
 fn is_byte(words: &[u32], i: usize) -> bool
     requires { ⌜ i < length (now words) ⌝ }
     ensures { λ b. ⌜ b ≡ isByte (now (words .entry)) i ⌝ }
@@ -33,17 +34,7 @@ fn constraint_narrow(words: &[u32], at: usize) -> bool
     two_narrow(words, at + 2)
 }
 
-fn value_narrow(words: &[u32], at: usize) -> bool
-    requires { ⌜ at + 4 ≤ length (now words) ⌝ }
-    ensures { λ b. ⌜ b ≡ narrowValue (now (words .entry)) at ⌝ }
-{
-    if !two_narrow(words, at) {
-        return false;
-    }
-    is_byte(words, at + 3)
-}
-
-// One look at each place, as the next five.
+// One look at each place, as the next two.
 fn tables_narrow(words: &[u32]) -> bool
     requires { ⌜ 115 ≤ length (now words) ⌝ }
     ensures { λ b. ⌜ b ≡ all 8 (λ i. narrowTwo (now (words .entry)) (3 + 2 * i)) ⌝ }
@@ -80,42 +71,6 @@ fn fillings_narrow(words: &[u32]) -> bool
     true
 }
 
-fn values_narrow(words: &[u32]) -> bool
-    requires { ⌜ 358 ≤ length (now words) ⌝ }
-    ensures { λ b. ⌜ b ≡ all 64 (λ i. narrowValue (now (words .entry)) (2 + 4 * i)) ⌝ }
-{
-    for i in 0..64usize {
-        if !value_narrow(words, 2 + 4 * i) {
-            return false;
-        }
-    }
-    true
-}
-
-fn ranges_narrow(words: &[u32], at: usize) -> bool
-    requires { ⌜ at + 25 ≤ length (now words) ⌝ }
-    ensures { λ b. ⌜ b ≡ narrowRanges (now (words .entry)) at ⌝ }
-{
-    for j in 0..8usize {
-        if !is_byte(words, at + 1 + 3 * j) {
-            return false;
-        }
-    }
-    true
-}
-
-fn desks_narrow(words: &[u32]) -> bool
-    requires { ⌜ 358 ≤ length (now words) ⌝ }
-    ensures { λ b. ⌜ b ≡ all 4 (λ e. narrowRanges (now (words .entry)) (258 + 25 * e)) ⌝ }
-{
-    for e in 0..4usize {
-        if !ranges_narrow(words, 258 + 25 * e) {
-            return false;
-        }
-    }
-    true
-}
-
 // Whether the words are words of a design. One look at each.
 pub fn design_narrow(words: &[u32]) -> bool
     requires { ⌜ 115 ≤ length (now words) ⌝ }
@@ -128,18 +83,4 @@ pub fn design_narrow(words: &[u32]) -> bool
         return false;
     }
     fillings_narrow(words)
-}
-
-// Whether they are words of what is held. One look at each.
-pub fn held_narrow(words: &[u32]) -> bool
-    requires { ⌜ 358 ≤ length (now words) ⌝ }
-    ensures { λ b. ⌜ b ≡ narrowHeld (now (words .entry)) ⌝ }
-{
-    if !is_byte(words, 0) {
-        return false;
-    }
-    if !values_narrow(words) {
-        return false;
-    }
-    desks_narrow(words)
 }

@@ -11,17 +11,29 @@ use lib.ListN.{length}
 use Rattle.finite.proofs.Bools.{both, clash, and-left, and-right}
 use Rattle.state.specs.Cells.{Cells}
 use Rattle.state.specs.declared.design.Design.{Design}
-use Rattle.state.specs.declared.held.Held.{Held}
-use Rattle.state.specs.Lent.{lent, longEnough, lawful, sound, causeAt}
+use Rattle.state.specs.HeldWords.{heldLength, longHeld, wordsHeld, narrowHeld, firstWords, Whole}
+use Rattle.state.specs.Lent.{lent, longEnough, lawful, sound, causeOf}
+use Rattle.state.proofs.LentWords.{first-means, first-whole}
 use Rattle.script.specs.Step.{Outputs, refusing, stepAt}
 use Rattle.script.specs.Writing.{bytesOf}
-use Rattle.words.specs.Words.{designLength, heldLength, wordsDesign, wordsHeld, narrowDesign, narrowHeld}
+use Rattle.words.specs.Words.{designLength, wordsDesign, narrowDesign}
 use Rattle.wurzsige.specs.Calls.{Memory, memory, stateIn, longWords, longMemory, lawfulMemory, soundMemory, memoryCause, Arrays, CatalogIn, stepIn, writeCause}
 
--- the design and held values that are read off the words make the state that the memory stands for, and the catalog is of that design
-module _ (ds hs : List ℕ) (cs : Cells) (ts ms : List ℕ) (d : Design) (h : Held) (dis : d ≡ wordsDesign ds) (his : h ≡ wordsHeld hs) where
-  pub words-state : lent d cs ts ms h ≡ stateIn (memory ds hs cs ts ms)
-  words-state = λ x. lent (dis x) cs ts ms (his x)
+-- the design that is read off the words makes the state that the memory stands for, and the catalog is of that design
+pub words-state : (ds hs : List ℕ) (cs : Cells) (ts ms : List ℕ) (d : Design) → d ≡ wordsDesign ds → lent d cs ts ms (wordsHeld hs) ≡ stateIn (memory ds hs cs ts ms)
+words-state ds hs cs ts ms d e = λ x. lent (e x) cs ts ms (wordsHeld hs)
+
+pub words-cause : (ds hs : List ℕ) (cs : Cells) (ts ms : List ℕ) (d : Design) → d ≡ wordsDesign ds →
+    causeOf (lent d cs ts ms (wordsHeld hs)) hs ≡ causeOf (stateIn (memory ds hs cs ts ms)) hs
+words-cause ds hs cs ts ms d e = λ x. causeOf (lent (e x) cs ts ms (wordsHeld hs)) hs
+
+-- so do the first words of what is held
+pub own-words-state : (ds hs : List ℕ) (cs : Cells) (ts ms : List ℕ) (d : Design) (own : List ℕ) → d ≡ wordsDesign ds → own ≡ firstWords hs →
+    lent d cs ts ms (wordsHeld own) ≡ stateIn (memory ds hs cs ts ms)
+own-words-state ds hs cs ts ms d own e f = let g = ap wordsHeld f ∙ first-means hs in λ x. lent (e x) cs ts ms (g x)
+
+pub own-whole : (hs own : List ℕ) → own ≡ firstWords hs → narrowHeld hs ≡ true → Whole own
+own-whole hs own f n = subst Whole (sym f) (first-whole hs n)
 
 pub catalog-words : (k : Arrays) (cs : Cells) (ts : List ℕ) (d e : Design) → d ≡ e → CatalogIn k d cs ts → CatalogIn k e cs ts
 catalog-words k cs ts d e p c = subst (λ (x : Design). CatalogIn k x cs ts) p c
@@ -35,8 +47,8 @@ pub record Parts (m : Memory) : Type 0 where
   pub state : sound (stateIn m) ≡ true
 
 -- the cause, by what applies
-abbrev causeOf : Bool → Bool → ℕ
-causeOf l g = cond (not l) 7 (cond (not g) 12 0)
+abbrev causes : Bool → Bool → ℕ
+causes l g = cond (not l) 7 (cond (not g) 12 0)
 
 abbrev narrow : Memory → Bool
 narrow m = narrowDesign (m .design) && narrowHeld (m .held)
@@ -47,7 +59,7 @@ module _ (m : Memory) where
   memory-parts e =
       let a = and-eq-true-iff (longMemory m) (lawfulMemory m) .0 e in
       let l = and-eq-true-iff (longWords m) (longEnough (stateIn m)) .0 (a .0) in
-      let w = and-eq-true-iff (leb designLength (length (m .design))) (leb heldLength (length (m .held))) .0 (l .0) in
+      let w = and-eq-true-iff (leb designLength (length (m .design))) (longHeld (m .held)) .0 (l .0) in
       let g = and-eq-true-iff (narrow m) (lawful (stateIn m)) .0 (a .1) in
       let n = and-eq-true-iff (narrowDesign (m .design)) (narrowHeld (m .held)) .0 (g .0) in
       record {
@@ -70,67 +82,63 @@ module _ (m : Memory) where
   long-words a b = both (le-leb _ _ a) (le-leb _ _ b)
 
   pub short-design : length (m .design) < designLength → longWords m ≡ false
-  short-design l = and-left (leb designLength (length (m .design))) (leb heldLength (length (m .held))) (lt-leb _ _ l)
+  short-design l = and-left (leb designLength (length (m .design))) (longHeld (m .held)) (lt-leb _ _ l)
 
   pub short-held : length (m .held) < heldLength → longWords m ≡ false
-  short-held l = and-right (leb designLength (length (m .design))) (leb heldLength (length (m .held))) (lt-leb _ _ l)
+  short-held l = and-right (leb designLength (length (m .design))) (longHeld (m .held)) (lt-leb _ _ l)
 
-  short-memory : longWords m ≡ false → 7 ≡ memoryCause m
+  pub few-design : length (m .design) < designLength → 7 ≡ memoryCause m
   unfolding memoryCause longMemory
-  short-memory e = go (longWords m) (longEnough (stateIn m)) (lawfulMemory m) e
+  few-design l = go (longWords m) (longEnough (stateIn m)) (lawfulMemory m) (short-design l)
     where
-      go : (w l g : Bool) → w ≡ false → 7 ≡ causeOf (w && l) g
+      go : (w l g : Bool) → w ≡ false → 7 ≡ causes (w && l) g
       go false l g e = refl
       go true l g e = clash {b = true} refl e
 
-  pub few-design : length (m .design) < designLength → 7 ≡ memoryCause m
-  few-design l = short-memory (short-design l)
-
-  pub few-held : length (m .held) < heldLength → 7 ≡ memoryCause m
-  few-held l = short-memory (short-held l)
-
-  module _ (a : designLength ≤ length (m .design)) (b : heldLength ≤ length (m .held)) where
-    -- the cause of the state comes first
-    pub caused-memory : (c : ℕ) → c ≡ causeAt (stateIn m) → (c ≡ 0 → ⊥) → c ≡ memoryCause m
-    unfolding memoryCause longMemory lawfulMemory causeAt
-    caused-memory c p n = p ∙ go (longWords m) (longEnough (stateIn m)) (narrow m) (lawful (stateIn m)) (long-words a b) (λ z. n (p ∙ z))
+  module _ (a : designLength ≤ length (m .design)) where
+    -- the cause of the state and of what is held comes first
+    pub caused-memory : (c : ℕ) → c ≡ causeOf (stateIn m) (m .held) → (c ≡ 0 → ⊥) → c ≡ memoryCause m
+    unfolding memoryCause longMemory lawfulMemory causeOf
+    caused-memory c p n =
+        p ∙ go (leb designLength (length (m .design))) (longHeld (m .held)) (longEnough (stateIn m)) (narrowDesign (m .design)) (narrowHeld (m .held))
+        (lawful (stateIn m)) (le-leb _ _ a) (λ z. n (p ∙ z))
       where
-        go : (w l n g : Bool) → w ≡ true → (causeOf l g ≡ 0 → ⊥) → causeOf l g ≡ causeOf (w && l) (n && g)
-        go false l n g e f = clash {b = false} e refl
-        go true false n g e f = refl
-        go true true true false e f = refl
-        go true true false false e f = refl
-        go true true n true e f = absurd (f refl)
+        go : (w h l x y g : Bool) → w ≡ true → (causes (h && l) (y && g) ≡ 0 → ⊥) → causes (h && l) (y && g) ≡ causes ((w && h) && l) ((x && y) && g)
+        go false h l x y g e f = clash {b = false} e refl
+        go true false l x y g e f = refl
+        go true true false x y g e f = refl
+        go true true true true y g e f = refl
+        go true true true false false g e f = refl
+        go true true true false true false e f = refl
+        go true true true false true true e f = absurd (f refl)
 
-    -- then the words
-    narrow-memory : causeAt (stateIn m) ≡ 0 → memoryCause m ≡ causeOf true (narrow m)
-    unfolding memoryCause longMemory lawfulMemory causeAt
-    narrow-memory p = go (longWords m) (longEnough (stateIn m)) (narrow m) (lawful (stateIn m)) (long-words a b) p
+    -- then the words of the design
+    narrow-memory : causeOf (stateIn m) (m .held) ≡ 0 → memoryCause m ≡ causes true (narrowDesign (m .design))
+    unfolding memoryCause longMemory lawfulMemory causeOf
+    narrow-memory p =
+        go (leb designLength (length (m .design))) (longHeld (m .held)) (longEnough (stateIn m)) (narrowDesign (m .design)) (narrowHeld (m .held))
+        (lawful (stateIn m)) (le-leb _ _ a) p
       where
-        go : (w l n g : Bool) → w ≡ true → causeOf l g ≡ 0 → causeOf (w && l) (n && g) ≡ causeOf true n
-        go false l n g e f = clash {b = false} e refl
-        go true false n g e f = absurd (omega (arith, f))
-        go true true n false e f = absurd (omega (arith, f))
-        go true true true true e f = refl
-        go true true false true e f = refl
+        go : (w h l x y g : Bool) → w ≡ true → causes (h && l) (y && g) ≡ 0 → causes ((w && h) && l) ((x && y) && g) ≡ causes true x
+        go false h l x y g e f = clash {b = false} e refl
+        go true false l x y g e f = absurd (omega (arith, f))
+        go true true false x y g e f = absurd (omega (arith, f))
+        go true true true x false g e f = absurd (omega (arith, f))
+        go true true true x true false e f = absurd (omega (arith, f))
+        go true true true true true true e f = refl
+        go true true true false true true e f = refl
 
-    wide-memory : causeAt (stateIn m) ≡ 0 → narrow m ≡ false → 12 ≡ memoryCause m
-    wide-memory p n = sym (narrow-memory p ∙ ap (causeOf true) n)
+    pub wide-design : causeOf (stateIn m) (m .held) ≡ 0 → narrowDesign (m .design) ≡ false → 12 ≡ memoryCause m
+    wide-design p n = sym (narrow-memory p ∙ ap (causes true) n)
 
-    pub wide-design : causeAt (stateIn m) ≡ 0 → narrowDesign (m .design) ≡ false → 12 ≡ memoryCause m
-    wide-design p n = wide-memory p (and-left (narrowDesign (m .design)) (narrowHeld (m .held)) n)
-
-    pub wide-held : causeAt (stateIn m) ≡ 0 → narrowHeld (m .held) ≡ false → 12 ≡ memoryCause m
-    wide-held p n = wide-memory p (and-right (narrowDesign (m .design)) (narrowHeld (m .held)) n)
-
-    pub fine-memory : causeAt (stateIn m) ≡ 0 → narrowDesign (m .design) ≡ true → narrowHeld (m .held) ≡ true → 0 ≡ memoryCause m
-    fine-memory p x y = sym (narrow-memory p ∙ ap (causeOf true) (both x y))
+    pub fine-memory : causeOf (stateIn m) (m .held) ≡ 0 → narrowDesign (m .design) ≡ true → 0 ≡ memoryCause m
+    fine-memory p n = sym (narrow-memory p ∙ ap (causes true) n)
 
   pub cause-sound : memoryCause m ≡ 0 → soundMemory m ≡ true
   unfolding memoryCause
   cause-sound = go (longMemory m) (lawfulMemory m)
     where
-      go : (l g : Bool) → causeOf l g ≡ 0 → l && g ≡ true
+      go : (l g : Bool) → causes l g ≡ 0 → l && g ≡ true
       go false g e = absurd (omega (arith, e))
       go true false e = absurd (omega (arith, e))
       go true true e = refl
@@ -139,7 +147,7 @@ module _ (m : Memory) where
   unfolding memoryCause
   cause-unsound = go (longMemory m) (lawfulMemory m)
     where
-      go : (l g : Bool) → (causeOf l g ≡ 0 → ⊥) → l && g ≡ false
+      go : (l g : Bool) → (causes l g ≡ 0 → ⊥) → l && g ≡ false
       go false g n = refl
       go true false n = refl
       go true true n = absurd (n refl)
@@ -151,7 +159,7 @@ module _ (m : Memory) where
     unfolding memoryCause
     caused = go (longMemory m) (lawfulMemory m)
       where
-        go : (l g : Bool) → (causeOf l g ≡ 0 → ⊥) → cond (not l) (f 7) (cond (not g) (f 12) rest) ≡ f (causeOf l g)
+        go : (l g : Bool) → (causes l g ≡ 0 → ⊥) → cond (not l) (f 7) (cond (not g) (f 12) rest) ≡ f (causes l g)
         go false g n = refl
         go true false n = refl
         go true true n = absurd (n refl)

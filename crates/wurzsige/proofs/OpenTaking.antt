@@ -4,25 +4,19 @@ use native.Mathlib.Omega.{arith}
 use mathlib.Core.Path.{_≡_, refl, sym, ap, subst, _∙_}
 use mathlib.Core.Bool.{Bool, true, false}
 use mathlib.Core.List.{List, []}
-use lib.Dec.{lit<}
-use lib.ListN.{length}
+use lib.ListN.{length, replicate}
 use lib.Seq.{sets, length-sets}
 use Rattle.finite.proofs.Bools.{clash, cond-true, cond-false}
-use Rattle.finite.proofs.Tables.{tab-at}
-use Rattle.model.specs.Holding.{nothingHeld}
 use Rattle.state.specs.Cells.{Cells}
 use Rattle.state.specs.declared.design.Design.{Design}
-use Rattle.state.specs.declared.held.OwnedValue.{OwnedValue}
-use Rattle.state.specs.declared.held.Held.{Held}
 use Rattle.state.specs.Design.{emptyDesign}
-use Rattle.state.specs.Held.{noneHeld, noValue, heldAt, Tidy}
+use Rattle.state.specs.Held.{noneHeld}
+use Rattle.state.specs.HeldWords.{heldLength, heldWords, wordsHeld}
 use Rattle.state.specs.Lent.{lent, sound}
-use Rattle.state.proofs.Arrays.{HeldSized}
+use Rattle.state.proofs.LentWords.{stored-record, zero-whole, zero-none}
 use Rattle.lawful.specs.LawfulState.{LawfulDesign}
 use Rattle.lawful.proofs.DesignLaws.{design-says}
-use Rattle.lawful.proofs.HeldLaws.{held-tidy, held-of-sized}
 use Rattle.lawful.proofs.RowsLaws.{Stored}
-use Rattle.lawful.proofs.SoundState.{parts}
 use Rattle.format.specs.declared.verdict.Verdict.the-variants.{Accepted, Refused}
 use Rattle.format.specs.declared.verdict.DesignReading.{DesignReading}
 use Rattle.format.specs.Reading.{Draft, DesignRead, readInto, verdictOf, designOf, rowsRead, cellsAfter, tablesAfter, marksAfter, Leaves}
@@ -31,28 +25,16 @@ use Rattle.format.proofs.Small.{Small}
 use Rattle.format.proofs.RoundTrip.{accepted-lawful}
 use Rattle.script.specs.Step.{outputs}
 use Rattle.script.specs.Runs.{Buffers, buffers, justRead, beginning}
-use Rattle.script.proofs.JustRead.{into-parts, begun, none-held, none-lawful}
+use Rattle.script.proofs.JustRead.{into-parts, begun}
 use Rattle.script.proofs.Tracking.{Tracks}
-use Rattle.words.specs.Words.{designLength, heldLength, designWords, heldWords, wordsDesign, wordsHeld, narrowDesign, narrowHeld, Typed}
+use Rattle.words.specs.Words.{designLength, designWords, wordsDesign, narrowDesign}
 use Rattle.wurzsige.specs.Told.{OpenTold}
 use Rattle.wurzsige.specs.Calls.{Memory, memory, longWords, Arrays, CatalogIn, Ready, opening, memoryOpened, Opened, OpenTaken}
-use Rattle.words.proofs.WordLaws.{design-stored, held-stored}
-use Rattle.words.proofs.Narrow.{narrow-design, narrow-held}
-use Rattle.words.proofs.NarrowWords.{design-narrow, held-narrow}
+use Rattle.words.proofs.WordLaws.{design-stored}
+use Rattle.words.proofs.Narrow.{narrow-design}
+use Rattle.words.proofs.NarrowWords.{design-narrow}
+use Rattle.wurzsige.proofs.StoredWords.{stored-narrow}
 use Rattle.wurzsige.proofs.Memories.{from-parts, long-words, short-design, short-held}
-
--- nothing is held
-none-issues : (i : ℕ) → i < 64 → heldAt noneHeld i .pair .value .issue < 256
-unfolding noneHeld
-none-issues i l = subst (λ (v : OwnedValue). v .pair .value .issue < 256) (sym (tab-at noValue 64 (λ _. noValue) i l)) (lit< tt)
-
-none-typed : Typed noneHeld
-none-typed =
-    let z = subst HeldSized (sym none-held) (held-of-sized nothingHeld) in
-    record { values = z .values; ranges = z .ranges; list = z .list; issue = none-issues }
-
-pub none-tidy : (none : Held) → none ≡ noneHeld → Tidy none
-none-tidy none e = subst Tidy (sym e) (held-tidy emptyDesign noneHeld (none-lawful emptyDesign))
 
 -- a refusal leaves everything as it was
 refused-opened : (c i : ℕ) (r : DesignReading) → r ≡ record { verdict = Refused c i; design = emptyDesign; rows = 0 } → (m m′ : Memory) → m′ ≡ m →
@@ -124,8 +106,8 @@ module _ (script ds hs : List ℕ) (cs : Cells) (ts ms : List ℕ) where
 
     module _ (j : ℕ) (v : r .verdict ≡ Accepted j) (small : Small script) where
       -- with its words stored, and those of nothing held, the memory is ready
-      module _ (stored : Stored cs′) (ds′ hs′ : List ℕ) (none : Held) (empty : none ≡ noneHeld) (x : ds′ ≡ sets ds 0 (designWords (r .design)))
-          (y : hs′ ≡ sets hs 0 (heldWords none)) (catalog : CatalogIn k′ (r .design) cs′ ts′) where
+      module _ (stored : Stored cs′) (ds′ hs′ : List ℕ) (x : ds′ ≡ sets ds 0 (designWords (r .design)))
+          (y : hs′ ≡ sets hs 0 (replicate 358 0)) (catalog : CatalogIn k′ (r .design) cs′ ts′) where
         abbrev m′ : Memory
         m′ = memory ds′ hs′ cs′ ts′ ms′
 
@@ -146,7 +128,7 @@ module _ (script ds hs : List ℕ) (cs : Cells) (ts ms : List ℕ) where
           design = x ∙ ap (λ (d : Design). sets ds 0 (designWords d)) (read .design ∙ ap designOf e)
 
           held : hs′ ≡ sets hs 0 (heldWords noneHeld)
-          held = y ∙ ap (λ (h : Held). sets hs 0 (heldWords h)) empty
+          held = y ∙ ap (sets hs 0) (zero-whole ∙ ap heldWords zero-none)
 
           opened-ready : Ready m′ k′
           opened-ready =
@@ -154,16 +136,16 @@ module _ (script ds hs : List ℕ) (cs : Cells) (ts ms : List ℕ) where
               let l = accepted-lawful script small p i (into-parts script lends p i e .1) in
               let z = l .2 in
               let nd = narrow-design (p .design) (l .0) in
-              let nh = narrow-held (p .design) noneHeld (l .0) (parts _ (g .sound) .held) none-typed in
               let d : wordsDesign ds′ ≡ p .design =
               ap wordsDesign design ∙ design-stored (p .design) (record { table = z .table; constraint = z .constraint; filling = z .filling }) nd ds a in
-              let h : wordsHeld hs′ ≡ noneHeld = ap wordsHeld held ∙ held-stored noneHeld nh hs b in
+              let zero = stored-record hs (replicate 358 0) hs′ b zero-whole y in
+              let h : wordsHeld hs′ ≡ noneHeld = zero .0 ∙ zero-none in
               record {
                 sound = from-parts m′ (record {
                   design = omega (arith, a, ap length design, length-sets ds 0 (designWords (p .design)));
-                  held = omega (arith, b, ap length held, length-sets hs 0 (heldWords noneHeld));
+                  held = omega (arith, b, ap length y, length-sets hs 0 (replicate 358 0));
                   designNarrow = ap narrowDesign design ∙ design-narrow (p .design) nd ds a;
-                  heldNarrow = ap narrowHeld held ∙ held-narrow noneHeld nh hs b;
+                  heldNarrow = stored-narrow hs (replicate 358 0) hs′ b y zero-whole;
                   state = ap sound (λ u. lent (d u) (cells u) (tables u) (marks u) (h u)) ∙ g .sound;
                 });
                 catalog = subst (λ (q : Design). CatalogIn k′ q cs′ ts′) (read .design ∙ ap designOf e ∙ sym d) catalog;

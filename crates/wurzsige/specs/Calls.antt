@@ -19,7 +19,9 @@ use Rattle.script.specs.Step.{Outputs, Stepped, refusing, stepAt}
 use Rattle.script.specs.Runs.{Left}
 use Rattle.script.specs.Sizes.{wordsTakenAt, textTakenAt}
 use Rattle.script.specs.Writing.{bytesOf}
-use Rattle.words.specs.Words.{designLength, heldLength, designWords, heldWords, wordsDesign, wordsHeld, narrowDesign, narrowHeld}
+use Rattle.state.specs.HeldWords.{longHeld, heldWords, wordsHeld, narrowHeld}
+use Rattle.state.specs.Meaning.{schemeOf, databaseOf}
+use Rattle.words.specs.Words.{designLength, designWords, wordsDesign, narrowDesign}
 use Rattle.wurzsige.specs.Told.{StepTold, OpenTold}
 
 -- ---- what is lent
@@ -41,7 +43,7 @@ stateIn m = lent (wordsDesign (m .design)) (m .cells) (m .tables) (m .marks) (wo
 
 -- cause 7 does not apply: "Lent buffer too short", for the words as for the rows
 abbrev pub longWords : Memory → Bool
-longWords m = leb designLength (length (m .design)) && leb heldLength (length (m .held))
+longWords m = leb designLength (length (m .design)) && longHeld (m .held)
 
 unfoldable pub longMemory : Memory → Bool
 longMemory m = longWords m && longEnough (stateIn m)
@@ -57,20 +59,17 @@ soundMemory m = longMemory m && lawfulMemory m
 unfoldable pub memoryCause : Memory → ℕ
 memoryCause m = cond (not (longMemory m)) 7 (cond (not (lawfulMemory m)) 12 0)
 
--- the five arrays of a catalog
+-- the two arrays of a catalog
 pub record Arrays : Type 0 where
-  pub next : List ℕ
-  pub first : List ℕ
+  pub catalog : List ℕ
   pub keys : List ℕ
-  pub heads : List ℕ
-  pub starts : List ℕ
 
-abbrev pub arrays : List ℕ → List ℕ → List ℕ → List ℕ → List ℕ → Arrays
-arrays next first keys heads starts = record { next = next; first = first; keys = keys; heads = heads; starts = starts }
+abbrev pub arrays : List ℕ → List ℕ → Arrays
+arrays catalog keys = record { catalog = catalog; keys = keys }
 
 -- they have the catalog of a design with lent rows
 abbrev pub CatalogIn : Arrays → Design → Cells → List ℕ → Type 0
-CatalogIn k d cells tables = Catalogued d cells tables (k .next) (k .first) (k .keys) (k .heads) (k .starts)
+CatalogIn k d cells tables = Catalogued (schemeOf d) (databaseOf cells tables) (k .catalog) (k .keys)
 
 -- what the trusted functions ask for: neither 7 nor 12, and the catalog of the rows. Opening a design leaves such memory, and so does every step (`OpenTaken`,
 -- `StepTaken`, `RunMade`), so it holds from call to call of whoever keeps to memory that only these functions write

@@ -1,5 +1,5 @@
 -- What a call tells: of an answer the number of its word, the numbers behind the word in a lent buffer of sixteen, and how many they are, off which a
--- caller reads the answer again (proofs/ToldLaws.antt); the place of a refusal, the place after the command, and whether reading goes on. Assumes nothing.
+-- caller reads the answer again (proofs/ToldLaws.antt); the place of a refusal, the place after the command, and whether reading goes on; which version it is. Assumes nothing.
 use Prim.Native.Nat.{ℕ, _≤_}
 use mathlib.Core.Path.{_≡_}
 use mathlib.Core.Bool.{Bool, true, false, cond}
@@ -11,6 +11,10 @@ use Rattle.state.specs.Meaning.{sixteen}
 use Rattle.format.specs.Reading.{DesignRead}
 use Rattle.format.specs.Reading.DesignRead.{accepted, refusedAt}
 use Rattle.script.specs.Step.{Stepped}
+
+-- version 0.2.0 of what is declared, as one number
+abbrev pub version : ℕ
+version = 512
 
 -- the word's number n, the buffer ns and the count k tell what is shown
 pub record Told (x : Shown) (n : ℕ) (ns : List ℕ) (k : ℕ) : Type 0 where

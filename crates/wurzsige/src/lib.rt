@@ -1,7 +1,7 @@
 // The desk for programs in C or Rust, which lend it all of its memory: opening a design, one step of a script, all steps from a place on, writing a design
-// out, and how much a step and the written design take. A design and the held values are structs in Rattle, so they go across as lists of u32 words
-// (crate `words`), and an answer as the number of its word, with the numbers behind the word in a lent buffer (specs/Told.antt). `include/wurzsige.h`
-// declares these functions and puts all that they are lent into one struct.
+// out, how much a step and the written design take, and which version it is. A design is a struct in Rattle, so it goes across as a list of u32 words (crate
+// `words`); what is held is such a list everywhere. An answer goes across as the number of its word, with the numbers behind the word in a lent buffer
+// (specs/Told.antt). `include/wurzsige.h` declares these functions and puts all that they are lent into one struct.
 //
 // Functions with a plain name take whatever is lent and test it for causes 7 and 12. Those that end in `_trusted` ask for memory that is ready
 // (specs/Calls.antt `Ready`), which opening and every step leave, and test nothing.
@@ -12,6 +12,7 @@ mod running;
 mod sizing;
 mod stepping;
 mod telling;
+mod version;
 mod writing;
 
 // The number of a refusal's word.

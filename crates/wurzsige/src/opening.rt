@@ -9,11 +9,10 @@ use format::DesignReading;
 use format::Verdict;
 use format::read_catalogued;
 use state::Design;
-use state::Held;
+use state::HELD_WORDS;
+use state::store_words;
 use words::DESIGN_WORDS;
-use words::HELD_WORDS;
 use words::put_design;
-use words::put_held;
 
 // A refusal with cause 7. Constant time.
 fn short() -> DesignReading
@@ -33,11 +32,8 @@ fn open_memory(
     cells: &mut [u32],
     issues: &mut [u8],
     tables: &mut [u8],
-    next: &mut [u16; 4096],
-    first: &mut [u16; 8192],
+    catalog: &mut [u16; 16449],
     keys: &mut [u64; 4096],
-    heads: &mut [u16; 4096],
-    starts: &mut [u16; 65],
     marks: &mut [u8],
     design: &mut [u32],
     held: &mut [u32],
@@ -46,8 +42,8 @@ fn open_memory(
         (opening (now (script .entry)) (memory (now (design .entry)) (now (held .entry)) (cellsIn (now (cells .entry)) (now (issues .entry))) (now (tables .entry)) (now (marks .entry)))) r
         (memory (now (design .entry)) (now (held .entry)) (cellsIn (now (cells .entry)) (now (issues .entry))) (now (tables .entry)) (now (marks .entry)))
         (memory (now (design .exit)) (now (held .exit)) (cellsIn (now (cells .exit)) (now (issues .exit))) (now (tables .exit)) (now (marks .exit)))
-        (arrays (now (next .entry)) (now (first .entry)) (now (keys .entry)) (now (heads .entry)) (now (starts .entry)))
-        (arrays (now (next .exit)) (now (first .exit)) (now (keys .exit)) (now (heads .exit)) (now (starts .exit))) ⌝ }
+        (arrays (now (catalog .entry)) (now (keys .entry)))
+        (arrays (now (catalog .exit)) (now (keys .exit))) ⌝ }
 {
     if design.len() < DESIGN_WORDS {
         return short();
@@ -55,25 +51,15 @@ fn open_memory(
     if held.len() < HELD_WORDS {
         return short();
     }
-    let reading = read_catalogued(
-        script,
-        cells,
-        issues,
-        tables,
-        marks,
-        next,
-        first,
-        keys,
-        heads,
-        starts,
-    );
+    let reading = read_catalogued(script, cells, issues, tables, marks, catalog, keys);
     let verdict = reading.verdict;
     let Verdict::Accepted(_) = verdict else {
         return reading;
     };
     let d = reading.design;
     put_design(d, design);
-    put_held(Held::none(), held);
+    let none = [0u32; 358];
+    store_words(&none, held);
     reading
 }
 
@@ -85,11 +71,8 @@ pub extern "C" fn wurzsige_parts_open(
     cells: &mut [u32],
     issues: &mut [u8],
     tables: &mut [u8],
-    next: &mut [u16; 4096],
-    first: &mut [u16; 8192],
+    catalog: &mut [u16; 16449],
     keys: &mut [u64; 4096],
-    heads: &mut [u16; 4096],
-    starts: &mut [u16; 65],
     marks: &mut [u8],
     design: &mut [u32],
     held: &mut [u32],
@@ -104,19 +87,16 @@ pub extern "C" fn wurzsige_parts_open(
         n (now (numbers .exit)) (now (count .exit)) (now (place .exit)) (now (after .exit)) (now (more .exit))
         (memory (now (design .entry)) (now (held .entry)) (cellsIn (now (cells .entry)) (now (issues .entry))) (now (tables .entry)) (now (marks .entry)))
         (memory (now (design .exit)) (now (held .exit)) (cellsIn (now (cells .exit)) (now (issues .exit))) (now (tables .exit)) (now (marks .exit)))
-        (arrays (now (next .entry)) (now (first .entry)) (now (keys .entry)) (now (heads .entry)) (now (starts .entry)))
-        (arrays (now (next .exit)) (now (first .exit)) (now (keys .exit)) (now (heads .exit)) (now (starts .exit))) ⌝ }
+        (arrays (now (catalog .entry)) (now (keys .entry)))
+        (arrays (now (catalog .exit)) (now (keys .exit))) ⌝ }
 {
     let r = open_memory(
         script,
         cells,
         issues,
         tables,
-        next,
-        first,
+        catalog,
         keys,
-        heads,
-        starts,
         marks,
         design,
         held,

@@ -1,16 +1,16 @@
 // All steps of a script from a place on, on lent memory that is ready.
+ghost use mathlib.Core.Path.{_≡_};
 ghost use lib.ListN.{length};
 ghost use Rattle.state.specs.Cells.{cellsIn};
+ghost use Rattle.state.specs.HeldWords.{heldLength};
 ghost use Rattle.script.specs.Step.{outputs};
 ghost use Rattle.script.specs.Runs.{leftFrom};
 ghost use Rattle.wurzsige.specs.Calls.{memory, arrays, stateIn, Ready, RunMade};
 use script::run_lawful;
 use words::design_from;
-use words::held_from;
-use words::put_held;
 
 // The steps from place `at` on, until the script ends or cause 1, 2 or 4 stops it; no answer is told, the answer words are the last query's, and the text is
-// the last reason's. The arrays behind `text` are working memory. The cost of the operations, and one copy of the design's and the held values' words.
+// the last reason's. The arrays behind `text` are working memory. The cost of the operations, and one copy of the design's words.
 #[no_mangle]
 pub extern "C" fn wurzsige_parts_run_trusted(
     script: &[u8],
@@ -18,53 +18,42 @@ pub extern "C" fn wurzsige_parts_run_trusted(
     cells: &mut [u32],
     issues: &mut [u8],
     tables: &mut [u8],
-    next: &mut [u16; 4096],
-    first: &mut [u16; 8192],
+    catalog: &mut [u16; 16449],
     keys: &mut [u64; 4096],
-    heads: &mut [u16; 4096],
-    starts: &mut [u16; 65],
     marks: &mut [u8],
     design: &[u32],
-    held: &mut [u32],
+    held: &mut [u32; 358],
     words: &mut [u32],
     text: &mut [u8],
-    weights: &mut [u64; 2560],
-    sums: &mut [u64; 2560],
-    froms: &mut [u16; 2560],
-    links: &mut [u16; 2560],
+    counts: &mut [u64; 5120],
+    places: &mut [u16; 5120],
 )
-    requires { ⌜ Ready (memory (now design) (now held) (cellsIn (now cells) (now issues)) (now tables) (now marks)) (arrays (now next) (now first) (now keys) (now heads) (now starts)) ⌝ }
+    requires { ⌜ Ready (memory (now design) (now held) (cellsIn (now cells) (now issues)) (now tables) (now marks)) (arrays (now catalog) (now keys)) ⌝ }
+    requires { ⌜ length (now held) ≡ heldLength ⌝ }
     ensures { λ _. ⌜ RunMade
         (leftFrom (length (now (script .entry))) (now (script .entry))
         (stateIn (memory (now (design .entry)) (now (held .entry)) (cellsIn (now (cells .entry)) (now (issues .entry))) (now (tables .entry)) (now (marks .entry))))
         (outputs (now (words .entry)) (now (text .entry))) at)
         (memory (now (design .entry)) (now (held .entry)) (cellsIn (now (cells .entry)) (now (issues .entry))) (now (tables .entry)) (now (marks .entry)))
         (memory (now (design .entry)) (now (held .exit)) (cellsIn (now (cells .exit)) (now (issues .exit))) (now (tables .exit)) (now (marks .exit)))
-        (arrays (now (next .exit)) (now (first .exit)) (now (keys .exit)) (now (heads .exit)) (now (starts .exit)))
+        (arrays (now (catalog .exit)) (now (keys .exit)))
         (outputs (now (words .exit)) (now (text .exit))) ⌝ }
 {
     let d = design_from(design);
-    let h = held_from(held);
-    let left = run_lawful(
+    run_lawful(
         script,
         at,
         d,
         cells,
         issues,
         tables,
-        next,
-        first,
+        catalog,
         keys,
-        heads,
-        starts,
         marks,
-        h,
+        held,
         words,
         text,
-        weights,
-        sums,
-        froms,
-        links,
+        counts,
+        places,
     );
-    put_held(left, held);
 }

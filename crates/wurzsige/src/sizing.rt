@@ -4,8 +4,8 @@ ghost use Rattle.wurzsige.specs.Calls.{memory, SizesTold};
 use crate::causes::memory_cause;
 use format::design_length;
 use script::step_sizes_lawful;
+use state::first_words;
 use words::design_from;
-use words::held_from;
 
 // Stores the three numbers: 0, or cause 7 or 12, which leaves them as they were; nothing else changes. The cost of `memory_cause`, of counting a query's lists
 // without writing them, or of composing a reason, and of a look at each row.
@@ -25,34 +25,17 @@ pub extern "C" fn wurzsige_parts_sizes(
         (memory (now (design .entry)) (now (held .entry)) (cellsIn (now (cells .entry)) (now (issues .entry))) (now (tables .entry)) (now (marks .entry)))
         (now (script .entry)) at n (now (sizes .entry)) (now (sizes .exit)) ⌝ }
 {
-    let mut a = [0u16; 4096];
-    let mut b = [0u16; 8192];
+    let mut c = [0u16; 16449];
     let mut k = [0u64; 4096];
-    let mut h = [0u16; 4096];
-    let mut s = [0u16; 65];
-    let why = memory_cause(
-        cells,
-        issues,
-        tables,
-        &mut a,
-        &mut b,
-        &mut k,
-        &mut h,
-        &mut s,
-        marks,
-        design,
-        held,
-    );
+    let why = memory_cause(cells, issues, tables, &mut c, &mut k, marks, design, held);
     if why != 0 {
         return why;
     }
     let d = design_from(design);
-    let g = held_from(held);
+    let own = first_words(held);
     let bytes = design_length(d, issues, tables);
-    let mut weights = [0u64; 2560];
-    let mut sums = [0u64; 2560];
-    let mut froms = [0u16; 2560];
-    let mut links = [0u16; 2560];
+    let mut counts = [0u64; 5120];
+    let mut places = [0u16; 5120];
     let z = step_sizes_lawful(
         script,
         at,
@@ -60,17 +43,12 @@ pub extern "C" fn wurzsige_parts_sizes(
         cells,
         issues,
         tables,
-        &a,
-        &b,
+        &c,
         &k,
-        &h,
-        &s,
         marks,
-        g,
-        &mut weights,
-        &mut sums,
-        &mut froms,
-        &mut links,
+        &own,
+        &mut counts,
+        &mut places,
     );
     let told = [bytes as u64, z.words, z.text as u64];
     *sizes = told;

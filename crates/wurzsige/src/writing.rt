@@ -23,24 +23,9 @@ pub extern "C" fn wurzsige_parts_write(
         (memory (now (design .entry)) (now (held .entry)) (cellsIn (now (cells .entry)) (now (issues .entry))) (now (tables .entry)) (now (marks .entry))) n
         (now (out .entry)) (now (out .exit)) (now (written .entry)) (now (written .exit)) ⌝ }
 {
-    let mut a = [0u16; 4096];
-    let mut b = [0u16; 8192];
+    let mut c = [0u16; 16449];
     let mut k = [0u64; 4096];
-    let mut h = [0u16; 4096];
-    let mut s = [0u16; 65];
-    let why = memory_cause(
-        cells,
-        issues,
-        tables,
-        &mut a,
-        &mut b,
-        &mut k,
-        &mut h,
-        &mut s,
-        marks,
-        design,
-        held,
-    );
+    let why = memory_cause(cells, issues, tables, &mut c, &mut k, marks, design, held);
     if why != 0 {
         return why;
     }

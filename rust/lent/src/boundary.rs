@@ -5,7 +5,7 @@
 #![allow(unsafe_code)]
 
 use reference::lent::Told;
-use wurzsige_sys::{parts, NUMBERS, POSITIONS};
+use wurzsige_sys::{parts, HELD_WORDS, NUMBERS, WORKING};
 
 use crate::library::Library;
 use crate::memory::{Fenced, Memory};
@@ -19,25 +19,21 @@ pub struct Proved;
 
 /// The working memory of a query.
 struct Working {
-    weights: [u64; POSITIONS],
-    sums: [u64; POSITIONS],
-    froms: [u16; POSITIONS],
-    links: [u16; POSITIONS],
+    counts: [u64; WORKING],
+    places: [u16; WORKING],
 }
 
 impl Working {
     fn new() -> Working {
         Working {
-            weights: [MEANINGLESS.into(); POSITIONS],
-            sums: [MEANINGLESS.into(); POSITIONS],
-            froms: [MEANINGLESS.into(); POSITIONS],
-            links: [MEANINGLESS.into(); POSITIONS],
+            counts: [MEANINGLESS.into(); WORKING],
+            places: [MEANINGLESS.into(); WORKING],
         }
     }
 }
 
 /// Calls a function that takes a whole state: what it is given before the state, the
-/// memory, and what it is given behind the state.
+/// memory, and what it is given behind the design, of which what is held is the first.
 macro_rules! call {
     ($function:ident($($before:expr),*), $memory:expr, ($($behind:expr),*)) => {
         // SAFETY: each pointer goes with its buffer's length, and no two buffers overlap. A
@@ -51,17 +47,12 @@ macro_rules! call {
                 $memory.issues.length(),
                 $memory.tables.lent_mut().as_mut_ptr(),
                 $memory.tables.length(),
-                array(&mut $memory.catalog.next),
-                array(&mut $memory.catalog.first),
+                array(&mut $memory.catalog.rows),
                 array(&mut $memory.catalog.keys),
-                array(&mut $memory.catalog.heads),
-                array(&mut $memory.catalog.starts),
                 $memory.marks.lent_mut().as_mut_ptr(),
                 $memory.marks.length(),
                 $memory.design.lent_mut().as_mut_ptr(),
                 $memory.design.length(),
-                $memory.held.lent_mut().as_mut_ptr(),
-                $memory.held.length(),
                 $($behind,)*
             )
         }
@@ -123,7 +114,7 @@ impl Library for Proved {
         tell!(
             wurzsige_parts_open(script.as_ptr(), script.len()),
             memory,
-            ()
+            (memory.held.lent_mut().as_mut_ptr(), memory.held.length())
         )
     }
 
@@ -132,6 +123,8 @@ impl Library for Proved {
             wurzsige_parts_step(script.as_ptr(), script.len(), at),
             memory,
             (
+                memory.held.lent_mut().as_mut_ptr(),
+                memory.held.length(),
                 memory.words.lent_mut().as_mut_ptr(),
                 memory.words.length(),
                 memory.text.lent_mut().as_mut_ptr(),
@@ -146,14 +139,13 @@ impl Library for Proved {
             wurzsige_parts_step_trusted(script.as_ptr(), script.len(), at),
             memory,
             (
+                record(&mut memory.held),
                 memory.words.lent_mut().as_mut_ptr(),
                 memory.words.length(),
                 memory.text.lent_mut().as_mut_ptr(),
                 memory.text.length(),
-                &mut working.weights,
-                &mut working.sums,
-                &mut working.froms,
-                &mut working.links
+                &mut working.counts,
+                &mut working.places
             )
         )
     }
@@ -164,14 +156,13 @@ impl Library for Proved {
             wurzsige_parts_run_trusted(script.as_ptr(), script.len(), at),
             memory,
             (
+                record(&mut memory.held),
                 memory.words.lent_mut().as_mut_ptr(),
                 memory.words.length(),
                 memory.text.lent_mut().as_mut_ptr(),
                 memory.text.length(),
-                &mut working.weights,
-                &mut working.sums,
-                &mut working.froms,
-                &mut working.links
+                &mut working.counts,
+                &mut working.places
             )
         );
     }
@@ -201,6 +192,13 @@ impl Library for Proved {
 fn array<T: Copy + From<u8>, const LENGTH: usize>(buffer: &mut Fenced<T>) -> &mut [T; LENGTH] {
     let array = buffer.lent_mut().try_into();
     array.unwrap_or_else(|_| panic!("the boundary takes {LENGTH} items"))
+}
+
+/// The words of what is held, of a buffer that may have more: a trusted step asks for
+/// these alone.
+fn record(held: &mut Fenced<u32>) -> &mut [u32; HELD_WORDS] {
+    let words = held.lent_mut().first_chunk_mut();
+    words.expect("a state that was worked on has the words of what is held")
 }
 
 /// An answer that no call has told yet: each part of it has to be written.

@@ -4,7 +4,7 @@
 use std::fmt::Display;
 
 use reference::lent::Lent;
-use wurzsige_sys::{FIRST, HEADS, KEYS, NEXT, STARTS};
+use wurzsige_sys::{CATALOG, KEYS};
 
 /// How many items a fence has, and what each of them is.
 const FENCE: usize = 8;
@@ -73,16 +73,10 @@ impl<T: Copy + PartialEq + Display> Fenced<T> {
 /// whether the catalog is right.
 #[derive(Clone, Debug, PartialEq, Eq)]
 pub struct Catalog {
-    /// For each cell.
-    pub next: Fenced<u16>,
-    /// For each row and constraint.
-    pub first: Fenced<u16>,
+    /// Rows, for each cell, for each constraint and row, and for each value of a column.
+    pub rows: Fenced<u16>,
     /// The different values of columns.
     pub keys: Fenced<u64>,
-    /// For each of these.
-    pub heads: Fenced<u16>,
-    /// For each column.
-    pub starts: Fenced<u16>,
 }
 
 impl Catalog {
@@ -90,20 +84,14 @@ impl Catalog {
     fn filled(byte: u8) -> Catalog {
         let word = u16::from_le_bytes([byte; 2]);
         Catalog {
-            next: Fenced::filled(word, NEXT),
-            first: Fenced::filled(word, FIRST),
+            rows: Fenced::filled(word, CATALOG),
             keys: Fenced::filled(u64::from_le_bytes([byte; 8]), KEYS),
-            heads: Fenced::filled(word, HEADS),
-            starts: Fenced::filled(word, STARTS),
         }
     }
 
     fn difference(&self, expected: &Catalog) -> Option<String> {
-        None.or_else(|| self.next.difference("next", &expected.next))
-            .or_else(|| self.first.difference("first", &expected.first))
+        None.or_else(|| self.rows.difference("catalog", &expected.rows))
             .or_else(|| self.keys.difference("keys", &expected.keys))
-            .or_else(|| self.heads.difference("heads", &expected.heads))
-            .or_else(|| self.starts.difference("starts", &expected.starts))
     }
 }
 
@@ -251,8 +239,8 @@ mod tests {
         let expected = "marks[512], behind its end is 0, not 165";
         assert_eq!(difference.as_deref(), Some(expected));
         let mut changed = memory();
-        changed.catalog.starts.lent_mut()[64] = 1;
+        changed.catalog.rows.lent_mut()[16_448] = 1;
         let difference = changed.difference(&memory());
-        assert_eq!(difference.as_deref(), Some("starts[64] is 1, not 1799"));
+        assert_eq!(difference.as_deref(), Some("catalog[16448] is 1, not 1799"));
     }
 }

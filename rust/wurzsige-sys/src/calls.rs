@@ -4,10 +4,11 @@ use crate::memory::Memory;
 use crate::parts;
 use crate::told::{Sizes, Told};
 
-/// A call of a step or a run on a desk. They take the same operands up to the text;
-/// what each takes behind it is given.
+/// A call of a step or a run on a desk. They take the same operands up to the text, but
+/// for the held words, which the trusted ones take as an array; what each takes behind
+/// the text is given.
 macro_rules! call {
-    ($function:ident, $desk:expr, $script:expr, $at:expr, $words:expr, $text:expr $(, $more:expr)*) => {
+    ($function:ident, $desk:expr, ($($held:expr),+), $script:expr, $at:expr, $words:expr, $text:expr $(, $more:expr)*) => {
         parts::$function(
             $script.as_ptr(),
             $script.len(),
@@ -18,17 +19,13 @@ macro_rules! call {
             $desk.issues.len(),
             $desk.tables.as_mut_ptr(),
             $desk.tables.len(),
-            &mut $desk.next,
-            &mut $desk.first,
+            &mut $desk.catalog,
             &mut $desk.keys,
-            &mut $desk.heads,
-            &mut $desk.starts,
             $desk.marks.as_mut_ptr(),
             $desk.marks.len(),
             $desk.design.as_ptr(),
             $desk.design.len(),
-            $desk.held.as_mut_ptr(),
-            $desk.held.len(),
+            $($held,)+
             $words.as_mut_ptr(),
             $words.len(),
             $text.as_mut_ptr(),
@@ -56,11 +53,8 @@ impl Memory {
                 self.issues.len(),
                 self.tables.as_mut_ptr(),
                 self.tables.len(),
-                &mut self.next,
-                &mut self.first,
+                &mut self.catalog,
                 &mut self.keys,
-                &mut self.heads,
-                &mut self.starts,
                 self.marks.as_mut_ptr(),
                 self.marks.len(),
                 self.design.as_mut_ptr(),
@@ -87,6 +81,7 @@ impl Memory {
             call!(
                 wurzsige_parts_step,
                 self,
+                (self.held.as_mut_ptr(), self.held.len()),
                 script,
                 at,
                 words,
@@ -121,14 +116,13 @@ impl Memory {
             call!(
                 wurzsige_parts_step_trusted,
                 self,
+                (&mut self.held),
                 script,
                 at,
                 words,
                 text,
-                &mut self.weights,
-                &mut self.sums,
-                &mut self.froms,
-                &mut self.links,
+                &mut self.counts,
+                &mut self.places,
                 &mut told.numbers,
                 &mut told.count,
                 &mut told.place,
@@ -157,14 +151,13 @@ impl Memory {
             call!(
                 wurzsige_parts_run_trusted,
                 self,
+                (&mut self.held),
                 script,
                 at,
                 words,
                 text,
-                &mut self.weights,
-                &mut self.sums,
-                &mut self.froms,
-                &mut self.links
+                &mut self.counts,
+                &mut self.places
             )
         }
     }

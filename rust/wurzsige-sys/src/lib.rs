@@ -17,7 +17,5 @@ pub mod parts;
 mod told;
 pub mod word;
 
-pub use memory::{
-    Memory, CELLS, DESIGN_WORDS, FIRST, HEADS, HELD_WORDS, KEYS, NEXT, POSITIONS, ROWS, STARTS,
-};
+pub use memory::{Memory, CATALOG, CELLS, DESIGN_WORDS, HELD_WORDS, KEYS, ROWS, WORKING};
 pub use told::{Sizes, Told, MOST_DESIGN, MOST_SCRIPT, MOST_TEXT, NUMBERS};

@@ -14,23 +14,16 @@ pub const DESIGN_WORDS: usize = 115;
 /// Words of what is held.
 pub const HELD_WORDS: usize = 358;
 
-/// The catalog: for each cell, the next row with its value.
-pub const NEXT: usize = 4_096;
-
-/// The catalog: for each constraint and row, the first row demanded.
-pub const FIRST: usize = 8_192;
+/// The catalog: for each cell the next row with its value, for each constraint and row
+/// the first row demanded, for each different value of a column its first row, and for
+/// each column where its values begin.
+pub const CATALOG: usize = 16_449;
 
 /// The catalog: for each different value of a column, the value.
 pub const KEYS: usize = 4_096;
 
-/// The catalog: for each different value of a column, its first row.
-pub const HEADS: usize = 4_096;
-
-/// The catalog: for each column, where its values begin, and where the last ones end.
-pub const STARTS: usize = 65;
-
-/// The working memory of a query: for each of five positions, each row.
-pub const POSITIONS: usize = 2_560;
+/// The working memory of a query: two entries for each row at each of five positions.
+pub const WORKING: usize = 5_120;
 
 /// All that a desk keeps, laid out as C's `struct wurzsige`, whose comment in
 /// `include/wurzsige.h` says what stands where.
@@ -43,27 +36,17 @@ pub struct Memory {
     /// The catalog's values.
     pub keys: [u64; KEYS],
     /// Working memory.
-    pub weights: [u64; POSITIONS],
-    /// Working memory.
-    pub sums: [u64; POSITIONS],
+    pub counts: [u64; WORKING],
     /// The cells' numbers; row r has those from 8 r to 8 r + 7.
     pub cells: [u32; CELLS],
     /// The design: three counts, then tables, constraints and fillings.
     pub design: [u32; DESIGN_WORDS],
     /// The named desk, the held values, and the ranges of each desk.
     pub held: [u32; HELD_WORDS],
-    /// The catalog's next rows.
-    pub next: [u16; NEXT],
-    /// The catalog's demanded rows.
-    pub first: [u16; FIRST],
-    /// The catalog's first rows of values.
-    pub heads: [u16; HEADS],
-    /// Where a column's values begin in the catalog.
-    pub starts: [u16; STARTS],
+    /// The catalog's rows.
+    pub catalog: [u16; CATALOG],
     /// Working memory.
-    pub froms: [u16; POSITIONS],
-    /// Working memory.
-    pub links: [u16; POSITIONS],
+    pub places: [u16; WORKING],
     /// The cells' issues, in the cells' order.
     pub issues: [u8; CELLS],
     /// The table of each row; 255 where the number is free.
@@ -83,17 +66,12 @@ impl Memory {
     pub fn boxed_copy(&self) -> Box<Memory> {
         let mut copy = Memory::boxed();
         copy.keys.copy_from_slice(&self.keys);
-        copy.weights.copy_from_slice(&self.weights);
-        copy.sums.copy_from_slice(&self.sums);
+        copy.counts.copy_from_slice(&self.counts);
         copy.cells.copy_from_slice(&self.cells);
         copy.design.copy_from_slice(&self.design);
         copy.held.copy_from_slice(&self.held);
-        copy.next.copy_from_slice(&self.next);
-        copy.first.copy_from_slice(&self.first);
-        copy.heads.copy_from_slice(&self.heads);
-        copy.starts.copy_from_slice(&self.starts);
-        copy.froms.copy_from_slice(&self.froms);
-        copy.links.copy_from_slice(&self.links);
+        copy.catalog.copy_from_slice(&self.catalog);
+        copy.places.copy_from_slice(&self.places);
         copy.issues.copy_from_slice(&self.issues);
         copy.tables.copy_from_slice(&self.tables);
         copy.marks.copy_from_slice(&self.marks);

@@ -30,12 +30,12 @@ macro_rules! constants {
 
 fn all() -> Vec<Same> {
     [
-        fields!(Memory, "struct wurzsige", keys weights sums cells design held next first heads
-            starts froms links issues tables marks),
+        fields!(Memory, "struct wurzsige", keys counts cells design held catalog places
+            issues tables marks),
         fields!(Told, "struct wurzsige_answer", numbers place next word count more),
         fields!(Sizes, "struct wurzsige_sizes", bytes words text),
-        constants!(wurzsige_sys: ROWS CELLS DESIGN_WORDS HELD_WORDS NEXT FIRST KEYS HEADS STARTS
-            POSITIONS NUMBERS MOST_SCRIPT MOST_DESIGN MOST_TEXT),
+        constants!(wurzsige_sys: ROWS CELLS DESIGN_WORDS HELD_WORDS CATALOG KEYS WORKING
+            NUMBERS MOST_SCRIPT MOST_DESIGN MOST_TEXT),
         constants!(word: LOADED HELD NO_CANDIDATE DROPPED GROUND SENT LISTS REFUSED EVEN UNEVEN
             TOTAL KNOT DESK OPEN OPENER NO_OPENER ABSENT REASON CHANGED DESIGN),
     ]

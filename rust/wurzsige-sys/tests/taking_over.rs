@@ -18,11 +18,8 @@ fn opened() -> Box<Memory> {
 /// The same with a catalog that means nothing.
 fn lent() -> Box<Memory> {
     let mut memory = opened();
-    memory.next.fill(u16::MAX);
-    memory.first.fill(u16::MAX);
+    memory.catalog.fill(u16::MAX);
     memory.keys.fill(u64::MAX);
-    memory.heads.fill(u16::MAX);
-    memory.starts.fill(u16::MAX);
     memory
 }
 

@@ -90,12 +90,9 @@ fn damaged_memory_is_no_desk() {
 #[test]
 fn a_damaged_catalog_does_no_harm() {
     type Damage = fn(&mut Memory);
-    let damages: [Damage; 5] = [
-        |memory| memory.next.fill(u16::MAX),
-        |memory| memory.first.fill(u16::MAX),
+    let damages: [Damage; 2] = [
+        |memory| memory.catalog.fill(u16::MAX),
         |memory| memory.keys.fill(u64::MAX),
-        |memory| memory.heads.fill(u16::MAX),
-        |memory| memory.starts.fill(u16::MAX),
     ];
     let query = Query::new(Column::new(0, 1), 3).join(0, 0).join(1, 1);
     let mut desk = desk();

@@ -35,19 +35,19 @@ fn is_refused(given: &Given, told: &Told, cause: u8) -> bool {
 fn a_refused_step_writes_into_an_array() {
     assert_answers_are_found(|given, told, memory| {
         let is_written = is_refused(given, told, 12);
-        memory.catalog.next.lent_mut()[4_095] ^= u16::from(is_written);
+        memory.catalog.rows.lent_mut()[0] ^= u16::from(is_written);
     });
     assert_answers_are_found(|given, told, memory| {
         let is_written = is_refused(given, told, 5);
-        memory.catalog.first.lent_mut()[8_191] ^= u16::from(is_written);
+        memory.catalog.rows.lent_mut()[12_287] ^= u16::from(is_written);
     });
     assert_answers_are_found(|given, told, memory| {
         let is_written = is_refused(given, told, 10);
-        memory.catalog.heads.lent_mut()[4_095] ^= u16::from(is_written);
+        memory.catalog.rows.lent_mut()[16_448] ^= u16::from(is_written);
     });
     assert_answers_are_found(|given, told, memory| {
         let is_written = is_refused(given, told, 1);
-        memory.catalog.starts.lent_mut()[64] ^= u16::from(is_written);
+        memory.catalog.keys.lent_mut()[4_095] ^= u64::from(is_written);
     });
 }
 

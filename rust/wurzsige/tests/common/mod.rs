@@ -25,9 +25,7 @@ pub fn opened(text: &str) -> Desk {
 #[allow(dead_code)]
 pub fn kept(memory: &Memory) -> Box<Memory> {
     let mut kept = memory.boxed_copy();
-    kept.weights.fill(0);
-    kept.sums.fill(0);
-    kept.froms.fill(0);
-    kept.links.fill(0);
+    kept.counts.fill(0);
+    kept.places.fill(0);
     kept
 }

@@ -2,7 +2,8 @@
 use borrow.Author.Needs.{needs}
 use Rattle.state.proofs.HeldWords.{holds-whole}
 use Rattle.lawful.proofs.Asked.{sound-tidy}
-use Rattle.cache.proofs.RecordWords.{zero-whole, over-record, ready-for}
+use Rattle.state.proofs.LentWords.{zero-whole}
+use Rattle.cache.proofs.RecordWords.{over-record, ready-for}
 use Rattle.cache.proofs.records.refer_record.Statement.{statement}
 use Rattle.cache.proofs.records.refer_record.Tie as tie
 

@@ -7,42 +7,51 @@ use borrow.Author.Needs.{needs}
 use borrow.Author.Tests.{not-true, not-false}
 use Rattle.finite.proofs.Bools.{cond-true, cond-false}
 use Rattle.state.specs.HeldWords.{wordsHeld}
-use Rattle.state.specs.Lent.{causeOf}
 use Rattle.lawful.proofs.Asked.{long-asked}
+use Rattle.cache.proofs.CauseWords.{cause-few, cause-short, cause-long, first-lawful}
 use Rattle.cache.proofs.tests.cause.Statement.{statement}
 use Rattle.cache.proofs.tests.cause.Tie as tie
+
+returns : tie.Need-returns
+returns c = (cause-few _ _ (c .if1 .taken), λ z. absurd (omega (arith, z)))
 
 is-long-enough-requires : tie.Need-is-long-enough-requires
 is-long-enough-requires c κs = search needs
 
-returns : tie.Need-returns
-unfolding causeOf
-returns c = (sym (cond-true _ _ _ (ap not (sym (c .before .is-long-enough .ensures _ _) ∙ not-true _ (c .if1 .taken)))), λ z. absurd (omega (arith, z)))
+returns-2 : tie.Need-returns-2
+returns-2 c = (cause-short _ _ (c .before .before .if1 .left) (sym (c .before .is-long-enough .ensures _ _) ∙ not-true _ (c .if2 .taken)), λ z. absurd (omega (arith, z)))
+
+first-words-requires : tie.Need-first-words-requires
+first-words-requires c κs = search needs
 
 is-lawful-catalog-requires : tie.Need-is-lawful-catalog-requires
 is-lawful-catalog-requires c κs =
-    let l = c .before .before .before in
-    let s = l .before .before .before .before .before in
-    long-asked _ (sym (l .is-long-enough .ensures (s .args .design) (wordsHeld (now (s .args .held)))) ∙ not-false _ (c .before .before .if1 .left))
-
-returns-2 : tie.Need-returns-2
-unfolding causeOf
-returns-2 c =
-    let l = c .before .before .before .before .before in (
-      sym (cond-false _ _ _ (ap not (sym (l .is-long-enough .ensures _ _) ∙ not-false _ (c .before .before .before .before .if1 .left))) ∙
-          cond-true _ _ _ (ap not (sym (c .before .is-lawful-catalog .ensures .0) ∙ not-true _ (c .if2 .taken)))),
-      λ z. absurd (omega (arith, z)),
-    )
+    let s = c .before .before .before .before .before .before .before .before .before .before .before .before in
+    long-asked _ (sym (c .before .before .before .before .before .is-long-enough .ensures (s .args .design) (wordsHeld (now (s .args .held)))) ∙ not-false _ (c .before .before .before .before .if2 .left))
 
 returns-3 : tie.Need-returns-3
-unfolding causeOf
-returns-3 c =
-    let l = c .before .before .before .before .before in
-    let w = c .before .is-lawful-catalog .ensures in
-    let is = not-false _ (c .if2 .left) in (
-      sym (cond-false _ _ _ (ap not (sym (l .is-long-enough .ensures _ _) ∙ not-false _ (c .before .before .before .before .if1 .left))) ∙ cond-false _ _ _ (ap not (sym (w .0) ∙ is))),
-      λ z. w .1 is,
+returns-3 c = (
+  sym (cause-long _ _ (c .before .before .before .before .before .before .before .before .if1 .left) (sym (c .before .before .before .before .before .before .before .is-long-enough .ensures _ _) ∙ not-false _ (c .before .before .before .before .before .before .if2 .left)) ∙
+      cond-true _ _ _ (ap not (sym (first-lawful _ _ _ _ _ _ (c .before .before .before .before .before .first-words .ensures)) ∙ sym (c .before .is-lawful-catalog .ensures .0) ∙ not-true _ (c .if3 .taken)))),
+  λ z. absurd (omega (arith, z)),
+)
+
+returns-4 : tie.Need-returns-4
+returns-4 c =
+    let is = not-false _ (c .if3 .left) in (
+      sym (cause-long _ _ (c .before .before .before .before .before .before .before .before .if1 .left) (sym (c .before .before .before .before .before .before .before .is-long-enough .ensures _ _) ∙ not-false _ (c .before .before .before .before .before .before .if2 .left)) ∙
+          cond-false _ _ _ (ap not (sym (first-lawful _ _ _ _ _ _ (c .before .before .before .before .before .first-words .ensures)) ∙ sym (c .before .is-lawful-catalog .ensures .0) ∙ is))),
+      λ z. c .before .is-lawful-catalog .ensures .1 is,
     )
 
 pub cause-spec : {M : Type 1} → statement M
-cause-spec = tie.close (tie.spec is-long-enough-requires returns is-lawful-catalog-requires returns-2 returns-3)
+cause-spec =
+    tie.close
+    (tie.spec
+    returns
+    is-long-enough-requires
+    returns-2
+    first-words-requires
+    is-lawful-catalog-requires
+    returns-3
+    returns-4)

@@ -3,7 +3,7 @@ use mathlib.Core.Path.{sym, _∙_}
 use denote.Ref.{now}
 use borrow.Author.Needs.{needs}
 use Rattle.state.specs.Changes.{put}
-use Rattle.cache.proofs.CauseWords.{cause-clear}
+use Rattle.cache.proofs.CauseWords.{cause-clear, own-sound}
 use Rattle.change.proofs.LendingLaws.{refused-words, changed-words}
 use Rattle.change.proofs.lending.put_row.Statement.{statement}
 use Rattle.change.proofs.lending.put_row.Tie as tie
@@ -24,13 +24,13 @@ same-length-4 : tie.Need-same-length-4
 same-length-4 c = search needs
 
 returns : tie.Need-returns
-returns c = let s = c .before .before .before .before .before .before .before .before .before .before .before .before in refused-words _ (now (s .args .held)) (put (s .args .r) (s .args .x)) _ (c .before .cause .ensures .0) (c .if1 .taken)
+returns c = let s = c .before .before .before .before .before .before .before .before .before .before .before .before .before in refused-words _ (now (s .args .held)) (put (s .args .r) (s .args .x)) _ (c .before .cause .ensures .0) (c .if1 .taken)
+
+first-words-requires : tie.Need-first-words-requires
+first-words-requires c κs = cause-clear _ _ (sym (c .before .cause .ensures .0) ∙ c .if1 .left) .long
 
 put-lawful-requires : tie.Need-put-lawful-requires
-put-lawful-requires c κs =
-    let z = c .before .before .before .before .before .before .if1 .left in
-    let e = c .before .before .before .before .before .before .before .cause .ensures in
-    (cause-clear _ _ (sym (e .0) ∙ z) .0, e .1 z)
+put-lawful-requires c κs = (own-sound _ _ _ _ _ _ (c .before .before .before .before .before .before .before .first-words .ensures) _ (c .before .before .before .before .before .before .before .before .before .cause .ensures .0) (c .before .before .before .before .before .before .before .before .if1 .left), c .before .before .before .before .before .before .before .before .before .cause .ensures .1 (c .before .before .before .before .before .before .before .before .if1 .left))
 
 same-length-5 : tie.Need-same-length-5
 same-length-5 c = search needs
@@ -45,7 +45,7 @@ same-length-8 : tie.Need-same-length-8
 same-length-8 c = search needs
 
 returns-2 : tie.Need-returns-2
-returns-2 c = let s = c .before .before .before .before .before .before .before .before .before .before .before .before .before .before .before .before .before .before .before .before .before .before .before .before .before .before .before in changed-words _ (now (s .args .held)) (put (s .args .r) (s .args .x)) _ (c .before .before .before .before .before .before .before .before .before .before .before .before .before .before .before .before .cause .ensures .0) (c .before .before .before .before .before .before .before .before .before .before .before .before .before .before .before .if1 .left) _ _ (c .before .before .before .before .before .before .before .before .put-lawful .ensures .0)
+returns-2 c = let s = c .before .before .before .before .before .before .before .before .before .before .before .before .before .before .before .before .before .before .before .before .before .before .before .before .before .before .before .before .before .before in changed-words _ _ _ _ (now (s .args .held)) _ (c .before .before .before .before .before .before .before .before .before .before .before .before .before .before .before .before .first-words .ensures) _ (c .before .before .before .before .before .before .before .before .before .before .before .before .before .before .before .before .before .before .cause .ensures .0) (c .before .before .before .before .before .before .before .before .before .before .before .before .before .before .before .before .before .if1 .left) (put (s .args .r) (s .args .x)) _ _ _ _ (c .before .before .before .before .before .before .before .before .put-lawful .ensures .0)
 
 pub put-row-spec : {M : Type 1} → statement M
 put-row-spec =
@@ -57,6 +57,7 @@ put-row-spec =
     same-length-3
     same-length-4
     returns
+    first-words-requires
     put-lawful-requires
     same-length-5
     same-length-6

@@ -1,7 +1,7 @@
 -- `desk::parts::begin` meets its contract: the first text, and what is left behind it, are the report. Assumes nothing.
 use native.Mathlib.Omega.{arith}
 use borrow.Author.Needs.{needs}
-use Rattle.desk.proofs.PartLaws.{begins, accepted-more}
+use Rattle.desk.proofs.PartLaws.{begins, accepted-more, designed}
 use Rattle.desk.proofs.parts.begin.Statement.{statement}
 use Rattle.desk.proofs.parts.begin.Tie as tie
 
@@ -30,12 +30,12 @@ returns : tie.Need-returns
 returns c =
     let first = c .before .before .put-first .ensures in (
       λ w. begins _ _ _ _ w _ _ _ _ (c .before .before .before .before .before .before .before .before .before .before .before .before .before .read-catalogued .ensures .0) _ _ _ first
-          (record { at = λ j. omega (arith, c .before .before .before .before .before .before .before .before .before .before .before .before .before .before .before .before .before .before .before .before .before .before .before .before .before .before .before .before .shared-slice-known .given j) })
+          (record { at = λ j. omega (arith, c .before .before .before .before .before .before .before .before .before .before .before .before .before .before .before .before .before .before .before .before .before .before .before .before .before .shared-slice-known .given j) })
           (record {
             number = λ j. omega (arith, c .before .before .before .before .before .before .before .before .before .before .before .slice-known6 .given j);
             issue = λ j. omega (arith, c .before .before .before .before .before .before .before .before .before .slice-known7 .given j);
-          }) (omega (arith, c .before .before .before .before .before .before .before .before .before .before .before .before .before .before .before .before .before .before .before .before .before .before .before .before .before .before .before .before .before .pre)),
-      λ m. let a = accepted-more _ _ _ _ _ _ _ first m in c .before .before .before .before .before .before .before .before .before .before .before .before .before .read-catalogued .ensures .1 .0 (a .0) (a .1),
+          }) (omega (arith, c .before .before .before .before .before .before .before .before .before .before .before .before .before .before .before .before .before .before .before .before .before .before .before .before .before .before .pre)),
+      λ m. let a = accepted-more _ _ _ _ _ _ _ first m in designed _ _ (first .design) _ _ _ (c .before .before .before .before .before .before .before .before .before .before .before .before .before .read-catalogued .ensures .1 .0 (a .0) (a .1)),
     )
 
 pub begin-spec : {M : Type 1} → statement M

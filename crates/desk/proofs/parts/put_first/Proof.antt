@@ -11,31 +11,25 @@ enum-known-verdict c = search needs
 put-design-line-requires : tie.Need-put-design-line-requires
 put-design-line-requires c κs = search needs
 
-none-requires : tie.Need-none-requires
-none-requires c κs = search needs
-
 enum-known-verdict-2 : tie.Need-enum-known-verdict-2
 enum-known-verdict-2 c = search needs
 
 put-refusal-line-requires : tie.Need-put-refusal-line-requires
 put-refusal-line-requires c κs = search needs
 
-none-requires-2 : tie.Need-none-requires-2
-none-requires-2 c κs = search needs
-
 same-length : tie.Need-same-length
 same-length c = search needs
 
 returns : tie.Need-returns
 returns c =
-    first-accepted _ _ _ _ _ _ _ _ (c .before .before .before .before .before .before .verdict .given .1) (c .before .before .before .put-design-line .ensures) refl refl refl (c .none .ensures)
+    first-accepted _ _ _ _ _ _ _ _ (c .before .before .before .before .before .verdict .given .1) (c .before .before .put-design-line .ensures) refl refl refl refl
 
 same-length-2 : tie.Need-same-length-2
 same-length-2 c = search needs
 
 returns-2 : tie.Need-returns-2
 returns-2 c =
-    first-refused _ _ _ _ _ _ _ _ _ (c .before .before .before .before .before .before .verdict2 .given .1) (c .before .before .before .put-refusal-line .ensures) refl refl refl (c .none2 .ensures)
+    first-refused _ _ _ _ _ _ _ _ _ (c .before .before .before .before .before .verdict2 .given .1) (c .before .before .put-refusal-line .ensures) refl refl refl refl
 
 pub put-first-spec : {M : Type 1} → statement M
 put-first-spec =
@@ -43,10 +37,8 @@ put-first-spec =
     (tie.spec
     enum-known-verdict
     put-design-line-requires
-    none-requires
     enum-known-verdict-2
     put-refusal-line-requires
-    none-requires-2
     same-length
     returns
     same-length-2

@@ -8,7 +8,9 @@ use borrow.Author.Tests.{not-true, not-false}
 use lib.ListN.{length}
 use Rattle.finite.proofs.Bools.{clash}
 use Rattle.state.specs.Cells.{cellsIn}
+use Rattle.state.specs.HeldWords.{wordsHeld, Whole}
 use Rattle.state.specs.Lent.{lent}
+use Rattle.state.specs.Meaning.{databaseOf, schemeOf}
 use Rattle.catalog.specs.Catalog.{Catalogued}
 use Rattle.script.specs.Step.{outputs}
 use Rattle.desk.specs.Printed.{Printed}
@@ -17,19 +19,17 @@ use Rattle.desk.proofs.reporting.fill.Statement.{statement}
 use Rattle.desk.proofs.reporting.fill.Tie as tie
 
 abbrev Inv-loop : tie.InvT-loop
-Inv-loop script design cells₀ issues₀ tables₀ next₀ first₀ keys₀ heads₀ starts₀ marks₀ words₀ text₀ weights₀ sums₀ froms₀ links₀ out₀ p₀ cells issues tables next first keys heads starts marks words text
-    weights sums froms links out p =
-    Printed script (lent design (cellsIn cells₀ issues₀) tables₀ marks₀ (p₀ .held)) (outputs words₀ text₀) p₀ out₀ out
-    (lent design (cellsIn cells issues) tables marks (p .held)) (outputs words text) p ×
+Inv-loop script cells₀ issues₀ tables₀ catalog₀ keys₀ marks₀ held₀ words₀ text₀ counts₀ places₀ out₀ p₀ cells issues tables catalog keys marks held words text counts places out p =
+    Printed script (lent (p₀ .design) (cellsIn cells₀ issues₀) tables₀ marks₀ (wordsHeld held₀)) (outputs words₀ text₀) p₀ out₀ out
+    (lent (p .design) (cellsIn cells issues) tables marks (wordsHeld held)) (outputs words text) p ×
     (p .more ≡ true → (p .at < length script) × (p .number ≤ p .at)) × (p .more ≡ true → (p₀ .at < p .at) ⊎ ((p .at ≡ p₀ .at) × (p .end ≤ 16384))) ×
     (p .end ≤ 78215) × (length words ≤ 4096) × (length text ≤ 16384) × (length out ≡ 81920) ×
     (length marks ≡ length marks₀) × (length words ≡ length words₀) × (length text ≡ length text₀) × (length out ≡ length out₀) ×
-    Catalogued design (cellsIn cells issues) tables next first keys heads starts ×
+    (Catalogued (schemeOf (p .design)) (databaseOf (cellsIn cells issues) tables) catalog keys × Whole held) ×
     (length cells ≡ length cells₀) × (length issues ≡ length issues₀) × (length tables ≡ length tables₀)
 
 abbrev μ-loop : tie.MeasureT-loop
-μ-loop script design cells₀ issues₀ tables₀ next₀ first₀ keys₀ heads₀ starts₀ marks₀ words₀ text₀ weights₀ sums₀ froms₀ links₀ out₀ p₀ cells issues tables next first keys heads starts marks words text
-    weights sums froms links out p =
+μ-loop script cells₀ issues₀ tables₀ catalog₀ keys₀ marks₀ held₀ words₀ text₀ counts₀ places₀ out₀ p₀ cells issues tables catalog keys marks held words text counts places out p =
     turns script p
 
 loop-holds : tie.Need-loop-holds Inv-loop μ-loop
@@ -46,7 +46,7 @@ loop-holds c =
       refl,
       refl,
       refl,
-      pre .0 .1,
+      (pre .0 .1, pre .0 .2),
       refl,
       refl,
       refl,
@@ -116,27 +116,27 @@ returns-2 c =
 
 report-step-requires : tie.Need-report-step-requires Inv-loop μ-loop
 report-step-requires c κs =
-    let j = c .before .before .before .before .before .before .before .before .before .before .before .before .before .before .before .before .before .before .before .before .loop in
-    let more = not-false (j .p .more) (c .before .before .before .before .before .before .before .before .before .before .before .before .before .before .before .before .before .before .if1 .left) in (
-      (j .inv .0 .sound, j .inv .11),
-      (more, j .inv .1 more .0, j .inv .1 more .1, j .inv .4, j .inv .5, omega (arith, j .inv .6, c .before .before .before .before .before .before .before .before .before .before .before .before .before .before .before .before .if2 .left)),
+    let j = c .before .before .before .before .before .before .before .before .before .before .before .before .before .before .before .before .loop in
+    let more = not-false (j .p .more) (c .before .before .before .before .before .before .before .before .before .before .before .before .before .before .if1 .left) in (
+      (j .inv .0 .sound, j .inv .11 .0, j .inv .11 .1),
+      (more, j .inv .1 more .0, j .inv .1 more .1, j .inv .4, j .inv .5, omega (arith, j .inv .6, c .before .before .before .before .before .before .before .before .before .before .before .before .if2 .left)),
     )
 
 loop-less : tie.Need-loop-less Inv-loop μ-loop
 loop-less c =
-    let j = c .before .before .before .before .before .before .before .before .before .before .before .before .before .before .before .before .before .before .before .before .before .before .before .before .before .before .before .before .before .before .before .before .before .before .before .loop in
+    let j = c .before .before .before .before .before .before .before .before .before .before .before .before .before .before .before .before .before .before .before .before .before .before .before .before .before .before .before .before .before .before .before .loop in
     let next = c .before .before .before .before .before .before .before .before .before .before .before .before .before .before .report-step .ensures .1 .0 .1 in
-    turns-less _ _ _ (not-false (j .p .more) (c .before .before .before .before .before .before .before .before .before .before .before .before .before .before .before .before .before .before .before .before .before .before .before .before .before .before .before .before .before .before .before .before .before .if1 .left)) (λ e. (next e .0, next e .1))
+    turns-less _ _ _ (not-false (j .p .more) (c .before .before .before .before .before .before .before .before .before .before .before .before .before .before .before .before .before .before .before .before .before .before .before .before .before .before .before .before .before .if1 .left)) (λ e. (next e .0, next e .1))
 
 loop-again : tie.Need-loop-again Inv-loop μ-loop
 loop-again c =
-    let j = c .before .before .before .before .before .before .before .before .before .before .before .before .before .before .before .before .before .before .before .before .before .before .before .before .before .before .before .before .before .before .before .before .before .before .before .loop in
+    let j = c .before .before .before .before .before .before .before .before .before .before .before .before .before .before .before .before .before .before .before .before .before .before .before .before .before .before .before .before .before .before .before .loop in
     let step = c .before .before .before .before .before .before .before .before .before .before .before .before .before .before .report-step .ensures in
-    let more = not-false (j .p .more) (c .before .before .before .before .before .before .before .before .before .before .before .before .before .before .before .before .before .before .before .before .before .before .before .before .before .before .before .before .before .before .before .before .before .if1 .left) in (
+    let more = not-false (j .p .more) (c .before .before .before .before .before .before .before .before .before .before .before .before .before .before .before .before .before .before .before .before .before .before .before .before .before .before .before .before .before .if1 .left) in (
       printed-then _ _ _ _ _ _ _ _ _ _ _ _ _ (j .inv .0) (step .0),
       λ e. (step .1 .0 .1 e .1, step .1 .0 .1 e .2),
       λ e. let l = step .1 .0 .1 e .0 in inl (⊎-elim (λ h. omega (arith, h, l)) (λ h. omega (arith, h .0, l)) (j .inv .2 more)),
-      omega (arith, step .1 .0 .0, c .before .before .before .before .before .before .before .before .before .before .before .before .before .before .before .before .before .before .before .before .before .before .before .before .before .before .before .before .before .before .before .if2 .left),
+      omega (arith, step .1 .0 .0, c .before .before .before .before .before .before .before .before .before .before .before .before .before .before .before .before .before .before .before .before .before .before .before .before .before .before .before .if2 .left),
       omega (arith, j .inv .4, c .before .before .before .before .before .words .given),
       omega (arith, j .inv .5, c .before .before .before .text .given),
       omega (arith, j .inv .6, c .before .out .given),

@@ -4,7 +4,7 @@ use native.Mathlib.Omega.{arith}
 use mathlib.Core.Path.{_≡_, _∙_}
 use denote.Ref.{now}
 use Rattle.state.specs.Cells.{cellsIn}
-use Rattle.cache.proofs.RecordWords.{zero-whole}
+use Rattle.state.proofs.LentWords.{zero-whole}
 use Rattle.script.specs.Step.{outputs}
 use Rattle.script.specs.Runs.{buffers}
 use Rattle.script.proofs.RanLaws.{refused-ran, start-sound, accepted-ran}

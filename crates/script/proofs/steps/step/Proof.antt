@@ -1,9 +1,9 @@
 -- `script::steps::step` meets its contract: causes 7 and 12, then the step on a sound state. Assumes nothing.
 use mathlib.Core.Path.{sym, _∙_}
-use Rattle.state.proofs.HeldWords.{whole-words}
-use Rattle.cache.proofs.CauseWords.{cause-clear}
-use Rattle.script.proofs.StepCode.{caused-words, done-words}
 use borrow.Author.Needs.{needs}
+use Rattle.state.proofs.HeldWords.{whole-long}
+use Rattle.cache.proofs.CauseWords.{cause-clear, own-sound, own-whole}
+use Rattle.script.proofs.StepCode.{caused-words, done-words}
 use Rattle.script.proofs.steps.step.Statement.{statement}
 use Rattle.script.proofs.steps.step.Tie as tie
 
@@ -25,18 +25,24 @@ same-length-3 c = search needs
 same-length-4 : tie.Need-same-length-4
 same-length-4 c = search needs
 
-returns : tie.Need-returns
-returns c = caused-words _ _ _ _ _ _ (c .before .before .before .before .before .before .before .before .before .before .before .before .before .before .before .before .before .pre) (c .before .before .cause .ensures .0) (c .before .if1 .taken) _ (c .refusing .ensures)
-
-step-lawful-requires : tie.Need-step-lawful-requires
-step-lawful-requires c κs =
-    let z = c .before .before .before .before .before .before .before .before .before .before .before .if1 .left in
-    let e = c .before .before .before .before .before .before .before .before .before .before .before .before .cause .ensures in
-    let k = cause-clear _ _ (sym (e .0) ∙ z) in
-    (k .0, e .1 z, whole-words _ (c .before .before .before .before .before .before .before .before .before .before .before .before .before .before .before .before .before .before .before .before .before .before .before .before .before .before .before .pre) (k .1))
-
 same-length-5 : tie.Need-same-length-5
 same-length-5 c = search needs
+
+returns : tie.Need-returns
+returns c = caused-words _ _ _ _ _ _ _ _ _ (c .before .before .cause .ensures .0) (c .before .if1 .taken) _ (c .refusing .ensures)
+
+first-words-requires : tie.Need-first-words-requires
+first-words-requires c κs = cause-clear _ _ (sym (c .before .before .cause .ensures .0) ∙ c .before .if1 .left) .long
+
+step-lawful-requires : tie.Need-step-lawful-requires
+step-lawful-requires c κs = (
+  own-sound _ _ _ _ _ _ (c .before .before .before .before .before .before .before .before .before .before .before .first-words .ensures) _ (c .before .before .before .before .before .before .before .before .before .before .before .before .before .before .cause .ensures .0) (c .before .before .before .before .before .before .before .before .before .before .before .before .before .if1 .left),
+  c .before .before .before .before .before .before .before .before .before .before .before .before .before .before .cause .ensures .1 (c .before .before .before .before .before .before .before .before .before .before .before .before .before .if1 .left),
+  own-whole _ _ _ _ _ _ (c .before .before .before .before .before .before .before .before .before .before .before .first-words .ensures) _ (c .before .before .before .before .before .before .before .before .before .before .before .before .before .before .cause .ensures .0) (c .before .before .before .before .before .before .before .before .before .before .before .before .before .if1 .left),
+)
+
+store-words-requires : tie.Need-store-words-requires
+store-words-requires c κs = (whole-long _ (c .before .before .before .before .before .before .before .before .before .before .before .before .before .before .step-lawful .ensures .1 .1), cause-clear _ _ (sym (c .before .before .before .before .before .before .before .before .before .before .before .before .before .before .before .before .before .before .before .before .before .before .before .before .before .before .before .before .before .cause .ensures .0) ∙ c .before .before .before .before .before .before .before .before .before .before .before .before .before .before .before .before .before .before .before .before .before .before .before .before .before .before .before .before .if1 .left) .long)
 
 same-length-6 : tie.Need-same-length-6
 same-length-6 c = search needs
@@ -53,8 +59,14 @@ same-length-9 c = search needs
 same-length-10 : tie.Need-same-length-10
 same-length-10 c = search needs
 
+same-length-11 : tie.Need-same-length-11
+same-length-11 c = search needs
+
+same-length-12 : tie.Need-same-length-12
+same-length-12 c = search needs
+
 returns-2 : tie.Need-returns-2
-returns-2 c = done-words _ _ _ _ _ _ (c .before .before .before .before .before .before .before .before .before .before .before .before .before .before .before .before .before .before .before .before .before .before .before .before .before .cause .ensures .0) (c .before .before .before .before .before .before .before .before .before .before .before .before .before .before .before .before .before .before .before .before .before .before .before .before .if1 .left) _ _ _ _ (c .before .before .before .before .before .before .before .before .before .before .before .before .step-lawful .ensures .0) (c .before .before .before .before .before .before .before .before .before .before .before .before .step-lawful .ensures .1 .1)
+returns-2 c = done-words _ _ _ _ _ _ _ _ _ (c .before .before .before .before .before .before .before .before .before .before .before .before .before .before .before .before .before .before .before .before .before .before .before .before .before .before .before .before .before .before .before .before .cause .ensures .0) (c .before .before .before .before .before .before .before .before .before .before .before .before .before .before .before .before .before .before .before .before .before .before .before .before .before .before .before .before .before .before .before .if1 .left) _ (c .before .before .before .before .before .before .before .before .before .before .before .before .before .before .before .before .before .before .before .before .before .before .before .before .before .before .before .before .before .first-words .ensures) _ _ _ _ _ _ _ (c .before .before .before .before .before .before .before .before .before .before .before .before .before .before .before .before .before .step-lawful .ensures .0) (c .before .before .before .before .before .before .before .before .before .before .before .before .before .before .before .before .before .step-lawful .ensures .1 .1) (c .before .before .store-words .ensures)
 
 pub step-spec : {M : Type 1} → statement M
 step-spec =
@@ -66,12 +78,16 @@ step-spec =
     same-length-2
     same-length-3
     same-length-4
-    returns
-    step-lawful-requires
     same-length-5
+    returns
+    first-words-requires
+    step-lawful-requires
+    store-words-requires
     same-length-6
     same-length-7
     same-length-8
     same-length-9
     same-length-10
+    same-length-11
+    same-length-12
     returns-2)

@@ -5,7 +5,7 @@ use mathlib.Core.Path.{refl}
 use borrow.Author.Needs.{needs}
 use Rattle.state.specs.Design.{noConstraint}
 use Rattle.words.specs.Words.{constraintFrom}
-use Rattle.words.proofs.Loops.{Reading, reading-start, reading-more, reading-end}
+use Rattle.state.proofs.WordPlaces.{Reading, reading-start, reading-more, reading-end}
 use Rattle.words.proofs.from_words.constraints_from.Statement.{statement}
 use Rattle.words.proofs.from_words.constraints_from.Tie as tie
 

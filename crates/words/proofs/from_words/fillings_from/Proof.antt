@@ -5,7 +5,7 @@ use mathlib.Core.Path.{refl}
 use borrow.Author.Needs.{needs}
 use Rattle.state.specs.Design.{noFilling}
 use Rattle.words.specs.Words.{fillingFrom}
-use Rattle.words.proofs.Loops.{Reading, reading-start, reading-more, reading-end}
+use Rattle.state.proofs.WordPlaces.{Reading, reading-start, reading-more, reading-end}
 use Rattle.words.proofs.from_words.fillings_from.Statement.{statement}
 use Rattle.words.proofs.from_words.fillings_from.Tie as tie
 

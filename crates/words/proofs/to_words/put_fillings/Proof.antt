@@ -5,7 +5,7 @@ use mathlib.Core.Path.{refl}
 use borrow.Author.Needs.{needs}
 use Rattle.state.specs.Design.{noFilling}
 use Rattle.words.specs.Words.{fillingWords}
-use Rattle.words.proofs.Loops.{Storing, storing-start, storing-more, storing-end}
+use Rattle.state.proofs.WordPlaces.{Storing, storing-start, storing-more, storing-end}
 use Rattle.words.proofs.to_words.put_fillings.Statement.{statement}
 use Rattle.words.proofs.to_words.put_fillings.Tie as tie
 

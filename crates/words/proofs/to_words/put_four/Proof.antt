@@ -1,7 +1,7 @@
 -- `words::to_words::put_four` meets its contract: two words, and two behind them. Assumes nothing.
 use mathlib.Core.List.{[], _∷_}
 use denote.Ref.{now}
-use Rattle.words.proofs.WordLaws.{stored-behind}
+use Rattle.state.proofs.WordPlaces.{stored-behind}
 use borrow.Author.Needs.{needs}
 use Rattle.words.proofs.to_words.put_four.Statement.{statement}
 use Rattle.words.proofs.to_words.put_four.Tie as tie

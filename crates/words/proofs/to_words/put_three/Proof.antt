@@ -3,7 +3,7 @@ use native.Mathlib.Omega.{arith}
 use lib.ListN.{length-set}
 use denote.Ref.{now}
 use borrow.Author.Needs.{needs}
-use Rattle.words.proofs.WordLaws.{stored-three}
+use Rattle.finite.proofs.Stores.{stored-three}
 use Rattle.words.proofs.to_words.put_three.Statement.{statement}
 use Rattle.words.proofs.to_words.put_three.Tie as tie
 

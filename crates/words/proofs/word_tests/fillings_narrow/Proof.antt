@@ -7,7 +7,7 @@ use borrow.Author.Needs.{needs}
 use borrow.Author.Tests.{not-false, not-true}
 use Rattle.finite.specs.Finite.{all}
 use Rattle.finite.proofs.Search.{all-end, all-more, all-start, all-stop}
-use Rattle.words.specs.Words.{narrowTwo}
+use Rattle.state.specs.HeldWords.{narrowTwo}
 use Rattle.words.proofs.word_tests.fillings_narrow.Statement.{statement}
 use Rattle.words.proofs.word_tests.fillings_narrow.Tie as tie
 

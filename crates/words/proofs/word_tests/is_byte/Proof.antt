@@ -1,7 +1,7 @@
 -- `words::word_tests::is_byte` meets its contract. Assumes nothing.
 use mathlib.Core.Path.{refl}
 use borrow.Author.Needs.{needs}
-use Rattle.words.specs.Words.{isByte}
+use Rattle.state.specs.HeldWords.{isByte}
 use Rattle.words.proofs.word_tests.is_byte.Statement.{statement}
 use Rattle.words.proofs.word_tests.is_byte.Tie as tie
 

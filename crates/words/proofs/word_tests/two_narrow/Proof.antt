@@ -4,7 +4,7 @@ use mathlib.Core.Path.{_∙_, sym}
 use borrow.Author.Needs.{needs}
 use borrow.Author.Tests.{not-false, not-true}
 use Rattle.finite.proofs.Bools.{and-go, and-stop}
-use Rattle.words.specs.Words.{narrowTwo}
+use Rattle.state.specs.HeldWords.{narrowTwo}
 use Rattle.words.proofs.word_tests.two_narrow.Statement.{statement}
 use Rattle.words.proofs.word_tests.two_narrow.Tie as tie
 

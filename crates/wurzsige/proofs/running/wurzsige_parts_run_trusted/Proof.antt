@@ -1,34 +1,52 @@
 -- `wurzsige::running::wurzsige_parts_run_trusted` meets its contract: the run on the state that the words stand for. Assumes nothing.
-use native.Mathlib.Omega.{arith}
+use borrow.Author.Needs.{needs}
 use denote.Ref.{now}
 use Rattle.script.specs.Step.{outputs}
 use Rattle.wurzsige.proofs.Memories.{memory-parts}
-use Rattle.wurzsige.proofs.StepTaking.{ready-lawful, run-tidy, run-made}
-use borrow.Author.Needs.{needs}
+use Rattle.wurzsige.proofs.StepTaking.{ready-lawful, run-made}
 use Rattle.wurzsige.proofs.running.wurzsige_parts_run_trusted.Statement.{statement}
 use Rattle.wurzsige.proofs.running.wurzsige_parts_run_trusted.Tie as tie
 
 design-from-requires : tie.Need-design-from-requires
-design-from-requires c κs = memory-parts _ (c .before .before .before .before .before .before .before .before .before .pre .sound) .design
-
-held-from-requires : tie.Need-held-from-requires
-held-from-requires c κs = memory-parts _ (c .before .before .before .before .before .before .before .before .before .before .before .pre .sound) .held
+design-from-requires c κs = let s = c .before .before .before .before .before .before .before .before in memory-parts _ (s .pre .0 .sound) .design
 
 run-lawful-requires : tie.Need-run-lawful-requires
-run-lawful-requires c κs = ready-lawful _ _ _ _ _ _ _ _ (c .before .before .before .before .before .before .before .before .before .before .before .before .before .before .before .before .before .design-from .ensures) (c .before .before .before .before .before .before .before .before .before .before .before .before .before .before .before .held-from .ensures) (c .before .before .before .before .before .before .before .before .before .before .before .before .before .before .before .before .before .before .before .before .before .before .before .before .before .before .before .pre)
+run-lawful-requires c κs = let s = c .before .before .before .before .before .before .before .before .before .before .before .before .before .before .before .before .before .before .before .before in ready-lawful _ _ _ _ _ _ _ (c .before .before .before .before .before .before .before .before .before .before .before .design-from .ensures) (s .pre .0) (s .pre .1)
 
-put-held-requires : tie.Need-put-held-requires
-put-held-requires c κs = (
-  memory-parts _ (c .before .before .before .before .before .before .before .before .before .before .before .before .before .before .before .before .before .before .before .before .before .before .before .before .before .before .before .before .before .before .before .before .before .before .before .before .before .before .before .before .before .pre .sound) .held,
-  run-tidy _ _ _ _ _ _ _ _ (c .before .before .before .before .before .before .before .before .before .before .before .before .before .before .before .before .before .before .before .before .before .before .before .before .before .before .before .before .before .before .before .design-from .ensures) (c .before .before .before .before .before .before .before .before .before .before .before .before .before .before .before .before .before .before .before .before .before .before .before .before .before .before .before .before .before .held-from .ensures) (c .before .before .before .before .before .before .before .before .before .before .before .before .before .before .before .before .before .before .before .before .before .before .before .before .before .before .before .before .before .before .before .before .before .before .before .before .before .before .before .before .before .pre) (outputs (now (c .before .before .before .before .before .before .before .before .before .before .before .before .before .before .before .before .before .before .before .before .before .before .before .before .before .before .before .before .before .before .before .before .before .before .before .before .before .before .before .before .before .args .words)) (now (c .before .before .before .before .before .before .before .before .before .before .before .before .before .before .before .before .before .before .before .before .before .before .before .before .before .before .before .before .before .before .before .before .before .before .before .before .before .before .before .before .before .args .text))) (now (c .before .before .before .before .before .before .before .before .before .before .before .before .before .before .before .before .before .before .before .before .before .before .before .before .before .before .before .before .before .before .before .before .before .before .before .before .before .before .before .before .before .args .script)) (c .before .before .before .before .before .before .before .before .before .before .before .before .before .before .before .before .before .before .before .before .before .before .before .before .before .before .before .before .before .before .before .before .before .before .before .before .before .before .before .before .before .args .at) _ _ _ _ _ (c .before .before .before .before .before .before .before .before .before .before .before .before .before .run-lawful .ensures .0),
-)
+same-length : tie.Need-same-length
+same-length c = search needs
+
+same-length-2 : tie.Need-same-length-2
+same-length-2 c = search needs
+
+same-length-3 : tie.Need-same-length-3
+same-length-3 c = search needs
+
+same-length-4 : tie.Need-same-length-4
+same-length-4 c = search needs
+
+same-length-5 : tie.Need-same-length-5
+same-length-5 c = search needs
+
+same-length-6 : tie.Need-same-length-6
+same-length-6 c = search needs
 
 returns : tie.Need-returns
 returns c =
-    run-made _ _ _ _ _ _ _ _ (c .before .before .before .before .before .before .before .before .before .before .before .before .before .before .before .before .before .before .before .before .before .before .before .before .before .before .before .before .before .before .before .before .before .before .design-from .ensures) (c .before .before .before .before .before .before .before .before .before .before .before .before .before .before .before .before .before .before .before .before .before .before .before .before .before .before .before .before .before .before .before .before .held-from .ensures) (c .before .before .before .before .before .before .before .before .before .before .before .before .before .before .before .before .before .before .before .before .before .before .before .before .before .before .before .before .before .before .before .before .before .before .before .before .before .before .before .before .before .before .before .before .pre) (outputs (now (c .before .before .before .before .before .before .before .before .before .before .before .before .before .before .before .before .before .before .before .before .before .before .before .before .before .before .before .before .before .before .before .before .before .before .before .before .before .before .before .before .before .before .before .before .args .words)) (now (c .before .before .before .before .before .before .before .before .before .before .before .before .before .before .before .before .before .before .before .before .before .before .before .before .before .before .before .before .before .before .before .before .before .before .before .before .before .before .before .before .before .before .before .before .args .text))) (now (c .before .before .before .before .before .before .before .before .before .before .before .before .before .before .before .before .before .before .before .before .before .before .before .before .before .before .before .before .before .before .before .before .before .before .before .before .before .before .before .before .before .before .before .before .args .script)) (c .before .before .before .before .before .before .before .before .before .before .before .before .before .before .before .before .before .before .before .before .before .before .before .before .before .before .before .before .before .before .before .before .before .before .before .before .before .before .before .before .before .before .before .before .args .at) _ _ _ _ _ (c .before .before .before .before .before .before .before .before .before .before .before .before .before .before .before .before .run-lawful .ensures .0) _ (c .before .before .before .before .before .before .before .before .before .before .before .before .before .before .before .before .run-lawful .ensures .1) _
-    (c .before .before .put-held .ensures .0) (c .before .before .put-held .ensures .1)
+    let s = c .before .before .before .before .before .before .before .before .before .before .before .before .before .before .before .before .before .before .before .before .before .before .before .before .before .before .before .before .before .before .before .before .before in
+    run-made _ _ _ _ _ _ _ (c .before .before .before .before .before .before .before .before .before .before .before .before .before .before .before .before .before .before .before .before .before .before .before .before .design-from .ensures) (s .pre .0) (s .pre .1) (outputs (now (s .args .words)) (now (s .args .text))) (now (s .args .script)) (s .args .at) _ _ _ _ _
+    (c .before .before .before .before .before .before .before .before .before .before .before .before .run-lawful .ensures .1 .1) (c .before .before .before .before .before .before .before .before .before .before .before .before .run-lawful .ensures .0) _ (c .before .before .before .before .before .before .before .before .before .before .before .before .run-lawful .ensures .1 .0)
 
 pub wurzsige-parts-run-trusted-spec : {M : Type 1} → statement M
 wurzsige-parts-run-trusted-spec =
     tie.close
-    (tie.spec design-from-requires held-from-requires run-lawful-requires put-held-requires (λ c. search needs) (λ c. search needs) (λ c. search needs) (λ c. search needs) (λ c. search needs) (λ c. search needs) (λ c. search needs) returns)
+    (tie.spec
+    design-from-requires
+    run-lawful-requires
+    same-length
+    same-length-2
+    same-length-3
+    same-length-4
+    same-length-5
+    same-length-6
+    returns)

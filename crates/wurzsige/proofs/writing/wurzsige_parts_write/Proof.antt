@@ -25,22 +25,22 @@ design-length-requires c κs =
 returns-2 : tie.Need-returns-2
 returns-2 c =
     let e = cause-sound _ (sym (c .before .before .before .before .memory-cause .ensures .0) ∙ c .before .before .before .if1 .left) in
-    cramped-written _ _ _ e (omega (arith, c .before .design-length .ensures (now (c .before .before .before .before .before .before .before .before .before .before .before .before .before .before .before .before .before .args .cells)), ap length (written-bytes _ _ _ _ _ _ (c .before .before .design-from .ensures) e)))
+    cramped-written _ _ _ e (omega (arith, c .before .design-length .ensures (now (c .before .before .before .before .before .before .before .before .before .before .before .before .before .before .args .cells)), ap length (written-bytes _ _ _ _ _ _ (c .before .before .design-from .ensures) e)))
 
 write-design-requires : tie.Need-write-design-requires
 write-design-requires c κs =
     let e = cause-sound _ (sym (c .before .before .before .before .before .memory-cause .ensures .0) ∙ c .before .before .before .before .if1 .left) in (
       written-range _ _ _ _ _ _ (c .before .before .before .design-from .ensures) e,
       written-backed _ _ _ _ _ _ (c .before .before .before .design-from .ensures) e,
-      omega (arith, c .before .before .design-length .ensures (now (c .before .before .before .before .before .before .before .before .before .before .before .before .before .before .before .before .before .before .args .cells))),
+      omega (arith, c .before .before .design-length .ensures (now (c .before .before .before .before .before .before .before .before .before .before .before .before .before .before .before .args .cells))),
     )
 
 returns-3 : tie.Need-returns-3
 returns-3 c =
     let e = cause-sound _ (sym (c .before .before .before .before .before .before .before .before .memory-cause .ensures .0) ∙ c .before .before .before .before .before .before .before .if1 .left) in
     let b = written-bytes _ _ _ _ _ _ (c .before .before .before .before .before .before .design-from .ensures) e in
-    let n = c .before .before .before .before .before .design-length .ensures (now (c .before .before .before .before .before .before .before .before .before .before .before .before .before .before .before .before .before .before .before .before .before .args .cells)) in
-    stored-written _ _ _ e (omega (arith, n, ap length b)) _ _ (c .before .before .write-design .ensures .1 ∙ ap (sets (now (c .before .before .before .before .before .before .before .before .before .before .before .before .before .before .before .before .before .before .before .before .before .args .out)) 0) b) (n ∙ ap length b)
+    let n = c .before .before .before .before .before .design-length .ensures (now (c .before .before .before .before .before .before .before .before .before .before .before .before .before .before .before .before .before .before .args .cells)) in
+    stored-written _ _ _ e (omega (arith, n, ap length b)) _ _ (c .before .before .write-design .ensures .1 ∙ ap (sets (now (c .before .before .before .before .before .before .before .before .before .before .before .before .before .before .before .before .before .before .args .out)) 0) b) (n ∙ ap length b)
 
 pub wurzsige-parts-write-spec : {M : Type 1} → statement M
 wurzsige-parts-write-spec = tie.close (tie.spec (λ c κs. search needs) returns design-from-requires design-length-requires returns-2 write-design-requires (λ c. search needs) returns-3)
