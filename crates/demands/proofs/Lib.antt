@@ -28,3 +28,5 @@ pub mod Orders
 pub mod Given
 pub mod States
 pub mod HeldBytes
+pub mod Library
+pub mod LibraryAnswers

@@ -3,6 +3,7 @@
 -- Explained: 02, Req 08 of a reason that is given. Opening: 02, Req 09 of what REFER and PROBE then answer. Seeing: 02, Req 13 of what a probe answers. Counts: how many rows
 -- came and went. Unissued: document 01's own words for cells. Orders: a few commands and their bytes. Given: what some script gives.
 pub mod Actions
+pub mod Calls
 pub mod Queried
 pub mod Settled
 pub mod RowSets
