@@ -182,12 +182,12 @@ module _ (p : Draft) (b : Buffers) where
 
     module _ (h : Handed) (n : ℕ) (ns : List ℕ) (c q r g : ℕ) (m′ : Memory) (k′ : Arrays) (out′ : Outputs) where
       pub steps-taken : Steps m k h n ns c q r g m′ k′ out′ → StepTaken (stepIn m (h .out) (h .script) (h .place)) n ns c q r g m m′ out′
-      steps-taken (plain t w) = t
-      steps-taken (trusted y l t z) = t
+      steps-taken (plain t) = t .taken
+      steps-taken (trusted y t) = t .taken
 
       pub steps-ready : Steps m k h n ns c q r g m′ k′ out′ → Ready m′ k′
-      steps-ready (plain t w) = plain-ready h n ns c q r g m′ out′ t k′ w
-      steps-ready (trusted y l t z) = z
+      steps-ready (plain t) = plain-ready h n ns c q r g m′ out′ (t .taken) k′ (t .catalogs)
+      steps-ready (trusted y t) = t .ready
 
       -- THEOREM: what a step on such memory, plain or trusted, leaves in memory means the state that the step at that place leaves of the state before
       pub step-means : Steps m k h n ns c q r g m′ k′ out′ → stateIn m′ ≡ stepAt (stateIn m) (h .out) (h .script) (h .place) .state
@@ -205,7 +205,7 @@ module _ (p : Draft) (b : Buffers) where
     call-at : (c : Call) (m′ : Memory) (k′ : Arrays) → Makes m k c m′ k′ → Stands-at m′ k′ (momentFrom S mo (actionsOf c))
     unfolding actionsOf momentFrom
     call-at c m′ k′ (one-step h n ns d q r g _ _ out′ s) = step-at h n ns d q r g m′ k′ out′ s
-    call-at c m′ k′ (all-steps h _ _ out′ y l made) =
+    call-at c m′ k′ (all-steps h _ _ out′ y made) =
         let t = ran-tracks mo (stateIn m) (at .tracks) h in
         record { ready = made .ready; tracks = subst (Tracks p b _) (sym (kept-state m′ k′ _ _ (made .memory) (made .ready) t)) t }
     call-at c m′ k′ (opens-refused script n ns d q r g _ _ t w) =
@@ -217,7 +217,7 @@ module _ (p : Draft) (b : Buffers) where
     pub call-state : (c : Call) (m′ : Memory) (k′ : Arrays) → Makes m k c m′ k′ → stateIn m′ ≡ stateAfterAll (stateIn m) (actionsOf c)
     unfolding actionsOf stateAfterAll
     call-state c m′ k′ (one-step h n ns d q r g _ _ out′ s) = step-means h n ns d q r g m′ k′ out′ s ∙ step-leaves (stateIn m) (h .out) (h .script) (h .place) (at .tracks .sound)
-    call-state c m′ k′ (all-steps h _ _ out′ y l made) =
+    call-state c m′ k′ (all-steps h _ _ out′ y made) =
         kept-state m′ k′ _ _ (made .memory) (made .ready) (ran-tracks mo (stateIn m) (at .tracks) h) ∙ run-leaves (stateIn m) (h .out) (h .script) (h .place) (at .tracks .sound)
     call-state c m′ k′ (opens-refused script n ns d q r g _ _ t w) = ap stateIn (open-keeps script n ns d q r g m m′ k k′ t w .0)
     call-state c m′ k′ looks = refl

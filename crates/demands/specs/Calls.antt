@@ -4,13 +4,12 @@ use Prim.Native.Nat.{ℕ, _<_}
 use mathlib.Core.Path.{_≡_}
 use mathlib.Core.List.{List, [], _∷_, _++_}
 use lib.ListN.{length, getD}
-use Rattle.model.specs.Answers.{refusedWord, isRefusal}
-use Rattle.state.specs.HeldWords.{heldLength}
+use Rattle.model.specs.Answers.{refusedWord}
 use Rattle.script.specs.Moments.{Action}
 use Rattle.script.specs.Step as Step
 use Rattle.script.specs.Step.{Outputs, roomsOf}
 use Rattle.script.specs.Runs.{leftFrom, Buffers, buffers}
-use Rattle.wurzsige.specs.Calls.{Memory, stateIn, Arrays, Ready, Catalogs, stepIn, StepTaken, opening, OpenTaken, RunMade}
+use Rattle.wurzsige.specs.Calls.{Memory, stateIn, Arrays, Trusts, PlainStep, TrustedStep, opening, OpenTaken, RunMade}
 use Rattle.demands.specs.Actions.{actionsOfStep, actionsOfRun}
 
 -- what is handed over beside the memory: a script of its own, which is bytes, a place in it, and what is lent for answers
@@ -41,18 +40,16 @@ actionsOfAll (c ∷ more) = actionsOf c ++ actionsOfAll more
 
 -- A step at the place of a script: what is told are the number n of the answer's word, its numbers ns and their count c, the place p of a refusal, the place q after the
 -- command, and g, whether reading goes on. The memory m with the arrays k becomes m′ with k′, and what is lent for answers out′, as the contract of the function
--- says: `wurzsige_parts_step` asks for nothing, `wurzsige_parts_step_trusted` for memory that is ready and has 358 words of what is held.
+-- says: `wurzsige_parts_step` asks for nothing, `wurzsige_parts_step_trusted` for memory that it can trust.
 pub data Steps (m : Memory) (k : Arrays) (h : Handed) (n : ℕ) (ns : List ℕ) (c p q g : ℕ) (m′ : Memory) (k′ : Arrays) (out′ : Outputs) : Type 0 where
-  plain : StepTaken (stepIn m (h .out) (h .script) (h .place)) n ns c p q g m m′ out′ →
-      Catalogs (isRefusal (stepIn m (h .out) (h .script) (h .place) .answer)) m′ k k′ → Steps m k h n ns c p q g m′ k′ out′
-  trusted : Ready m k → length (m .held) ≡ heldLength → StepTaken (stepIn m (h .out) (h .script) (h .place)) n ns c p q g m m′ out′ → Ready m′ k′ →
-      Steps m k h n ns c p q g m′ k′ out′
+  plain : PlainStep m k (h .out) (h .script) (h .place) n ns c p q g m′ k′ out′ → Steps m k h n ns c p q g m′ k′ out′
+  trusted : Trusts m k → TrustedStep m (h .out) (h .script) (h .place) n ns c p q g m′ k′ out′ → Steps m k h n ns c p q g m′ k′ out′
 
 -- One call: a step, `wurzsige_parts_run_trusted`, `wurzsige_parts_open` with the word of a refusal, `wurzsige_parts_write` or `wurzsige_parts_sizes`
 pub data Makes (m : Memory) (k : Arrays) : Call → Memory → Arrays → Type 0 where
   one-step : (h : Handed) (n : ℕ) (ns : List ℕ) (c p q g : ℕ) (m′ : Memory) (k′ : Arrays) (out′ : Outputs) → Steps m k h n ns c p q g m′ k′ out′ →
       Makes m k (step h) m′ k′
-  all-steps : (h : Handed) (m′ : Memory) (k′ : Arrays) (out′ : Outputs) → Ready m k → length (m .held) ≡ heldLength →
+  all-steps : (h : Handed) (m′ : Memory) (k′ : Arrays) (out′ : Outputs) → Trusts m k →
       RunMade (leftFrom (length (h .script)) (h .script) (stateIn m) (h .out) (h .place)) m m′ k′ out′ → Makes m k (run h) m′ k′
   opens-refused : (script : List ℕ) (n : ℕ) (ns : List ℕ) (c p q g : ℕ) (m′ : Memory) (k′ : Arrays) → OpenTaken (opening script m) n ns c p q g m m′ k k′ →
       n ≡ refusedWord → Makes m k (refused-open script) m′ k′
