@@ -1,31 +1,30 @@
--- A probe at a point of a run: where it is not refused, it answers a ground exactly if the value is complete in every lawful database from which the same rows
--- would have been cached (demand 3). Assumes nothing.
+-- A probe at a point of a run, of a column of the design for a value other than blank: it answers a ground exactly if the value is complete in every lawful database from
+-- which the same rows would have been cached (demand 3). Assumes nothing.
 use Prim.Native.Nat.{ℕ}
 use native.Mathlib.Nat.{pos-of-ne-zero}
 use native.Mathlib.Omega.{arith}
 use mathlib.Core.Path.{_≡_, sym, ap, subst, _∙_}
-use mathlib.Core.Bool.{Bool, true, false}
-use mathlib.Core.Logic.{_↔_, _≢_, ⊎-elim}
+use mathlib.Core.Bool.{Bool, false}
+use mathlib.Core.Logic.{_↔_, _≢_}
 use borrow.Author.Tests.{lt-ltb}
 use lib.ListN.{take}
-use Rattle.finite.proofs.Bools.{dec}
 use Rattle.model.specs.Cell.{Cell, Fits, numberless}
-use Rattle.model.specs.Scheme.{Column, Scheme, ColumnOf, isColumn}
+use Rattle.model.specs.Scheme.{Column, Scheme, ColumnOf}
 use Rattle.model.specs.Database.{Database}
 use Rattle.model.specs.Cache.{RowSet, Held}
 use Rattle.model.specs.Probe as Probe
 use Rattle.model.specs.Holding.{Holding, heldIn}
 use Rattle.model.specs.Runs.{ask, probe, marked}
-use Rattle.model.specs.Answers.{Answer, refused, ground, sent, orAnswer, groundOf, Yes, answer}
+use Rattle.model.specs.Answers.{Answer, ground, sent, orAnswer, groundOf, Yes, answer}
 use Rattle.model.proofs.QueryLaws.{probe-reads}
 use Rattle.state.specs.declared.design.Design.{Design}
 use Rattle.state.specs.Meaning.{schemeOf, holdingOf}
 use Rattle.state.specs.Lent.{State, database, cache, answerAt}
 use Rattle.state.specs.Changes.{Rows, rowsIn, tablesOf}
-use Rattle.lawful.proofs.DesignLaws.{column-if, column-says}
+use Rattle.lawful.proofs.DesignLaws.{column-if}
 use Rattle.lawful.proofs.HeldLaws.{holding-back}
 use Rattle.lawful.proofs.SoundState.{answer-at}
-use Rattle.cache.proofs.Answering.{probe-nowhere, probe-numberless, probe-full}
+use Rattle.cache.proofs.Answering.{probe-full}
 use Rattle.format.specs.Reading.{Draft}
 use Rattle.script.specs.Moments.{Moment, tablesAt}
 use Rattle.script.specs.Runs.{Buffers, Point, CompleteInAll}
@@ -85,20 +84,3 @@ module _ (p : Draft) (b : Buffers) (m : Moment) (e : State) (standing : Standing
             λ y. here .0 (ground-says _ _ .0 (y .0, y .1, sym (h ∙ answer-is) ∙ y .2)),
             λ all. let y = ground-says _ _ .1 (here .1 all) in (y .0, y .1, h ∙ answer-is ∙ y .2),
           )
-
-    -- a probe that is not refused is such a one
-    module _ (x : Answer) (h : x ≡ answerAt e (ask (probe k v))) (on : (n : ℕ) → x ≢ refused n) where
-      on-column : isColumn S k ≡ true
-      on-column =
-          ⊎-elim (λ (q : isColumn S k ≡ true). q)
-          (λ (q : isColumn S k ≡ false). absurd (on 5 (h ∙ answered ∙ sym (probe-nowhere S D (cache e) k v q))))
-          (dec (isColumn S k))
-
-      on-full : numberless v ≡ false
-      on-full =
-          ⊎-elim (λ (q : numberless v ≡ true). absurd (on 9 (h ∙ answered ∙ sym (probe-numberless S D (cache e) k v on-column q))))
-          (λ (q : numberless v ≡ false). q)
-          (dec (numberless v))
-
-      pub unrefused-exact : Fits v → Yes x ↔ CompleteInAll p m X k v
-      unrefused-exact f = answer-exact (column-says S k on-column) on-full f x h

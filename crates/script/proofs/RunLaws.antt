@@ -1,9 +1,9 @@
--- What the steps of a whole script leave, and any list of calls: the state at the moment that follows from the design and the operands. Assumes nothing.
+-- What the steps of a whole script leave: the state at the moment that follows from the design and the operands. Assumes nothing.
 use Prim.Native.Nat.{ℕ, zero, suc, _+_, _≤_, _<_}
 use native.Mathlib.Omega.{arith}
 use mathlib.Core.Path.{_≡_, refl, sym, ap, subst, _∙_}
 use mathlib.Core.Bool.{Bool, true, false, cond}
-use mathlib.Core.List.{List, [], _∷_}
+use mathlib.Core.List.{List, []}
 use mathlib.Core.Logic.{⊎-elim}
 use borrow.Author.Tests.{leb-true, leb-false, le-leb, lt-leb}
 use lib.Dec.{leb}
@@ -23,12 +23,12 @@ use Rattle.format.specs.Commands.{commandAt, widthOf, putRowAt}
 use Rattle.format.specs.Reading.{Draft, mostBytes}
 use Rattle.format.proofs.CommandLaws.{at-end}
 use Rattle.format.proofs.Small.{Small}
-use Rattle.script.specs.Moments.{Action, operation, change, Moment, momentFrom, stateBehind, stateAfterAll}
+use Rattle.script.specs.Moments.{Action, Moment, momentFrom}
 use Rattle.script.specs.Step.{Outputs, Rooms, roomsOf, operationIn, outputsAfter, Stepped, operated, changing, carried, stepAt}
 use Rattle.script.specs.Runs.{actionThen, actionsFrom, Left, leaving, leftFrom, Buffers}
 use Rattle.script.proofs.Places.{put-sized, put-stored}
 use Rattle.script.proofs.StepLaws.{step-carried, step-sound, step-on}
-use Rattle.script.proofs.Tracking.{Tracks, operated-tracks, changed-tracks, RowsGiven, given-rest}
+use Rattle.script.proofs.Tracking.{Tracks, operated-tracks, changed-tracks}
 
 -- ---- one turn of `leftFrom`
 
@@ -96,7 +96,7 @@ actions-past script rooms i (suc n) l =
     ap (λ (c : Command). actionThen script i c rooms (actionsFrom n script rooms (i + widthOf (byteAt script i)))) (sym (at-end script i l))
 
 -- as many words and bytes of text as were lent
-rooms-after : (s : State) (o : Operation) (out : Outputs) → roomsOf (outputsAfter s o out) ≡ roomsOf out
+pub rooms-after : (s : State) (o : Operation) (out : Outputs) → roomsOf (outputsAfter s o out) ≡ roomsOf out
 rooms-after s o out = λ x. record { words = length-sets (out .words) 0 (wordsAt s o) x; bytes = length-sets (out .text) 0 (textAt s o) x }
 
 module _ (p : Draft) (b : Buffers) where
@@ -140,11 +140,3 @@ module _ (p : Draft) (b : Buffers) where
         (λ k l u w r. subst (λ (rooms : Rooms). Tracks p b (momentFrom S k (actionsFrom n script rooms j)) (leftFrom n script l w j .state)) r (left-tracks n k l u w j))
         (commandAt script i)))
         (dec (leb (length script) i))
-
-  -- ---- any list of calls
-
-  pub calls-track : (m : Moment) (e : State) → Tracks p b m e → (acts : List Action) → RowsGiven acts → Tracks p b (momentFrom S m acts) (stateAfterAll e acts)
-  unfolding momentFrom stateAfterAll stateBehind
-  calls-track m e t [] g = t
-  calls-track m e t (operation o ∷ more) g = calls-track _ _ (operated-tracks p b m e t o) more (given-rest (operation o) more g)
-  calls-track m e t (change x ∷ more) g = calls-track _ _ (changed-tracks p b m e t x (g .each [] more x refl)) more (given-rest (change x) more g)

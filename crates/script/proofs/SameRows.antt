@@ -103,14 +103,14 @@ module _ (S : Scheme) {D E : Database} (w : SameRows D E) where
       ap (λ (X : RowSet). probe S E (heldIn S h) X (q .column) (q .value)) (cached-same h)
 
   -- and a query whose operands fit the same lists
-  lists-same : (q : Query) → operandsFit S q ≡ true → fullLists S D q ≡ fullLists S E q
+  pub lists-same : (q : Query) → operandsFit S q ≡ true → fullLists S D q ≡ fullLists S E q
   unfolding fullLists
   lists-same q f =
       fitting-reads S (same-on (D .live) (λ r x. x)) (q .column) (q .value) (joinsOf q) (operands-joins S q f) ∙
       ap (λ (X : RowSet). fitting S E X (q .column) (q .value) (joinsOf q)) (fun-ext (w .live))
 
   -- and the same totals, of a position that it has
-  total-same : (q : Query) (p c : ℕ) → operandsFit S q ≡ true → positionFits S q p c ≡ true → fullTotal S D q p c ≡ fullTotal S E q p c
+  pub total-same : (q : Query) (p c : ℕ) → operandsFit S q ≡ true → positionFits S q p c ≡ true → fullTotal S D q p c ≡ fullTotal S E q p c
   unfolding fullTotal
   total-same q p c f h =
       total-reads S (same-on (D .live) (λ r x. x)) (q .column) (q .value) (joinsOf q) (operands-joins S q f) p c (position-within S q p c h) ∙

@@ -1,12 +1,9 @@
--- What holds of every step and of every run, whatever is lent: a refused call leaves everything as it was; a step that does not stop the reading
--- moves behind its command, inside the script; and so a run ends. (A sound state stays sound: `step-sound` of StepLaws, `left-sound` of RunLaws.)
--- Assumes nothing.
-use Prim.Native.Nat.{ℕ, _≤_, _<_}
-use native.Mathlib.Omega.{arith}
+-- A refused step leaves everything as it was, whatever is lent. (A sound state stays sound: `step-sound` of StepLaws, `left-sound` of RunLaws.) Assumes nothing.
+use Prim.Native.Nat.{ℕ}
 use mathlib.Core.Path.{_≡_, refl, sym, ap, subst, _∙_}
 use mathlib.Core.Bool.{false, true}
 use mathlib.Core.List.{List}
-use mathlib.Core.Logic.{_⊎_, inl, inr, ⊎-elim}
+use mathlib.Core.Logic.{⊎-elim}
 use lib.ListN.{length}
 use lib.Seq.{sets}
 use Rattle.finite.proofs.Bools.{dec}
@@ -21,12 +18,8 @@ use Rattle.state.proofs.HeldWords.{words-sized}
 use Rattle.state.proofs.LentWords.{same-record-words}
 use Rattle.script.specs.declared.outcome.Step.{Step}
 use Rattle.script.specs.Step.{Outputs, roomsOf, operationIn, Stepped, operated, changing, stepAt, DoesWords}
-use Rattle.script.specs.Runs.{leftFrom}
-use Rattle.script.proofs.StepLaws.{step-by, carried-by, step-on}
-use Rattle.script.proofs.RunLaws.{left-fuel}
+use Rattle.script.proofs.StepLaws.{step-by, carried-by}
 use Rattle.script.proofs.Refusals.{refused-state, refused-outputs, refused-change}
-
--- ---- a refused call
 
 -- the step leaves what it was lent
 pub record Unchanged (s : State) (out : Outputs) (R : Stepped) : Type 0 where
@@ -61,14 +54,3 @@ module _ (s : State) (h : List ℕ) (means : s .held ≡ wordsHeld h) (out : Out
       (q, d .1 ∙ ap (λ (v : Held). sets h 0 (heldWords v)) (ap (λ (z : State). z .held) q ∙ means) ∙ same-record-words h b, d .0 .outputs ∙ u .outputs))
       (λ (b : recordIn h ≡ false). let d = x .refused b in (d .0 .state, d .1, d .0 .outputs))
       (dec (recordIn h))
-
--- ---- a run ends
-
-module _ (s : State) (out : Outputs) (script : List ℕ) (i : ℕ) where
-  -- THEOREM: a step stops the reading, or moves on inside the script
-  pub step-moves : (stepAt s out script i .more ≡ false) ⊎ ((i < stepAt s out script i .next) × (stepAt s out script i .next ≤ length script))
-  step-moves = ⊎-elim (λ q. inr (step-on s out script i q)) (λ q. inl q) (dec (stepAt s out script i .more))
-
-  -- THEOREM: however many more steps are allowed than the script has bytes, the same is left: the run has ended
-  pub run-ends : (n : ℕ) → length script ≤ n → leftFrom n script s out i ≡ leftFrom (length script) script s out i
-  run-ends n l = left-fuel script n (length script) s out i (omega arith) (omega arith)

@@ -3,7 +3,7 @@
 use Prim.Native.Nat.{ℕ}
 use mathlib.Core.Path.{_≡_, refl, sym, ap, subst, _∙_}
 use mathlib.Core.Bool.{true}
-use mathlib.Core.List.{List, [], _∷_, _++_, append-assoc}
+use mathlib.Core.List.{List, [], _∷_, _++_}
 use mathlib.Core.Logic.{⊎-elim}
 use lib.ListN.{length, take, drop as past, take-append-drop}
 use lib.Seq.{drop-at}
@@ -213,19 +213,3 @@ module _ (p : Draft) (b : Buffers) (m : Moment) (e : State) (t : Tracks p b m e)
         sound = sound-changed e x (t .sound) (g .sized);
         stored = cells-changed e x (g .sized) (g .stored) (t .stored);
       }
-
--- ---- the operands of a list of calls
-
--- the rows that a list of actions puts in are rows
-pub record RowsGiven (acts : List Action) : Type 0 where
-  pub each : (earlier later : List Action) (x : Change) → acts ≡ earlier ++ (change x ∷ later) → RowGiven x
-
-pub given-rest : (a : Action) (more : List Action) → RowsGiven (a ∷ more) → RowsGiven more
-given-rest a more g = record { each = λ earlier later x e. g .each (a ∷ earlier) later x (ap (λ (l : List Action). a ∷ l) e) }
-
-pub given-front : (acts earlier later : List Action) → acts ≡ earlier ++ later → RowsGiven acts → RowsGiven earlier
-given-front acts earlier later split g =
-    record {
-      each = λ first rest x e.
-          g .each first (rest ++ later) x (split ∙ ap (λ (l : List Action). l ++ later) e ∙ append-assoc first (change x ∷ rest) later);
-    }

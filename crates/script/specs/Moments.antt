@@ -5,8 +5,7 @@ use Rattle.model.specs.Scheme.{Scheme}
 use Rattle.model.specs.Database.{Database}
 use Rattle.model.specs.Holding.{Holding}
 use Rattle.model.specs.Runs.{Operation, heldAfter}
-use Rattle.state.specs.Lent.{State, stateAfter}
-use Rattle.state.specs.Changes.{Change, Rows, tablesOf, rowsAfter, stateChanged}
+use Rattle.state.specs.Changes.{Change, Rows, tablesOf, rowsAfter}
 
 -- what a run is a list of: operations, which leave the rows as they are, and changes of the rows, which leave the list of what is held as it is
 pub data Action : Type 0 where
@@ -30,12 +29,3 @@ momentAfter S m (change x) = record { rows = rowsAfter S (m .rows) x; held = m .
 unfoldable pub momentFrom : Scheme → Moment → List Action → Moment
 momentFrom S m [] = m
 momentFrom S m (a ∷ more) = momentFrom S (momentAfter S m a) more
-
--- the state behind an action, and behind a list of them, each called on the state that the one before left, a refused one too
-unfoldable pub stateBehind : State → Action → State
-stateBehind s (operation o) = stateAfter s o
-stateBehind s (change x) = stateChanged s x
-
-unfoldable pub stateAfterAll : State → List Action → State
-stateAfterAll s [] = s
-stateAfterAll s (a ∷ more) = stateAfterAll (stateBehind s a) more

@@ -2,12 +2,12 @@
 -- before left; and what a run of all of it gives and leaves (demand 3). Assumes nothing.
 use Prim.Native.Nat.{ℕ, zero, suc, _+_}
 use mathlib.Core.Path.{_≡_}
-use mathlib.Core.Logic.{_↔_, _≢_}
+use mathlib.Core.Logic.{_↔_}
 use mathlib.Core.Bool.{true, false, cond}
 use mathlib.Core.List.{List, [], _∷_, _++_}
 use lib.Dec.{leb}
 use lib.ListN.{length, take, drop as past}
-use Rattle.model.specs.Cell.{Cell, Fits, numberless}
+use Rattle.model.specs.Cell.{Cell, numberless}
 use Rattle.model.specs.Scheme.{Column, ColumnOf}
 use Rattle.model.specs.Database.{Database}
 use Rattle.model.specs.Cache.{RowSet, Complete, Alike}
@@ -16,12 +16,9 @@ use Rattle.model.specs.Runs.{ask, probe, marks, marked}
 use Rattle.model.specs.Answers.{Answer, refused, Yes}
 use Rattle.model.specs.Demand.{Demand3}
 use Rattle.state.specs.Cells.{Cells, cellsIn}
-use Rattle.state.specs.declared.cell.Cell as State-cell
-use Rattle.state.specs.declared.design.Column as State-column
 use Rattle.state.specs.declared.held.Held.{Held}
-use Rattle.state.specs.declared.operation.Operation.the-variants.{Probe}
 use Rattle.state.specs.Held.{noneHeld}
-use Rattle.state.specs.Meaning.{cellOf, columnOf, schemeOf, heldOf}
+use Rattle.state.specs.Meaning.{schemeOf, heldOf}
 use Rattle.state.specs.HeldWords.{wordsHeld, Whole}
 use Rattle.state.specs.Lent.{State, lent, sound, answerAt}
 use Rattle.state.specs.Changes.{put, remove, rowsIn}
@@ -32,7 +29,7 @@ use Rattle.format.specs.Commands.{commandAt, widthOf, putRowAt}
 use Rattle.format.specs.Reading.{Draft, DesignRead, readInto, verdictOf, designOf, cellsAfter, tablesAfter, marksAfter}
 use Rattle.format.specs.Reading.DesignRead.{accepted, refusedAt}
 use Rattle.script.specs.declared.outcome.Run.{Run}
-use Rattle.script.specs.Moments.{Action, operation, change, Moment, tablesAt, momentFrom, stateAfterAll}
+use Rattle.script.specs.Moments.{Action, operation, change, Moment, tablesAt, momentFrom}
 use Rattle.script.specs.Step.{Outputs, Rooms, roomsOf, operationIn, stepAt}
 
 -- what a run does by the commands that stand in a script from place i on, where so many answer words and bytes of text are lent: c is the command at place i,
@@ -143,10 +140,6 @@ pub record Point (p : Draft) (b : Buffers) (m : Moment) (e : State) : Type 0 whe
   pub design : e .design ≡ p .design
   pub sound : sound e ≡ true
 
--- DEMAND 3, of any list of actions, called on the design p just read into the buffers b: e is the state that they leave
-abbrev pub Called : Draft → Buffers → List Action → State → Type 0
-Called p b acts e = Point p b (momentWith p acts) e
-
 -- DEMAND 3, of all that the script has behind the END of its design p, at place i. The buffers are b before the run and a after it, and h is the record of held
 -- values after it.
 pub record Operated (script : List ℕ) (p : Draft) (i : ℕ) (b a : Buffers) (h : Held) : Type 0 where
@@ -154,31 +147,10 @@ pub record Operated (script : List ℕ) (p : Draft) (i : ℕ) (b a : Buffers) (h
   -- the answer words and the text are those that the steps leave
   pub outputs : a .outputs ≡ leftFrom (length script) script (justRead (accepted p i) b) (b .outputs) i .outputs
 
--- DEMAND 3, at every point: behind the first n commands, for every n
-pub record Points (script : List ℕ) (p : Draft) (i : ℕ) (b : Buffers) : Type 0 where
-  pub point : (n : ℕ) → Point p b (momentAt n script p (roomsIn b) i) (leftFrom n script (justRead (accepted p i) b) (b .outputs) i .state)
-
 -- the value v in column k is complete in every lawful database from which the rows X would have been cached at the moment m
 abbrev pub CompleteInAll : Draft → Moment → RowSet → Column → Cell → Type 0
 CompleteInAll p m X k v =
     (E : Database) → Alike (schemeOf (p .design)) (tablesAt m) (heldIn (schemeOf (p .design)) (m .held)) X E → Complete E X k v
-
--- DEMAND 3, of each probe: `acts` is any list of actions, called on the design p just read into the buffers b, with its END before place i. Each PROBE among them, on
--- the state e that those before it have left, answers x; where that is no refusal, it is a ground exactly if the value is complete in every lawful database
--- from which the same rows would have been cached.
-pub record ProbesExact (p : Draft) (i : ℕ) (b : Buffers) (acts : List Action) : Type 0 where
-  pub exact : (earlier later : List Action) (k : Column) (v : Cell) → acts ≡ earlier ++ (operation (ask (probe k v)) ∷ later) → Fits v →
-      (e : State) → e ≡ stateAfterAll (justRead (accepted p i) b) earlier → (x : Answer) → x ≡ answerAt e (ask (probe k v)) →
-      ((n : ℕ) → x ≢ refused n) →
-      Yes x ↔ CompleteInAll p (momentWith p earlier) (marked (take 512 (e .marks))) k v
-
--- The same for the steps of a script: e is the state behind the first n commands that stand behind the END of the design p, at place i, and the next
--- step is asked for any place j where a PROBE stands.
-pub record StepsExact (script : List ℕ) (p : Draft) (i : ℕ) (b : Buffers) : Type 0 where
-  pub exact : (n j : ℕ) (out : Outputs) (k : State-column.Column) (v : State-cell.Cell) → commandAt script j ≡ Operate (Probe k v) → Fits (cellOf v) →
-      (e : State) → e ≡ leftFrom n script (justRead (accepted p i) b) (b .outputs) i .state → (x : Answer) → x ≡ stepAt e out script j .answer →
-      ((m : ℕ) → x ≢ refused m) →
-      Yes x ↔ CompleteInAll p (momentAt n script p (roomsIn b) i) (marked (take 512 (e .marks))) (columnOf k) (cellOf v)
 
 -- ---- what a whole run gives
 

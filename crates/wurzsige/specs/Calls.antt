@@ -19,7 +19,7 @@ use Rattle.script.specs.Step.{Outputs, Stepped, refusing, stepAt}
 use Rattle.script.specs.Runs.{Left}
 use Rattle.script.specs.Sizes.{wordsTakenAt, textTakenAt}
 use Rattle.script.specs.Writing.{bytesOf}
-use Rattle.state.specs.HeldWords.{longHeld, heldWords, wordsHeld, narrowHeld}
+use Rattle.state.specs.HeldWords.{heldLength, longHeld, heldWords, wordsHeld, narrowHeld}
 use Rattle.state.specs.Meaning.{schemeOf, databaseOf}
 use Rattle.words.specs.Words.{designLength, designWords, wordsDesign, narrowDesign}
 use Rattle.wurzsige.specs.Told.{StepTold, OpenTold}
@@ -135,6 +135,21 @@ pub record StepTaken (R : Stepped) (n : ℕ) (ns : List ℕ) (c p q g : ℕ) (m 
   pub told : StepTold R n ns c p q g
   pub memory : m′ ≡ memoryAfter m R
   pub outputs : out′ ≡ R .outputs
+
+-- what the trusted functions ask for: memory that is ready, with the words of what is held and no others
+pub record Trusts (m : Memory) (k : Arrays) : Type 0 where
+  pub ready : Ready m k
+  pub held : length (m .held) ≡ heldLength
+
+-- a step at place i by the plain name, on whatever is lent
+pub record PlainStep (m : Memory) (k : Arrays) (out : Outputs) (script : List ℕ) (i n : ℕ) (ns : List ℕ) (c p q g : ℕ) (m′ : Memory) (k′ : Arrays) (out′ : Outputs) : Type 0 where
+  pub taken : StepTaken (stepIn m out script i) n ns c p q g m m′ out′
+  pub catalogs : Catalogs (isRefusal (stepIn m out script i .answer)) m′ k k′
+
+-- one by the trusted name
+pub record TrustedStep (m : Memory) (out : Outputs) (script : List ℕ) (i n : ℕ) (ns : List ℕ) (c p q g : ℕ) (m′ : Memory) (k′ : Arrays) (out′ : Outputs) : Type 0 where
+  pub taken : StepTaken (stepIn m out script i) n ns c p q g m m′ out′
+  pub ready : Ready m′ k′
 
 -- ---- all steps from a place on
 

@@ -1,11 +1,9 @@
 // All steps of a script from a place on, on lent memory that is ready.
-ghost use mathlib.Core.Path.{_≡_};
 ghost use lib.ListN.{length};
 ghost use Rattle.state.specs.Cells.{cellsIn};
-ghost use Rattle.state.specs.HeldWords.{heldLength};
 ghost use Rattle.script.specs.Step.{outputs};
 ghost use Rattle.script.specs.Runs.{leftFrom};
-ghost use Rattle.wurzsige.specs.Calls.{memory, arrays, stateIn, Ready, RunMade};
+ghost use Rattle.wurzsige.specs.Calls.{memory, arrays, stateIn, Trusts, RunMade};
 use script::run_lawful;
 use words::design_from;
 
@@ -28,8 +26,7 @@ pub extern "C" fn wurzsige_parts_run_trusted(
     counts: &mut [u64; 5120],
     places: &mut [u16; 5120],
 )
-    requires { ⌜ Ready (memory (now design) (now held) (cellsIn (now cells) (now issues)) (now tables) (now marks)) (arrays (now catalog) (now keys)) ⌝ }
-    requires { ⌜ length (now held) ≡ heldLength ⌝ }
+    requires { ⌜ Trusts (memory (now design) (now held) (cellsIn (now cells) (now issues)) (now tables) (now marks)) (arrays (now catalog) (now keys)) ⌝ }
     ensures { λ _. ⌜ RunMade
         (leftFrom (length (now (script .entry))) (now (script .entry))
         (stateIn (memory (now (design .entry)) (now (held .entry)) (cellsIn (now (cells .entry)) (now (issues .entry))) (now (tables .entry)) (now (marks .entry))))

@@ -1,11 +1,7 @@
 // One step of a script on lent memory.
-ghost use mathlib.Core.Path.{_≡_};
-ghost use lib.ListN.{length};
-ghost use Rattle.model.specs.Answers.{isRefusal};
 ghost use Rattle.state.specs.Cells.{cellsIn};
-ghost use Rattle.state.specs.HeldWords.{heldLength};
 ghost use Rattle.script.specs.Step.{outputs};
-ghost use Rattle.wurzsige.specs.Calls.{memory, arrays, Ready, Catalogs, stepIn, StepTaken};
+ghost use Rattle.wurzsige.specs.Calls.{memory, arrays, Trusts, PlainStep, TrustedStep};
 use crate::REFUSED;
 use crate::causes::memory_cause;
 use crate::telling::tell;
@@ -41,17 +37,14 @@ pub extern "C" fn wurzsige_parts_step_trusted(
     after: &mut usize,
     more: &mut u8,
 ) -> u8
-    requires { ⌜ Ready (memory (now design) (now held) (cellsIn (now cells) (now issues)) (now tables) (now marks)) (arrays (now catalog) (now keys)) ⌝ }
-    requires { ⌜ length (now held) ≡ heldLength ⌝ }
-    ensures { λ n. ⌜ StepTaken
-        (stepIn (memory (now (design .entry)) (now (held .entry)) (cellsIn (now (cells .entry)) (now (issues .entry))) (now (tables .entry)) (now (marks .entry)))
-        (outputs (now (words .entry)) (now (text .entry))) (now (script .entry)) at)
-        n (now (numbers .exit)) (now (count .exit)) (now (place .exit)) (now (after .exit)) (now (more .exit))
+    requires { ⌜ Trusts (memory (now design) (now held) (cellsIn (now cells) (now issues)) (now tables) (now marks)) (arrays (now catalog) (now keys)) ⌝ }
+    ensures { λ n. ⌜ TrustedStep
         (memory (now (design .entry)) (now (held .entry)) (cellsIn (now (cells .entry)) (now (issues .entry))) (now (tables .entry)) (now (marks .entry)))
+        (outputs (now (words .entry)) (now (text .entry))) (now (script .entry)) at
+        n (now (numbers .exit)) (now (count .exit)) (now (place .exit)) (now (after .exit)) (now (more .exit))
         (memory (now (design .entry)) (now (held .exit)) (cellsIn (now (cells .exit)) (now (issues .exit))) (now (tables .exit)) (now (marks .exit)))
+        (arrays (now (catalog .exit)) (now (keys .exit)))
         (outputs (now (words .exit)) (now (text .exit))) ⌝ }
-    ensures { λ _. ⌜ Ready (memory (now (design .entry)) (now (held .exit)) (cellsIn (now (cells .exit)) (now (issues .exit))) (now (tables .exit)) (now (marks .exit)))
-        (arrays (now (catalog .exit)) (now (keys .exit))) ⌝ }
 {
     let d = design_from(design);
     let t = step_lawful(
@@ -97,19 +90,14 @@ pub extern "C" fn wurzsige_parts_step(
     after: &mut usize,
     more: &mut u8,
 ) -> u8
-    ensures { λ n. ⌜ StepTaken
-        (stepIn (memory (now (design .entry)) (now (held .entry)) (cellsIn (now (cells .entry)) (now (issues .entry))) (now (tables .entry)) (now (marks .entry)))
-        (outputs (now (words .entry)) (now (text .entry))) (now (script .entry)) at)
-        n (now (numbers .exit)) (now (count .exit)) (now (place .exit)) (now (after .exit)) (now (more .exit))
+    ensures { λ n. ⌜ PlainStep
         (memory (now (design .entry)) (now (held .entry)) (cellsIn (now (cells .entry)) (now (issues .entry))) (now (tables .entry)) (now (marks .entry)))
-        (memory (now (design .entry)) (now (held .exit)) (cellsIn (now (cells .exit)) (now (issues .exit))) (now (tables .exit)) (now (marks .exit)))
-        (outputs (now (words .exit)) (now (text .exit))) ⌝ }
-    ensures { λ _. ⌜ Catalogs
-        (isRefusal (stepIn (memory (now (design .entry)) (now (held .entry)) (cellsIn (now (cells .entry)) (now (issues .entry))) (now (tables .entry)) (now (marks .entry)))
-        (outputs (now (words .entry)) (now (text .entry))) (now (script .entry)) at .answer))
-        (memory (now (design .entry)) (now (held .exit)) (cellsIn (now (cells .exit)) (now (issues .exit))) (now (tables .exit)) (now (marks .exit)))
         (arrays (now (catalog .entry)) (now (keys .entry)))
-        (arrays (now (catalog .exit)) (now (keys .exit))) ⌝ }
+        (outputs (now (words .entry)) (now (text .entry))) (now (script .entry)) at
+        n (now (numbers .exit)) (now (count .exit)) (now (place .exit)) (now (after .exit)) (now (more .exit))
+        (memory (now (design .entry)) (now (held .exit)) (cellsIn (now (cells .exit)) (now (issues .exit))) (now (tables .exit)) (now (marks .exit)))
+        (arrays (now (catalog .exit)) (now (keys .exit)))
+        (outputs (now (words .exit)) (now (text .exit))) ⌝ }
 {
     let mut c = [0u16; 16449];
     let mut k = [0u64; 4096];

@@ -8,10 +8,10 @@ use Rattle.wurzsige.proofs.running.wurzsige_parts_run_trusted.Statement
 use Rattle.wurzsige.proofs.running.wurzsige_parts_run_trusted.Tie as tie
 
 design-from-requires : tie.Need-design-from-requires
-design-from-requires c κs = let s = c .before .before .before .before .before .before .before .before in memory-parts _ (s .pre .0 .sound) .design
+design-from-requires c κs = let s = c .before .before .before .before .before .before .before .before in memory-parts _ (s .pre .ready .sound) .design
 
 run-lawful-requires : tie.Need-run-lawful-requires
-run-lawful-requires c κs = let s = c .before .before .before .before .before .before .before .before .before .before .before .before .before .before .before .before .before .before .before .before in ready-lawful _ _ _ _ _ _ _ (c .before .before .before .before .before .before .before .before .before .before .before .design-from .ensures) (s .pre .0) (s .pre .1)
+run-lawful-requires c κs = let s = c .before .before .before .before .before .before .before .before .before .before .before .before .before .before .before .before .before .before .before .before in ready-lawful _ _ _ _ _ _ _ (c .before .before .before .before .before .before .before .before .before .before .before .design-from .ensures) (s .pre .ready) (s .pre .held)
 
 same-length : tie.Need-same-length
 same-length c = search needs
@@ -34,7 +34,7 @@ same-length-6 c = search needs
 returns : tie.Need-returns
 returns c =
     let s = c .before .before .before .before .before .before .before .before .before .before .before .before .before .before .before .before .before .before .before .before .before .before .before .before .before .before .before .before .before .before .before .before .before in
-    run-made _ _ _ _ _ _ _ (c .before .before .before .before .before .before .before .before .before .before .before .before .before .before .before .before .before .before .before .before .before .before .before .before .design-from .ensures) (s .pre .0) (s .pre .1) (outputs (now (s .args .words)) (now (s .args .text))) (now (s .args .script)) (s .args .at) _ _ _ _ _
+    run-made _ _ _ _ _ _ _ (c .before .before .before .before .before .before .before .before .before .before .before .before .before .before .before .before .before .before .before .before .before .before .before .before .design-from .ensures) (s .pre .ready) (s .pre .held) (outputs (now (s .args .words)) (now (s .args .text))) (now (s .args .script)) (s .args .at) _ _ _ _ _
     (c .before .before .before .before .before .before .before .before .before .before .before .before .run-lawful .ensures .1 .1) (c .before .before .before .before .before .before .before .before .before .before .before .before .run-lawful .ensures .0) _ (c .before .before .before .before .before .before .before .before .before .before .before .before .run-lawful .ensures .1 .0)
 
 pub wurzsige-parts-run-trusted-spec : {M : Type 1} → statement M

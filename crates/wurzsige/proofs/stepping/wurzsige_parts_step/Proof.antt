@@ -31,20 +31,21 @@ same-length-5 : tie.Need-same-length-5
 same-length-5 c = search needs
 
 returns : tie.Need-returns
-returns c = (
-  caused-taken _ _ _ _ _ (c .before .before .before .before .before .before .before .before .memory-cause .ensures .0) (c .before .before .before .before .before .before .before .if1 .taken) _ _ _ _ _ _ (c .tell .ensures) (c .before .before .before .tell-places .ensures),
-  caused-catalogs _ _ _ _ _ (c .before .before .before .before .before .before .before .before .memory-cause .ensures .0) (c .before .before .before .before .before .before .before .if1 .taken) _,
-)
+returns c = record {
+  taken = caused-taken _ _ _ _ _ (c .before .before .before .before .before .before .before .before .memory-cause .ensures .0) (c .before .before .before .before .before .before .before .if1 .taken) _ _ _ _ _ _ (c .tell .ensures) (c .before .before .before .tell-places .ensures);
+  catalogs = caused-catalogs _ _ _ _ _ (c .before .before .before .before .before .before .before .before .memory-cause .ensures .0) (c .before .before .before .before .before .before .before .if1 .taken) _;
+}
 
 first-words-requires : tie.Need-first-words-requires
 first-words-requires c κs = memory-parts _ (cause-sound _ (sym (c .before .before .memory-cause .ensures .0) ∙ c .before .if1 .left)) .held
 
 wurzsige-parts-step-trusted-requires : tie.Need-wurzsige-parts-step-trusted-requires
 wurzsige-parts-step-trusted-requires c κs =
-    let e = cause-sound _ (sym (c .before .before .before .before .before .before .before .before .before .before .before .before .before .before .before .before .before .before .before .memory-cause .ensures .0) ∙ c .before .before .before .before .before .before .before .before .before .before .before .before .before .before .before .before .before .before .if1 .left) in (
-      own-ready _ _ _ _ _ _ (c .before .before .before .before .before .before .before .before .before .before .before .before .before .before .before .before .first-words .ensures) e _ (c .before .before .before .before .before .before .before .before .before .before .before .before .before .before .before .before .before .before .before .memory-cause .ensures .1 (c .before .before .before .before .before .before .before .before .before .before .before .before .before .before .before .before .before .before .if1 .left)),
-      own-long _ _ _ _ _ _ (c .before .before .before .before .before .before .before .before .before .before .before .before .before .before .before .before .first-words .ensures) e,
-    )
+    let e = cause-sound _ (sym (c .before .before .before .before .before .before .before .before .before .before .before .before .before .before .before .before .before .before .before .memory-cause .ensures .0) ∙ c .before .before .before .before .before .before .before .before .before .before .before .before .before .before .before .before .before .before .if1 .left) in
+    record {
+      ready = own-ready _ _ _ _ _ _ (c .before .before .before .before .before .before .before .before .before .before .before .before .before .before .before .before .first-words .ensures) e _ (c .before .before .before .before .before .before .before .before .before .before .before .before .before .before .before .before .before .before .before .memory-cause .ensures .1 (c .before .before .before .before .before .before .before .before .before .before .before .before .before .before .before .before .before .before .if1 .left));
+      held = own-long _ _ _ _ _ _ (c .before .before .before .before .before .before .before .before .before .before .before .before .before .before .before .before .first-words .ensures) e;
+    }
 
 same-length-6 : tie.Need-same-length-6
 same-length-6 c = search needs
@@ -68,12 +69,12 @@ same-length-12 : tie.Need-same-length-12
 same-length-12 c = search needs
 
 returns-2 : tie.Need-returns-2
-returns-2 c = own-refused _ _ _ _ _ _ (c .before .before .before .before .before .before .before .before .before .before .before .before .before .before .before .before .before .before .before .before .before .before .before .before .before .before .before .before .before .before .first-words .ensures) (cause-sound _ (sym (c .before .before .before .before .before .before .before .before .before .before .before .before .before .before .before .before .before .before .before .before .before .before .before .before .before .before .before .before .before .before .before .before .before .memory-cause .ensures .0) ∙ c .before .before .before .before .before .before .before .before .before .before .before .before .before .before .before .before .before .before .before .before .before .before .before .before .before .before .before .before .before .before .before .before .if1 .left)) _ _ _ _ _ _ _ _ _ _ _ _ _ _ (c .before .before .before .before .before .before .before .before .before .before .before .before .before .wurzsige-parts-step-trusted .ensures .0) (c .if2 .taken) _
+returns-2 c = let t = own-refused _ _ _ _ _ _ (c .before .before .before .before .before .before .before .before .before .before .before .before .before .before .before .before .before .before .before .before .before .before .before .before .before .before .before .before .before .before .first-words .ensures) (cause-sound _ (sym (c .before .before .before .before .before .before .before .before .before .before .before .before .before .before .before .before .before .before .before .before .before .before .before .before .before .before .before .before .before .before .before .before .before .memory-cause .ensures .0) ∙ c .before .before .before .before .before .before .before .before .before .before .before .before .before .before .before .before .before .before .before .before .before .before .before .before .before .before .before .before .before .before .before .before .if1 .left)) _ _ _ _ _ _ _ _ _ _ _ _ _ _ (c .before .before .before .before .before .before .before .before .before .before .before .before .before .wurzsige-parts-step-trusted .ensures .taken) (c .if2 .taken) _ in record { taken = t .0; catalogs = t .1 }
 
 store-words-requires : tie.Need-store-words-requires
 store-words-requires c κs =
     let e = cause-sound _ (sym (c .before .before .before .before .before .before .before .before .before .before .before .before .before .before .before .before .before .before .before .before .before .before .before .before .before .before .before .before .before .before .before .before .before .before .before .memory-cause .ensures .0) ∙ c .before .before .before .before .before .before .before .before .before .before .before .before .before .before .before .before .before .before .before .before .before .before .before .before .before .before .before .before .before .before .before .before .before .before .if1 .left) in
-    (own-left-long _ _ _ _ _ _ (c .before .before .before .before .before .before .before .before .before .before .before .before .before .before .before .before .before .before .before .before .before .before .before .before .before .before .before .before .before .before .before .before .first-words .ensures) e _ _ _ _ _ _ _ _ _ _ _ _ _ _ (c .before .before .before .before .before .before .before .before .before .before .before .before .before .before .before .wurzsige-parts-step-trusted .ensures .0) (c .before .before .if2 .left), memory-parts _ e .held)
+    (own-left-long _ _ _ _ _ _ (c .before .before .before .before .before .before .before .before .before .before .before .before .before .before .before .before .before .before .before .before .before .before .before .before .before .before .before .before .before .before .before .before .first-words .ensures) e _ _ _ _ _ _ _ _ _ _ _ _ _ _ (c .before .before .before .before .before .before .before .before .before .before .before .before .before .before .before .wurzsige-parts-step-trusted .ensures .taken) (c .before .before .if2 .left), memory-parts _ e .held)
 
 same-length-13 : tie.Need-same-length-13
 same-length-13 c = search needs
@@ -97,8 +98,8 @@ same-length-19 : tie.Need-same-length-19
 same-length-19 c = search needs
 
 returns-3 : tie.Need-returns-3
-returns-3 c = own-taken _ _ _ _ _ _ (c .before .before .before .before .before .before .before .before .before .before .before .before .before .before .before .before .before .before .before .before .before .before .before .before .before .before .before .before .before .before .before .before .before .before .before .first-words .ensures) (cause-sound _ (sym (c .before .before .before .before .before .before .before .before .before .before .before .before .before .before .before .before .before .before .before .before .before .before .before .before .before .before .before .before .before .before .before .before .before .before .before .before .before .before .memory-cause .ensures .0) ∙ c .before .before .before .before .before .before .before .before .before .before .before .before .before .before .before .before .before .before .before .before .before .before .before .before .before .before .before .before .before .before .before .before .before .before .before .before .before .if1 .left)) _ _ _ _ _ _ _ _ _ _ _ _ _ _ (c .before .before .before .before .before .before .before .before .before .before .before .before .before .before .before .before .before .before .wurzsige-parts-step-trusted .ensures .0) (c .before .before .before .before .before .if2 .left) _ _
-    (c .before .before .before .before .before .before .before .before .before .before .before .before .before .before .before .before .before .before .wurzsige-parts-step-trusted .ensures .1) _ (c .before .before .store-words .ensures)
+returns-3 c = let t = own-taken _ _ _ _ _ _ (c .before .before .before .before .before .before .before .before .before .before .before .before .before .before .before .before .before .before .before .before .before .before .before .before .before .before .before .before .before .before .before .before .before .before .before .first-words .ensures) (cause-sound _ (sym (c .before .before .before .before .before .before .before .before .before .before .before .before .before .before .before .before .before .before .before .before .before .before .before .before .before .before .before .before .before .before .before .before .before .before .before .before .before .before .memory-cause .ensures .0) ∙ c .before .before .before .before .before .before .before .before .before .before .before .before .before .before .before .before .before .before .before .before .before .before .before .before .before .before .before .before .before .before .before .before .before .before .before .before .before .if1 .left)) _ _ _ _ _ _ _ _ _ _ _ _ _ _ (c .before .before .before .before .before .before .before .before .before .before .before .before .before .before .before .before .before .before .wurzsige-parts-step-trusted .ensures .taken) (c .before .before .before .before .before .if2 .left) _ _
+    (c .before .before .before .before .before .before .before .before .before .before .before .before .before .before .before .before .before .before .wurzsige-parts-step-trusted .ensures .ready) _ (c .before .before .store-words .ensures) in record { taken = t .0; catalogs = t .1 }
 
 pub wurzsige-parts-step-spec : {M : Type 1} → statement M
 wurzsige-parts-step-spec =

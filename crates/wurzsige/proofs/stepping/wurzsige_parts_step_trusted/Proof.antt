@@ -6,10 +6,10 @@ use Rattle.wurzsige.proofs.stepping.wurzsige_parts_step_trusted.Stateme
 use Rattle.wurzsige.proofs.stepping.wurzsige_parts_step_trusted.Tie as tie
 
 design-from-requires : tie.Need-design-from-requires
-design-from-requires c κs = let s = c .before .before .before .before .before .before .before .before in memory-parts _ (s .pre .0 .sound) .design
+design-from-requires c κs = let s = c .before .before .before .before .before .before .before .before in memory-parts _ (s .pre .ready .sound) .design
 
 step-lawful-requires : tie.Need-step-lawful-requires
-step-lawful-requires c κs = let s = c .before .before .before .before .before .before .before .before .before .before .before .before .before .before .before .before .before .before .before .before in ready-lawful _ _ _ _ _ _ _ (c .before .before .before .before .before .before .before .before .before .before .before .design-from .ensures) (s .pre .0) (s .pre .1)
+step-lawful-requires c κs = let s = c .before .before .before .before .before .before .before .before .before .before .before .before .before .before .before .before .before .before .before .before in ready-lawful _ _ _ _ _ _ _ (c .before .before .before .before .before .before .before .before .before .before .before .design-from .ensures) (s .pre .ready) (s .pre .held)
 
 tell-places-requires : tie.Need-tell-places-requires
 tell-places-requires c κs = search needs
@@ -37,12 +37,13 @@ same-length-6 c = search needs
 
 returns : tie.Need-returns
 returns c =
-    let s = c .before .before .before .before .before .before .before .before .before .before .before .before .before .before .before .before .before .before .before .before .before .before .before .before .before .before .before .before .before .before .before .before .before .before .before .before .before .before .before .before in (
-      step-taken _ _ _ _ _ _ _ (c .before .before .before .before .before .before .before .before .before .before .before .before .before .before .before .before .before .before .before .before .before .before .before .before .before .before .before .before .before .before .before .design-from .ensures) (s .pre .0) (s .pre .1) _ _ _ _ _ _ _ _ (c .before .before .before .before .before .before .before .before .before .before .before .before .before .before .before .before .before .before .before .step-lawful .ensures .1 .1) _ (c .before .before .before .before .before .before .before .before .before .before .before .before .before .before .before .before .before .before .before .step-lawful .ensures .0) _ _ _ (c .tell .ensures) _ _ _
-          (c .before .before .before .tell-places .ensures),
-      step-ready _ _ _ _ _ _ _ (c .before .before .before .before .before .before .before .before .before .before .before .before .before .before .before .before .before .before .before .before .before .before .before .before .before .before .before .before .before .before .before .design-from .ensures) (s .pre .0) (s .pre .1) _ _ _ _ _ _ _ _ (c .before .before .before .before .before .before .before .before .before .before .before .before .before .before .before .before .before .before .before .step-lawful .ensures .1 .1) _ (c .before .before .before .before .before .before .before .before .before .before .before .before .before .before .before .before .before .before .before .step-lawful .ensures .0) _
-          (c .before .before .before .before .before .before .before .before .before .before .before .before .before .before .before .before .before .before .before .step-lawful .ensures .1 .0),
-    )
+    let s = c .before .before .before .before .before .before .before .before .before .before .before .before .before .before .before .before .before .before .before .before .before .before .before .before .before .before .before .before .before .before .before .before .before .before .before .before .before .before .before .before in
+    record {
+      taken = step-taken _ _ _ _ _ _ _ (c .before .before .before .before .before .before .before .before .before .before .before .before .before .before .before .before .before .before .before .before .before .before .before .before .before .before .before .before .before .before .before .design-from .ensures) (s .pre .ready) (s .pre .held) _ _ _ _ _ _ _ _ (c .before .before .before .before .before .before .before .before .before .before .before .before .before .before .before .before .before .before .before .step-lawful .ensures .1 .1) _ (c .before .before .before .before .before .before .before .before .before .before .before .before .before .before .before .before .before .before .before .step-lawful .ensures .0) _ _ _ (c .tell .ensures) _ _ _
+          (c .before .before .before .tell-places .ensures);
+      ready = step-ready _ _ _ _ _ _ _ (c .before .before .before .before .before .before .before .before .before .before .before .before .before .before .before .before .before .before .before .before .before .before .before .before .before .before .before .before .before .before .before .design-from .ensures) (s .pre .ready) (s .pre .held) _ _ _ _ _ _ _ _ (c .before .before .before .before .before .before .before .before .before .before .before .before .before .before .before .before .before .before .before .step-lawful .ensures .1 .1) _ (c .before .before .before .before .before .before .before .before .before .before .before .before .before .before .before .before .before .before .before .step-lawful .ensures .0) _
+          (c .before .before .before .before .before .before .before .before .before .before .before .before .before .before .before .before .before .before .before .step-lawful .ensures .1 .0);
+    }
 
 pub wurzsige-parts-step-trusted-spec : {M : Type 1} → statement M
 wurzsige-parts-step-trusted-spec =

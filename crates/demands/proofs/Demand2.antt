@@ -2,11 +2,11 @@
 -- query's list is the one from the full tables, and that of the cached rows. Assumes nothing.
 use Prim.Native.Nat.{ℕ}
 use native.Mathlib.Omega.{arith}
-use mathlib.Core.Path.{_≡_, sym, ap, subst, _∙_}
+use mathlib.Core.Path.{_≡_, refl, sym, ap, subst, _∙_}
 use mathlib.Core.Bool.{Bool, true, false, not}
 use mathlib.Core.Logic.{_↔_, _≢_}
+use borrow.Author.Tests.{ltb-true}
 use lib.Dec.{ltb}
-use lib.ListN.{getD}
 use Rattle.model.specs.Cell.{Cell, numberless}
 use Rattle.model.specs.Scheme.{Column, Scheme, isColumn}
 use Rattle.model.specs.Database.{Database, Lawful}
@@ -15,7 +15,7 @@ use Rattle.model.specs.Probe.{cachedRows}
 use Rattle.model.specs.Holding.{heldIn}
 use Rattle.model.specs.Runs.{ask, probe, Output, asLists, query, marked, Cache}
 use Rattle.model.specs.Query.{Query}
-use Rattle.model.specs.Answers.{Answer, sent, ground, lists, unless, orAnswer, shown, questionAnswer, queryAnswer, answer}
+use Rattle.model.specs.Answers.{Answer, sent, ground, lists, unless, orAnswer, questionAnswer, queryAnswer, answer}
 use Rattle.model.specs.Demand.{Groundless, Unrefused, FillingsApart, Demand2}
 use Rattle.model.proofs.Demand2.{probe-sent-exactly, demand2}
 use Rattle.model.proofs.CountedRows.{alone-lists}
@@ -56,19 +56,26 @@ module _ (s : State) (e : sound s ≡ true) where
 
 -- ---- how many rows stand behind a yes (02, Req 04)
 
--- a yes carries the cached rows that have the value
-carried : (S : Scheme) (D : Database) (c : Cache) (k : Column) (v : Cell) (g n : ℕ) → questionAnswer S D c (probe k v) ≡ ground g n →
-    cachedRows D (marked (c .marks)) k v ≡ n
-unfolding questionAnswer shown
-carried S D c k v g n e = go (isColumn S k) (numberless v) (ltb 0 (Probe.probe S D (heldIn S (c .held)) (marked (c .marks)) k v)) e
+-- what a yes says
+pub record Carries (S : Scheme) (D : Database) (c : Cache) (k : Column) (v : Cell) (n : ℕ) : Type 0 where
+  pub column : isColumn S k ≡ true
+  pub full : numberless v ≡ false
+  pub ground : Probe.probe S D (heldIn S (c .held)) (marked (c .marks)) k v ≢ 0
+  pub rows : cachedRows D (marked (c .marks)) k v ≡ n
+
+pub carries : (S : Scheme) (D : Database) (c : Cache) (k : Column) (v : Cell) (g n : ℕ) → questionAnswer S D c (probe k v) ≡ ground g n → Carries S D c k v n
+unfolding questionAnswer
+carries S D c k v g n e = go (isColumn S k) (numberless v) (ltb 0 found) refl refl refl e
   where
-    go : (a b y : Bool) →
-        unless (not a) 5 (unless b 9 (orAnswer y (ground (Probe.probe S D (heldIn S (c .held)) (marked (c .marks)) k v) (cachedRows D (marked (c .marks)) k v)) sent)) ≡ ground g n →
-        cachedRows D (marked (c .marks)) k v ≡ n
-    go false b y q = absurd (let z : _≡_ {A = ℕ} 0 1 = cc in omega arith)
-    go true true y q = absurd (let z : _≡_ {A = ℕ} 0 1 = cc in omega arith)
-    go true false false q = absurd (let z : _≡_ {A = ℕ} 0 1 = cc in omega arith)
-    go true false true q = ap (λ (a : Answer). getD (shown a .numbers) 1 0) q
+    found : ℕ
+    found = Probe.probe S D (heldIn S (c .held)) (marked (c .marks)) k v
+
+    go : (a b y : Bool) → isColumn S k ≡ a → numberless v ≡ b → ltb 0 found ≡ y →
+        unless (not a) 5 (unless b 9 (orAnswer y (ground found (cachedRows D (marked (c .marks)) k v)) sent)) ≡ ground g n → Carries S D c k v n
+    go false b y p q r h = absurd (let z : _≡_ {A = ℕ} 0 1 = cc in omega arith)
+    go true true y p q r h = absurd (let z : _≡_ {A = ℕ} 0 1 = cc in omega arith)
+    go true false false p q r h = absurd (let z : _≡_ {A = ℕ} 0 1 = cc in omega arith)
+    go true false true p q r h = record { column = p; full = q; ground = λ z. omega (arith, ltb-true 0 found r, z); rows = cc }
 
 -- THEOREM: a QUERY without joins that is answered has exactly as many lists as a PROBE of its value, asked afterwards, carries rows
 pub counted-exactly : (s : State) (e : sound s ≡ true) → Stored (s .cells) → (q : Query) (room : ℕ) → q .joins ≡ 0 → Unrefused (answerAt s (query q (asLists room))) →
@@ -81,4 +88,4 @@ counted-exactly s e u q room z r f g n h =
     let here = sym (answer-at (stateAfter s o) (sound-after s e o) (ask (probe (q .column) (q .value)))) ∙ h in
     x .0 ∙ alone-lists (scheme s) (database s) (cache s) q room (x .1) z (λ y. f (x .0 ∙ y)) ∙
     ap (λ (c : Cache). lists (cachedRows (database s) (marked (c .marks)) (q .column) (q .value))) (sym (after-cache s e o)) ∙
-    ap lists (carried (scheme s) (database s) (cache (stateAfter s o)) (q .column) (q .value) g n here)
+    ap lists (carries (scheme s) (database s) (cache (stateAfter s o)) (q .column) (q .value) g n here .rows)
