@@ -127,7 +127,13 @@ impl Design {
 
     /// Puts in a row at a free number.
     pub fn put_row(&mut self, number: usize, row: Row) -> Result<(), Cause> {
-        Cause::WrongOperand.unless(number < MOST_ROWS && !self.has_row(number))?;
+        Cause::WrongOperand.unless(number < MOST_ROWS)?;
+        self.put_row_anywhere(number, row)
+    }
+
+    /// Puts in a row at a free number, however large: a backend of any number of rows.
+    pub(crate) fn put_row_anywhere(&mut self, number: usize, row: Row) -> Result<(), Cause> {
+        Cause::WrongOperand.unless(!self.has_row(number))?;
         self.check_row(&row)?;
         if self.rows.len() <= number {
             self.rows.resize(number + 1, None);

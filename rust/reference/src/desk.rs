@@ -6,7 +6,7 @@
 use crate::design::Design;
 use crate::held::Holding;
 use crate::refusal::Cause;
-use crate::script::{Column, Command, Pair, Probe, Range, Value};
+use crate::script::{Column, Command, Pair, Probe, Range, Row, Value};
 
 /// The bytes for text that the program lends.
 const TEXT_BYTES: usize = 16_384;
@@ -163,6 +163,13 @@ impl Desk {
             Command::Desk(desk) => self.held.name(*desk).map(|()| Answer::Desk(*desk)),
             _ => Err(Cause::OutOfOrder),
         }
+    }
+
+    /// Puts in a row at a free number, however large: what 0x1D would be over a backend of
+    /// any number of rows. All other operations have no limit on rows.
+    pub fn put_anywhere(&mut self, number: usize, row: Row) -> Result<Answer, Cause> {
+        self.design.put_row_anywhere(number, row)?;
+        Ok(self.recache())
     }
 
     /// The report on knots, which is worked out once: operations leave the

@@ -29,7 +29,7 @@ impl Design {
 
     /// For each two tables, whether the first reaches the second along
     /// constraints in no or more steps.
-    fn reaches(&self) -> Vec<Vec<bool>> {
+    pub(crate) fn reaches(&self) -> Vec<Vec<bool>> {
         let tables = 0..self.tables.len();
         let mut reaches: Vec<Vec<bool>> = tables
             .clone()

@@ -22,5 +22,7 @@ pub mod reason;
 pub mod refusal;
 pub mod report;
 pub mod script;
+pub mod slice;
+pub mod verdict;
 
 pub use report::{report, report_lending, report_lending_text, ANSWER_WORDS};

@@ -8,6 +8,7 @@
 //! - [`layout`] says where things stand in the words.
 //! - `flaw` names all that makes lent memory unlawful or too short.
 //! - `design`, `held` and `rows` take the parts out of their words and lay them out.
+//! - `slices` are fetches and verdicts as words.
 //! - `written` is a design as the bytes of a script.
 //! - `told` is what a call answers.
 
@@ -16,12 +17,14 @@ mod flaw;
 mod held;
 pub mod layout;
 mod rows;
+mod slices;
 mod told;
 mod words;
 mod written;
 
 pub use flaw::Flaw;
 pub use rows::FREE;
+pub use slices::{fetch_words, missing, verdicts, FETCH_WORDS, VERDICT_WORDS};
 pub use told::{Told, Word, NUMBERS};
 
 use crate::design::{Design, LONGEST_SCRIPT, MOST_ROWS};
