@@ -3,7 +3,7 @@
  *
  * Everything a desk keeps lies in one struct that the caller lends; the library has no heap, no globals and no threads of its own. A design is opened from
  * the bytes of its script, and every operation is a step of a script: the bytes of one command, or of many, and the place of the next. wurzsige/commands.h
- * writes the bytes of each command, and wurzsige/reading.h reads what a desk has.
+ * writes the bytes of each command, wurzsige/reading.h reads what a desk has, and wurzsige/slices.h says what a part of a larger database still lacks.
  *
  *     static struct wurzsige desk;
  *     struct wurzsige_answer answer;
@@ -65,7 +65,9 @@ enum {
     WURZSIGE_NUMBERS = 16,        /* numbers that an answer can have */
     WURZSIGE_MOST_SCRIPT = 65536, /* bytes of a script */
     WURZSIGE_MOST_DESIGN = 21697, /* bytes that a written design can have */
-    WURZSIGE_MOST_TEXT = 16384    /* bytes of text that always suffice for a reason */
+    WURZSIGE_MOST_TEXT = 16384,   /* bytes of text that always suffice for a reason */
+    WURZSIGE_FETCH_WORDS = 5,     /* words of a fetch */
+    WURZSIGE_VERDICT_WORDS = 64   /* words of the verdicts on a design's columns: column c of table t has word 8 t + c */
 };
 
 /*
@@ -184,7 +186,17 @@ uint8_t wurzsige_parts_sizes(const uint8_t *script, size_t script_length, size_t
     const uint8_t *issues, size_t issues_length, const uint8_t *tables, size_t tables_length, const uint8_t *marks, size_t marks_length,
     const uint32_t *design, size_t design_length, const uint32_t *held, size_t held_length, uint64_t *sizes);
 
-/* ---- the same on a desk ---- */
+uint8_t wurzsige_parts_missing(const uint32_t *cells, size_t cells_length, const uint8_t *issues, size_t issues_length, const uint8_t *tables,
+    size_t tables_length, const uint8_t *marks, size_t marks_length, const uint32_t *design, size_t design_length, const uint32_t *held,
+    size_t held_length, const uint32_t *fetches, size_t fetches_length, size_t count, uint32_t *fetch);
+
+uint8_t wurzsige_parts_missing_trusted(const uint32_t *cells, size_t cells_length, const uint8_t *issues, size_t issues_length, const uint8_t *tables,
+    size_t tables_length, const uint16_t *catalog, const uint64_t *keys, const uint8_t *marks, size_t marks_length, const uint32_t *design,
+    size_t design_length, const uint32_t *held, const uint32_t *fetches, size_t fetches_length, size_t count, uint32_t *fetch);
+
+uint8_t wurzsige_parts_verdicts(const uint32_t *design, size_t design_length, uint32_t *verdicts);
+
+/* ---- the same on a desk; for the last three in wurzsige/slices.h ---- */
 
 /* What is told if the library is of another version than this header. */
 static inline void wurzsige_tell_other_version(size_t at, struct wurzsige_answer *answer) {
@@ -302,5 +314,6 @@ static inline uint8_t wurzsige_sizes(const struct wurzsige *desk, const uint8_t 
 #endif
 
 #include "wurzsige/reading.h"
+#include "wurzsige/slices.h"
 
 #endif

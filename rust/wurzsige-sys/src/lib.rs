@@ -39,11 +39,13 @@ mod memory;
 // No promise of this crate: what these functions take changes with the layout of `Memory`.
 #[doc(hidden)]
 pub mod parts;
+mod slices;
 mod told;
 mod version;
 pub mod word;
 
 pub use limits::{COLUMNS, CONSTRAINTS, DESKS, FILLINGS, FREE, JOINS, RANGES, TABLES, VALUES};
 pub use memory::{Memory, CATALOG, CELLS, DESIGN_WORDS, HELD_WORDS, KEYS, ROWS, WORKING};
+pub use slices::{verdict, FETCH_WORDS, VERDICT_WORDS};
 pub use told::{Sizes, Told, MOST_COMMAND, MOST_DESIGN, MOST_SCRIPT, MOST_TEXT, NUMBERS};
 pub use version::{library_version, VERSION};

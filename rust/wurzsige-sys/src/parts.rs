@@ -7,6 +7,7 @@
 //! no bytes has a pointer too, which isn't null.
 
 use crate::memory::{CATALOG, HELD_WORDS, KEYS, WORKING};
+use crate::slices::{FETCH_WORDS, VERDICT_WORDS};
 use crate::told::NUMBERS;
 
 extern "C" {
@@ -198,5 +199,70 @@ extern "C" {
         held: *const u32,
         held_length: usize,
         sizes: &mut [u64; 3],
+    ) -> u8;
+
+    /// Tells what must be fetched next for a desk whose rows are a slice of a larger
+    /// database: 0 for nothing, 1 for the fetch that is written into `fetch`, or a cause,
+    /// 7 and 12 for the memory, then 7 for fewer than five words for each of the `count`
+    /// fetches, then 5 for words that are no fetch or don't rise. With 0 and with a cause
+    /// `fetch` is as it was.
+    ///
+    /// # Safety
+    ///
+    /// What every call here asks.
+    pub fn wurzsige_parts_missing(
+        cells: *const u32,
+        cells_length: usize,
+        issues: *const u8,
+        issues_length: usize,
+        tables: *const u8,
+        tables_length: usize,
+        marks: *const u8,
+        marks_length: usize,
+        design: *const u32,
+        design_length: usize,
+        held: *const u32,
+        held_length: usize,
+        fetches: *const u32,
+        fetches_length: usize,
+        count: usize,
+        fetch: &mut [u32; FETCH_WORDS],
+    ) -> u8;
+
+    /// The same without the tests of the memory: 0, 1, or 7 or 5 for the fetches.
+    ///
+    /// # Safety
+    ///
+    /// What every call here asks, and that the memory is a desk, with its catalog.
+    pub fn wurzsige_parts_missing_trusted(
+        cells: *const u32,
+        cells_length: usize,
+        issues: *const u8,
+        issues_length: usize,
+        tables: *const u8,
+        tables_length: usize,
+        catalog: &[u16; CATALOG],
+        keys: &[u64; KEYS],
+        marks: *const u8,
+        marks_length: usize,
+        design: *const u32,
+        design_length: usize,
+        held: &[u32; HELD_WORDS],
+        fetches: *const u32,
+        fetches_length: usize,
+        count: usize,
+        fetch: &mut [u32; FETCH_WORDS],
+    ) -> u8;
+
+    /// Tells what a design decides of each of its columns: 0, or 7 or 12, which leave
+    /// `verdicts` as it was.
+    ///
+    /// # Safety
+    ///
+    /// What every call here asks.
+    pub fn wurzsige_parts_verdicts(
+        design: *const u32,
+        design_length: usize,
+        verdicts: &mut [u32; VERDICT_WORDS],
     ) -> u8;
 }

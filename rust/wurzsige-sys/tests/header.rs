@@ -56,8 +56,9 @@ fn in_the_header() -> Vec<Function> {
 /// What C calls a type of Rust: a pointer, a reference to one thing or to an array, or a
 /// number.
 fn c_type(rust: &str) -> String {
-    if let Some(pointee) = rust.strip_prefix("*const ") {
-        return format!("const{}*", c_type(pointee));
+    if let Some(pointee) = ["*const ", "&["].iter().find_map(|p| rust.strip_prefix(p)) {
+        let element = pointee.split(';').next().unwrap_or(pointee);
+        return format!("const{}*", c_type(element));
     }
     let pointers = ["*mut ", "&mut [", "&mut "];
     if let Some(pointee) = pointers.iter().find_map(|p| rust.strip_prefix(p)) {
@@ -98,6 +99,6 @@ fn here() -> Vec<Function> {
 #[test]
 fn the_functions_are_declared_as_in_the_header() {
     let (there, here) = (in_the_header(), here());
-    assert_eq!(there.len(), 7);
+    assert_eq!(there.len(), 10);
     assert_eq!(here, there);
 }

@@ -6,7 +6,7 @@ use std::fs;
 use std::mem::{align_of, offset_of, size_of};
 
 use common::{include, printed_by_c};
-use wurzsige_sys::{cause, command, word, Memory, Sizes, Told};
+use wurzsige_sys::{cause, command, verdict, word, Memory, Sizes, Told};
 
 /// What one of the crate's names is, and the C expression that has to be the same.
 type Same = (String, usize);
@@ -46,7 +46,8 @@ fn all() -> Vec<Same> {
         constants!(wurzsige_sys, "": VERSION TABLES CONSTRAINTS FILLINGS DESKS VALUES RANGES COLUMNS
             JOINS FREE MOST_COMMAND),
         constants!(wurzsige_sys, "": ROWS CELLS DESIGN_WORDS HELD_WORDS CATALOG KEYS WORKING NUMBERS
-            MOST_SCRIPT MOST_DESIGN MOST_TEXT),
+            MOST_SCRIPT MOST_DESIGN MOST_TEXT FETCH_WORDS VERDICT_WORDS),
+        constants!(verdict, "VERDICT_": FETCHES ONCE_LINKED ONCE_UNIQUE NEVER SEEING),
         constants!(word, "": LOADED HELD NO_CANDIDATE DROPPED GROUND SENT LISTS REFUSED EVEN UNEVEN
             TOTAL KNOT DESK OPEN OPENER NO_OPENER ABSENT REASON CHANGED DESIGN),
         constants!(cause, "CAUSE_": TOO_FEW_BYTES UNKNOWN_COMMAND OUT_OF_ORDER TOO_MANY
@@ -94,7 +95,7 @@ fn every_field_of_the_header_s_desk_is_compared() {
 /// A name that the header gets and this crate doesn't would go unseen above.
 #[test]
 fn the_header_has_no_constant_that_is_missing_here() {
-    let headers = ["wurzsige.h", "wurzsige/commands.h", "wurzsige/reading.h"];
+    let headers = ["", "/commands", "/reading", "/slices"].map(|name| format!("wurzsige{name}.h"));
     let headers = headers.map(|name| fs::read_to_string(include().join(name)));
     let headers = headers.map(|text| text.expect("a header")).concat();
     let known: Vec<String> = all().into_iter().map(|(name, _)| name).collect();
