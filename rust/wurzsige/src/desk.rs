@@ -7,7 +7,7 @@ use alloc::vec::Vec;
 use core::cell::RefCell;
 use core::fmt;
 
-use wurzsige_sys::{Memory, Sizes, MOST_DESIGN, MOST_TEXT};
+use wurzsige_sys::{Memory, Sizes, FETCH_WORDS, MOST_DESIGN, MOST_TEXT};
 
 use crate::answer::Answer;
 use crate::answers::{typed, Typed};
@@ -257,6 +257,14 @@ impl Desk {
     /// Looks at the memory.
     pub(crate) fn look<T>(&self, at: impl FnOnce(&Memory) -> T) -> T {
         at(self.inner.borrow().sound.memory())
+    }
+
+    /// What must be fetched next, as words.
+    pub(crate) fn missing_words(
+        &self,
+        fetches: &[[u32; FETCH_WORDS]],
+    ) -> Result<Option<[u32; FETCH_WORDS]>, u8> {
+        self.inner.borrow().sound.missing(fetches)
     }
 
     /// Carries out a command that writes neither lists nor text. It is for the caller to

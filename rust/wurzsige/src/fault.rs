@@ -59,7 +59,7 @@ impl Design {
         wrong(there, Operand::Table(table))
     }
 
-    fn column_fault(&self, column: Column) -> Option<Fault> {
+    pub(crate) fn column_fault(&self, column: Column) -> Option<Fault> {
         self.table_fault(column.table)
             .or_else(|| wrong(self.has(column), Operand::Column(column)))
     }

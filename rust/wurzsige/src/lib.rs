@@ -70,6 +70,12 @@
 //!
 //! The crate needs `alloc` and not `std`.
 //!
+//! # A part of a database
+//!
+//! A desk takes its rows for the whole backend: of a table that was cut it answers for the
+//! cut table. [`Desk::missing`] says what must still be fetched until a part of a larger
+//! database is enough, and `docs/SLICES.md` in the repository how a desk is fed with it.
+//!
 //! # What is proved
 //!
 //! The operations are; this crate around them, which turns operands into bytes and
@@ -96,7 +102,9 @@ mod questions;
 mod reason;
 mod refusal;
 mod report;
+mod slices;
 mod sound;
+mod verdict;
 
 pub use self::{
     answer::{Answer, Ground, Lists},
@@ -110,6 +118,8 @@ pub use self::{
     reason::{Origin, Reason, ReasonStep},
     refusal::{Cause, Operand, Refusal},
     report::{lines, run, Line, Lines, Run},
+    slices::{Fetch, Fetches},
+    verdict::Verdict,
 };
 pub use wurzsige_sys::{Memory, Sizes};
 

@@ -4,7 +4,7 @@
 
 use alloc::boxed::Box;
 
-use wurzsige_sys::{word, Memory, Told};
+use wurzsige_sys::{word, Memory, Told, FETCH_WORDS};
 
 use crate::answer::refusal;
 use crate::command::Command;
@@ -41,6 +41,15 @@ impl Sound {
         // SAFETY: it is a desk, by `open` or `tested`, and the library's functions keep
         // it so.
         unsafe { self.0.step_trusted(script, at, words, text) }
+    }
+
+    /// What must be fetched next.
+    pub fn missing(
+        &self,
+        fetches: &[[u32; FETCH_WORDS]],
+    ) -> Result<Option<[u32; FETCH_WORDS]>, u8> {
+        // SAFETY: it is a desk, as in `step`.
+        unsafe { self.0.missing_trusted(fetches) }
     }
 
     pub fn memory(&self) -> &Memory {

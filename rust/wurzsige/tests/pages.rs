@@ -8,13 +8,14 @@ use std::path::{Path, PathBuf};
 const WITHIN: [&str; 4] = ["command.rs", "fault.rs", "sound.rs", "parts.rs"];
 
 /// Files of types whose methods need an example each; elsewhere the type's is enough.
-const METHODS: [&str; 6] = [
+const METHODS: [&str; 7] = [
     "builder.rs",
     "calls.rs",
     "desk.rs",
     "memory.rs",
     "operations.rs",
     "questions.rs",
+    "slices.rs",
 ];
 
 fn sources(package: &str) -> Vec<PathBuf> {
