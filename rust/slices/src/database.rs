@@ -34,7 +34,7 @@ pub fn whole(random: &mut Random, rows: usize) -> Desk {
 /// From how many numbers cells are drawn: so many that a value has few rows, or so few that
 /// a load drags in hundreds.
 fn spread(random: &mut Random, rows: usize) -> usize {
-    rows / *random.pick(&[1, 2, 4, 8, 16])
+    rows / *random.pick(&[1, 2, 4, 8, 16, 64, 256])
 }
 
 /// Subjects of wards, recordings of subjects, events of recordings, staff of recordings.
