@@ -6,6 +6,7 @@ use format::Verdict;
 use format::read_design;
 use operate::perform;
 use state::Design;
+use state::HELD_WORDS;
 use state::Operation;
 
 // The cause of a refusal, 0 for none; and whether what had to stay untouched did.
@@ -225,7 +226,7 @@ fn try_long(
     );
     Tried {
         causes,
-        is_left: are_left(0, cells, issues, tables, marks),
+        is_left: are_left(0, cells, issues, tables, marks) && are_cells_left(held, HELD_WORDS),
     }
 }
 
@@ -235,7 +236,10 @@ fn try_longer(script: &[u8]) -> Tried {
     let mut issues = [9u8; 4101];
     let mut tables = [9u8; 514];
     let mut marks = [9u8; 514];
-    let mut held = [0u32; 358];
+    let mut held = [0u32; 361];
+    held[358] = 9;
+    held[359] = 9;
+    held[360] = 9;
     let design = load_3(
         script,
         &mut cells,
@@ -254,7 +258,7 @@ fn try_longer(script: &[u8]) -> Tried {
     )
 }
 
-// One place too short, and unlawful besides: 0 the cells, 1 the row tables, 2 the marks, 4 the issues; else longer buffers.
+// One place too short, and unlawful besides: 0 the cells, 1 the row tables, 2 the marks, 4 the issues, 5 what is held; else longer buffers.
 pub(crate) fn operations(script: &[u8], design: Design, kind: usize) -> Tried {
     let mut cells = [9u32; 4096];
     let mut issues = [9u8; 4096];
@@ -304,6 +308,17 @@ pub(crate) fn operations(script: &[u8], design: Design, kind: usize) -> Tried {
                 &mut tables,
                 &mut marks,
                 &mut held,
+            )
+        }
+        5 => {
+            let mut few = [9u32; 357];
+            try_short(
+                design,
+                &mut cells,
+                &mut issues,
+                &mut tables,
+                &mut marks,
+                &mut few,
             )
         }
         _ => try_longer(script),

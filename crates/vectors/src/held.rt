@@ -53,6 +53,7 @@ pub(crate) fn with_held(h: [u32; 358], kind: usize, i: usize, v: usize) -> [u32;
         14 => with_word(h, 0, v),
         15 => with_range_count(h, i, v),
         16 => with_range(h, i, v),
+        17 => with_word(h, i, v),
         _ => with_value(h, i, v),
     }
 }

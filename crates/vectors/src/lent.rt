@@ -152,12 +152,12 @@ fn with_row(mut s: State, kind: usize, i: usize, v: usize) -> State {
 // Kinds: 0 a cell, 1 a row table, 2 a mark, 3 how many are held, 4 a held pair (1,000,000 × desk + 100,000 × issue + 1,000 × filling + value), 5 to 7
 // how many tables, constraints and fillings, 8 a row of two columns that goes, with its row table afterwards, 9 the columns of table 0, 10 those of table 7, 11 the target table of constraint 1, then from 0.0,
 // 12 low of filling 0, 13 a cell's issue, 14 the named desk, 15 how many ranges a desk holds, 16 a range, at place 8 × desk + number
-// (1,000,000 × filling + 1,000 × low + high); any other, nothing.
+// (1,000,000 × filling + 1,000 × low + high), 17 a word of what is held; any other, nothing.
 pub(crate) fn changed(mut s: State, kind: usize, i: usize, v: usize) -> State {
     if kind < 3 || kind == 8 || kind == 13 {
         return with_row(s, kind, i, v);
     }
-    if kind == 3 || kind == 4 || (13 < kind && kind < 17) {
+    if kind == 3 || kind == 4 || (13 < kind && kind < 18) {
         let h = s.held;
         let changed = with_held(h, kind, i, v);
         s.held = changed;
