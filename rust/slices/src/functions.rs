@@ -31,7 +31,7 @@ impl Case {
     pub fn new(seed: u64, number: u64) -> Case {
         let mut random = Random::new(seed, number);
         let sound = sound(&mut random).lent;
-        let desk = sound.desk().ok().expect("a sound state");
+        let desk = sound.desk().expect("a sound state");
         let made = made(&mut random, &desk);
         let (mut fetches, mut count) = (made.words(), made.count());
         if random.percent(35) {

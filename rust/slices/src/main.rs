@@ -43,7 +43,7 @@ fn options(mut arguments: impl Iterator<Item = String>) -> Result<Options, &'sta
         seed: 1,
         seeds: 1,
         states: 20_000,
-        sessions: 200,
+        sessions: 60,
         rows: 3_000,
     };
     while let Some(argument) = arguments.next() {

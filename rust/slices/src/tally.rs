@@ -126,7 +126,7 @@ impl Tally {
     /// The outcomes that were never reached.
     pub fn never_reached(&self) -> Vec<&'static str> {
         let all = OF_FUNCTIONS.iter().chain(&OF_SESSIONS);
-        let never = all.filter(|name| self.counts.get(*name).map_or(true, |&count| count == 0));
+        let never = all.filter(|name| self.counts.get(*name).is_none_or(|&count| count == 0));
         never.copied().collect()
     }
 }

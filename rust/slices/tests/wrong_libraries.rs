@@ -188,13 +188,83 @@ fn without(told: u8, verdicts: &mut VerdictWords, part: u32) -> u8 {
     told
 }
 
+/// Passes over what is missing where a test says so of the state and the fetch.
+struct PassesOver(fn(&Lent, &FetchWords) -> bool);
+
+impl Library for PassesOver {
+    fn name(&self) -> &str {
+        "a library that passes over something"
+    }
+
+    fn step(&self, command: &[u8], lent: &mut Lent, words: &mut [u32]) -> Told {
+        SecondImplementation.step(command, lent, words)
+    }
+
+    fn missing(&self, lent: &Lent, fetches: &[u32], count: usize, fetch: &mut FetchWords) -> u8 {
+        self.missing_trusted(lent, fetches, count, fetch)
+    }
+
+    fn missing_trusted(
+        &self,
+        lent: &Lent,
+        fetches: &[u32],
+        count: usize,
+        fetch: &mut FetchWords,
+    ) -> u8 {
+        let mut named = *fetch;
+        let told = SecondImplementation.missing(lent, fetches, count, &mut named);
+        if told == 1 && (self.0)(lent, &named) {
+            return 0;
+        }
+        *fetch = named;
+        told
+    }
+
+    fn verdicts(&self, design: &[u32], verdicts: &mut VerdictWords) -> u8 {
+        SecondImplementation.verdicts(design, verdicts)
+    }
+}
+
+/// Whether some row has the fetch's number in its column, of whatever table.
+fn seen_anywhere(lent: &Lent, fetch: &FetchWords) -> bool {
+    let mut cells = lent.cells.iter().skip(fetch[2] as usize).step_by(8);
+    cells.any(|&cell| cell == fetch[3])
+}
+
+fn is_unique(lent: &Lent, fetch: &FetchWords) -> bool {
+    lent.design[4 + 2 * fetch[1] as usize] >> fetch[2] & 1 == 1
+}
+
+#[test]
+fn what_is_passed_over_is_found_on_states_and_in_sessions() {
+    type Test = fn(&Lent, &FetchWords) -> bool;
+    let tests: [(&str, Test); 3] = [
+        (
+            "a value of a unique column is known without a row",
+            is_unique,
+        ),
+        ("a value that was seen is known", seen_anywhere),
+        ("a held value is known", |lent, fetch| {
+            let fillings = lent.design[83..].chunks_exact(4);
+            fillings
+                .take(lent.design[2] as usize)
+                .any(|filling| filling[..2] == fetch[1..3])
+        }),
+    ];
+    for (what, test) in tests {
+        let library = PassesOver(test);
+        assert!(on_states(&library).is_err(), "{what}, on states");
+        assert!(in_sessions(&library).is_err(), "{what}, in sessions");
+    }
+}
+
 /// What a fed desk answers then isn't what the database answers.
 #[test]
 fn a_fetch_or_a_row_that_is_forgotten_is_found_in_a_session() {
     let forgets: [(&str, Missing); 3] = [
         ("every fetch", |told, _| if told == 1 { 0 } else { told }),
         ("some fetches of values", |told, fetch| {
-            match told == 1 && fetch[0] == 0 && fetch[3] % 5 == 0 {
+            match told == 1 && fetch[0] == 0 && fetch[3].is_multiple_of(5) {
                 true => 0,
                 false => told,
             }
@@ -210,7 +280,7 @@ fn a_fetch_or_a_row_that_is_forgotten_is_found_in_a_session() {
         assert!(in_sessions(&Wrong { trusted, ..RIGHT }).is_err(), "{what}");
     }
     // A row is put in: 0x1D, its number, its table, its cells. One of seven gets lost.
-    let loses = |command: &[u8]| command[0] == 0x1d && command[4] % 7 == 0;
+    let loses = |command: &[u8]| command[0] == 0x1d && command[4].is_multiple_of(7);
     assert!(
         in_sessions(&Wrong { loses, ..RIGHT }).is_err(),
         "rows that came"

@@ -23,4 +23,5 @@ mod ranges;
 mod reasons;
 mod rounds;
 mod rows_that_come;
+mod slices;
 mod totals;
