@@ -140,9 +140,9 @@ fn what_is_missing_is_held_to_the_word() {
             ..RIGHT
         };
         let found = on_states(&trusted).is_err();
-        // A trusted call is made where the plain one isn't refused.
-        let refuses = what.ends_with("taken");
-        assert_eq!(found, !refuses, "{what}, trusted");
+        // A trusted call is made on sound states alone.
+        let of_state = what.contains("unlawful");
+        assert_eq!(found, !of_state, "{what}, trusted");
     }
 }
 
