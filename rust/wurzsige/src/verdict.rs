@@ -42,12 +42,13 @@ pub struct Verdict {
     pub once_unique: bool,
     /// Every value that a cached row has in the column is complete there, by ground 1 or 2.
     pub seeing_is_enough: bool,
+    never: bool,
 }
 
 impl Verdict {
     /// No ground can ever apply: every probe of the column is sent.
     pub fn never(&self) -> bool {
-        !self.fetches && self.once_linked.is_none() && !self.once_unique
+        self.never
     }
 
     fn from_word(column: Column, word: u32) -> Verdict {
@@ -59,6 +60,7 @@ impl Verdict {
             once_linked: has(verdict::ONCE_LINKED).then_some(link),
             once_unique: has(verdict::ONCE_UNIQUE),
             seeing_is_enough: has(verdict::SEEING),
+            never: has(verdict::NEVER),
         }
     }
 }

@@ -50,44 +50,47 @@ impl Library {
     }
 }
 
-/// What a design decides of a column before any row is there, as the library's word has it.
+/// What a design decides of a column before any row is there.
 #[derive(Clone, Copy, Debug, PartialEq, Eq)]
-pub struct Verdict(u32);
+pub struct Verdict(wurzsige::Verdict);
 
 impl Verdict {
     /// A load can be asked for the column's values.
     pub fn fetches(self) -> bool {
-        self.0 & 1 != 0
+        self.0.fetches
     }
 
     /// A value is complete once a row that is here has it at the source of this link, the lowest of those that can.
     pub fn once_linked(self) -> Option<usize> {
-        (self.0 & 2 != 0).then_some((self.0 >> 8) as usize)
+        self.0.once_linked.map(usize::from)
     }
 
     /// A value is complete once a row that is here has it in the column, which is unique.
     pub fn once_unique(self) -> bool {
-        self.0 & 4 != 0
+        self.0.once_unique
     }
 
     /// Every value of the column is sent, always.
     pub fn never(self) -> bool {
-        self.0 & 8 != 0
+        self.0.never()
     }
 
     /// A value that is seen in the column is complete (02, Req 13).
     pub fn seen_is_all(self) -> bool {
-        self.0 & 16 != 0
+        self.0.seeing_is_enough
     }
 }
 
-/// The verdicts on all columns that there can be: column c of table t at 8 t + c.
+/// The verdicts on the design's columns.
 #[derive(Clone, Debug, PartialEq, Eq)]
-pub struct Verdicts([u32; 64]);
+pub struct Verdicts(Vec<wurzsige::Verdict>);
 
 impl Verdicts {
-    /// The verdict on a column, by the numbers of the script.
+    /// The verdict on a column of the design, by the numbers of the script.
     pub fn of(&self, table: usize, column: usize) -> Verdict {
-        Verdict(self.0[8 * table + column])
+        let is_here = |of: &&wurzsige::Verdict| {
+            (usize::from(of.column.table), usize::from(of.column.column)) == (table, column)
+        };
+        Verdict(*self.0.iter().find(is_here).expect("a column of the design"))
     }
 }
