@@ -156,6 +156,21 @@ pub enum Evenness {
     },
 }
 
+impl Evenness {
+    /// After how many later rounds every load is over in an even design of so many tables,
+    /// whatever its rows: 2 T - 1, and none without tables. That is a theorem about the
+    /// desk's answers (`even-bounds` of the crate `demands`).
+    ///
+    /// ```
+    /// use wurzsige::Evenness;
+    ///
+    /// assert_eq!(Evenness::most_rounds(7), 13);
+    /// ```
+    pub fn most_rounds(tables: usize) -> usize {
+        (2 * tables).saturating_sub(1)
+    }
+}
+
 /// The smallest knot.
 ///
 /// ```

@@ -73,12 +73,6 @@ impl Facts {
     }
 }
 
-/// After how many later rounds every load is over in an even design of so many tables (02, Req 01; proved for every database). Without tables
-/// there is none.
-pub fn rounds(tables: usize) -> usize {
-    (2 * tables).saturating_sub(1)
-}
-
 /// What becomes of a question.
 #[derive(Clone, Copy, Debug, PartialEq, Eq, PartialOrd, Ord)]
 pub enum Outcome {

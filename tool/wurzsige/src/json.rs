@@ -4,8 +4,9 @@ use design::{Design, Problem, Severity};
 use serde::Serialize;
 
 use crate::check::Checked;
-use crate::facts::{rounds, Facts, Outcome};
+use crate::facts::{Facts, Outcome};
 use crate::file::File;
+use crate::library::most_rounds;
 
 /// `check`.
 #[derive(Serialize)]
@@ -108,7 +109,7 @@ impl Check {
             .map(|knot| link_names(design, knot))
             .collect();
         self.untied_by = link_names(design, &facts.untied_by);
-        self.rounds = facts.is_even().then(|| rounds(design.tables.len()));
+        self.rounds = facts.is_even().then(|| most_rounds(design.tables.len()));
         let seen = facts.seen_is_all(design).into_iter();
         self.seen_is_all = seen.map(|place| design.column_name(place)).collect();
         let questions = design.questions.iter().map(|question| Question {

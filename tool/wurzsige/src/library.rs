@@ -1,9 +1,9 @@
-//! What the tool asks of the proved library, and nothing else: whether a design is accepted, its smallest knot, and the verdicts on its columns.
+//! What the tool asks of the proved library, and nothing else: whether a design is accepted, its smallest knot, the bound on rounds, and the verdicts on its columns.
 //! Here no rule is decided; bytes go in and answers come out.
 
 use std::fmt;
 
-use wurzsige::{Answer, Desk};
+use wurzsige::{Answer, Desk, Evenness};
 
 /// The operation that asks for the smallest knot (02, Req 11).
 const KNOT: u8 = 0x1c;
@@ -48,6 +48,11 @@ impl Library {
     pub fn verdicts(&self) -> Verdicts {
         Verdicts(self.0.verdicts())
     }
+}
+
+/// After how many later rounds every load is over in an even design of so many tables.
+pub fn most_rounds(tables: usize) -> usize {
+    Evenness::most_rounds(tables)
 }
 
 /// What a design decides of a column before any row is there.

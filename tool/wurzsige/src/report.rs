@@ -4,8 +4,9 @@ use codespan_reporting::term::termcolor::Color;
 use design::{Code, Design, Problem, Question, Role, Severity};
 
 use crate::check::{one_of, Checked};
-use crate::facts::{rounds, Facts, Outcome};
+use crate::facts::{Facts, Outcome};
 use crate::file::File;
+use crate::library::most_rounds;
 use crate::output::Page;
 
 /// How many knots are shown, at most.
@@ -64,7 +65,7 @@ fn refused(page: &mut Page, file: &File, problems: &[Problem]) {
 }
 
 fn evenness(page: &mut Page, file: &File, design: &Design, facts: &Facts) {
-    let rounds = rounds(design.tables.len());
+    let rounds = most_rounds(design.tables.len());
     let bound =
         format!("every load is over after at most {rounds} rounds, whatever the rows (proved)");
     if facts.is_even() {
