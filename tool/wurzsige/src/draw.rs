@@ -91,42 +91,67 @@ pub fn dot(file: &File) -> Result<String, Refused> {
 fn picture(design: &Design, facts: &Facts) -> String {
     let cells = Cells::of(design);
     let mut dot = String::from("digraph design {\n");
-    dot += &format!("  graph [rankdir=LR, nodesep=0.35, ranksep=1.1, pad=0.3, fontname=\"{FONT}\", labelloc=t, labeljust=l, label=<{}>];\n", title(design, facts));
+    dot += &format!("  graph [rankdir=LR, nodesep=0.35, ranksep=1.1, pad=0.3, fontname=\"{FONT}\", labelloc=t, labeljust=l, label=<{}>];\n", title(design, facts, &cells));
     dot += &format!("  node [shape=plain, fontname=\"{FONT}\", fontsize=11];\n");
-    dot += &format!("  edge [color=\"{LINK}\", penwidth=1.2, arrowsize=0.8];\n");
+    dot += "  edge [arrowsize=0.8];\n";
     for table in 0..design.tables.len() {
         dot += &format!(
             "  t{table} [label=<{}>];\n",
             node(design, facts, &cells, table)
         );
     }
-    for (number, link) in design.links.iter().enumerate() {
-        dot += &edge(
-            design,
-            link,
-            facts.knots.iter().any(|knot| knot.contains(&number)),
-        );
+    for number in 0..design.links.len() {
+        let in_knot = facts.knots.iter().any(|knot| knot.contains(&number));
+        dot += &edge(design, number, in_knot);
     }
     dot + "}\n"
 }
 
 /// The design's title, and below it what the signs mean that the picture has.
-fn title(design: &Design, facts: &Facts) -> String {
-    let mut signs = vec!["<b>bold</b> no value twice".to_string()];
-    if !design.loads.is_empty() {
-        signs.push(format!("<font color=\"{LOAD}\">◂</font> can be loaded"));
-    }
-    if !facts.seen_is_all(design).is_empty() {
-        signs.push("<font color=\"#2e7d32\">green</font> what is seen is complete".into());
-    }
-    if !facts.is_even() {
-        signs.push(format!(
-            "<font color=\"{KNOT}\"><b>red</b></font> links that feed themselves"
-        ));
-    }
-    signs.push(format!("<font color=\"{FAINT}\">grey</font> takes no cell"));
-    let title = escaped(&design.title);
-    format!("<font point-size=\"17\"><b>{title}</b></font><br align=\"left\"/><font point-size=\"5\"> </font><br align=\"left\"/><font point-size=\"10\">{}</font><br align=\"left\"/><font point-size=\"12\"> </font><br/>", signs.join("  ·  "))
+fn title(design: &Design, facts: &Facts, cells: &Cells) -> String {
+    let any_column = |is: &dyn Fn(Place) -> bool| places(design).any(is);
+    let signs = [
+        (
+            any_column(&|place| design.column(place).role.is_unique()),
+            "<b>bold</b> no value twice".to_string(),
+        ),
+        (
+            !design.loads.is_empty(),
+            format!("<font color=\"{LOAD}\">◂</font> can be loaded"),
+        ),
+        (
+            !facts.seen_is_all(design).is_empty(),
+            "<font color=\"#2e7d32\">green</font> what is seen is complete".into(),
+        ),
+        (
+            !facts.is_even(),
+            format!("<font color=\"{KNOT}\"><b>red</b></font> links that feed themselves"),
+        ),
+        (
+            any_column(&|place| cells.cell(place).is_none()),
+            format!("<font color=\"{FAINT}\">grey</font> takes no cell"),
+        ),
+    ];
+    let signs: Vec<String> = signs
+        .into_iter()
+        .filter_map(|(is_there, sign)| is_there.then_some(sign))
+        .collect();
+    let line = |size: u32, text: &str| {
+        // `dot` takes no empty text between two tags
+        let text = if text.is_empty() { " " } else { text };
+        format!("<font point-size=\"{size}\">{text}</font><br align=\"left\"/>")
+    };
+    let name = match design.title.is_empty() {
+        true => String::new(),
+        false => format!("<b>{}</b>", escaped(&design.title)),
+    };
+    line(17, &name) + &line(5, "") + &line(10, &signs.join("  ·  ")) + &line(12, "")
+}
+
+/// Every column of a design.
+fn places(design: &Design) -> impl Iterator<Item = Place> + '_ {
+    let tables = design.tables.iter().enumerate();
+    tables.flat_map(|(table, of)| (0..of.columns.len()).map(move |column| Place { table, column }))
 }
 
 fn node(design: &Design, facts: &Facts, cells: &Cells, table: usize) -> String {
@@ -180,26 +205,40 @@ fn kind(design: &Design, place: Place) -> String {
     }
 }
 
-fn edge(design: &Design, link: &Link, in_knot: bool) -> String {
-    let side = if link.source.table == link.target.table {
-        ":e"
-    } else {
-        ""
+/// The line of a link, with an arrow at its target.
+fn edge(design: &Design, number: usize, in_knot: bool) -> String {
+    let link = &design.links[number];
+    let look = look(design, link, in_knot);
+    let end = |place: Place| format!("t{}:c{}", place.table, place.column);
+    let (source, target) = (end(link.source), end(link.target));
+    match link.source.table == link.target.table {
+        true => turning(number, link, &source, &target, &look),
+        false => format!("  {source} -> {target} [{look}];\n"),
+    }
+}
+
+/// The line of a link within a table, over a point beside it. `dot` leaves no room for a line from a table to itself, and draws it across the
+/// tables that stand next.
+fn turning(number: usize, link: &Link, source: &str, target: &str, look: &str) -> String {
+    let (below, above) = match link.target.column > link.source.column {
+        true => ("n", "s"),
+        false => ("s", "n"),
     };
-    let end = |place: Place| format!("t{}:c{}{side}", place.table, place.column);
+    let point = format!("  l{number} [shape=point, width=0.05, {look}];\n");
+    let out = format!("  {source}:e -> l{number}:{below} [arrowhead=none, {look}];\n");
+    let back = format!("  {target}:e -> l{number}:{above} [dir=back, {look}];\n");
+    point + &out + &back
+}
+
+/// How a link's line looks, and what is told where the pointer rests on it.
+fn look(design: &Design, link: &Link, in_knot: bool) -> String {
     let tooltip = match &link.words {
         Some(words) => format!("{}: {words}", design.link_name(link)),
         None => design.link_name(link),
     };
-    let knot = if in_knot {
-        format!(", color=\"{KNOT}\", penwidth=2.2")
-    } else {
-        String::new()
-    };
+    let (color, width) = if in_knot { (KNOT, 2.2) } else { (LINK, 1.2) };
     format!(
-        "  {} -> {} [tooltip=\"{}\"{knot}];\n",
-        end(link.source),
-        end(link.target),
+        "tooltip=\"{}\", color=\"{color}\", penwidth={width}",
         quoted(&tooltip)
     )
 }

@@ -33,7 +33,7 @@ fn the_page_for_users_is_whole() {
     }
 }
 
-/// The picture of the pages is that of the design: each of its names is in it.
+/// The picture of the pages is that of the design: each of its names is in it, and a knot's links are red.
 #[test]
 fn the_picture_of_the_pages() {
     let svg = text("examples/sleep.svg");
@@ -45,18 +45,25 @@ fn the_picture_of_the_pages() {
             table.name
         );
     }
-    for link in &design.links {
-        let name = design
-            .link_name(link)
-            .replace('>', "&gt;")
-            .replace('-', "&#45;");
-        assert!(svg.contains(&name), "{name}");
-    }
+    let drawn: Vec<(&str, bool)> = svg
+        .split("xlink:title=\"")
+        .skip(1)
+        .map(|piece| {
+            let (title, rest) = piece.split_once('"').expect("a title's end");
+            (title, rest.contains("stroke=\"#c4161c\""))
+        })
+        .collect();
     let dot = wurzsige(&["draw", SLEEP]).output;
-    let knots = dot.matches("#c4161c\", penwidth").count();
-    assert_eq!(
-        svg.matches("stroke=\"#c4161c\"").count(),
-        2 * knots,
-        "a line and its head for each link of a knot"
-    );
+    for link in &design.links {
+        let name = design.link_name(link);
+        let is_red = |line: &str| line.contains(&name) && line.contains("color=\"#c4161c\"");
+        let in_knot = dot.lines().any(is_red);
+        let escaped = name.replace('>', "&gt;").replace('-', "&#45;");
+        let lines: Vec<_> = drawn
+            .iter()
+            .filter(|(title, _)| title.starts_with(&escaped))
+            .collect();
+        assert!(!lines.is_empty(), "{name}");
+        assert!(lines.iter().all(|(_, red)| *red == in_knot), "{name}");
+    }
 }

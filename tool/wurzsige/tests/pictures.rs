@@ -19,12 +19,9 @@ fn colours_mean_something() {
         .lines()
         .filter(|line| line.contains("#c4161c\", penwidth"))
         .collect();
-    assert_eq!(red.len(), 1);
-    assert!(
-        red[0].contains("staff.supervisor_id -> staff.id: supervises"),
-        "{}",
-        red[0]
-    );
+    assert_eq!(red.len(), 3, "a point, the line to it and the line back");
+    let link = "staff.supervisor_id -> staff.id: supervises";
+    assert!(red.iter().all(|line| line.contains(link)), "{red:?}");
     assert_eq!(dot.matches("bgcolor=\"#dff3e0\"").count(), 5);
     assert!(dot.contains("◂ ward</font>") && dot.contains("◂ night</font>"));
     assert!(dot.contains("<b>hospital_no</b>") && !dot.contains("<b>ward_code</b>"));
@@ -60,6 +57,36 @@ fn graphviz_draws_it() {
         std::fs::read_to_string(&path).expect("DOT"),
         expected("sleep.dot")
     );
+}
+
+/// Signs are explained that the picture has, and no others; and a design without a title, or without anything, can be drawn.
+#[test]
+fn the_signs_that_are_there_are_explained() {
+    let knots = wurzsige(&["draw", &design("knots")]).output;
+    assert!(knots.contains("can be loaded") && knots.contains("feed themselves"));
+    assert!(!knots.contains("no value twice") && !knots.contains("takes no cell"));
+    for text in ["design \"\"", "design \"\"\ntable a\n    x text\n"] {
+        let path = scratch("bare.svg");
+        let arguments = ["draw", "-", "-o", path.to_str().expect("a name")];
+        let ran = program::wurzsige_reading(&arguments, text.as_bytes());
+        assert_eq!((ran.errors.as_str(), ran.status), ("", 0), "{text}");
+    }
+}
+
+/// A link within a table is drawn over a point of its own, for which `dot` leaves room.
+#[test]
+fn a_link_within_a_table_turns_beside_it() {
+    let text = "design \"Staff\"\ntable staff\n    id   key text\n    boss text\nlink staff.id -> staff.boss\nlink staff.boss -> staff.id\nload id by staff.id\n";
+    let dot = program::wurzsige_reading(&["draw", "-"], text.as_bytes()).output;
+    let ends = |line: &str| line.split(" [").next().map(|ends| ends.trim().to_string());
+    let lines: Vec<String> = dot
+        .lines()
+        .filter(|line| line.contains("tooltip="))
+        .filter_map(ends)
+        .collect();
+    let first = ["l0", "t0:c0:e -> l0:n", "t0:c1:e -> l0:s"];
+    let second = ["l1", "t0:c1:e -> l1:s", "t0:c0:e -> l1:n"];
+    assert_eq!(lines, [first, second].concat());
 }
 
 /// Names are only names, whatever characters they have.
