@@ -24,6 +24,14 @@ enum Open {
     Lost,
 }
 
+/// Where items stand that can't be read, or name nothing. They count all the same.
+#[derive(Default)]
+pub(crate) struct Lost {
+    pub(crate) tables: Vec<Span>,
+    pub(crate) links: Vec<Span>,
+    pub(crate) loads: Vec<Span>,
+}
+
 pub(crate) struct Builder<'a> {
     pub(crate) text: &'a str,
     pub(crate) design: Design,
@@ -34,6 +42,7 @@ pub(crate) struct Builder<'a> {
     pub(crate) questions: Vec<QuestionItem>,
     /// Columns whose type can't be read.
     pub(crate) untyped: HashSet<Place>,
+    pub(crate) lost: Lost,
     /// Whether some link's line can't be read, or names nothing.
     pub(crate) lost_links: bool,
     /// Whether the title's line can't be read.
@@ -62,6 +71,7 @@ impl<'a> Builder<'a> {
             loads: Vec::new(),
             questions: Vec::new(),
             untyped: HashSet::new(),
+            lost: Lost::default(),
             lost_links: false,
             lost_title: false,
             lost_tables: false,
@@ -78,20 +88,37 @@ impl<'a> Builder<'a> {
         self.problems.push(problem);
     }
 
-    /// Remembers what a line that can't be read was about: its first word and, if it has one, the name that it gives.
-    pub(crate) fn faulty_line(&mut self, indented: bool, first: Option<&str>, name: Option<Name>) {
-        match (indented, first, name) {
-            (true, _, name) => self.faulty_column(name),
-            (false, Some("table"), Some(name)) => self.add_table(name, None, None),
-            (false, Some("link"), _) => self.lost_links = true,
-            (false, Some("load" | "question" | "source"), _) => {}
-            (false, Some("design"), _) => self.lost_title = true,
-            _ => {
-                self.lost_tables = true;
-                self.lost_links = true;
-                self.open = Open::Lost;
-            }
+    /// Remembers what a line that can't be read was about: the word that it begins with, or was meant to, and, if it has one, the name that it
+    /// gives.
+    pub(crate) fn faulty_line(&mut self, indented: bool, first: Name, name: Option<Name>) {
+        if indented {
+            return self.faulty_column(name);
         }
+        match (first.text.as_str(), name) {
+            ("table", Some(name)) => self.add_table(name, None, None),
+            ("table", None) => {
+                self.lost.tables.push(first.span);
+                self.lose_tables();
+            }
+            ("link", _) => self.lose_link(first.span),
+            ("load", _) => self.lost.loads.push(first.span),
+            ("question" | "source", _) => {}
+            ("design", _) => self.lost_title = true,
+            _ => self.lose_tables(),
+        }
+    }
+
+    /// A link whose line can't be read, or that names nothing.
+    pub(crate) fn lose_link(&mut self, span: Span) {
+        self.lost.links.push(span);
+        self.lost_links = true;
+    }
+
+    /// A line that may have been a table's.
+    fn lose_tables(&mut self) {
+        self.lost_tables = true;
+        self.lost_links = true;
+        self.open = Open::Lost;
     }
 
     fn faulty_column(&mut self, name: Option<Name>) {
@@ -359,11 +386,25 @@ impl<'a> Builder<'a> {
             } else if matches!(column.kind, Type::Tuple(_)) && !self.untyped.contains(&place) {
                 let issue = print::name(&issue.text);
                 format!("a tuple has no issue: make `{issue}` one of its columns")
+            } else if let Some(kind) = self.no_number(place.table, &issue.text) {
+                format!(
+                    "`{}` is {kind}, and an issue is a whole number from 0 to 255",
+                    issue.text
+                )
             } else {
                 continue;
             };
             self.problem(Problem::new(Code::E025, issue.span, message));
         }
+    }
+
+    /// The type of a table's column that is declared, and no number.
+    fn no_number(&self, table: usize, name: &str) -> Option<&Type> {
+        let columns = &self.design.tables[table].columns;
+        let column = columns.iter().position(|column| column.name == name)?;
+        let kind = &columns[column].kind;
+        let is_number = matches!(kind, Type::Integer | Type::Bigint);
+        (!is_number && !self.untyped.contains(&Place { table, column })).then_some(kind)
     }
 
     fn check_tables(&mut self) {

@@ -4,7 +4,7 @@ use crate::design::{Role, SourceKind};
 use crate::span::{joined, Span};
 
 /// A name or string with its place.
-#[derive(Clone, Debug)]
+#[derive(Clone, Debug, Default)]
 pub(crate) struct Name {
     pub(crate) text: String,
     pub(crate) span: Span,

@@ -3,6 +3,7 @@
 use crate::build::Builder;
 use crate::cells::{is_used, Cells, MOST_CELLS};
 use crate::problem::{Code, Problem};
+use crate::span::{joined, Span};
 
 /// The most tables of a design.
 pub const MOST_TABLES: usize = 8;
@@ -14,27 +15,28 @@ pub const MOST_LINKS: usize = 16;
 pub const MOST_LOADS: usize = 8;
 
 pub(crate) fn check(builder: &mut Builder) {
-    let spans = &builder.spans;
-    let link = spans
+    let (spans, lost) = (&builder.spans, &builder.lost);
+    let links: Vec<Span> = spans
         .links
-        .get(MOST_LINKS)
-        .map(|(source, target)| source.start..target.end);
+        .iter()
+        .map(|(source, target)| joined(source, target))
+        .collect();
     let passed = [
         (
             Code::E040,
-            spans.tables.get(MOST_TABLES).cloned(),
+            past(MOST_TABLES, &spans.tables, &lost.tables),
             "a design has at most 8 tables",
             "the ninth",
         ),
         (
             Code::E042,
-            link,
+            past(MOST_LINKS, &links, &lost.links),
             "a design has at most 16 links",
             "the seventeenth",
         ),
         (
             Code::E043,
-            spans.loads.get(MOST_LOADS).cloned(),
+            past(MOST_LOADS, &spans.loads, &lost.loads),
             "a design has at most 8 loads",
             "the ninth",
         ),
@@ -45,6 +47,13 @@ pub(crate) fn check(builder: &mut Builder) {
     }
     check_cells(builder);
     check_used(builder);
+}
+
+/// Where the first item past a count stands, of those that name something and those that don't.
+fn past(count: usize, read: &[Span], lost: &[Span]) -> Option<Span> {
+    let mut all = [read, lost].concat();
+    all.sort_by_key(|span| span.start);
+    all.get(count).cloned()
 }
 
 fn check_cells(builder: &mut Builder) {

@@ -13,7 +13,7 @@ pub(crate) fn resolve(builder: &mut Builder) {
         let source = builder.resolve(&item.arrow.source);
         let target = builder.resolve(&item.arrow.target);
         let (Some(source), Some(target)) = (source, target) else {
-            builder.lost_links = true;
+            builder.lose_link(item.arrow.span());
             continue;
         };
         add(builder, &mut classes, item, source, target);

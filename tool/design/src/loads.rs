@@ -8,23 +8,25 @@ use crate::problem::{Code, Problem};
 use crate::span::joined;
 
 pub(crate) fn resolve(builder: &mut Builder) {
+    let mut names = Vec::new();
     for item in std::mem::take(&mut builder.loads) {
-        named_twice(builder, &item.name);
+        named_twice(builder, &item.name, &names);
+        names.push(item.name.clone());
         let values = item.values.as_ref().map(|values| range(builder, values));
-        if let Some(column) = builder.resolve(&item.column) {
-            add(builder, item, column, values.unwrap_or_default());
+        match builder.resolve(&item.column) {
+            Some(column) => add(builder, item, column, values.unwrap_or_default()),
+            None => builder.lost.loads.push(item.name.span),
         }
     }
 }
 
-fn named_twice(builder: &mut Builder, name: &Name) {
-    let same = |load: &Load| load.name == name.text;
-    if let Some(first) = builder.design.loads.iter().position(same) {
-        let message = format!("there are two loads `{}`", name.text);
-        let problem = Problem::new(Code::E016, name.span.clone(), message);
-        let first = builder.spans.loads[first].clone();
-        builder.problem(problem.also(first, "the first one"));
-    }
+fn named_twice(builder: &mut Builder, name: &Name, before: &[Name]) {
+    let Some(first) = before.iter().find(|other| other.text == name.text) else {
+        return;
+    };
+    let message = format!("there are two loads `{}`", name.text);
+    let problem = Problem::new(Code::E016, name.span.clone(), message);
+    builder.problem(problem.also(first.span.clone(), "the first one"));
 }
 
 fn add(builder: &mut Builder, item: LoadItem, column: Place, values: Option<(u32, u32)>) {

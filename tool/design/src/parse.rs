@@ -21,6 +21,26 @@ const ROLES: [(&str, Role); 3] = [
     ("measure", Role::Measure),
 ];
 
+/// Words that SQL has behind a type, and what is written here.
+const SQL: [(&str, &str); 4] = [
+    (
+        "primary",
+        "a key is written before the type: `NAME key TYPE`",
+    ),
+    (
+        "not",
+        "a column that may be NULL and one that may not are written alike",
+    ),
+    (
+        "null",
+        "a column that may be NULL and one that may not are written alike",
+    ),
+    (
+        "references",
+        "what a row brings along is written as a link: `link TABLE.COLUMN -> TABLE.COLUMN`",
+    ),
+];
+
 /// The item of a line that begins with its first character.
 pub(crate) fn item(tokens: &[Token]) -> Result<Item, Problem> {
     let mut cursor = Cursor::new(tokens);
@@ -116,7 +136,11 @@ fn table(cursor: &mut Cursor) -> Result<Item, Problem> {
     } else {
         &[]
     });
-    finished.map_err(|problem| unquoted(problem, cursor, "a label"))?;
+    finished.map_err(|problem| match label {
+        None => unquoted(problem, cursor, "a label"),
+        Some(_) if cursor.take("from").is_some() => problem.help("it stands before the label"),
+        Some(_) => problem,
+    })?;
     Ok(Item::Table(TableItem { name, from, label }))
 }
 
@@ -163,8 +187,11 @@ fn behind_type(problem: Problem, cursor: &mut Cursor) -> Problem {
     if cursor.take("(").is_some() {
         return problem.help("a type has no length");
     }
-    match take_role(cursor) {
-        Some(_) => problem.help("it stands before the type"),
+    if take_role(cursor).is_some() {
+        return problem.help("it stands before the type");
+    }
+    match SQL.iter().find(|(word, _)| cursor.take(word).is_some()) {
+        Some((_, help)) => problem.help(help),
         None => problem,
     }
 }
@@ -234,7 +261,10 @@ fn link(cursor: &mut Cursor) -> Result<Item, Problem> {
     let arrow = cursor.arrow()?;
     let words = cursor.text().map(|words| words.text);
     let finished = cursor.finish(&[]);
-    finished.map_err(|problem| unquoted(problem, cursor, "a link's words"))?;
+    finished.map_err(|problem| match words {
+        None => unquoted(problem, cursor, "a link's words"),
+        Some(_) => problem,
+    })?;
     Ok(Item::Link(LinkItem { arrow, words }))
 }
 

@@ -13,8 +13,10 @@ const BEFORE: &str = "the tables that stand before it";
 const ALL: &str = "the question's tables";
 
 pub(crate) fn resolve(builder: &mut Builder) {
+    let mut texts = Vec::new();
     for item in std::mem::take(&mut builder.questions) {
-        asked_twice(builder, &item.text);
+        asked_twice(builder, &item.text, &texts);
+        texts.push(item.text.clone());
         let Some(column) = builder.resolve(&item.column) else {
             check_names(builder, &item);
             continue;
@@ -32,24 +34,31 @@ pub(crate) fn resolve(builder: &mut Builder) {
 fn check_names(builder: &mut Builder, item: &QuestionItem) {
     for with in &item.with {
         builder.resolve_table(&with.table);
+        check_link(builder, with);
     }
     if let Some(total) = &item.total {
         builder.resolve(total);
     }
 }
 
-fn asked_twice(builder: &mut Builder, text: &Name) {
-    let same = |question: &Question| question.text == text.text;
-    if let Some(first) = builder.design.questions.iter().position(same) {
-        let message = "there are two questions with this text";
-        let problem = Problem::new(Code::E017, text.span.clone(), message);
-        let first = builder.spans.questions[first].clone();
-        builder.problem(
-            problem
-                .also(first, "the first one")
-                .help("a question is known by its text"),
-        );
+/// The names of the link by which a table is joined that can't be.
+fn check_link(builder: &mut Builder, with: &WithItem) {
+    if let Some(by) = &with.by {
+        named_link(builder, by);
     }
+}
+
+fn asked_twice(builder: &mut Builder, text: &Name, before: &[Name]) {
+    let Some(first) = before.iter().find(|other| other.text == text.text) else {
+        return;
+    };
+    let message = "there are two questions with this text";
+    let problem = Problem::new(Code::E017, text.span.clone(), message);
+    builder.problem(
+        problem
+            .also(first.span.clone(), "the first one")
+            .help("a question is known by its text"),
+    );
 }
 
 fn question(
@@ -59,21 +68,26 @@ fn question(
 ) -> Option<(Question, crate::span::Span)> {
     let mut positions = vec![column.table];
     let mut joins = Vec::new();
+    let mut lost = false;
     for (index, with) in item.with.iter().enumerate() {
         if index == MOST_JOINS {
             let message = "a question joins at most four tables";
             builder.problem(
                 Problem::new(Code::E044, with.table.span.clone(), message).label("the fifth"),
             );
-            break;
         }
-        let join = join(builder, &positions, with);
-        positions.extend(join.map(|join| builder.design.links[join.link].target.table));
-        joins.extend(join);
+        match join(builder, &positions, lost, with) {
+            Joined::By(join) => {
+                joins.push(join);
+                positions.push(builder.design.links[join.link].target.table);
+            }
+            Joined::To(table) => positions.push(table),
+            Joined::Lost => lost = true,
+        }
     }
     let whole = joins.len() == item.with.len();
     let total = match &item.total {
-        Some(name) => Some(total(builder, &positions, whole, name)?),
+        Some(name) => Some(total(builder, &positions, lost, name)?),
         None => None,
     };
     let question = Question {
@@ -95,26 +109,43 @@ pub fn ways(design: &Design, earlier: &[usize], target: usize) -> Vec<Join> {
     earlier.iter().enumerate().flat_map(from).collect()
 }
 
-fn join(builder: &mut Builder, earlier: &[usize], with: &WithItem) -> Option<Join> {
-    let target = builder.resolve_table(&with.table)?;
+/// What is known of a joined table.
+enum Joined {
+    /// By which link it is joined.
+    By(Join),
+    /// Only that it is this one: how it is joined is a mistake.
+    To(usize),
+    /// Nothing.
+    Lost,
+}
+
+/// Joins a table. Where one before it is lost, a link may lead to it from there, and that none does from the others is no mistake.
+fn join(builder: &mut Builder, earlier: &[usize], lost: bool, with: &WithItem) -> Joined {
+    let Some(target) = builder.resolve_table(&with.table) else {
+        check_link(builder, with);
+        return Joined::Lost;
+    };
     let mut fitting = ways(&builder.design, earlier, target);
     if let Some(by) = &with.by {
-        let link = named_link(builder, by)?;
+        let Some(link) = named_link(builder, by) else {
+            return Joined::To(target);
+        };
         fitting.retain(|join| join.link == link);
-        if fitting.is_empty() {
+        let leads_there = builder.design.links[link].target.table == target;
+        if fitting.is_empty() && !(lost && leads_there) {
             let problem = elsewhere(builder, earlier, with, by);
             builder.problem(problem);
-            return None;
+            return Joined::To(target);
         }
     }
     let problem = match fitting[..] {
-        [join] => return Some(join),
-        [] if builder.lost_links => return None,
+        [join] => return Joined::By(join),
+        [] if builder.lost_links || lost => return Joined::To(target),
         [] => no_way(builder, earlier, target, with),
         _ => several(builder, earlier, &fitting, with),
     };
     builder.problem(problem);
-    None
+    Joined::To(target)
 }
 
 /// The link that `by` names.
@@ -226,8 +257,8 @@ fn several(builder: &Builder, earlier: &[usize], fitting: &[Join], with: &WithIt
     problem.help(format!("say by which:{}", lines.collect::<String>()))
 }
 
-/// What a question adds up. Without all of its joins a table that isn't there is no mistake.
-fn total(builder: &mut Builder, positions: &[usize], whole: bool, name: &Dotted) -> Option<Total> {
+/// What a question adds up. Where a joined table is lost, one that isn't there is no mistake.
+fn total(builder: &mut Builder, positions: &[usize], lost: bool, name: &Dotted) -> Option<Total> {
     let place = builder.resolve(name)?;
     let column = builder.design.column(place);
     if column.role != Role::Measure && !builder.untyped.contains(&place) {
@@ -248,7 +279,7 @@ fn total(builder: &mut Builder, positions: &[usize], whole: bool, name: &Dotted)
             let column = place.column;
             return Some(Total { position, column });
         }
-        [] if !whole => return None,
+        [] if lost => return None,
         [] => {
             let message = format!("`{}` isn't in this question", name.table.text);
             let problem = Problem::new(Code::E052, name.table.span.clone(), message);

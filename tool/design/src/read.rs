@@ -68,8 +68,9 @@ fn read_line(builder: &mut Builder, start: usize, line: &str) {
     let tokens = match tokens(line, start) {
         Ok(tokens) => tokens,
         Err(problem) => {
-            let name = word(line, start, usize::from(!indented));
-            builder.faulty_line(indented, line.split_whitespace().next(), name);
+            let name = word(line, start, usize::from(!indented)).filter(|name| is_word(&name.text));
+            let first = word(line, start, 0).unwrap_or_default();
+            builder.faulty_line(indented, first, name);
             return builder.problem(problem);
         }
     };
@@ -87,8 +88,11 @@ fn read_line(builder: &mut Builder, start: usize, line: &str) {
                 Some(item) => add(builder, item, &tokens[0]),
                 None => {
                     let name = tokens.get(usize::from(!indented)).and_then(name_of);
-                    let first = parse::meant(&tokens[0]).unwrap_or(tokens[0].raw);
-                    builder.faulty_line(indented, Some(first), name);
+                    let first = Name {
+                        text: parse::meant(&tokens[0]).unwrap_or(tokens[0].raw).into(),
+                        span: tokens[0].span.clone(),
+                    };
+                    builder.faulty_line(indented, first, name);
                 }
             }
             builder.problem(problem);
@@ -96,12 +100,9 @@ fn read_line(builder: &mut Builder, start: usize, line: &str) {
     }
 }
 
-/// The name in a line that can't be cut into tokens: its first word, or the one behind it.
+/// A piece between blanks of a line that can't be cut into tokens.
 fn word(line: &str, start: usize, index: usize) -> Option<Name> {
-    let word = line
-        .split_whitespace()
-        .nth(index)
-        .filter(|word| is_word(word))?;
+    let word = line.split_whitespace().nth(index)?;
     let begins = start + (word.as_ptr() as usize - line.as_ptr() as usize);
     Some(Name {
         text: word.to_string(),

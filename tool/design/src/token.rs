@@ -3,6 +3,8 @@
 use crate::problem::{Code, Problem};
 use crate::span::Span;
 
+const ARROW: &str = "an arrow is written `->`";
+const RANGE: &str = "a range is written `LOW..HIGH`";
 const SIGNS: [&str; 8] = ["->", "..", ".", "=", "?", ",", "(", ")"];
 
 /// What a token is.
@@ -96,13 +98,15 @@ fn token(line: &str, start: usize) -> Result<(Kind, usize), Problem> {
 /// A dash that is no arrow: in a name, before a number, or else a mistaken arrow.
 fn dash(line: &str, start: usize) -> Problem {
     let problem = Problem::new(Code::E002, start..start + 1, "`-` has no meaning here");
-    let behind = &line[start + 1..];
-    if line[..start].ends_with(in_word) && behind.starts_with(in_word) {
-        return problem.help("a name with a `-` stands in backquotes");
-    }
-    match behind.starts_with(|c: char| c.is_ascii_digit()) {
-        true => problem.help("no number is below 0 here"),
-        false => problem.help("an arrow is written `->`"),
+    let (before, behind) = (&line[..start], &line[start + 1..]);
+    let word = before.rsplit(|c| !in_word(c)).next().unwrap_or_default();
+    let is_digit = |c: char| c.is_ascii_digit();
+    match (word, behind.starts_with(is_digit)) {
+        ("", true) => problem.help("no number is below 0 here"),
+        (digits, true) if digits.chars().all(is_digit) => problem.help(RANGE),
+        ("", false) => problem.help(ARROW),
+        _ if behind.starts_with(in_word) => problem.help("a name with a `-` stands in backquotes"),
+        _ => problem.help(ARROW),
     }
 }
 
@@ -171,8 +175,8 @@ fn stray(text: &str, start: usize) -> Problem {
         '\'' | '“' | '”' | '„' | '«' | '»' | '‘' | '’' => {
             problem.help("strings stand in double quotes: \"..\"")
         }
-        '–' | '—' | '→' | '>' => problem.help("an arrow is written `->`"),
-        '…' => problem.help("a range is written `LOW..HIGH`"),
+        '–' | '—' | '→' | '←' | '<' | '>' => problem.help(ARROW),
+        '…' => problem.help(RANGE),
         ';' => problem.help("an item ends with its line"),
         '/' => problem.help("`#` begins a comment"),
         _ if !character.is_control() => problem.help(
