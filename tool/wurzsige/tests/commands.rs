@@ -165,6 +165,20 @@ fn explain_has_a_page_for_every_code() {
     assert_eq!(ran.status, 2);
 }
 
+/// The examples of the page on a file that isn't text are commands.
+#[test]
+fn the_page_of_files_that_are_no_text_holds() {
+    let page = design::Code::E001.page();
+    let (wrong, place) = page.wrong().expect("an example");
+    let ran = program::shell(&wrong);
+    let told = format!("wurzsige: standard input:{place}: error[E001]: the file isn't text: ");
+    assert!(ran.errors.starts_with(&told), "{}", ran.errors);
+    assert_eq!((ran.output.as_str(), ran.status), ("", 3));
+    let ran = program::shell(&page.right().expect("an example"));
+    assert!(ran.output.contains("Schläfer"), "{}", ran.output);
+    assert_eq!((ran.errors.as_str(), ran.status), ("", 0));
+}
+
 /// The examples of the codes for which the library is asked.
 #[test]
 fn the_pages_of_warnings_hold() {

@@ -59,6 +59,19 @@ pub fn wurzsige_alone(arguments: &[&str]) -> Ran {
     run(command, b"")
 }
 
+/// Runs a command of a shell that finds the program by its name.
+pub fn shell(line: &str) -> Ran {
+    let program = PathBuf::from(env!("CARGO_BIN_EXE_wurzsige"));
+    let mut folders = vec![program.parent().expect("its folder").to_path_buf()];
+    folders.extend(std::env::split_paths(
+        &std::env::var_os("PATH").unwrap_or_default(),
+    ));
+    let mut command = Command::new("sh");
+    command.args(["-c", line]).current_dir(top());
+    command.env("PATH", std::env::join_paths(folders).expect("folders"));
+    run(command, b"")
+}
+
 fn command(arguments: &[&str]) -> Command {
     let mut command = Command::new(env!("CARGO_BIN_EXE_wurzsige"));
     command
