@@ -51,7 +51,7 @@ impl Checked {
 }
 
 /// The warning that links feed themselves.
-fn knot_warning(file: &File, facts: &Facts, knot: &[usize]) -> Problem {
+pub fn knot_warning(file: &File, facts: &Facts, knot: &[usize]) -> Problem {
     let spans = &file.reading.spans.links;
     let (first, rest) = (knot[0], &knot[1..]);
     let message = match rest {
@@ -95,13 +95,21 @@ fn untying(file: &File, facts: &Facts, knot: &[usize]) -> String {
 
 /// One of some links, by their lines.
 pub fn one_of(file: &File, links: &[usize]) -> String {
+    match links {
+        [_] => lines(file, links),
+        _ => format!("one of the {}", lines(file, links)),
+    }
+}
+
+/// The lines of some links.
+pub fn lines(file: &File, links: &[usize]) -> String {
     let lines: Vec<String> = links
         .iter()
         .map(|&link| file.link_line(link).to_string())
         .collect();
     match &lines[..] {
         [line] => format!("line {line}"),
-        _ => format!("one of the lines {}", lines.join(", ")),
+        _ => format!("lines {}", lines.join(", ")),
     }
 }
 
@@ -115,26 +123,32 @@ fn never_answered(file: &File, design: &Design, facts: &Facts) -> Result<Vec<Pro
         let message = format!("the desk never answers \"{}\"", question.text);
         let problem = Problem::new(Code::W02, span.clone(), message);
         problems.push(match opening_load(design, question)? {
-            Some(line) => problem.note(format!("would need: {line}")),
+            Some(note) => problem.note(note),
             None => problem,
         });
     }
     Ok(problems)
 }
 
-/// The line of a load by which a question would be answered, as the library says of the design with it.
+/// The line of a load by which a question would be answered, as the library says of the design with it; where there are as many loads as may be,
+/// with it in the place of another one.
 fn opening_load(design: &Design, question: &Question) -> Result<Option<String>, Refused> {
-    if design.loads.len() == design::MOST_LOADS {
-        return Ok(None);
-    }
     let load = Load {
         name: load_name(design, question.column),
         column: question.column,
         values: None,
     };
     let line = design::load_line(design, &load);
-    let opened = outcome_with(design, load, question)? > Outcome::Never;
-    Ok(opened.then_some(line))
+    let mut design = design.clone();
+    let full = design.loads.len() == design::MOST_LOADS;
+    if full {
+        design.loads.pop();
+    }
+    let opened = outcome_with(&design, load, question)? > Outcome::Never;
+    Ok(opened.then(|| match full {
+        true => format!("would need, in the place of another load: {line}"),
+        false => format!("would need: {line}"),
+    }))
 }
 
 /// A name for a load by a column that no load has yet.

@@ -6,16 +6,11 @@ use design::{script, script_with, Cells, Design, Load, Place, Question};
 
 use crate::library::{Library, Refused, Verdict, Verdicts};
 
-/// How often the library is asked for knots of what is left of a design, at most.
-const MOST_ASKS: usize = 256;
-
 /// What the library says of a design.
 #[derive(Clone, Debug)]
 pub struct Facts {
-    /// The knots, each the numbers of its links, the smallest one of the whole design first.
+    /// All knots, each the numbers of its links, those of the fewest links first.
     pub knots: Vec<Vec<usize>>,
-    /// Whether there may be more knots than were asked for.
-    pub more_knots: bool,
     /// The links of which each, taken out alone, leaves an even design; none for an even one.
     pub untied_by: Vec<usize>,
     verdicts: Verdicts,
@@ -26,14 +21,13 @@ impl Facts {
     /// Asks the library.
     pub fn of(design: &Design) -> Result<Facts, Refused> {
         let library = Library::open(&script(design))?;
-        let (knots, more_knots) = knots(design)?;
+        let knots = knots(design)?;
         Ok(Facts {
             untied_by: match knots.is_empty() {
                 true => Vec::new(),
                 false => untied_by(design)?,
             },
             knots,
-            more_knots,
             verdicts: library.verdicts(),
             cells: Cells::of(design),
         })
@@ -160,17 +154,15 @@ fn untied_by(design: &Design) -> Result<Vec<usize>, Refused> {
     Ok(untying)
 }
 
-/// All knots: the smallest one, and with its links taken out one at a time those that are left, until none is; and whether the asking was broken
-/// off before.
+/// All knots: the smallest one, and with its links taken out one at a time those that are left, until none is.
 ///
 /// Sets of links are taken out in order of their size. Where a knot that is known has lost none of its links, it is left there, and the library
 /// needn't be asked; where all that was taken out of an even design is out, nothing is.
-fn knots(design: &Design) -> Result<(Vec<Vec<usize>>, bool), Refused> {
+fn knots(design: &Design) -> Result<Vec<Vec<usize>>, Refused> {
     let mut known: Vec<(Links, Vec<usize>)> = Vec::new();
     let mut even: Vec<Links> = Vec::new();
     let mut queue = VecDeque::from([0]);
     let mut seen = HashSet::from([0]);
-    let mut asks = 0;
     while let Some(out) = queue.pop_front() {
         if even.iter().any(|&even| includes(out, even)) {
             continue;
@@ -178,24 +170,18 @@ fn knots(design: &Design) -> Result<(Vec<Vec<usize>>, bool), Refused> {
         let left = known.iter().find(|(links, _)| links & out == 0);
         let knot = match left {
             Some((_, knot)) => knot.clone(),
-            None if asks == MOST_ASKS => return Ok((only_knots(known), true)),
-            None => {
-                asks += 1;
-                let knot = knot_without(design, out)?;
-                let links = knot.iter().fold(0, |links, &link| with(links, link));
-                match knot.is_empty() {
-                    true => even.push(out),
-                    false => known.push((links, knot.clone())),
-                }
-                knot
-            }
+            None => knot_without(design, out)?,
         };
+        if knot.is_empty() {
+            even.push(out);
+        } else if left.is_none() {
+            let links = knot.iter().fold(0, |links, &link| with(links, link));
+            known.push((links, knot.clone()));
+        }
         let next = knot.into_iter().map(|link| with(out, link));
         queue.extend(next.filter(|&out| seen.insert(out)));
     }
-    Ok((only_knots(known), false))
-}
-
-fn only_knots(known: Vec<(Links, Vec<usize>)>) -> Vec<Vec<usize>> {
-    known.into_iter().map(|(_, knot)| knot).collect()
+    let mut knots: Vec<Vec<usize>> = known.into_iter().map(|(_, knot)| knot).collect();
+    knots.sort_by_key(Vec::len);
+    Ok(knots)
 }

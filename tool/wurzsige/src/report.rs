@@ -3,14 +3,15 @@
 use codespan_reporting::term::termcolor::Color;
 use design::{Code, Design, Problem, Question, Role, Severity};
 
-use crate::check::{one_of, Checked};
+use crate::check::{knot_warning, lines, one_of, Checked};
 use crate::facts::{Facts, Outcome};
 use crate::file::File;
+use crate::json::link_names;
 use crate::library::most_rounds;
 use crate::output::Page;
 
-/// How many knots are shown, at most.
-const SHOWN_KNOTS: usize = 8;
+/// How many knots are shown with their lines; of more the links' names and the lines' numbers.
+const WHOLE_KNOTS: usize = 8;
 
 /// Adds the report to a page.
 pub fn report(page: &mut Page, file: &File, checked: &Checked) {
@@ -22,24 +23,33 @@ pub fn report(page: &mut Page, file: &File, checked: &Checked) {
         return refused(page, file, problems);
     };
     accepted(page, file, design);
-    for problem in shown(problems) {
+    // knots come by their size, and questions stand in a list of their own
+    let by_place = |problem: &&Problem| ![Code::W01, Code::W02].contains(&problem.code);
+    for problem in problems.iter().filter(by_place) {
         page.problem(file, problem);
     }
+    knots(page, file, design, facts);
     evenness(page, file, design, facts);
     seen(page, design, facts);
     questions(page, file, design, checked, facts);
 }
 
-/// The warnings that are shown with their lines: not too many knots, and no questions, which stand in a list of their own.
-fn shown(problems: &[Problem]) -> impl Iterator<Item = &Problem> {
-    let mut knots = 0;
-    problems.iter().filter(move |problem| {
-        knots += usize::from(problem.code == Code::W01);
-        match problem.code {
-            Code::W01 => knots <= SHOWN_KNOTS,
-            code => code != Code::W02,
-        }
-    })
+/// All knots, the smallest ones first.
+fn knots(page: &mut Page, file: &File, design: &Design, facts: &Facts) {
+    let whole = facts.knots.len().min(WHOLE_KNOTS);
+    for knot in &facts.knots[..whole] {
+        page.problem(file, &knot_warning(file, facts, knot));
+    }
+    if facts.knots.len() > whole {
+        page.text("and these links feed each other too:\n");
+    }
+    for knot in &facts.knots[whole..] {
+        let names = link_names(design, knot).join(", ");
+        page.text(&format!("  {names}  ({})\n", lines(file, knot)));
+    }
+    if facts.knots.len() > whole {
+        page.text("\n");
+    }
 }
 
 fn accepted(page: &mut Page, file: &File, design: &Design) {
@@ -73,14 +83,10 @@ fn evenness(page: &mut Page, file: &File, design: &Design, facts: &Facts) {
         return page.text(&format!("{bound}\n"));
     }
     page.coloured(Color::Yellow, "  uneven     ");
-    page.text(&match (facts.knots.len(), facts.more_knots) {
-        (1, false) => "1 knot".to_string(),
-        (count, false) => format!("{count} knots"),
-        (count, true) => format!("{count} knots and perhaps more"),
+    page.text(&match facts.knots.len() {
+        1 => "1 knot".to_string(),
+        count => format!("{count} knots"),
     });
-    if facts.knots.len() > SHOWN_KNOTS {
-        page.text(&format!(", of which {SHOWN_KNOTS} are shown"));
-    }
     match &facts.untied_by[..] {
         [] => page.text("; no single link makes the design even by being taken out\n"),
         links => page.text(&format!(

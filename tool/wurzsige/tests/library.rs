@@ -86,17 +86,11 @@ fn knots_are_all_knots() {
         design.links.truncate(7);
         let facts = Facts::of(&design).expect("accepted");
         let mut found = facts.knots.clone();
-        let smallest = found.iter().map(Vec::len).min();
-        assert_eq!(
-            found.first().map(Vec::len),
-            smallest,
-            "the smallest comes first"
-        );
+        assert!(found.is_sorted_by_key(Vec::len), "the smallest come first");
         found.sort();
         let mut expected = all_knots(&design);
         expected.sort();
         assert_eq!(found, expected);
-        assert!(!facts.more_knots);
         uneven += usize::from(!facts.is_even());
         several += usize::from(found.len() > 1);
     }
