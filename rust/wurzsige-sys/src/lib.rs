@@ -34,6 +34,7 @@ mod access;
 mod calls;
 pub mod cause;
 pub mod command;
+mod constants;
 mod limits;
 mod memory;
 // No promise of this crate: what these functions take changes with the layout of `Memory`.

@@ -1,28 +1,30 @@
 //! How much of each kind there may be: document 01's largest counts, and document 02's.
 
-/// Tables of a design.
-pub const TABLES: usize = 8;
+crate::constants::constants! { "wurzsige_sys::":
+    /// Tables of a design.
+    TABLES: usize = 8;
 
-/// Columns of a table, and cells of every row.
-pub const COLUMNS: usize = 8;
+    /// Columns of a table, and cells of every row.
+    COLUMNS: usize = 8;
 
-/// Constraints of a design.
-pub const CONSTRAINTS: usize = 16;
+    /// Constraints of a design.
+    CONSTRAINTS: usize = 16;
 
-/// Fillings of a design.
-pub const FILLINGS: usize = 8;
+    /// Fillings of a design.
+    FILLINGS: usize = 8;
 
-/// Desks that share a cache.
-pub const DESKS: usize = 4;
+    /// Desks that share a cache.
+    DESKS: usize = 4;
 
-/// Values that each of them holds.
-pub const VALUES: usize = 16;
+    /// Values that each of them holds.
+    VALUES: usize = 16;
 
-/// Ranges that each of them holds.
-pub const RANGES: usize = 8;
+    /// Ranges that each of them holds.
+    RANGES: usize = 8;
 
-/// Joins of a query.
-pub const JOINS: usize = 4;
+    /// Joins of a query.
+    JOINS: usize = 4;
 
-/// The row table of a number without a row.
-pub const FREE: u8 = 255;
+    /// The row table of a number without a row.
+    FREE: u8 = 255;
+}

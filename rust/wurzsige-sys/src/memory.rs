@@ -5,28 +5,30 @@ use alloc::boxed::Box;
 use core::alloc::Layout;
 use core::fmt;
 
-/// Numbers of rows.
-pub const ROWS: usize = 512;
+crate::constants::constants! { "wurzsige_sys::":
+    /// Numbers of rows.
+    ROWS: usize = 512;
 
-/// Cells, eight to a row.
-pub const CELLS: usize = 4_096;
+    /// Cells, eight to a row.
+    CELLS: usize = 4_096;
 
-/// Words of a design.
-pub const DESIGN_WORDS: usize = 115;
+    /// Words of a design.
+    DESIGN_WORDS: usize = 115;
 
-/// Words of what is held.
-pub const HELD_WORDS: usize = 358;
+    /// Words of what is held.
+    HELD_WORDS: usize = 358;
 
-/// The catalog: for each cell the next row with its value, for each constraint and row
-/// the first row demanded, for each different value of a column its first row, and for
-/// each column where its values begin.
-pub const CATALOG: usize = 16_449;
+    /// The catalog: for each cell the next row with its value, for each constraint and row
+    /// the first row demanded, for each different value of a column its first row, and for
+    /// each column where its values begin.
+    CATALOG: usize = 16_449;
 
-/// The catalog: for each different value of a column, the value.
-pub const KEYS: usize = 4_096;
+    /// The catalog: for each different value of a column, the value.
+    KEYS: usize = 4_096;
 
-/// The working memory of a query: two entries for each row at each of five positions.
-pub const WORKING: usize = 5_120;
+    /// The working memory of a query: two entries for each row at each of five positions.
+    WORKING: usize = 5_120;
+}
 
 /// All that a desk keeps, laid out as C's `struct wurzsige`, whose comment in
 /// `include/wurzsige.h` says what stands where.

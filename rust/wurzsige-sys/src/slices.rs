@@ -5,26 +5,40 @@ use crate::memory::Memory;
 use crate::parts;
 use crate::version::{library_version, VERSION};
 
-/// Words of a fetch: 0 for a value or 1 for a span; table; column; then the value's number
-/// and issue, or the span's lowest and highest number.
-pub const FETCH_WORDS: usize = 5;
+crate::constants::constants! { "wurzsige_sys::":
+    /// Words of a fetch: 0 for a value or 1 for a span; table; column; then the value's number
+    /// and issue, or the span's lowest and highest number.
+    FETCH_WORDS: usize = 5;
 
-/// Words of the verdicts on a design's columns: column c of table t has word 8 t + c.
-pub const VERDICT_WORDS: usize = 64;
+    /// Words of the verdicts on a design's columns: column c of table t has word 8 t + c.
+    VERDICT_WORDS: usize = 64;
+}
 
 /// The parts of a verdict's word, which is 0 where there is no column. Above them, times
 /// 256, stands the lowest constraint by which a column is once linked.
+///
+/// ```
+/// use wurzsige_sys::{verdict, Memory};
+///
+/// // A table of one column without a filling: no value of it is ever known to be complete.
+/// let mut memory = Memory::boxed();
+/// memory.open(&[0x01, 1, 0, 0x05]);
+/// let told = memory.verdicts().expect("a design");
+/// assert_eq!((told[0] & verdict::NEVER, told[0] & verdict::FETCHES), (verdict::NEVER, 0));
+/// ```
 pub mod verdict {
-    /// A load can be asked for the column's values.
-    pub const FETCHES: u32 = 1;
-    /// A value is complete once a cached row has it where a constraint to the column starts.
-    pub const ONCE_LINKED: u32 = 2;
-    /// A value is complete once a cached row has it in the column, which is unique.
-    pub const ONCE_UNIQUE: u32 = 4;
-    /// Every probe is sent.
-    pub const NEVER: u32 = 8;
-    /// Every value that a cached row has in the column is complete.
-    pub const SEEING: u32 = 16;
+    crate::constants::constants! { "wurzsige_sys::verdict::":
+        /// A load can be asked for the column's values.
+        FETCHES: u32 = 1;
+        /// A value is complete once a cached row has it where a constraint to the column starts.
+        ONCE_LINKED: u32 = 2;
+        /// A value is complete once a cached row has it in the column, which is unique.
+        ONCE_UNIQUE: u32 = 4;
+        /// Every probe is sent.
+        NEVER: u32 = 8;
+        /// Every value that a cached row has in the column is complete.
+        SEEING: u32 = 16;
+    }
 }
 
 impl Memory {

@@ -1,19 +1,21 @@
 //! What calls tell.
 
-/// Numbers that an answer can have.
-pub const NUMBERS: usize = 16;
+crate::constants::constants! { "wurzsige_sys::":
+    /// Numbers that an answer can have.
+    NUMBERS: usize = 16;
 
-/// Bytes of a script.
-pub const MOST_SCRIPT: usize = 65_536;
+    /// Bytes of a script.
+    MOST_SCRIPT: usize = 65_536;
 
-/// Bytes that a written design can have.
-pub const MOST_DESIGN: usize = 21_697;
+    /// Bytes that a written design can have.
+    MOST_DESIGN: usize = 21_697;
 
-/// Bytes of text that always suffice for a reason.
-pub const MOST_TEXT: usize = 16_384;
+    /// Bytes of text that always suffice for a reason.
+    MOST_TEXT: usize = 16_384;
 
-/// Bytes of the longest command.
-pub const MOST_COMMAND: usize = 44;
+    /// Bytes of the longest command.
+    MOST_COMMAND: usize = 44;
+}
 
 /// What a step or an opening tells: C's `struct wurzsige_answer`.
 ///

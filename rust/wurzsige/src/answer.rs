@@ -33,6 +33,10 @@ pub enum Ground {
 
 impl Ground {
     /// The number, from 1 to 3.
+    ///
+    /// ```
+    /// assert_eq!(wurzsige::Ground::Linked.number(), 2);
+    /// ```
     pub fn number(self) -> u8 {
         self as u8
     }
@@ -88,21 +92,82 @@ impl Lists {
     }
 
     /// How many lists there are.
+    ///
+    /// ```
+    /// # use wurzsige::{Answered, Builder, Named::Plain, Query, Row};
+    /// # let mut builder = Builder::new();
+    /// # let [ward] = builder.table("wards", [Plain("ward")]);
+    /// # builder.filling(ward, 1..=99);
+    /// # builder.row(Row::new(0, [3]));
+    /// # builder.row(Row::new(0, [3]));
+    /// # let mut desk = builder.open()?;
+    /// let Answered::Lists(lists) = desk.query(&Query::new(ward, 3))? else {
+    ///     panic!("ask the backend");
+    /// };
+    /// assert_eq!(lists.len(), 2);
+    /// # Ok::<(), Box<dyn std::error::Error>>(())
+    /// ```
     pub fn len(&self) -> usize {
         self.rows.len() / self.positions
     }
 
     /// Whether there is none, which is certain then.
+    ///
+    /// ```
+    /// # use wurzsige::{Answered, Builder, Named::Plain, Query, Row};
+    /// # let mut builder = Builder::new();
+    /// # let [ward] = builder.table("wards", [Plain("ward")]);
+    /// # builder.filling(ward, 1..=99);
+    /// # builder.row(Row::new(0, [3]));
+    /// # builder.row(Row::new(0, [3]));
+    /// # let mut desk = builder.open()?;
+    /// let Answered::Lists(lists) = desk.query(&Query::new(ward, 4))? else {
+    ///     panic!("ask the backend");
+    /// };
+    /// assert!(lists.is_empty());
+    /// # Ok::<(), Box<dyn std::error::Error>>(())
+    /// ```
     pub fn is_empty(&self) -> bool {
         self.rows.is_empty()
     }
 
     /// How many row numbers each list has.
+    ///
+    /// ```
+    /// # use wurzsige::{Answered, Builder, Named::Plain, Query, Row};
+    /// # let mut builder = Builder::new();
+    /// # let [ward] = builder.table("wards", [Plain("ward")]);
+    /// # builder.filling(ward, 1..=99);
+    /// # builder.row(Row::new(0, [3]));
+    /// # builder.row(Row::new(0, [3]));
+    /// # let mut desk = builder.open()?;
+    /// let Answered::Lists(lists) = desk.query(&Query::new(ward, 3))? else {
+    ///     panic!("ask the backend");
+    /// };
+    /// assert_eq!(lists.positions(), 1);
+    /// # Ok::<(), Box<dyn std::error::Error>>(())
+    /// ```
     pub fn positions(&self) -> usize {
         self.positions
     }
 
     /// The lists one after another.
+    ///
+    /// ```
+    /// # use wurzsige::{Answered, Builder, Named::Plain, Query, Row};
+    /// # let mut builder = Builder::new();
+    /// # let [ward] = builder.table("wards", [Plain("ward")]);
+    /// # builder.filling(ward, 1..=99);
+    /// # builder.row(Row::new(0, [3]));
+    /// # builder.row(Row::new(0, [3]));
+    /// # let mut desk = builder.open()?;
+    /// let Answered::Lists(lists) = desk.query(&Query::new(ward, 3))? else {
+    ///     panic!("ask the backend");
+    /// };
+    /// let rows: Vec<u16> = lists.iter().map(|list| list[0]).collect();
+    /// assert_eq!(rows, [0, 1]);
+    /// # Ok::<(), Box<dyn std::error::Error>>(())
+    /// ```
     pub fn iter(&self) -> ChunksExact<'_, u16> {
         self.rows.chunks_exact(self.positions)
     }

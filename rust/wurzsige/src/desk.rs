@@ -100,6 +100,10 @@ pub struct Step {
 
 impl Desk {
     /// The most words that [`Desk::query`] lends: 2^20, which is 4 MiB.
+    ///
+    /// ```
+    /// assert_eq!(wurzsige::Desk::MOST_WORDS * size_of::<u32>(), 4 << 20);
+    /// ```
     pub const MOST_WORDS: usize = 1 << 20;
 
     /// Opens the design at the start of a script. What stands behind its END is read no

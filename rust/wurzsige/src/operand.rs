@@ -22,6 +22,13 @@ pub struct Value {
 
 impl Value {
     /// The blank cell, which equals nothing as a cell, not even another blank.
+    ///
+    /// ```
+    /// use wurzsige::{Row, Value};
+    ///
+    /// assert_eq!(Row::new(0, [7]).cells[1], Value::BLANK);
+    /// assert_eq!(Value::BLANK.to_string(), "-");
+    /// ```
     pub const BLANK: Value = Value {
         number: 0,
         issue: 0,
@@ -70,6 +77,13 @@ pub struct Column {
 
 impl Column {
     /// Column `column` of table `table`.
+    ///
+    /// ```
+    /// use wurzsige::Column;
+    ///
+    /// const WARD: Column = Column::new(0, 1);
+    /// assert_eq!((WARD.table, WARD.column), (0, 1));
+    /// ```
     pub const fn new(table: u8, column: u8) -> Column {
         Column { table, column }
     }
@@ -123,6 +137,13 @@ pub struct Query {
 
 impl Query {
     /// A query without joins.
+    ///
+    /// ```
+    /// use wurzsige::{Column, Query};
+    ///
+    /// let query = Query::new(Column::new(0, 1), (7, 1)); // the second holder of number 7
+    /// assert_eq!((query.value.issue, query.joins.len()), (1, 0));
+    /// ```
     pub fn new(column: Column, value: impl Into<Value>) -> Query {
         Query {
             column,
@@ -132,6 +153,13 @@ impl Query {
     }
 
     /// The query with one position more.
+    ///
+    /// ```
+    /// use wurzsige::{Column, Query};
+    ///
+    /// let query = Query::new(Column::new(0, 1), 3).join(0, 2);
+    /// assert_eq!((query.joins[0].position, query.joins[0].constraint), (0, 2));
+    /// ```
     pub fn join(mut self, position: u8, constraint: u8) -> Query {
         self.joins.push(Join {
             position,
@@ -141,6 +169,12 @@ impl Query {
     }
 
     /// How many row numbers each of its lists has.
+    ///
+    /// ```
+    /// use wurzsige::{Column, Query};
+    ///
+    /// assert_eq!(Query::new(Column::new(0, 1), 3).join(0, 2).positions(), 2);
+    /// ```
     pub fn positions(&self) -> usize {
         self.joins.len() + 1
     }
@@ -191,10 +225,27 @@ pub struct Row {
 
 impl Row {
     /// Cells of every row, whatever its table.
+    ///
+    /// ```
+    /// use wurzsige::Row;
+    ///
+    /// assert_eq!(Row::new(0, [7, 3]).cells.len(), Row::CELLS);
+    /// ```
     pub const CELLS: usize = 8;
 
     /// A row whose cells past the given ones are blank. That no more than eight are
     /// given is seen when this is compiled.
+    ///
+    /// ```
+    /// use wurzsige::{Row, Value};
+    ///
+    /// let row = Row::new(0, [7, 3]);
+    /// assert_eq!((row.cells[1], row.cells[2]), (3.into(), Value::BLANK));
+    /// ```
+    ///
+    /// ```compile_fail
+    /// wurzsige::Row::new(0, [1, 2, 3, 4, 5, 6, 7, 8, 9]);
+    /// ```
     pub fn new<V: Into<Value>, const N: usize>(table: u8, given: [V; N]) -> Row {
         const { assert!(N <= Row::CELLS, "a row has eight cells") }
         let mut cells = [Value::BLANK; Row::CELLS];

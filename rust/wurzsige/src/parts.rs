@@ -92,6 +92,12 @@ pub struct Table {
 
 impl Table {
     /// Whether a column is unique.
+    ///
+    /// ```
+    /// use wurzsige::Table;
+    ///
+    /// assert!(Table { columns: 2, unique: 0b01 }.is_unique(0));
+    /// ```
     pub fn is_unique(&self, column: u8) -> bool {
         column < 8 && self.unique >> column & 1 == 1
     }
@@ -142,6 +148,12 @@ pub struct Filling {
 
 impl Filling {
     /// Whether a number is a candidate, with whatever issue.
+    ///
+    /// ```
+    /// use wurzsige::{Column, Filling};
+    ///
+    /// assert!(!Filling { column: Column::new(0, 1), low: 1, high: 99 }.has(100));
+    /// ```
     pub fn has(&self, number: u32) -> bool {
         (self.low..=self.high).contains(&number)
     }
@@ -156,6 +168,14 @@ impl fmt::Display for Filling {
 
 impl Design {
     /// Whether a column is there.
+    ///
+    /// ```
+    /// use wurzsige::{Column, Desk};
+    ///
+    /// let design = Desk::open(&[0x01, 2, 0, 0x05])?.design();
+    /// assert!(design.has(Column::new(0, 1)) && !design.has(Column::new(1, 0)));
+    /// # Ok::<(), wurzsige::Refusal>(())
+    /// ```
     pub fn has(&self, column: Column) -> bool {
         let table = self.tables.get(usize::from(column.table));
         table.is_some_and(|table| column.column < table.columns)

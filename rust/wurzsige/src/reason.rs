@@ -84,22 +84,94 @@ pub enum Origin {
 
 impl Reason {
     /// The sentence.
+    ///
+    /// ```
+    /// # use wurzsige::{Builder, Named::Plain, Origin, Reasoned, ReasonStep, Row};
+    /// # let mut builder = Builder::new();
+    /// # let [number, ward] = builder.table("subjects", [Plain("number"), Plain("ward")]);
+    /// # let [subject] = builder.table("recordings", [Plain("subject")]);
+    /// # builder.constraint(number, subject);
+    /// # builder.filling(ward, 1..=99);
+    /// # builder.row(Row::new(0, [7, 3]));
+    /// # builder.row(Row::new(1, [7]));
+    /// # let mut desk = builder.open()?;
+    /// # desk.refer(0, 3)?;
+    /// let Reasoned::Reason(reason) = desk.reason(1)? else {
+    ///     panic!("it isn't cached");
+    /// };
+    /// assert!(reason.words().starts_with("row 1 by constraint 0 from row 0"));
+    /// # Ok::<(), Box<dyn std::error::Error>>(())
+    /// ```
     pub fn words(&self) -> &str {
         &self.words
     }
 
     /// The number of the row that it is about.
+    ///
+    /// ```
+    /// # use wurzsige::{Builder, Named::Plain, Origin, Reasoned, ReasonStep, Row};
+    /// # let mut builder = Builder::new();
+    /// # let [number, ward] = builder.table("subjects", [Plain("number"), Plain("ward")]);
+    /// # let [subject] = builder.table("recordings", [Plain("subject")]);
+    /// # builder.constraint(number, subject);
+    /// # builder.filling(ward, 1..=99);
+    /// # builder.row(Row::new(0, [7, 3]));
+    /// # builder.row(Row::new(1, [7]));
+    /// # let mut desk = builder.open()?;
+    /// # desk.refer(0, 3)?;
+    /// let Reasoned::Reason(reason) = desk.reason(1)? else {
+    ///     panic!("it isn't cached");
+    /// };
+    /// assert_eq!(reason.row(), 1);
+    /// # Ok::<(), Box<dyn std::error::Error>>(())
+    /// ```
     pub fn row(&self) -> u16 {
         self.row
     }
 
     /// The demands from the row back: the first is for the row itself, and the last one's
     /// row has what is held in the filling's column.
+    ///
+    /// ```
+    /// # use wurzsige::{Builder, Named::Plain, Origin, Reasoned, ReasonStep, Row};
+    /// # let mut builder = Builder::new();
+    /// # let [number, ward] = builder.table("subjects", [Plain("number"), Plain("ward")]);
+    /// # let [subject] = builder.table("recordings", [Plain("subject")]);
+    /// # builder.constraint(number, subject);
+    /// # builder.filling(ward, 1..=99);
+    /// # builder.row(Row::new(0, [7, 3]));
+    /// # builder.row(Row::new(1, [7]));
+    /// # let mut desk = builder.open()?;
+    /// # desk.refer(0, 3)?;
+    /// let Reasoned::Reason(reason) = desk.reason(1)? else {
+    ///     panic!("it isn't cached");
+    /// };
+    /// assert_eq!(reason.steps(), [ReasonStep { constraint: 0, row: 0 }]);
+    /// # Ok::<(), Box<dyn std::error::Error>>(())
+    /// ```
     pub fn steps(&self) -> &[ReasonStep] {
         &self.steps
     }
 
     /// What is held.
+    ///
+    /// ```
+    /// # use wurzsige::{Builder, Named::Plain, Origin, Reasoned, ReasonStep, Row};
+    /// # let mut builder = Builder::new();
+    /// # let [number, ward] = builder.table("subjects", [Plain("number"), Plain("ward")]);
+    /// # let [subject] = builder.table("recordings", [Plain("subject")]);
+    /// # builder.constraint(number, subject);
+    /// # builder.filling(ward, 1..=99);
+    /// # builder.row(Row::new(0, [7, 3]));
+    /// # builder.row(Row::new(1, [7]));
+    /// # let mut desk = builder.open()?;
+    /// # desk.refer(0, 3)?;
+    /// let Reasoned::Reason(reason) = desk.reason(1)? else {
+    ///     panic!("it isn't cached");
+    /// };
+    /// assert_eq!(reason.origin(), Origin::Value { filling: 0, value: 3.into() });
+    /// # Ok::<(), Box<dyn std::error::Error>>(())
+    /// ```
     pub fn origin(&self) -> Origin {
         self.origin
     }

@@ -47,6 +47,14 @@ pub struct Verdict {
 
 impl Verdict {
     /// No ground can ever apply: every probe of the column is sent.
+    ///
+    /// ```
+    /// use wurzsige::Desk;
+    ///
+    /// // A table of two columns, of which the first is unique, and no filling.
+    /// assert!(Desk::open(&[0x01, 2, 1, 0x05])?.verdicts()[1].never());
+    /// # Ok::<(), wurzsige::Refusal>(())
+    /// ```
     pub fn never(&self) -> bool {
         self.never
     }

@@ -1,54 +1,66 @@
-//! That every public item of the two crates has an example on its page, which the tests of
-//! the pages run.
+//! That every public item of the two crates has an example on its page, and every method one of its own, which the tests of the pages run.
 
 use std::fs;
 use std::path::{Path, PathBuf};
 
 /// Files without a public item: what they have is for the crates themselves, or hidden.
-const WITHIN: [&str; 4] = ["command.rs", "fault.rs", "sound.rs", "parts.rs"];
-
-/// Files of types whose methods need an example each; elsewhere the type's is enough.
-const METHODS: [&str; 7] = [
-    "builder.rs",
-    "calls.rs",
-    "desk.rs",
-    "memory.rs",
-    "operations.rs",
-    "questions.rs",
-    "slices.rs",
+const WITHIN: [&str; 4] = [
+    "wurzsige/src/command.rs",
+    "wurzsige/src/fault.rs",
+    "wurzsige/src/sound.rs",
+    "wurzsige-sys/src/parts.rs",
 ];
 
-fn sources(package: &str) -> Vec<PathBuf> {
+/// How an item with a page begins, or a method. A module that is a file has its example at the file's beginning.
+const KINDS: [&str; 6] = [
+    "pub struct ",
+    "pub enum ",
+    "pub fn ",
+    "pub const ",
+    "pub unsafe fn ",
+    "pub mod verdict",
+];
+
+/// The files of both crates that have public items.
+fn sources() -> Vec<PathBuf> {
     let folder = Path::new(env!("CARGO_MANIFEST_DIR")).join("..");
-    let files = fs::read_dir(folder.join(package).join("src")).expect("sources");
-    files.map(|file| file.expect("a file").path()).collect()
+    let mut sources = Vec::new();
+    for package in ["wurzsige", "wurzsige-sys"] {
+        let files = fs::read_dir(folder.join(package).join("src")).expect("sources");
+        sources.extend(files.map(|file| file.expect("a file").path()));
+    }
+    sources.retain(|path| WITHIN.iter().all(|within| !path.ends_with(within)));
+    sources
 }
 
-/// Whether a line of code begins an item with a page, or a method that needs an example.
-fn begins(line: &str, methods: bool) -> bool {
-    let kinds = ["pub struct ", "pub enum ", "pub fn ", "pub unsafe fn "];
-    let begins = |line: &str| kinds.iter().any(|kind| line.starts_with(kind));
-    begins(line) || methods && begins(line.trim_start())
+fn text(path: &Path) -> String {
+    fs::read_to_string(path).expect("a source")
 }
 
-/// The items of a file that have no example before them.
-fn without_example(text: &str, methods: bool) -> (usize, Vec<String>) {
-    let (mut example, mut count, mut missing) = (false, 0, Vec::new());
-    for line in text.lines() {
-        let trimmed = line.trim_start();
-        if trimmed.starts_with("///") {
-            example |= trimmed.contains("```");
+/// Whether a line begins something that needs an example.
+fn begins(line: &str) -> bool {
+    KINDS.iter().any(|kind| line.starts_with(kind))
+}
+
+/// How many items a file has, and those that have no example before them.
+fn without_example(text: &str) -> (usize, Vec<String>) {
+    let (mut example, mut hidden, mut count, mut missing) = (false, false, 0, Vec::new());
+    for line in text.lines().map(str::trim_start) {
+        if line.starts_with("///") {
+            example |= line.contains("```");
             continue;
         }
-        if begins(line, methods) {
+        if line.starts_with("#[") {
+            hidden |= line == "#[doc(hidden)]";
+            continue;
+        }
+        if begins(line) && !hidden {
             count += 1;
             if !example {
                 missing.push(line.to_string());
             }
         }
-        if !trimmed.starts_with("#[") {
-            example = false;
-        }
+        (example, hidden) = (false, false);
     }
     (count, missing)
 }
@@ -56,39 +68,40 @@ fn without_example(text: &str, methods: bool) -> (usize, Vec<String>) {
 #[test]
 fn every_public_item_has_an_example() {
     let mut items = 0;
-    let files = [sources("wurzsige"), sources("wurzsige-sys")].concat();
-    for path in files {
-        let name = path
-            .file_name()
-            .and_then(|name| name.to_str())
-            .expect("a name");
-        let text = fs::read_to_string(&path).expect("a source");
-        let of_values = path.ends_with("wurzsige/src/parts.rs");
-        if WITHIN.contains(&name) && !of_values {
-            continue;
-        }
-        let (count, missing) = without_example(&text, METHODS.contains(&name));
+    for path in sources() {
+        let (count, missing) = without_example(&text(&path));
         assert!(missing.is_empty(), "{}: {missing:?}", path.display());
         items += count;
     }
-    assert!(items > 80, "only {items} items");
+    assert!(items > 100, "only {items} items");
+}
+
+/// Constants are made by a macro, which gives each an example; none stands elsewhere without one.
+#[test]
+fn the_macro_of_constants_gives_examples() {
+    let macros = sources()
+        .into_iter()
+        .filter(|path| path.ends_with("wurzsige-sys/src/constants.rs"));
+    for path in macros.clone() {
+        assert_eq!(without_example(&text(&path)), (1, vec![]));
+    }
+    assert_eq!(macros.count(), 1);
 }
 
 /// Modules and crates have theirs at the beginning of their files.
 #[test]
 fn every_public_module_has_an_example() {
-    for path in [sources("wurzsige"), sources("wurzsige-sys")].concat() {
-        let name = path
-            .file_name()
-            .and_then(|name| name.to_str())
-            .expect("a name");
-        let sys = path.to_string_lossy().contains("wurzsige-sys");
-        let public = sys && ["cause.rs", "command.rs", "word.rs"].contains(&name);
-        if name == "lib.rs" || public {
-            let text = fs::read_to_string(&path).expect("a source");
+    let modules =
+        ["cause.rs", "command.rs", "word.rs"].map(|name| format!("wurzsige-sys/src/{name}"));
+    let mut found = 0;
+    for path in sources() {
+        if path.ends_with("lib.rs") || modules.iter().any(|module| path.ends_with(module)) {
+            let text = text(&path);
             let mut head = text.lines().take_while(|line| line.starts_with("//!"));
             let has_example = head.any(|line| line.contains("```"));
             assert!(has_example, "{}", path.display());
+            found += 1;
         }
     }
+    assert_eq!(found, 5);
 }
