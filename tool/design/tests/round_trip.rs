@@ -2,7 +2,7 @@
 
 mod generate;
 
-use design::{print, read, Cells, MOST_CELLS};
+use design::{print, read, Cells, Type, MOST_CELLS};
 use generate::{design, Random};
 
 const DESIGNS: u64 = 3_000;
@@ -66,6 +66,10 @@ fn the_designs_are_of_all_kinds() {
         "{{",
     ] {
         assert!(texts.iter().any(|text| text.contains(words)), "{words}");
+    }
+    for kind in Type::NAMED.iter().filter_map(Type::name) {
+        let of_kind = |text: &String| text.contains(&format!(" {kind}\n"));
+        assert!(texts.iter().any(of_kind), "{kind}");
     }
     assert!(designs.iter().any(|design| design.tables.len() == 8));
     assert!(designs.iter().any(|design| design.links.len() == 16));

@@ -8,6 +8,8 @@ use crate::output::When;
 
 const EXIT: &str = "Exit status: 0 good; 1 a warning was found (knots, questions that are never answered); 2 the design or the command is refused; 3 a file can't be read or written.";
 
+const EXIT_OF_WRITING: &str = "Exit status: 0 good; 2 the design or the command is refused; 3 a file can't be read or written.";
+
 /// Designs for the review desk, decided by the proved desk
 #[derive(Debug, Parser)]
 #[command(name = "wurzsige", version, after_help = EXIT, max_term_width = 100)]
@@ -36,7 +38,7 @@ pub enum Command {
     },
 
     /// Draw a design: tables, links, loads; knots red, columns where seeing is enough green
-    #[command(after_help = EXIT)]
+    #[command(after_help = EXIT_OF_WRITING)]
     Draw {
         /// The design's file, or - for standard input
         design: PathBuf,
@@ -63,7 +65,7 @@ pub enum Command {
     },
 
     /// Write the bytes for `desk`: tables, constraints and fillings
-    #[command(after_help = EXIT)]
+    #[command(after_help = EXIT_OF_WRITING)]
     Script {
         /// The design's file, or - for standard input
         design: PathBuf,

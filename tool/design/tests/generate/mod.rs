@@ -151,7 +151,9 @@ fn column(random: &mut Random, name: String, role: Role) -> Column {
         (_, 0) => Type::Tuple(
             vec!["part one".into(), "label".into(), "unknown".into()][random.below(2)..].to_vec(),
         ),
-        _ => random.pick(&Type::NAMED[..3]).clone(),
+        // mostly of few types, so that columns can be linked
+        (_, 1) => random.pick(&Type::NAMED).clone(),
+        _ => random.pick(&Type::NAMED[..2]).clone(),
     };
     let issued = role != Role::Measure && !matches!(kind, Type::Tuple(_)) && random.one_in(6);
     Column {
