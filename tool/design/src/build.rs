@@ -192,6 +192,7 @@ impl<'a> Builder<'a> {
         });
         self.spans.tables.push(name.span);
         self.spans.columns.push(Vec::new());
+        self.spans.shown.push(Vec::new());
     }
 
     /// The table that an indented line belongs to; without one it is a mistake.
@@ -258,18 +259,16 @@ impl<'a> Builder<'a> {
     fn once(&mut self, table: usize, name: &Name) {
         let Table { columns, show, .. } = &self.design.tables[table];
         let column = columns.iter().position(|column| column.name == name.text);
-        if column.is_none() && !show.contains(&name.text) {
-            return;
-        }
+        let shown = show.iter().position(|shown| *shown == name.text);
+        let first = match (column, shown) {
+            (Some(column), _) => &self.spans.columns[table][column],
+            (None, Some(shown)) => &self.spans.shown[table][shown],
+            (None, None) => return,
+        };
         let table_name = &self.design.tables[table].name;
         let message = format!("table `{table_name}` has `{}` already", name.text);
-        let mut problem = Problem::new(Code::E013, name.span.clone(), message);
-        match column {
-            Some(column) => {
-                problem = problem.also(self.spans.columns[table][column].clone(), "here")
-            }
-            None => problem = problem.note("it is one of those that are shown"),
-        }
+        let problem = Problem::new(Code::E013, name.span.clone(), message);
+        let problem = problem.also(first.clone(), "here");
         self.problem(
             problem.help("a column can be shown in labels without standing behind `show`"),
         );
@@ -297,6 +296,7 @@ impl<'a> Builder<'a> {
         for name in names {
             self.once(table, &name);
             self.design.tables[table].show.push(name.text);
+            self.spans.shown[table].push(name.span);
         }
     }
 

@@ -28,6 +28,8 @@ pub struct Spans {
     pub tables: Vec<Span>,
     /// The columns' names, table by table.
     pub columns: Vec<Vec<Span>>,
+    /// The names of what is shown, table by table.
+    pub shown: Vec<Vec<Span>>,
     /// The links' source and target columns.
     pub links: Vec<(Span, Span)>,
     /// The loads' names.

@@ -38,6 +38,11 @@ fn places_are_those_of_the_parts() {
         for (table, span) in made.tables.iter().zip(&spans.tables) {
             assert_eq!(text[span.clone()], design::name(&table.name));
         }
+        for (table, spans) in made.tables.iter().zip(&spans.shown) {
+            let shown = spans.iter().map(|span| text[span.clone()].to_string());
+            let names = table.show.iter().map(|name| design::name(name));
+            assert_eq!(shown.collect::<Vec<_>>(), names.collect::<Vec<_>>());
+        }
         assert_eq!(spans.loads.len(), made.loads.len());
         assert_eq!(spans.questions.len(), made.questions.len());
     }

@@ -116,8 +116,7 @@ fn tables(file: &File, design: &Design) -> Vec<Line> {
     let spans = &file.reading.spans;
     let mut lines = Vec::new();
     for (number, table) in design.tables.iter().enumerate() {
-        let own = file.line(&spans.tables[number]);
-        lines.push(line(table_line(table), own));
+        lines.push(line(table_line(table), file.line(&spans.tables[number])));
         for (column, declared) in table.columns.iter().enumerate() {
             let place = Place {
                 table: number,
@@ -127,8 +126,10 @@ fn tables(file: &File, design: &Design) -> Vec<Line> {
             let text = format!("column {name} {}", column_kind(declared));
             lines.push(line(text, file.line(&spans.columns[number][column])));
         }
-        let shows = |shown: &String| format!("show {}.{}", name(&table.name), name(shown));
-        lines.extend(table.show.iter().map(|shown| line(shows(shown), own)));
+        for (shown, span) in table.show.iter().zip(&spans.shown[number]) {
+            let text = format!("show {}.{}", name(&table.name), name(shown));
+            lines.push(line(text, file.line(span)));
+        }
     }
     lines
 }

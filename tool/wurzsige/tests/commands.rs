@@ -147,6 +147,23 @@ fn diff_tells_what_came_and_went() {
     );
 }
 
+/// What is shown is told by the line on which it stands.
+#[test]
+fn diff_tells_the_lines_of_what_is_shown() {
+    let table = "design \"Wards\"\ntable ward\n    code key text\n";
+    let old = program::scratch("shown.design");
+    std::fs::write(&old, format!("{table}load ward by ward.code\n")).expect("a file");
+    let new = format!("{table}    show name\nload ward by ward.code\n");
+    let arguments = ["diff", old.to_str().expect("a name"), "-"];
+    let ran = program::wurzsige_reading(&arguments, new.as_bytes());
+    assert!(
+        ran.output.starts_with("+ show ward.name  (line 4)\n"),
+        "{}",
+        ran.output
+    );
+    assert_eq!((ran.errors.as_str(), ran.status), ("", 0));
+}
+
 #[test]
 fn explain_has_a_page_for_every_code() {
     let list = wurzsige(&["explain"]);
