@@ -50,19 +50,38 @@ impl Error {
     }
 }
 
-/// The script that a text stands for.
+/// The script that a text stands for, or the first thing that is wrong in it.
 pub fn assemble(text: &str) -> Result<Vec<u8>, Error> {
-    let mut script = Vec::new();
+    assemble_whole(text).map_err(|mut errors| errors.swap_remove(0))
+}
+
+/// The script that a text stands for, or all that is wrong in it, line by line.
+///
+/// ```
+/// let errors = notation::assemble_whole("table 1\nrow 0 x\nende\n").unwrap_err();
+/// let lines: Vec<usize> = errors.iter().map(|error| error.line).collect();
+/// assert_eq!(lines, [2, 3]);
+/// ```
+pub fn assemble_whole(text: &str) -> Result<Vec<u8>, Vec<Error>> {
+    let (mut script, mut errors) = (Vec::new(), Vec::new());
     let mut widths = Widths::default();
     for (index, line) in text.lines().enumerate() {
-        let bytes = line_bytes(line, &mut widths).map_err(|fault| Error {
-            line: index + 1,
-            column: fault.column,
-            message: fault.message,
-        })?;
-        script.extend(bytes);
+        match line_bytes(line, &mut widths) {
+            Ok(bytes) => script.extend(bytes),
+            Err(fault) => {
+                widths.see_faulty(line);
+                errors.push(Error {
+                    line: index + 1,
+                    column: fault.column,
+                    message: fault.message,
+                });
+            }
+        }
     }
-    Ok(script)
+    match errors.is_empty() {
+        true => Ok(script),
+        false => Err(errors),
+    }
 }
 
 /// An error whose line isn't known yet.

@@ -25,38 +25,43 @@ enum Asked {
     },
 }
 
+/// What was converted, or all that is wrong.
+type Converted = Result<Vec<u8>, Vec<String>>;
+
 /// Converts the file named by the only argument, or standard input if there is
-/// none; the conversion is told whether an option was given. A failure is told on
-/// standard error, after the names of the program and the file.
+/// none; the conversion is told whether an option was given. What is wrong is told on
+/// standard error, each after the names of the program and the file.
 pub fn run(
     program: &Program,
-    convert: impl Fn(Vec<u8>, &dyn Fn(&str) -> bool) -> Result<Vec<u8>, String>,
+    convert: impl Fn(Vec<u8>, &dyn Fn(&str) -> bool) -> Converted,
 ) -> ExitCode {
     let written = converted(program, convert).and_then(|bytes| {
         let written = io::stdout().write_all(&bytes);
-        written.map_err(|error| error.to_string())
+        written.map_err(|error| vec![error.to_string()])
     });
-    match written {
-        Ok(()) => ExitCode::SUCCESS,
-        Err(message) => {
-            eprintln!("{}: {message}", program.name);
-            ExitCode::FAILURE
-        }
+    let Err(messages) = written else {
+        return ExitCode::SUCCESS;
+    };
+    for message in messages {
+        eprintln!("{}: {message}", program.name);
     }
+    ExitCode::FAILURE
 }
 
 fn converted(
     program: &Program,
-    convert: impl Fn(Vec<u8>, &dyn Fn(&str) -> bool) -> Result<Vec<u8>, String>,
-) -> Result<Vec<u8>, String> {
-    match asked(program, env::args_os().skip(1).collect())? {
+    convert: impl Fn(Vec<u8>, &dyn Fn(&str) -> bool) -> Converted,
+) -> Converted {
+    let asked = asked(program, env::args_os().skip(1).collect());
+    match asked.map_err(|message| vec![message])? {
         Asked::Shown(text) => Ok(text.into_bytes()),
         Asked::Converted { options, path } => {
             let (name, bytes) = read(path);
             let given = |option: &str| options.iter().any(|other| other == option);
-            let converted = bytes.map_err(|error| error.to_string());
+            let converted = bytes.map_err(|error| vec![error.to_string()]);
             let converted = converted.and_then(|bytes| convert(bytes, &given));
-            converted.map_err(|message| format!("{name}: {message}"))
+            let of_file = |message: String| format!("{name}: {message}");
+            converted.map_err(|messages| messages.into_iter().map(of_file).collect())
         }
     }
 }

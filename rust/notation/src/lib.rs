@@ -54,7 +54,7 @@ pub mod filter;
 mod token;
 mod widths;
 
-pub use assemble::{assemble, Error};
+pub use assemble::{assemble, assemble_whole, Error};
 pub use bytes::{encode, split, Piece, COMMAND_BYTES};
 pub use command::{
     Column, Command, Constraint, Filling, Join, Pair, Probe, Put, Query, Range, Row, Table, Total,

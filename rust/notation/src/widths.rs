@@ -25,6 +25,12 @@ impl Widths {
         self.lost = true;
     }
 
+    /// Sees a line that can't be read. Of a row it isn't asked how many cells it has; anything else may have been a table.
+    pub(crate) fn see_faulty(&mut self, line: &str) {
+        let first = line.split_whitespace().next();
+        self.lost |= !matches!(first, Some("row" | "put"));
+    }
+
     /// How many cells a row of a table has. It isn't known of a table that isn't there, or that
     /// has more or fewer columns than a table can have.
     pub(crate) fn cells(&self, table: u8) -> Option<usize> {

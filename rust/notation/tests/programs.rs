@@ -54,6 +54,14 @@ fn errors_name_the_file_and_show_the_line() {
     let (output, errors, well) = run(ASSEMBLE, &[], b"table 1\nrow 0 x\n");
     let told = "assemble: standard input: line 2, column 7: expected a cell, found `x`\n  row 0 x\n        ^\n";
     assert_eq!((output, errors.as_str(), well), (vec![], told, false));
+    let (output, errors, well) = run(ASSEMBLE, &[], b"table 2\nrow 0 x\nrow 0 7\nende\nrow 0 7\n");
+    let places: Vec<&str> = errors.lines().step_by(3).collect();
+    let told = [
+        "assemble: standard input: line 2, column 7: expected a cell, found `x`",
+        "assemble: standard input: line 3, column 8: table 0 has 2 columns, and the row 1 cell; a blank cell is written `-`",
+        "assemble: standard input: line 4, column 1: `ende` is no command",
+    ];
+    assert_eq!((output, places, well), (vec![], told.to_vec(), false));
     let path = concat!(env!("CARGO_TARGET_TMPDIR"), "/wrong.desk");
     std::fs::write(path, "ende\n").expect("a file");
     let (_, errors, well) = run(ASSEMBLE, &[path], b"");

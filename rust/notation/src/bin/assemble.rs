@@ -23,7 +23,11 @@ fn main() -> ExitCode {
         options: &[],
     };
     run(&program, |bytes, _| {
-        let text = String::from_utf8(bytes).map_err(|error| error.to_string())?;
-        notation::assemble(&text).map_err(|error| error.shown_in(&text))
+        let text = String::from_utf8(bytes).map_err(|error| vec![error.to_string()])?;
+        let shown = |errors: Vec<notation::Error>| {
+            let errors = errors.iter();
+            errors.map(|error| error.shown_in(&text)).collect()
+        };
+        notation::assemble_whole(&text).map_err(shown)
     })
 }
