@@ -62,7 +62,7 @@ pub(crate) fn tokens(line: &str, start: usize) -> Result<Vec<Token<'_>>, Problem
         if character == '#' {
             break;
         }
-        if character.is_whitespace() {
+        if character.is_whitespace() && character != '\r' {
             at += character.len_utf8();
             continue;
         }
@@ -178,6 +178,7 @@ fn stray(text: &str, start: usize) -> Problem {
         '–' | '—' | '→' | '←' | '<' | '>' => problem.help(ARROW),
         '…' => problem.help(RANGE),
         ';' => problem.help("an item ends with its line"),
+        '\r' => problem.help("a line ends with LF or CR LF"),
         '/' => problem.help("`#` begins a comment"),
         _ if !character.is_control() => problem.help(
             "a name with other characters than letters, digits, `_` and `$` stands in backquotes",

@@ -60,6 +60,16 @@ fn line_ends_do_not_matter() {
     }
 }
 
+/// A file whose lines end with CR alone is one line.
+#[test]
+fn carriage_returns_end_no_line() {
+    let told = "E002 1:15 `\\r` has no meaning here\n  = help: a line ends with LF or CR LF\n";
+    assert_eq!(
+        all_told("design \"Sleep\"\rtable ward\r    code text\r"),
+        told
+    );
+}
+
 /// The spans are within the text, at its characters, and the carets on one line.
 #[test]
 fn places_are_in_the_text() {
