@@ -9,7 +9,7 @@ use crate::item::{
 };
 use crate::print;
 use crate::problem::{Code, Problem};
-use crate::read::{Reading, Spans};
+use crate::read::{is_indented, Reading, Spans};
 use crate::span::Span;
 use crate::{labels, limits, links, loads, questions, types};
 
@@ -51,6 +51,8 @@ pub(crate) struct Builder<'a> {
     lost_tables: bool,
     /// Tables with a line that can't be read at all.
     lost_columns: HashSet<usize>,
+    /// Tables with a tuple that can't be read.
+    lost_tuples: HashSet<usize>,
     /// The tables' labels with their places.
     labels: Vec<(usize, Name)>,
     /// The issues' columns with the columns that they are for.
@@ -76,6 +78,7 @@ impl<'a> Builder<'a> {
             lost_title: false,
             lost_tables: false,
             lost_columns: HashSet::new(),
+            lost_tuples: HashSet::new(),
             labels: Vec::new(),
             issues: Vec::new(),
             title: None,
@@ -90,9 +93,9 @@ impl<'a> Builder<'a> {
 
     /// Remembers what a line that can't be read was about: the word that it begins with, or was meant to, and, if it has one, the name that it
     /// gives.
-    pub(crate) fn faulty_line(&mut self, indented: bool, first: Name, name: Option<Name>) {
-        if indented {
-            return self.faulty_column(name);
+    pub(crate) fn faulty_line(&mut self, line: &str, first: Name, name: Option<Name>) {
+        if is_indented(line) {
+            return self.faulty_column(line, name);
         }
         match (first.text.as_str(), name) {
             ("table", Some(name)) => self.add_table(name, None, None),
@@ -121,10 +124,13 @@ impl<'a> Builder<'a> {
         self.open = Open::Lost;
     }
 
-    fn faulty_column(&mut self, name: Option<Name>) {
+    fn faulty_column(&mut self, line: &str, name: Option<Name>) {
         let Open::Table(table) = self.open else {
             return;
         };
+        if line.contains('(') {
+            self.lost_tuples.insert(table);
+        }
         let Some(name) = name else {
             self.lost_columns.insert(table);
             return;
@@ -219,14 +225,17 @@ impl<'a> Builder<'a> {
             return;
         };
         self.once(table, &item.name);
-        let kind = match item.kind {
-            TypeItem::Named(name) => types::named(&name),
-            TypeItem::Tuple { parts, span } => types::tuple(&parts, span),
+        let (kind, is_tuple) = match item.kind {
+            TypeItem::Named(name) => (types::named(&name), false),
+            TypeItem::Tuple { parts, span } => (types::tuple(&parts, span), true),
         };
         let (kind, typed) = match kind {
             Ok(kind) => (kind, true),
             Err(problem) => {
                 self.problem(problem);
+                if is_tuple {
+                    self.lost_tuples.insert(table);
+                }
                 (Type::Text, false)
             }
         };
@@ -369,6 +378,11 @@ impl<'a> Builder<'a> {
             spans: self.spans,
             problems: self.problems,
         }
+    }
+
+    /// Whether a table may have more columns than those that are known.
+    pub(crate) fn may_have_more(&self, table: usize) -> bool {
+        self.lost_columns.contains(&table) || self.lost_tuples.contains(&table)
     }
 
     /// The labels with their tables, once.

@@ -86,6 +86,7 @@ pub(crate) fn check(builder: &mut Builder) {
         let start = label.span.start + 1;
         for piece in cut(inner) {
             let problem = match piece {
+                Ok((Piece::Value(_), _)) if builder.may_have_more(table) => None,
                 Ok((Piece::Value(name), span)) => {
                     let span = start + span.start + 1..start + span.end - 1;
                     unknown(&builder.design.tables[table], &Name { text: name, span })

@@ -172,7 +172,8 @@ fn column(cursor: &mut Cursor) -> Result<Item, Problem> {
         issue = Some(cursor.name("the name of the column that has the issue")?);
     }
     let finished = cursor.finish(if issue.is_none() { &["issue"] } else { &[] });
-    finished.map_err(|problem| behind_type(problem, cursor))?;
+    finished
+        .map_err(|problem| misspelt_role(&kind).unwrap_or_else(|| behind_type(problem, cursor)))?;
     Ok(Item::Column(ColumnItem {
         name,
         role,
@@ -180,6 +181,17 @@ fn column(cursor: &mut Cursor) -> Result<Item, Problem> {
         kind,
         issue,
     }))
+}
+
+/// The mistake that the word before a type was meant to be `key`, `unique` or `measure`.
+fn misspelt_role(kind: &TypeItem) -> Option<Problem> {
+    let TypeItem::Named(name) = kind else {
+        return None;
+    };
+    let near = nearest(&name.text, ROLES.map(|(word, _)| word))?;
+    let message = format!("expected a type, found `{}`", name.text);
+    let problem = Problem::new(Code::E007, name.span.clone(), message);
+    Some(problem.label(format!("did you mean `{near}`?")))
 }
 
 /// With a help for what doesn't stand behind a type.

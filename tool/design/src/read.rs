@@ -66,13 +66,13 @@ fn lines(text: &str) -> impl Iterator<Item = (usize, &str)> {
 }
 
 fn read_line(builder: &mut Builder, start: usize, line: &str) {
-    let indented = line.starts_with(|c: char| c.is_whitespace());
+    let indented = is_indented(line);
     let tokens = match tokens(line, start) {
         Ok(tokens) => tokens,
         Err(problem) => {
             let name = word(line, start, usize::from(!indented)).filter(|name| is_word(&name.text));
             let first = word(line, start, 0).unwrap_or_default();
-            builder.faulty_line(indented, first, name);
+            builder.faulty_line(line, first, name);
             return builder.problem(problem);
         }
     };
@@ -94,12 +94,17 @@ fn read_line(builder: &mut Builder, start: usize, line: &str) {
                         text: parse::meant(&tokens[0]).unwrap_or(tokens[0].raw).into(),
                         span: tokens[0].span.clone(),
                     };
-                    builder.faulty_line(indented, first, name);
+                    builder.faulty_line(line, first, name);
                 }
             }
             builder.problem(problem);
         }
     }
+}
+
+/// Whether a line is a table's.
+pub(crate) fn is_indented(line: &str) -> bool {
+    line.starts_with(char::is_whitespace)
 }
 
 /// A piece between blanks of a line that can't be cut into tokens.

@@ -1,7 +1,7 @@
 //! Types of columns, and of the classes that links make of them.
 
 use crate::build::Builder;
-use crate::design::{Place, Table, Type};
+use crate::design::{Place, Type};
 use crate::item::Name;
 use crate::nearest::nearest;
 use crate::problem::{Code, Problem};
@@ -96,18 +96,20 @@ fn shape(builder: &Builder, place: Place) -> Shape {
     if builder.untyped.contains(&place) {
         return Shape::Unknown;
     }
-    let table = &builder.design.tables[place.table];
     match &builder.design.column(place).kind {
         Type::Tuple(parts) => {
-            Shape::Tuple(parts.iter().map(|part| part_shape(table, part)).collect())
+            let part = |part: &String| part_shape(builder, place.table, part);
+            Shape::Tuple(parts.iter().map(part).collect())
         }
         named => Shape::Named(named.clone()),
     }
 }
 
-fn part_shape(table: &Table, part: &str) -> Shape {
-    let declared = table.columns.iter().find(|column| column.name == part);
-    match declared.map(|column| &column.kind) {
+fn part_shape(builder: &Builder, table: usize, part: &str) -> Shape {
+    let columns = &builder.design.tables[table].columns;
+    let declared = columns.iter().position(|column| column.name == part);
+    let typed = declared.filter(|&column| !builder.untyped.contains(&Place { table, column }));
+    match typed.map(|column| &columns[column].kind) {
         Some(Type::Tuple(_)) | None => Shape::Unknown,
         Some(named) => Shape::Named(named.clone()),
     }
