@@ -51,8 +51,8 @@ pub(crate) struct Builder<'a> {
     lost_tables: bool,
     /// Tables with a line that can't be read at all.
     lost_columns: HashSet<usize>,
-    /// Tables with a tuple that can't be read.
-    lost_tuples: HashSet<usize>,
+    /// Tables with a tuple or a `show` that can't be read.
+    lost_names: HashSet<usize>,
     /// The tables' labels with their places.
     labels: Vec<(usize, Name)>,
     /// The issues' columns with the columns that they are for.
@@ -78,7 +78,7 @@ impl<'a> Builder<'a> {
             lost_title: false,
             lost_tables: false,
             lost_columns: HashSet::new(),
-            lost_tuples: HashSet::new(),
+            lost_names: HashSet::new(),
             labels: Vec::new(),
             issues: Vec::new(),
             title: None,
@@ -128,8 +128,12 @@ impl<'a> Builder<'a> {
         let Open::Table(table) = self.open else {
             return;
         };
-        if line.contains('(') {
-            self.lost_tuples.insert(table);
+        let is_show = line.split_whitespace().next() == Some("show");
+        if is_show || line.contains(['(', ')', ',']) {
+            self.lost_names.insert(table);
+        }
+        if is_show {
+            return;
         }
         let Some(name) = name else {
             self.lost_columns.insert(table);
@@ -234,7 +238,7 @@ impl<'a> Builder<'a> {
             Err(problem) => {
                 self.problem(problem);
                 if is_tuple {
-                    self.lost_tuples.insert(table);
+                    self.lost_names.insert(table);
                 }
                 (Type::Text, false)
             }
@@ -380,9 +384,9 @@ impl<'a> Builder<'a> {
         }
     }
 
-    /// Whether a table may have more columns than those that are known.
+    /// Whether a table may have more names of columns than those that are known.
     pub(crate) fn may_have_more(&self, table: usize) -> bool {
-        self.lost_columns.contains(&table) || self.lost_tuples.contains(&table)
+        self.lost_columns.contains(&table) || self.lost_names.contains(&table)
     }
 
     /// The labels with their tables, once.
