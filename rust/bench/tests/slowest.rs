@@ -7,12 +7,16 @@ use bench::slowest::candidate::{Candidate, Kind};
 use bench::slowest::{aim, mutate, search};
 use compare::desk::Program;
 use compare::random::Random;
-use notation::{split, Piece};
+use notation::{encode, split, Piece};
+
+/// The longest command: a row that is put in.
+const LONGEST_COMMAND: usize = 44;
 
 fn is_accepted(candidate: &Candidate) -> bool {
-    let script = candidate.script();
-    assert!(script.len() <= 65_536 && script.len() > 65_500);
-    limit::report(&script).starts_with(b"design ")
+    let length = candidate.script().len();
+    assert!((65_537 - LONGEST_COMMAND..=65_536).contains(&length));
+    let design = encode(&candidate.design.commands());
+    limit::report(&design).starts_with(b"design ")
 }
 
 /// Whether the operations after those before them are of the kind.

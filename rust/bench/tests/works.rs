@@ -40,7 +40,10 @@ fn grown(rows: usize, name: &str) -> Work {
 
 #[test]
 fn works_differ_in_name_and_fill_a_script() {
-    let works = work::all();
+    let works: Vec<Work> = work::all()
+        .into_iter()
+        .chain(work::hostile::questions())
+        .collect();
     for (number, work) in works.iter().enumerate() {
         let length = work.script().len();
         assert!(
@@ -96,6 +99,38 @@ fn a_row_goes_and_comes_while_all_are_cached() {
         let expected = [&loaded, "rows 0 1", "rows 1 0", "rows 0 1"];
         assert_eq!(answers(&work, 3), expected);
     }
+}
+
+#[test]
+fn hostile_questions_are_what_their_names_say() {
+    let line = |name, number: usize| {
+        let work = find(work::hostile::questions(), name);
+        let asked = Work {
+            timed: work.timed[..2].to_vec(),
+            ..work.clone()
+        };
+        let report = reference::report(&asked.script());
+        let lines: Vec<&str> = report.lines().skip(1 + work.before.len()).collect();
+        lines[number]
+            .split_once(' ')
+            .expect("a place")
+            .1
+            .to_string()
+    };
+    let rows = "falling values: a row goes, a row comes";
+    assert_eq!([line(rows, 0), line(rows, 1)], ["rows 0 1", "rows 1 0"]);
+    let reason = line("16 constraints: why the last row of a chain is here", 0);
+    assert_eq!(
+        reason.matches("by constraint 15 from").count(),
+        511,
+        "{reason}"
+    );
+    let opener = line("16 constraints: what opens the last row of a chain", 0);
+    assert_eq!(opener, "7 2 0");
+    let knot = line("two rings: the smallest knot", 0);
+    assert_eq!(knot, "knot 0 1 2 3 4 5 6 7");
+    let even = line("16 constraints: whether they are even", 0);
+    assert_eq!(even, "even");
 }
 
 #[test]

@@ -84,7 +84,15 @@ fn run(options: &Options) -> Result<(), String> {
     fs::create_dir_all(&options.folder).map_err(|error| error.to_string())?;
     let share = Duration::from_secs(options.seconds) / Kind::ALL.len() as u32;
     let mut table = Table::default();
-    let head = ["", "processor time", "operations", "each", "tried"];
+    let head = [
+        "",
+        "processor time",
+        "report's bytes",
+        "beyond 1 ns a byte",
+        "operations",
+        "each",
+        "tried",
+    ];
     table.add(head.map(String::from).into());
     for kind in Kind::ALL {
         let found = search(&program, kind, options.seed, share).map_err(|wrong| {
@@ -104,15 +112,18 @@ fn run(options: &Options) -> Result<(), String> {
 }
 
 fn line(kind: Kind, found: &Found) -> Vec<String> {
-    let seconds = found.slowest.time.as_secs_f64();
-    let operations = found.slowest.candidate.operations();
-    let stopped = if found.slowest.stopped { "over " } else { "" };
+    let slowest = &found.slowest;
+    let operations = slowest.candidate.operations();
+    let stopped = if slowest.stopped { "over " } else { "" };
     let shown = |seconds| stopped.to_string() + &time(Timing::Least(seconds));
+    let beyond = slowest.beyond().as_secs_f64();
     vec![
         kind.name().into(),
-        shown(seconds),
+        shown(slowest.time.as_secs_f64()),
+        slowest.report.to_string(),
+        shown(beyond),
         operations.to_string(),
-        shown(seconds / operations as f64),
+        shown(beyond / operations as f64),
         found.tried.to_string(),
     ]
 }

@@ -6,7 +6,9 @@
 use std::sync::LazyLock;
 
 use compare::random::Random;
-use notation::{Column, Command, Constraint, Design, Filling, Join, Pair, Probe, Query};
+use notation::{
+    Column, Command, Constraint, Design, Filling, Join, Pair, Probe, Put, Query, Range,
+};
 use notation::{Table, Total, Value, CELLS, PAIRS};
 
 use super::candidate::{Candidate, Kind};
@@ -36,7 +38,8 @@ pub fn works(kind: Kind) -> Vec<Candidate> {
             before: work.before,
         }
     };
-    let candidates = work::all().into_iter().map(candidate);
+    let works = work::all().into_iter().chain(work::questions());
+    let candidates = works.map(candidate);
     candidates.filter(|c| !c.repeated.is_empty()).collect()
 }
 
@@ -145,7 +148,7 @@ pub fn repeated(random: &mut Random, kind: Kind, design: &Design) -> Vec<Command
 /// An operation of a kind, or a load and a drop.
 fn operation(random: &mut Random, kind: Kind, design: &Design) -> Vec<Command> {
     let kind = match kind {
-        Kind::Mixed => *random.pick(&[Kind::Drop, Kind::Probe, Kind::Query, Kind::Total]),
+        Kind::Mixed => *random.pick(&Kind::ALL),
         kind => kind,
     };
     match kind {
@@ -157,6 +160,41 @@ fn operation(random: &mut Random, kind: Kind, design: &Design) -> Vec<Command> {
         Kind::Probe => vec![Command::Probe(probe(random, design))],
         Kind::Query => vec![Command::Query(query(random, design))],
         Kind::Total => vec![Command::Total(total(random, design))],
+        Kind::Range => {
+            let range = range(random, design);
+            vec![Command::Hold(range), Command::Release(range)]
+        }
+        Kind::Opener => vec![Command::Opener(probe(random, design))],
+        Kind::Reason => vec![Command::Reason(row_number(random, design))],
+        Kind::Even => vec![Command::Even],
+        Kind::Knot => vec![Command::Knot],
+        Kind::Row => {
+            let number = row_number(random, design);
+            let row = design.rows[usize::from(number)];
+            vec![Command::Take(number), Command::Put(Put { number, row })]
+        }
+    }
+}
+
+/// A row's number, the last one as often as not.
+fn row_number(random: &mut Random, design: &Design) -> u16 {
+    let last = design.rows.len() - 1;
+    let number = if random.percent(50) {
+        last
+    } else {
+        random.below(last + 1)
+    };
+    number as u16
+}
+
+/// A range around a value of a filling, wide or narrow.
+fn range(random: &mut Random, design: &Design) -> Range {
+    let Pair { filling, value } = pair(random, design);
+    let width = *random.pick(&[0, 1, 64, 1_000, u32::MAX / 2]);
+    Range {
+        filling,
+        low: value.number.saturating_sub(width / 2).max(1),
+        high: value.number.saturating_add(width),
     }
 }
 

@@ -11,24 +11,42 @@ pub enum Kind {
     Refer,
     /// REFERs and DROPs, since a drop needs a load.
     Drop,
+    /// Ranges that are held and released.
+    Range,
     /// PROBEs.
     Probe,
     /// QUERYs.
     Query,
     /// Totals.
     Total,
+    /// Openers.
+    Opener,
+    /// Reasons.
+    Reason,
+    /// Whether the design is even.
+    Even,
+    /// Smallest knots.
+    Knot,
+    /// Rows that go and come.
+    Row,
     /// All of them.
     Mixed,
 }
 
 impl Kind {
     /// All kinds.
-    pub const ALL: [Kind; 6] = [
+    pub const ALL: [Kind; 12] = [
         Kind::Refer,
         Kind::Drop,
+        Kind::Range,
         Kind::Probe,
         Kind::Query,
         Kind::Total,
+        Kind::Opener,
+        Kind::Reason,
+        Kind::Even,
+        Kind::Knot,
+        Kind::Row,
         Kind::Mixed,
     ];
 
@@ -37,23 +55,36 @@ impl Kind {
         match self {
             Kind::Refer => "refer",
             Kind::Drop => "drop",
+            Kind::Range => "range",
             Kind::Probe => "probe",
             Kind::Query => "query",
             Kind::Total => "total",
+            Kind::Opener => "opener",
+            Kind::Reason => "reason",
+            Kind::Even => "even",
+            Kind::Knot => "knot",
+            Kind::Row => "row",
             Kind::Mixed => "mixed",
         }
     }
 
     /// Whether the operations of this kind may have the command among them.
     pub fn allows(self, command: &Command) -> bool {
-        match command {
-            Command::Refer(_) => matches!(self, Kind::Refer | Kind::Drop | Kind::Mixed),
-            Command::Drop(_) => matches!(self, Kind::Drop | Kind::Mixed),
-            Command::Probe(_) => matches!(self, Kind::Probe | Kind::Mixed),
-            Command::Query(_) => matches!(self, Kind::Query | Kind::Mixed),
-            Command::Total(_) => matches!(self, Kind::Total | Kind::Mixed),
-            _ => false,
-        }
+        let own = match command {
+            Command::Refer(_) => matches!(self, Kind::Refer | Kind::Drop),
+            Command::Drop(_) => self == Kind::Drop,
+            Command::Hold(_) | Command::Release(_) => self == Kind::Range,
+            Command::Probe(_) => self == Kind::Probe,
+            Command::Query(_) => self == Kind::Query,
+            Command::Total(_) => self == Kind::Total,
+            Command::Opener(_) => self == Kind::Opener,
+            Command::Reason(_) => self == Kind::Reason,
+            Command::Even => self == Kind::Even,
+            Command::Knot => self == Kind::Knot,
+            Command::Put(_) | Command::Take(_) => self == Kind::Row,
+            _ => return false,
+        };
+        own || self == Kind::Mixed
     }
 }
 

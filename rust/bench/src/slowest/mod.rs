@@ -36,8 +36,19 @@ pub struct Timed {
     pub candidate: Candidate,
     /// The program's processor time on its script, up to its time limit.
     pub time: Duration,
+    /// How many bytes its report has; none if the program was stopped.
+    pub report: usize,
     /// Whether the program was stopped by the time limit.
     pub stopped: bool,
+}
+
+impl Timed {
+    /// The processor time beyond a nanosecond for each byte of the report, by which candidates
+    /// are told to be slow: a report has to be written.
+    pub fn beyond(&self) -> Duration {
+        self.time
+            .saturating_sub(Duration::from_nanos(self.report as u64))
+    }
 }
 
 /// What a search has found.
@@ -78,7 +89,7 @@ pub fn search(program: &Program, kind: Kind, seed: u64, time: Duration) -> Resul
         tried += 1;
         let timed = measure(program, candidate)?;
         let fastest = kept.last().filter(|_| kept.len() == KEPT);
-        if timed.stopped || fastest.is_none_or(|fastest| fastest.time < timed.time) {
+        if timed.stopped || fastest.is_none_or(|fastest| fastest.beyond() < timed.beyond()) {
             let in_time = start.elapsed() < time;
             let timed = if in_time {
                 again(program, timed)?
@@ -94,7 +105,7 @@ pub fn search(program: &Program, kind: Kind, seed: u64, time: Duration) -> Resul
 
 fn keep(kept: &mut Vec<Timed>, timed: Timed) {
     kept.push(timed);
-    kept.sort_by_key(|timed| Reverse((timed.stopped, timed.time)));
+    kept.sort_by_key(|timed| Reverse((timed.stopped, timed.beyond())));
     kept.truncate(KEPT);
 }
 
@@ -117,9 +128,9 @@ pub fn measure(program: &Program, candidate: Candidate) -> Result<Timed, Wrong> 
     let start = children_time();
     let reply = program.reply(&script);
     let time = children_time() - start;
-    let stopped = match reply {
-        Ok(Reply::OutOfTime) => true,
-        Ok(Reply::Report(report)) if report == limit::report(&script) => false,
+    let (report, stopped) = match reply {
+        Ok(Reply::OutOfTime) => (0, true),
+        Ok(Reply::Report(report)) if report == limit::report(&script) => (report.len(), false),
         Ok(reply) => {
             let reply = reply.to_string();
             return Err(Wrong { script, reply });
@@ -132,6 +143,7 @@ pub fn measure(program: &Program, candidate: Candidate) -> Result<Timed, Wrong> 
     Ok(Timed {
         candidate,
         time,
+        report,
         stopped,
     })
 }

@@ -356,6 +356,19 @@ fn uncached(rows: usize) -> Work {
 /// Each row demands the next by all of 16 constraints, every column is unique, and all
 /// rows are cached. The last one goes and comes again, and what is left is cached anew.
 fn a_row_comes_and_goes(rows: usize) -> Work {
+    let design = rows_that_demand_the_next(1..=rows as u32);
+    let (number, row) = (rows as u16 - 1, design.rows[rows - 1]);
+    Work::repeating(
+        "16 constraints: a row goes, a row comes",
+        design,
+        vec![refer(0, 1)],
+        &[Command::Take(number), Command::Put(Put { number, row })],
+    )
+}
+
+/// A row for each number, in which it stands four times, and the next number four times: the
+/// row demands the next one by all of 16 constraints. Every column is unique.
+pub(super) fn rows_that_demand_the_next(numbers: impl Iterator<Item = u32>) -> Design {
     let mut design = Design {
         tables: vec![table(8, u8::MAX)],
         fillings: vec![filling(column(0, 0))],
@@ -367,16 +380,10 @@ fn a_row_comes_and_goes(rows: usize) -> Work {
             design.constraints.push(link);
         }
     }
-    for number in 1..=rows as u32 {
+    for number in numbers {
         design.add_row(0, &[[number, number + 1]; 4].concat());
     }
-    let (number, row) = (rows as u16 - 1, design.rows[rows - 1]);
-    Work::repeating(
-        "16 constraints: a row goes, a row comes",
-        design,
-        vec![refer(0, 1)],
-        &[Command::Take(number), Command::Put(Put { number, row })],
-    )
+    design
 }
 
 /// Two tables of eight columns, all of them linked to one column of a third.

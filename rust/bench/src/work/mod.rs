@@ -74,6 +74,14 @@ pub fn all() -> Vec<Work> {
     works
 }
 
+/// Works that SQL has no statement for, at their largest: questions, and rows that come and
+/// go where that is dearest.
+pub fn questions() -> Vec<Work> {
+    let mut works = growing::questions(MOST_ROWS);
+    works.extend(hostile::questions());
+    works
+}
+
 pub(crate) fn table(columns: u8, unique: u8) -> Table {
     Table { columns, unique }
 }
