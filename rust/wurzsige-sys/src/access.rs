@@ -3,7 +3,7 @@
 
 use core::mem::offset_of;
 
-use crate::memory::{Memory, CATALOG, CELLS, DESIGN_WORDS, HELD_WORDS, KEYS, ROWS, WORKING};
+use crate::memory::{CATALOG, CELLS, DESIGN_WORDS, HELD_WORDS, KEYS, Memory, ROWS, WORKING};
 
 /// Two functions for each part, to read it and to write it.
 macro_rules! parts {

@@ -4,7 +4,7 @@ use crate::cause::OTHER_VERSION;
 use crate::memory::Memory;
 use crate::parts;
 use crate::told::{Sizes, Told};
-use crate::version::{library_version, VERSION};
+use crate::version::{VERSION, library_version};
 use crate::word::REFUSED;
 
 /// A call of a step or a run on a desk. They take the same operands up to the text, but

@@ -46,7 +46,7 @@ mod version;
 pub mod word;
 
 pub use limits::{COLUMNS, CONSTRAINTS, DESKS, FILLINGS, FREE, JOINS, RANGES, TABLES, VALUES};
-pub use memory::{Memory, CATALOG, CELLS, DESIGN_WORDS, HELD_WORDS, KEYS, ROWS, WORKING};
-pub use slices::{verdict, FETCH_WORDS, VERDICT_WORDS};
-pub use told::{Sizes, Told, MOST_COMMAND, MOST_DESIGN, MOST_SCRIPT, MOST_TEXT, NUMBERS};
-pub use version::{library_version, VERSION};
+pub use memory::{CATALOG, CELLS, DESIGN_WORDS, HELD_WORDS, KEYS, Memory, ROWS, WORKING};
+pub use slices::{FETCH_WORDS, VERDICT_WORDS, verdict};
+pub use told::{MOST_COMMAND, MOST_DESIGN, MOST_SCRIPT, MOST_TEXT, NUMBERS, Sizes, Told};
+pub use version::{VERSION, library_version};

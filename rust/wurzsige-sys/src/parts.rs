@@ -10,7 +10,7 @@ use crate::memory::{CATALOG, HELD_WORDS, KEYS, WORKING};
 use crate::slices::{FETCH_WORDS, VERDICT_WORDS};
 use crate::told::NUMBERS;
 
-extern "C" {
+unsafe extern "C" {
     /// The library's version, as [`crate::VERSION`] has it.
     ///
     /// # Safety

@@ -3,7 +3,7 @@
 use crate::cause::OTHER_VERSION;
 use crate::memory::Memory;
 use crate::parts;
-use crate::version::{library_version, VERSION};
+use crate::version::{VERSION, library_version};
 
 crate::constants::constants! { "wurzsige_sys::":
     /// Words of a fetch: 0 for a value or 1 for a span; table; column; then the value's number

@@ -6,7 +6,7 @@ use std::fs;
 use std::mem::{align_of, offset_of, size_of};
 
 use common::{include, printed_by_c};
-use wurzsige_sys::{cause, command, verdict, word, Memory, Sizes, Told};
+use wurzsige_sys::{Memory, Sizes, Told, cause, command, verdict, word};
 
 /// What one of the crate's names is, and the C expression that has to be the same.
 type Same = (String, usize);

@@ -3,7 +3,7 @@
 
 #![cfg(feature = "proved")]
 
-use wurzsige_sys::{word, Memory, MOST_SCRIPT};
+use wurzsige_sys::{MOST_SCRIPT, Memory, word};
 
 const TABLE: [u8; 3] = [0x01, 1, 1];
 

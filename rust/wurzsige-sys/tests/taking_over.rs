@@ -3,7 +3,7 @@
 
 #![cfg(feature = "proved")]
 
-use wurzsige_sys::{word, Memory};
+use wurzsige_sys::{Memory, word};
 
 /// A table of a column with candidates 1 to 9, and a row with 7 in it.
 fn opened() -> Box<Memory> {

@@ -6,7 +6,7 @@ use core::fmt;
 use core::ops::Index;
 use core::slice::ChunksExact;
 
-use wurzsige_sys::{word, Told};
+use wurzsige_sys::{Told, word};
 
 use crate::operand::Value;
 use crate::reason::Reason;

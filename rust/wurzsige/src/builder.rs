@@ -8,7 +8,7 @@ use core::ops::RangeInclusive;
 
 use crate::command::Command;
 use crate::desk::Desk;
-use crate::fault::{ends, explained, wrong, Fault};
+use crate::fault::{Fault, ends, explained, wrong};
 use crate::operand::{Column, Row};
 use crate::parts::{Constraint, Design, Filling, Table};
 use crate::refusal::{Operand, Refusal};

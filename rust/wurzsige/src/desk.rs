@@ -7,12 +7,12 @@ use alloc::vec::Vec;
 use core::cell::RefCell;
 use core::fmt;
 
-use wurzsige_sys::{Memory, Sizes, FETCH_WORDS, MOST_DESIGN, MOST_TEXT};
+use wurzsige_sys::{FETCH_WORDS, MOST_DESIGN, MOST_TEXT, Memory, Sizes};
 
 use crate::answer::Answer;
-use crate::answers::{typed, Typed};
-use crate::command::{positions_at, Command};
-use crate::fault::{explained, Fault};
+use crate::answers::{Typed, typed};
+use crate::command::{Command, positions_at};
+use crate::fault::{Fault, explained};
 use crate::refusal::Refusal;
 use crate::sound::Sound;
 

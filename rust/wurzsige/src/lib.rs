@@ -117,7 +117,7 @@ pub use self::{
     parts::{Constraint, Counts, Design, Filling, Held, Table},
     reason::{Origin, Reason, ReasonStep},
     refusal::{Cause, Operand, Refusal},
-    report::{lines, run, Line, Lines, Run},
+    report::{Line, Lines, Run, lines, run},
     slices::{Fetch, Fetches},
     verdict::Verdict,
 };

@@ -3,10 +3,10 @@
 use alloc::vec::Vec;
 
 use crate::answer::Answer;
-use crate::answers::{typed, Answered, Changed, Dropped, Referred, Totalled};
+use crate::answers::{Answered, Changed, Dropped, Referred, Totalled, typed};
 use crate::command::Command;
 use crate::desk::{Desk, WORDS};
-use crate::fault::{self, explained, Fault};
+use crate::fault::{self, Fault, explained};
 use crate::operand::{Query, Range, Row, Value};
 use crate::refusal::{Cause, Refusal};
 

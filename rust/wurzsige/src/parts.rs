@@ -3,7 +3,7 @@
 use alloc::vec::Vec;
 use core::fmt;
 
-use wurzsige_sys::{Memory, DESKS};
+use wurzsige_sys::{DESKS, Memory};
 
 use crate::operand::{Column, Range, Row, Value};
 

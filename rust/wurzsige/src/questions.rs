@@ -9,7 +9,7 @@ use crate::command::Command;
 use crate::desk::Desk;
 use crate::fault;
 use crate::operand::{Column, Range, Row, Value};
-use crate::parts::{design_in, held_in, ranges_in, row_in, Counts, Design, Held};
+use crate::parts::{Counts, Design, Held, design_in, held_in, ranges_in, row_in};
 use crate::refusal::Refusal;
 
 impl Desk {

@@ -4,7 +4,7 @@
 
 use alloc::boxed::Box;
 
-use wurzsige_sys::{word, Memory, Told, FETCH_WORDS};
+use wurzsige_sys::{FETCH_WORDS, Memory, Told, word};
 
 use crate::answer::refusal;
 use crate::command::Command;

@@ -2,7 +2,7 @@
 
 use alloc::vec::Vec;
 
-use wurzsige_sys::{verdict, VERDICT_WORDS};
+use wurzsige_sys::{VERDICT_WORDS, verdict};
 
 use crate::desk::Desk;
 use crate::operand::{Column, Row};

@@ -7,7 +7,7 @@ mod common;
 
 use common::all_examples;
 use compare::generate;
-use notation::{split, Command, Piece};
+use notation::{Command, Piece, split};
 use wurzsige::{Builder, Cause, Column, Desk, Named, Operand, Part, Row, Value};
 
 fn column(column: notation::Column) -> Column {

@@ -6,7 +6,7 @@ mod common;
 
 use common::{all_examples, kept, opened};
 use compare::generate;
-use notation::{split, Command, Piece, Put};
+use notation::{Command, Piece, Put, split};
 use wurzsige::{
     Answer, Answered, Cause, Changed, Column, Desk, Dropped, Evenness, Knot, Opener, Probed, Query,
     Range, Reasoned, Referred, Refusal, Row, Totalled, Value,

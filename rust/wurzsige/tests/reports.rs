@@ -6,7 +6,7 @@ mod common;
 
 use common::all_examples;
 use compare::generate;
-use wurzsige::{lines, run, Desk, Line};
+use wurzsige::{Desk, Line, lines, run};
 
 #[test]
 fn every_example_has_its_report() {

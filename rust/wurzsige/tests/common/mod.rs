@@ -2,7 +2,7 @@
 
 use std::path::Path;
 
-use compare::examples::{examples, Example};
+use compare::examples::{Example, examples};
 use wurzsige::{Desk, Memory};
 
 /// The example scripts, each with its report.
