@@ -53,6 +53,12 @@ impl Postgres {
         Ok(postgres)
     }
 
+    /// What the database is called.
+    pub(crate) fn title(&mut self) -> Result<String, Failure> {
+        let rows = self.run("SELECT current_database()")?;
+        Ok(rows.iter().flatten().map(cell_text).collect())
+    }
+
     /// Runs statements that are needed once.
     fn run(&mut self, sql: &str) -> Result<Vec<Vec<Cell>>, Failure> {
         let table = self.connection.run(sql);
