@@ -72,17 +72,16 @@ pub(crate) fn draft(database: &mut dyn Database) -> Result<Draft, Failure> {
     let several = references.iter().filter(|one| one.columns.len() > 1);
     let foreign = (references.len(), several.count());
     let (tables, notes) = (drafter.tables, drafter.notes);
-    let mut design = Design::default();
-    design.tables = tables;
-    let rest = Design {
-        tables: design
-            .tables
-            .split_off(design.tables.len().min(MOST_TABLES)),
+    let mut design = Design {
+        tables,
         ..Design::default()
     };
-    design.loads = (0..design.tables.len())
-        .map(|table| by_key(&design, table))
-        .collect();
+    let room = design.tables.len().min(MOST_TABLES);
+    let rest = Design {
+        tables: design.tables.split_off(room),
+        ..Design::default()
+    };
+    design.loads = (0..room).map(|table| by_key(&design, table)).collect();
     Ok(Draft {
         design,
         rest,

@@ -43,7 +43,7 @@ pub(crate) fn fetch(
 /// The expressions, in the order in which [`record`] reads them, and the table.
 fn select(database: &dyn Database, table: &BoundTable) -> String {
     let parts = table.columns.iter().flat_map(parts);
-    let parts = parts.map(|part| expression(part));
+    let parts = parts.map(expression);
     let shown = table.shown.iter().map(|column| database.shown(column));
     let expressions: Vec<String> = parts.chain(shown).collect();
     format!("SELECT {} FROM {} AS t", expressions.join(", "), table.name)
