@@ -56,6 +56,8 @@ pub(crate) fn draft(database: &mut dyn Database) -> Result<Draft, Failure> {
     database.begin(&[])?;
     let mut notes = Vec::new();
     let entries = entries(database, &mut notes)?;
+    // if it is the database that can't be read any more, this can't be either
+    database.relations()?;
     let references = references(&entries, &mut notes);
     let typing = Typing::of(database, &entries, &references, &mut notes)?;
     let entries = order(entries, &references);
@@ -105,8 +107,14 @@ fn entries(database: &mut dyn Database, notes: &mut Vec<String>) -> Result<Vec<E
     let mut entries = Vec::new();
     let mut views = 0;
     for name in database.relations()? {
-        let Some(relation) = database.relation(&name)? else {
-            continue;
+        let relation = match database.relation(&name) {
+            Ok(Some(relation)) => relation,
+            Ok(None) => continue,
+            // a view whose table is gone keeps nobody from drafting the others
+            Err(why) => {
+                notes.push(format!("{name} is left out, since it can't be read: {why}"));
+                continue;
+            }
         };
         if relation.columns.iter().any(|column| column.derived) {
             views += 1;

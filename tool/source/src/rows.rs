@@ -101,7 +101,7 @@ fn of_kind(database: &dyn Database, column: &BoundColumn, values: &[Value]) -> b
     let fits = |(part, value): (&Part, &Value)| match value {
         Value::Number(_) => part.kind.is_number(),
         Value::Boolean(_) => part.kind == crate::kind::Kind::Boolean,
-        Value::Text(text) => part.kind.is_text() && database.has_form(part.kind, text),
+        Value::Text(text) => part.kind.is_text() && database.may_have(part.kind, text),
         Value::Tuple(_) => false,
     };
     parts.into_iter().all(fits)

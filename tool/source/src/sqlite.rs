@@ -266,11 +266,15 @@ impl Database for Sqlite {
         if let Some(collation) = column.collation.as_deref().filter(|_| kind.is_text()) {
             return Err(collated(collation));
         }
-        let equality = storage(kind);
+        // 1 is a number and yes, which are no one value of a tuple
+        let equality = match kind {
+            Kind::Boolean => "boolean",
+            _ => storage(kind),
+        };
         let affinity = Affinity::of(&column.base);
         if affinity == Affinity::None && column.derived {
-            let column = quoted(&column.name);
-            let strays = format!("typeof(t.{column}) NOT IN ('null', '{equality}')");
+            let (column, storage) = (quoted(&column.name), storage(kind));
+            let strays = format!("typeof(t.{column}) NOT IN ('null', '{storage}')");
             return Ok(Fit {
                 equality,
                 strays: Some(strays),
@@ -324,6 +328,10 @@ impl Database for Sqlite {
             Kind::Timestamp => forms::is_timestamp(text),
             _ => true,
         }
+    }
+
+    fn may_have(&self, _kind: Kind, _text: &str) -> bool {
+        true
     }
 
     fn canonical(
