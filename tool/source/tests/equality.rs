@@ -9,14 +9,16 @@ use common::{at, open};
 use source::{Condition, Failure, NotOpened, Value};
 use testing::Lab;
 
-const TYPES: [&str; 7] = [
-    "integer",
-    "bigint",
-    "text",
-    "uuid",
-    "date",
-    "timestamp",
-    "boolean",
+/// The types, and a tuple whose parts have those of the database.
+const COLUMNS: [&str; 8] = [
+    "c integer",
+    "c bigint",
+    "c text",
+    "c uuid",
+    "c date",
+    "c timestamp",
+    "c boolean",
+    "p (k, c)",
 ];
 
 /// What was seen of a pair.
@@ -28,7 +30,7 @@ struct Tally {
     some: usize,
 }
 
-/// A database of tables `t0`, `t1`, .. with a key and a column `c`, and of views `v0`, .. over them.
+/// A database of tables `t0`, `t1`, .. with a key, a column `c` and a column `k` that is 1 everywhere, and of views `v0`, .. over them.
 struct Columns {
     lab: Lab,
     names: Vec<String>,
@@ -50,8 +52,9 @@ impl Columns {
     }
 
     fn compare(&self, left: &str, right: &str, kind: &str, tally: &mut Tally) {
+        let name = &kind[..1];
         let text = format!(
-            "design \"Pair\"\ntable l from {left}\n    id key integer\n    c {kind}\ntable r from {right}\n    id key integer\n    c {kind}\nlink l.c -> r.c\nload l by l.id\n"
+            "design \"Pair\"\ntable l from {left}\n    id key integer\n    {kind}\ntable r from {right}\n    id key integer\n    {kind}\nlink l.{name} -> r.{name}\nload l by l.id\n"
         );
         let mut source = match open(&self.lab, &text) {
             Ok(opened) => opened.source,
@@ -110,19 +113,21 @@ impl Columns {
     /// Whether a column serves as one of a type; otherwise no pair with it does.
     fn fits(&self, name: &str, kind: &str) -> bool {
         let text = format!(
-            "design \"One\"\ntable l from {name}\n    id key integer\n    c {kind}\nload l by l.id\n"
+            "design \"One\"\ntable l from {name}\n    id key integer\n    {kind}\nload l by l.id\n"
         );
         open(&self.lab, &text).is_ok()
     }
 
-    fn compare_all(&self) -> Tally {
+    /// Compares all pairs of columns, each pair in both orders or in one.
+    fn compare_all(&self, both_ways: bool) -> Tally {
         let mut tally = Tally::default();
-        for kind in TYPES {
+        for kind in COLUMNS {
             let fits = |name: &&String| self.fits(name, kind);
             let fitting: Vec<&String> = self.names.iter().filter(fits).collect();
             tally.refused += self.names.len() - fitting.len();
-            for left in &fitting {
-                for right in &fitting {
+            for (number, left) in fitting.iter().enumerate() {
+                let from = if both_ways { 0 } else { number };
+                for right in &fitting[from..] {
                     self.compare(left, right, kind, &mut tally);
                 }
             }
@@ -201,21 +206,21 @@ fn sqlite() {
             .map(|(id, value)| format!("({id}, {value})"))
             .collect();
         statements += &format!(
-            "CREATE TABLE t{number} (id integer PRIMARY KEY NOT NULL, c {kind}); INSERT INTO t{number} VALUES {};",
+            "CREATE TABLE t{number} (id integer PRIMARY KEY NOT NULL, c {kind}, k integer DEFAULT 1); INSERT INTO t{number} (id, c) VALUES {};",
             rows.join(", ")
         );
         names.push(format!("t{number}"));
     }
     // of whole columns, of one storage class, and by expressions without a type
     for (number, view) in [
-        "SELECT id, c FROM t2",
-        "SELECT id, c || '' AS c FROM t2",
-        "SELECT id, CAST(c AS TEXT) AS c FROM t10 WHERE typeof(c) <> 'blob'",
-        "SELECT id, CAST(c AS INTEGER) AS c FROM t10 WHERE typeof(c) <> 'blob'",
-        "SELECT id, coalesce(c, NULL) AS c FROM t10 WHERE typeof(c) = 'text'",
-        "SELECT id, coalesce(c, NULL) AS c FROM t10 WHERE typeof(c) = 'integer'",
-        "SELECT id, coalesce(c, NULL) AS c FROM t10 WHERE typeof(c) = 'blob'",
-        "SELECT id, lower(c) AS c FROM t11",
+        "SELECT id, k, c FROM t2",
+        "SELECT id, k, c || '' AS c FROM t2",
+        "SELECT id, k, CAST(c AS TEXT) AS c FROM t10 WHERE typeof(c) <> 'blob'",
+        "SELECT id, k, CAST(c AS INTEGER) AS c FROM t10 WHERE typeof(c) <> 'blob'",
+        "SELECT id, k, coalesce(c, NULL) AS c FROM t10 WHERE typeof(c) = 'text'",
+        "SELECT id, k, coalesce(c, NULL) AS c FROM t10 WHERE typeof(c) = 'integer'",
+        "SELECT id, k, coalesce(c, NULL) AS c FROM t10 WHERE typeof(c) = 'blob'",
+        "SELECT id, k, lower(c) AS c FROM t11",
     ]
     .into_iter()
     .enumerate()
@@ -224,7 +229,7 @@ fn sqlite() {
         names.push(format!("v{number}"));
     }
     let lab = Lab::sqlite(&statements);
-    let tally = Columns { lab, names }.compare_all();
+    let tally = Columns { lab, names }.compare_all(true);
     assert_reached(&tally);
     assert!(tally.unfit > 0);
 }
@@ -263,11 +268,12 @@ fn postgresql() {
     let mut names = Vec::new();
     for (number, (kind, rows)) in tables.iter().enumerate() {
         statements += &format!(
-            "CREATE TABLE t{number} (id integer PRIMARY KEY, c {kind}); INSERT INTO t{number} VALUES {rows};"
+            "CREATE TABLE t{number} (id integer PRIMARY KEY, c {kind}, k integer DEFAULT 1); INSERT INTO t{number} VALUES {rows};"
         );
         names.push(format!("t{number}"));
     }
     let lab = Lab::postgres(&statements);
-    let tally = Columns { lab, names }.compare_all();
+    // its types decide alone, whichever column is asked first
+    let tally = Columns { lab, names }.compare_all(false);
     assert_reached(&tally);
 }
