@@ -58,7 +58,7 @@ pub(crate) trait Database {
     /// Whether a text is written as values of a kind are.
     fn has_form(&self, kind: Kind, text: &str) -> bool;
 
-    /// Whether a row may have a text in a column of a kind, in whatever form: otherwise the database isn't asked for it.
+    /// Whether a row may have a text in a column of a kind, in whatever form.
     fn may_have(&self, kind: Kind, text: &str) -> bool;
 
     /// The text by which the database writes what a user's text means, if it means anything of the kind, which is one of texts.
