@@ -46,7 +46,8 @@ pub(crate) fn fetch(
         records.push(record);
     }
     // the order is that of values, the same for every database
-    records.sort_by(|left, right| left.values[table.key].cmp(&right.values[table.key]));
+    let key = |record: &Record| (record.values[table.key].clone(), record.issues[table.key]);
+    records.sort_by_cached_key(key);
     Ok(records)
 }
 

@@ -6,7 +6,7 @@ use clap::{Parser, Subcommand, ValueEnum};
 
 use crate::output::When;
 
-const EXIT: &str = "Exit status: 0 good; 1 a warning was found (knots, questions that are never answered); 2 the design or the command is refused; 3 a file can't be read or written.";
+const EXIT: &str = "Exit status: 0 good; 1 a warning was found (knots, questions that are never answered); 2 the design or the command is refused; 3 a file or the database can't be read, or a file can't be written.";
 
 /// Designs for the review desk, decided by the proved desk
 #[derive(Debug, Parser)]
