@@ -56,6 +56,15 @@ fn a_file_that_is_no_database() {
 }
 
 #[test]
+fn a_file_in_utf_16() {
+    for encoding in ["UTF-16le", "UTF-16be"] {
+        let lab = Lab::sqlite(&format!("PRAGMA encoding = '{encoding}'; {TABLE}"));
+        let told = why(SourceKind::Sqlite, lab.source().place);
+        assert!(told.contains("its texts are in UTF-16"), "{told}");
+    }
+}
+
+#[test]
 fn a_file_of_sqlite_stays_as_it_is() {
     let lab = Lab::sqlite(TABLE);
     let before = fs::read(lab.file()).expect("the file");
