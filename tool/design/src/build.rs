@@ -202,6 +202,7 @@ impl<'a> Builder<'a> {
         });
         self.spans.tables.push(name.span);
         self.spans.columns.push(Vec::new());
+        self.spans.parts.push(Vec::new());
         self.spans.shown.push(Vec::new());
     }
 
@@ -229,6 +230,10 @@ impl<'a> Builder<'a> {
             return;
         };
         self.once(table, &item.name);
+        let parts = match &item.kind {
+            TypeItem::Named(_) => Vec::new(),
+            TypeItem::Tuple { parts, .. } => parts.iter().map(|part| part.span.clone()).collect(),
+        };
         let (kind, is_tuple) = match item.kind {
             TypeItem::Named(name) => (types::named(&name), false),
             TypeItem::Tuple { parts, span } => (types::tuple(&parts, span), true),
@@ -254,6 +259,7 @@ impl<'a> Builder<'a> {
             issue: item.issue.as_ref().map(|issue| issue.text.clone()),
         };
         let place = self.add_column(table, column, item.name.span);
+        self.spans.parts[table][place.column] = parts;
         if !typed {
             self.untyped.insert(place);
         }
@@ -264,6 +270,7 @@ impl<'a> Builder<'a> {
         let columns = &mut self.design.tables[table].columns;
         columns.push(column);
         self.spans.columns[table].push(span);
+        self.spans.parts[table].push(Vec::new());
         let column = columns.len() - 1;
         Place { table, column }
     }

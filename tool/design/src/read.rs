@@ -28,7 +28,9 @@ pub struct Spans {
     pub tables: Vec<Span>,
     /// The columns' names, table by table.
     pub columns: Vec<Vec<Span>>,
-    /// The names of what is shown, table by table.
+    /// For each column of each table the names in its tuple; none of another type.
+    pub parts: Vec<Vec<Vec<Span>>>,
+    /// The names that are shown, table by table.
     pub shown: Vec<Vec<Span>>,
     /// The links' source and target columns.
     pub links: Vec<(Span, Span)>,

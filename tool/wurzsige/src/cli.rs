@@ -6,7 +6,7 @@ use clap::{Parser, Subcommand, ValueEnum};
 
 use crate::output::When;
 
-const EXIT: &str = "Exit status: 0 good; 1 a warning was found (knots, questions that are never answered); 2 the design or the command is refused; 3 a file can't be read or written.";
+const EXIT: &str = "Exit status: 0 good; 1 a warning was found (knots, questions that are never answered); 2 the design or the command is refused; 3 a file or the database can't be read, or a file can't be written.";
 
 const EXIT_OF_WRITING: &str = "Exit status: 0 good; 2 the design or the command is refused; 3 a file can't be read or written.";
 
@@ -26,6 +26,17 @@ pub struct Arguments {
 /// What the tool can do.
 #[derive(Debug, Subcommand)]
 pub enum Command {
+    /// Draft a design from a database: tables, keys and types, with every foreign key as two links to choose from
+    #[command(after_help = EXIT)]
+    Init {
+        /// The database: sqlite:FILE or postgres:CONNINFO
+        source: String,
+
+        /// Where to write the draft; without it standard output
+        #[arg(short, long, value_name = "FILE")]
+        output: Option<PathBuf>,
+    },
+
     /// Tell all mistakes of a design; whether it has knots; which questions are answered here
     #[command(after_help = EXIT)]
     Check {

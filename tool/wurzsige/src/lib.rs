@@ -8,6 +8,7 @@ pub mod draw;
 pub mod explain;
 pub mod facts;
 pub mod file;
+pub mod init;
 pub mod json;
 pub mod library;
 pub mod output;

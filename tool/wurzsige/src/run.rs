@@ -13,12 +13,13 @@ use crate::file::{File, Unreadable};
 use crate::library::Refused;
 use crate::output::{Page, When};
 use crate::status::Status;
-use crate::{diff, draw, explain, json, report};
+use crate::{diff, draw, explain, init, json, report};
 
 /// Carries a command out, and says how to end.
 pub fn run(arguments: &Arguments) -> Status {
     let color = arguments.color;
     let ended = match &arguments.command {
+        Command::Init { source, output } => init(source, output.as_deref()),
         Command::Check { design, format } => check(design, *format, color),
         Command::Draw { design, output } => draw(design, output.as_deref(), color),
         Command::Diff { old, new, format } => diff(old, new, *format, color),
@@ -101,6 +102,12 @@ fn accepted(path: &Path, color: When) -> Result<File, Status> {
     // if standard error is closed, the status alone has to do
     let _ = io::stderr().write_all(&page.into_bytes());
     Err(Status::Refused)
+}
+
+fn init(source: &str, output: Option<&Path>) -> Ended {
+    let draft = init::draft(source).map_err(|(status, message)| fail(status, &message))?;
+    put_to(output, draft.as_bytes())?;
+    Ok(Status::Good)
 }
 
 fn check(path: &Path, format: Format, color: When) -> Ended {
