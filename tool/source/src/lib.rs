@@ -75,6 +75,12 @@ pub trait Source {
     /// The row of a table with a key, if there is one.
     fn with_key(&mut self, table: usize, key: &Value) -> Result<Option<Record>, Failure>;
 
+    /// The lowest values that rows have in a column, each once, rising, at most so many; NULL isn't one. Beside each its issue: 0 where the column has none.
+    fn values(&mut self, column: Place, most: usize) -> Result<Vec<(Value, u8)>, Failure>;
+
+    /// The value that texts mean in a column, as the database would give it: one text, or one for each part of a tuple.
+    fn meant(&mut self, column: Place, texts: &[&str]) -> Result<Value, Failure>;
+
     /// How many rows the tables of the design have together.
     fn size(&mut self) -> Result<u64, Failure>;
 
