@@ -70,9 +70,14 @@ impl Page {
         self.0.reset().expect("a buffer");
     }
 
-    /// Adds a mistake with its lines and carets.
+    /// Adds a mistake of a file with its lines and carets.
     pub fn problem(&mut self, file: &File, problem: &Problem) {
-        let source = SimpleFile::new(&file.name, &file.text);
+        self.problem_in(&file.name, &file.text, problem);
+    }
+
+    /// Adds a mistake of a text with its lines and carets.
+    pub fn problem_in(&mut self, name: &str, text: &str, problem: &Problem) {
+        let source = SimpleFile::new(name, text);
         emit(
             &mut self.0,
             &Config::default(),
