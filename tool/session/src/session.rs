@@ -57,6 +57,11 @@ impl<'s> Session<'s> {
         self.source.size()
     }
 
+    /// Lends the database, in its snapshot, for another session beside this one.
+    pub fn over<T>(&mut self, with: impl FnOnce(&mut dyn Source) -> T) -> T {
+        with(self.source)
+    }
+
     /// How many rows of the database are in the slice, cached or not.
     pub fn rows_read(&self) -> usize {
         self.slice.rows.len()

@@ -13,16 +13,32 @@ use crate::loads::named;
 pub const COMMANDS: [(&str, &str, &str); 14] = [
     ("load", "load NAME VALUE", "load a value"),
     ("load", "load NAME LOW..HIGH", "load a range of numbers"),
-    ("drop", "drop NAME VALUE | LOW..HIGH", "drop what was loaded"),
-    ("ask", "ask \"QUESTION\" VALUE", "ask a question of the design"),
+    (
+        "drop",
+        "drop NAME VALUE | LOW..HIGH",
+        "drop what was loaded",
+    ),
+    (
+        "ask",
+        "ask \"QUESTION\" VALUE",
+        "ask a question of the design",
+    ),
     (
         "ask",
         "ask T.C = VALUE [with U [by LINK], ..] [total U.D]",
         "ask any question",
     ),
-    ("probe", "probe T.C = VALUE", "is the value complete in the column, and why"),
+    (
+        "probe",
+        "probe T.C = VALUE",
+        "is the value complete in the column, and why",
+    ),
     ("why", "why TABLE KEY", "why a row is here"),
-    ("opener", "opener T.C = VALUE", "a load that would let the desk answer"),
+    (
+        "opener",
+        "opener T.C = VALUE",
+        "a load that would let the desk answer",
+    ),
     ("desk", "desk N", "work at desk N, 0 to 3"),
     ("held", "held", "what the desks hold, and what it costs"),
     ("rows", "rows", "the rows that are here"),
@@ -183,7 +199,10 @@ fn question<'d>(design: &'d Design, text: &str) -> Result<&'d Question, String> 
     if let Some(question) = questions.find(|question| question.text == text) {
         return Ok(question);
     }
-    let texts = design.questions.iter().map(|question| question.text.as_str());
+    let texts = design
+        .questions
+        .iter()
+        .map(|question| question.text.as_str());
     Err(match nearest(text, texts) {
         Some(near) => format!("the design has no question \"{text}\": did you mean \"{near}\"?"),
         None => format!("the design has no question \"{text}\""),

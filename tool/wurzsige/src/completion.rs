@@ -28,14 +28,17 @@ impl Completion {
             loads: loads.map(|load| design::name(&load.name)).collect(),
             tables: tables.map(|table| design::name(&table.name)).collect(),
             columns: columns.collect(),
-            questions: questions.map(|question| format!("\"{}\"", question.text)).collect(),
+            questions: questions
+                .map(|question| format!("\"{}\"", question.text))
+                .collect(),
         }
     }
 
     /// Where the piece begins that is completed, and what it may become.
     pub fn candidates(&self, line: &str) -> (usize, Vec<String>) {
         let Some((command, rest)) = line.split_once(char::is_whitespace) else {
-            let mut names: Vec<String> = COMMANDS.iter().map(|(name, ..)| name.to_string()).collect();
+            let mut names: Vec<String> =
+                COMMANDS.iter().map(|(name, ..)| name.to_string()).collect();
             names.dedup();
             return (0, beginning(names.iter(), line));
         };
@@ -64,13 +67,21 @@ impl Completion {
 
 /// The names that begin with a piece.
 fn beginning<'n>(names: impl Iterator<Item = &'n String>, piece: &str) -> Vec<String> {
-    names.filter(|name| name.starts_with(piece)).cloned().collect()
+    names
+        .filter(|name| name.starts_with(piece))
+        .cloned()
+        .collect()
 }
 
 impl Completer for Completion {
     type Candidate = String;
 
-    fn complete(&self, line: &str, at: usize, _: &Context<'_>) -> rustyline::Result<(usize, Vec<String>)> {
+    fn complete(
+        &self,
+        line: &str,
+        at: usize,
+        _: &Context<'_>,
+    ) -> rustyline::Result<(usize, Vec<String>)> {
         Ok(self.candidates(&line[..at]))
     }
 }
@@ -92,7 +103,14 @@ mod tests {
         let design = design::read(text).design.expect("a design");
         let completion = Completion::new(&design);
         for (line, start, expected) in [
-            ("", 0, vec!["load", "drop", "ask", "probe", "why", "opener", "desk", "held", "rows", "refresh", "help", "quit"]),
+            (
+                "",
+                0,
+                vec![
+                    "load", "drop", "ask", "probe", "why", "opener", "desk", "held", "rows",
+                    "refresh", "help", "quit",
+                ],
+            ),
             ("re", 0, vec!["refresh"]),
             ("load w", 5, vec!["ward"]),
             ("load ward W", 10, vec![]),

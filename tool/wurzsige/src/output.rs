@@ -57,8 +57,13 @@ impl Page {
 
     /// Adds text.
     pub fn text(&mut self, text: &str) {
+        self.bytes(text.as_bytes());
+    }
+
+    /// Adds bytes of text.
+    pub fn bytes(&mut self, bytes: &[u8]) {
         // a buffer in memory takes whatever is written to it
-        self.0.write_all(text.as_bytes()).expect("a buffer");
+        self.0.write_all(bytes).expect("a buffer");
     }
 
     /// Adds text in a colour.

@@ -93,7 +93,10 @@ impl Watcher {
                 let mut shown = false;
                 while receiver.recv_timeout(PATIENCE) == Err(RecvTimeoutError::Timeout) {
                     shown = true;
-                    show(&format!("reading for {} s; {what}", begun.elapsed().as_secs()));
+                    show(&format!(
+                        "reading for {} s; {what}",
+                        begun.elapsed().as_secs()
+                    ));
                 }
                 if shown {
                     show("");

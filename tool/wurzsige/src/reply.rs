@@ -110,7 +110,9 @@ fn too_large(page: &mut Page, design: &Design, large: &TooLarge) {
     });
     if let Some((rows, link)) = links.max_by_key(|(rows, _)| *rows) {
         let link = design.link_name(&design.links[link]);
-        page.text(&format!("{link} brings most: {rows} of those that were read\n"));
+        page.text(&format!(
+            "{link} brings most: {rows} of those that were read\n"
+        ));
     }
 }
 
@@ -145,11 +147,15 @@ fn lists_of(page: &mut Page, session: &Session, lists: &Lists, ground: Option<Gr
     if !lines.is_empty() {
         for line in [&head].into_iter().chain(&lines) {
             let cells = line.iter().zip(&widths);
-            let cells: Vec<String> = cells.map(|(cell, &width)| format!("{cell:width$}")).collect();
+            let cells: Vec<String> = cells
+                .map(|(cell, &width)| format!("{cell:width$}"))
+                .collect();
             page.text(&format!("{}\n", cells.join("  ").trim_end()));
         }
     }
-    let why = ground.map_or(String::new(), |ground| format!("; complete: {}", because(ground)));
+    let why = ground.map_or(String::new(), |ground| {
+        format!("; complete: {}", because(ground))
+    });
     page.text(&format!("({}{why})\n", counted(lists.lists.len(), "list")));
 }
 
@@ -162,7 +168,10 @@ fn why(page: &mut Page, session: &Session, reason: &Reason, desks: &[u8]) {
         let from = label(session, step.from);
         let line = match &link.words {
             Some(words) => format!("{pronoun} {words} {from}"),
-            None => format!("{pronoun} was brought by {from} ({})", design.link_name(link)),
+            None => format!(
+                "{pronoun} was brought by {from} ({})",
+                design.link_name(link)
+            ),
         };
         page.text(&format!("  {line}\n"));
         pronoun = "which";
@@ -210,13 +219,21 @@ fn keys_by_table<'s>(session: &'s Session, rows: &[u16]) -> Vec<(&'s str, Vec<&'
 fn rows_of(page: &mut Page, session: &Session, rows: &[u16]) {
     page.text(&format!("{} of {MOST_ROWS}\n", counted(rows.len(), "row")));
     for (table, keys) in keys_by_table(session, rows) {
-        page.text(&format!("  {:4}  {table}: {}\n", keys.len(), keys.join(", ")));
+        page.text(&format!(
+            "  {:4}  {table}: {}\n",
+            keys.len(),
+            keys.join(", ")
+        ));
     }
 }
 
 fn renewed(page: &mut Page, session: &Session, refreshed: &Refreshed, rows: usize) {
     match refreshed {
-        Refreshed::Kept { came, went, changed } => page.text(&format!(
+        Refreshed::Kept {
+            came,
+            went,
+            changed,
+        } => page.text(&format!(
             "as of {}: {came} came, {went} went, {changed} changed; {} here\n",
             session.taken(),
             counted(rows, "row")
@@ -278,7 +295,10 @@ enum Json<'a> {
     #[serde(rename = "total")]
     Total { total: u64 },
     #[serde(rename = "reason")]
-    Reason { row: String, steps: Vec<JsonStep<'a>> },
+    Reason {
+        row: String,
+        steps: Vec<JsonStep<'a>>,
+    },
     #[serde(rename = "absent")]
     Absent,
     #[serde(rename = "desk")]
@@ -286,7 +306,9 @@ enum Json<'a> {
     #[serde(rename = "holds")]
     Holds { held: Vec<JsonHeld<'a>> },
     #[serde(rename = "rows")]
-    Rows { tables: BTreeMap<&'a str, Vec<&'a str>> },
+    Rows {
+        tables: BTreeMap<&'a str, Vec<&'a str>>,
+    },
     #[serde(rename = "refreshed")]
     Refreshed {
         came: usize,
@@ -436,7 +458,11 @@ fn json_reason<'a>(session: &'a Session, reason: &Reason) -> Json<'a> {
 
 fn json_refreshed<'a>(session: &'a Session, refreshed: &Refreshed, rows: usize) -> Json<'a> {
     match refreshed {
-        Refreshed::Kept { came, went, changed } => Json::Refreshed {
+        Refreshed::Kept {
+            came,
+            went,
+            changed,
+        } => Json::Refreshed {
             came: *came,
             went: *went,
             changed: *changed,

@@ -33,8 +33,33 @@ pub enum Tried {
     Trouble(Trouble),
 }
 
+/// Loads values one after the other, and tells of each. Gives the rows of the database that were read.
+pub fn try_all(
+    file: &File,
+    source: &mut dyn Source,
+    loads: &[Asked],
+    mut tell: impl FnMut(&Session, &Asked, &Tried),
+) -> Result<usize, Trouble> {
+    let Some(design) = file.design() else {
+        unreachable!("the design was accepted");
+    };
+    let mut wanted = Vec::new();
+    let mut session = Session::open(design, source)?;
+    for asked in loads {
+        wanted.push((asked.load, asked.wanted(&mut session)?));
+        let (load, value) = &wanted[wanted.len() - 1];
+        let mut tried = try_load(&mut session, *load, value);
+        if let Tried::TooLarge { large, without } = &mut tried {
+            *without = session.over(|source| fits_without(design, source, &wanted, large));
+            wanted.pop();
+        }
+        tell(&session, asked, &tried);
+    }
+    Ok(session.rows_read())
+}
+
 /// Loads a value, and tells what came of it.
-pub fn try_load(session: &mut Session, load: usize, wanted: &Wanted) -> Tried {
+fn try_load(session: &mut Session, load: usize, wanted: &Wanted) -> Tried {
     let before: Vec<u16> = session.cached().collect();
     let answer = match session.load(load, wanted) {
         Ok(answer) => answer,
@@ -54,7 +79,7 @@ pub fn try_load(session: &mut Session, load: usize, wanted: &Wanted) -> Tried {
 }
 
 /// The link without which loads fit, and the rows that they have then. Links are tried in the order of the rows that they brought.
-pub fn fits_without(
+fn fits_without(
     design: &Design,
     source: &mut dyn Source,
     loads: &[(usize, Wanted)],
@@ -131,6 +156,13 @@ pub fn report(page: &mut Page, file: &File, session: &Session, asked: &Asked, tr
             page.text(&format!(": {name}: {trouble}\n"));
         }
     }
+}
+
+/// How much of the database was not read.
+pub fn not_read(page: &mut Page, rows: u64) {
+    page.text(&format!(
+        "The other {rows} rows of the database were not read. That does not matter for the desk's answers: docs/SLICES.md.\n"
+    ));
 }
 
 /// So many of something.
@@ -268,7 +300,9 @@ impl<'a> Json<'a> {
 fn by_table<'a>(design: &'a Design, brought: &[Brought]) -> BTreeMap<&'a str, usize> {
     let mut tables = BTreeMap::new();
     for one in brought {
-        *tables.entry(design.tables[one.table].name.as_str()).or_insert(0) += one.rows;
+        *tables
+            .entry(design.tables[one.table].name.as_str())
+            .or_insert(0) += one.rows;
     }
     tables
 }
