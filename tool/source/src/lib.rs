@@ -7,6 +7,7 @@ mod bind;
 mod catalog;
 mod counts;
 mod database;
+mod draft;
 mod forms;
 mod kind;
 mod label;
@@ -86,7 +87,7 @@ pub trait Source {
     /// When the snapshot was taken, as `2025-11-17 12:41:07`.
     fn taken(&self) -> &str;
 
-    /// All rows that meet a condition, by key, rising: whole, without a limit.
+    /// All rows that meet a condition, by key, rising: whole, without a limit. A value of another type than the column's is unfit.
     fn fetch(&mut self, condition: &Condition) -> Result<Vec<Record>, Failure>;
 
     /// The row of a table with a key, if there is one; at issue 0, where the key has issues.
@@ -131,4 +132,19 @@ pub fn open(place: &design::Source, design: &Design, spans: &Spans) -> Result<Op
             snapshot::open(postgres::Postgres::open(&place.place)?, design, spans)
         }
     }
+}
+
+/// Drafts a design from a database: tables, keys, unique columns and types, and every foreign key as two links to choose from.
+pub fn draft(place: &design::Source) -> Result<String, Failure> {
+    let (title, draft) = match place.kind {
+        SourceKind::Sqlite => {
+            let mut database = sqlite::Sqlite::open(&place.place)?;
+            (database.title(), draft::draft(&mut database)?)
+        }
+        SourceKind::Postgres => {
+            let mut database = postgres::Postgres::open(&place.place)?;
+            (database.title()?, draft::draft(&mut database)?)
+        }
+    };
+    Ok(draft::text::text(draft, &title, place))
 }
