@@ -278,7 +278,7 @@ fn diff_tells_what_loads_cost() {
         "--format",
         "json",
     ]);
-    let costs = r#""costs":[{"load":"ward","value":"W-NORD","before":294,"after":293},{"load":"night","value":"50010","before":31,"after":293}]}"#;
+    let costs = r#""costs":[{"load":"ward","value":"W-NORD","before":294,"after":293},{"load":"night","value":"50010","before":20,"after":293}]}"#;
     assert!(named.output.trim_end().ends_with(costs), "{}", named.output);
     assert_eq!(
         wurzsige(&["diff", SLEEP, &changed, "--value", "ward=W-NORD"]).status,
@@ -356,4 +356,35 @@ fn what_is_not_there_is_told() {
         ran.errors,
         "wurzsige: `W-NORD` is no load: write LOAD=VALUE\n"
     );
+}
+
+/// The blocks of text on the page for users below a heading.
+fn block(heading: &str) -> String {
+    let page = program::text("docs/USING.md");
+    let (_, below) = page.split_once(heading).expect(heading);
+    let (_, block) = below.split_once("```text\n").expect("a block");
+    let (block, _) = block.split_once("```").expect("its end");
+    block.to_string()
+}
+
+/// What the page for users shows of `try` and of a first session is what the program writes.
+#[test]
+fn the_sessions_of_the_page_for_users() {
+    let (_lab, source) = laboratory();
+    let tried = wurzsige(&["try", SLEEP, "ward=W-NORD", "--source", &source]);
+    assert_eq!(
+        timeless(&tried.output),
+        block("## Trying, on the real database")
+    );
+    let session = block("## Asking: a first session");
+    let is_command = |line: &&str| line.starts_with("desk 0> ");
+    let commands: Vec<&str> = session
+        .lines()
+        .filter(is_command)
+        .map(|line| &line[8..])
+        .collect();
+    assert!(commands.len() > 8, "{session}");
+    let replies: Vec<&str> = session.lines().filter(|line| !is_command(line)).collect();
+    let written = asked(&source, "text", &commands).output;
+    assert_eq!(written.lines().collect::<Vec<_>>(), replies);
 }
