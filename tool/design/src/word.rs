@@ -61,7 +61,8 @@ pub(crate) fn word(text: &str, from: usize) -> Result<Option<Word>, Problem> {
     };
     let behind = &rest[length..length + blank(&rest[length..])];
     let quoted = first == '"';
-    if !behind.is_empty() && !(quoted && behind.starts_with('#')) {
+    let fits = behind.is_empty() || (quoted && behind.starts_with('#'));
+    if !fits {
         let span = start + length..start + length + behind.len();
         let problem = Problem::new(
             Code::E008,

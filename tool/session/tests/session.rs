@@ -2,137 +2,16 @@
 
 mod support;
 
-use std::cell::RefCell;
 use std::rc::Rc;
 
-use design::{Design, Place, Question, Word};
+use design::Word;
 use session::{
     Answered, Brought, By, Dropped, Ground, Held, Identity, Issued, Opener, Probed, Referred,
-    Refreshed, Session, Trouble, Wanted,
+    Session, Trouble, Wanted,
 };
-use source::{Failure, Record, Value};
-use support::memory::{Memory, Rows};
-
-/// Subjects on wards, their recordings, and events of these, with texts, numbers, a measure, a pair and issues.
-const LABORATORY: &str = r#"design "Sleep"
-table subject "subject {name}"
-    id      key text issue holder
-    ward    text
-    show    name
-table recording
-    id      key integer
-    subject text issue holder
-table event
-    name    key (recording, onset)
-    recording integer
-    onset   bigint
-    seconds measure integer
-    scorer  text
-link subject.id -> recording.subject "is a night of"
-link recording.id -> event.recording "was scored in"
-load ward by subject.ward
-load night by recording.id values 1..5000
-question "Events of a ward" subject.ward = ? with recording, event
-question "Seconds of a ward" subject.ward = ? with recording, event total event.seconds
-question "Seconds of a night" event.recording = ? total event.seconds
-question "A scorer's events" event.scorer = ?
-"#;
-
-fn text(text: &str) -> Option<Value> {
-    Some(Value::Text(text.into()))
-}
-
-fn number(number: i64) -> Option<Value> {
-    Some(Value::Number(number))
-}
-
-fn subject(id: &str, holder: u8, ward: &str, name: &str) -> Record {
-    Record {
-        table: 0,
-        values: vec![text(id), text(ward)],
-        issues: vec![holder, 0],
-        shown: vec![Some(name.into())],
-    }
-}
-
-fn recording(id: i64, subject: Option<(&str, u8)>) -> Record {
-    Record {
-        table: 1,
-        values: vec![number(id), subject.and_then(|(id, _)| text(id))],
-        issues: vec![0, subject.map_or(0, |(_, holder)| holder)],
-        shown: vec![],
-    }
-}
-
-fn event(recording: i64, onset: i64, seconds: Option<i64>, scorer: &str) -> Record {
-    let name = Value::Tuple(vec![Value::Number(recording), Value::Number(onset)]);
-    Record {
-        table: 2,
-        values: vec![
-            Some(name),
-            number(recording),
-            number(onset),
-            seconds.map(Value::Number),
-            text(scorer),
-        ],
-        issues: vec![0; 5],
-        shown: vec![],
-    }
-}
-
-fn laboratory() -> (Design, Rows) {
-    let mut rows = vec![
-        subject("s1", 0, "nord", "Ann"),
-        subject("s1", 1, "nord", "Bo"),
-        subject("s2", 0, "west", "Cy"),
-        recording(10, Some(("s1", 0))),
-        recording(11, Some(("s1", 0))),
-        recording(12, Some(("s1", 1))),
-        recording(13, Some(("s2", 0))),
-        recording(14, None),
-    ];
-    rows.extend([
-        event(10, -1, Some(30), "x"),
-        event(10, 2, Some(0), "x"),
-        event(10, 3, None, "y"),
-        event(12, 1, Some(12), "y"),
-        event(13, 1, Some(4), "x"),
-    ]);
-    (support::read(LABORATORY), Rc::new(RefCell::new(rows)))
-}
-
-fn issued(text: &str) -> Issued {
-    Value::Text(text.into()).into()
-}
-
-fn value(text: &str) -> Wanted {
-    Wanted::Value(issued(text))
-}
-
-fn place(design: &Design, name: &str) -> Place {
-    let asked = design::asked(design, &format!("{name} = x"));
-    asked.expect(name).question.column
-}
-
-fn question<'d>(design: &'d Design, text: &str) -> &'d Question {
-    let mut questions = design.questions.iter();
-    questions
-        .find(|question| question.text == text)
-        .expect(text)
-}
-
-/// The keys of each list.
-fn keys(session: &Session, answered: &Answered) -> Vec<Vec<String>> {
-    let Answered::Lists(lists) = answered else {
-        panic!("no lists: {answered:?}");
-    };
-    let key = |row: &u16| session.row(*row).expect("a row").key.clone();
-    lists
-        .lists
-        .iter()
-        .map(|list| list.iter().map(key).collect())
-        .collect()
-}
+use source::{Failure, Value};
+use support::laboratory::{issued, keys, laboratory, place, question, subject, value};
+use support::memory::Memory;
 
 #[test]
 fn a_ward_is_loaded_with_all_that_it_brings() {
@@ -228,7 +107,7 @@ fn a_question_loads_what_it_asks_for() {
         load: 0,
         wanted: value("west"),
     };
-    assert_eq!(session.held(), [held.clone()]);
+    assert_eq!(session.held(), std::slice::from_ref(&held));
     let needs = session.needs(&held).expect("it is held");
     assert_eq!((needs.rows, needs.alone), (3, 3));
     let nobody = session
@@ -448,143 +327,6 @@ fn past_512_rows_nothing_is_loaded() {
         );
         session.drop_load(0, &value(ward)).expect("it is held");
     }
-}
-
-#[test]
-fn a_refresh_follows_every_kind_of_change() {
-    let (design, rows) = laboratory();
-    let mut memory = Memory::new(&design, &rows);
-    let mut session = Session::open(&design, &mut memory).expect("a session");
-    session.load(0, &value("nord")).expect("it fits");
-    {
-        let rows = &mut *rows.borrow_mut();
-        rows[2] = subject("s2", 0, "nord", "Cy"); // moves into the ward, with recording 13 and its event
-        rows[1].shown = vec![Some("Bob".into())]; // is only called otherwise
-        rows[5] = recording(12, Some(("s3", 0))); // leaves, with its event
-        rows[8] = event(10, -1, Some(31), "z"); // changes
-        rows.push(event(11, 7, Some(1), "z")); // comes
-        rows.remove(9); // goes
-    }
-    let total = |session: &mut Session| {
-        session
-            .ask(question(&design, "Seconds of a ward"), &issued("nord"))
-            .expect("it is here")
-    };
-    assert_eq!(
-        total(&mut session),
-        Answered::Total(42),
-        "the snapshot is the old one"
-    );
-    let refreshed = session.refresh().expect("it can be read");
-    assert_eq!(
-        refreshed,
-        Refreshed::Kept {
-            came: 4,
-            went: 3,
-            changed: 2
-        }
-    );
-    assert_eq!(total(&mut session), Answered::Total(31 + 1 + 4));
-    let of = place(&design, "recording.subject");
-    let second = Issued {
-        value: Value::Text("s1".into()),
-        issue: 1,
-    };
-    let certain = Probed::Ground {
-        ground: Ground::Linked,
-        rows: 0,
-    };
-    assert_eq!(session.probe(of, &second).expect("a probe"), certain);
-    let identity = Identity {
-        table: 0,
-        key: second,
-    };
-    let row = session.number(&identity).expect("it is here");
-    assert_eq!(session.row(row).expect("a row").label, "subject Bob");
-    assert_eq!(
-        session.refresh().expect("it can be read"),
-        Refreshed::Kept {
-            came: 0,
-            went: 0,
-            changed: 0
-        }
-    );
-}
-
-#[test]
-fn after_a_failed_refresh_nothing_is_answered_until_one_succeeds() {
-    let (design, rows) = laboratory();
-    let mut memory = Memory::new(&design, &rows);
-    let left = Rc::clone(&memory.left);
-    let mut session = Session::open(&design, &mut memory).expect("a session");
-    session.load(0, &value("nord")).expect("it fits");
-    rows.borrow_mut().push(event(11, 7, Some(1), "z"));
-    for reads in [0, 1, 4] {
-        left.set(reads);
-        assert!(matches!(
-            session.refresh(),
-            Err(Trouble::Failed(Failure::Unreadable(_)))
-        ));
-        let asked = session.ask(question(&design, "Seconds of a ward"), &issued("nord"));
-        assert!(matches!(asked, Err(Trouble::Stale(_))), "{asked:?}");
-        let stale = |answer: bool| assert!(answer, "something was answered");
-        stale(matches!(
-            session.load(0, &value("west")),
-            Err(Trouble::Stale(_))
-        ));
-        stale(matches!(
-            session.probe(place(&design, "subject.ward"), &issued("nord")),
-            Err(Trouble::Stale(_))
-        ));
-        stale(matches!(session.reason(0), Err(Trouble::Stale(_))));
-        stale(matches!(
-            session.opener(place(&design, "subject.ward"), &issued("x")),
-            Err(Trouble::Stale(_))
-        ));
-    }
-    left.set(usize::MAX);
-    assert_eq!(
-        session.refresh().expect("it can be read"),
-        Refreshed::Kept {
-            came: 1,
-            went: 0,
-            changed: 0
-        }
-    );
-    let total = session
-        .ask(question(&design, "Seconds of a ward"), &issued("nord"))
-        .expect("it is here");
-    assert_eq!(total, Answered::Total(43));
-}
-
-#[test]
-fn a_refresh_past_512_rows_drops_all_and_says_so() {
-    let (design, rows) = laboratory();
-    let mut memory = Memory::new(&design, &rows);
-    let mut session = Session::open(&design, &mut memory).expect("a session");
-    session.name_desk(2).expect("a desk");
-    session.load(0, &value("nord")).expect("it fits");
-    rows.borrow_mut()
-        .extend((0..600).map(|onset| event(11, onset, None, "z")));
-    let refreshed = session.refresh().expect("it can be read");
-    let dropped = vec![Held {
-        desk: 2,
-        load: 0,
-        wanted: value("nord"),
-    }];
-    assert_eq!(refreshed, Refreshed::TooLarge { rows: 609, dropped });
-    assert_eq!(
-        (
-            session.cached().count(),
-            session.held().len(),
-            session.named_desk()
-        ),
-        (0, 0, 2)
-    );
-    assert_eq!(
-        session.load(0, &value("west")).expect("it fits"),
-        Referred::Loaded { rows: 3, rounds: 2 }
-    );
 }
 
 #[test]

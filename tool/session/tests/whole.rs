@@ -1,8 +1,12 @@
 //! Sessions held to SQL on whole databases: random tables of tens of thousands of rows, random designs over them, and random sessions in which the databases
 //! change. Whatever a session answers, plain SQL with joins that are written from the design answers too.
 
+#[path = "whole/asking.rs"]
+mod asking;
 #[path = "whole/changes.rs"]
 mod changes;
+#[path = "whole/changing.rs"]
+mod changing;
 #[path = "whole/oracle.rs"]
 mod oracle;
 #[path = "whole/play.rs"]

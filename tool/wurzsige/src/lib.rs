@@ -19,6 +19,7 @@ pub mod loads;
 pub mod output;
 pub mod progress;
 pub mod reply;
+pub mod reply_json;
 pub mod report;
 pub mod run;
 pub mod shell;

@@ -12,8 +12,8 @@ use crate::ask::{command, Reply};
 use crate::cli::Format;
 use crate::completion::Completion;
 use crate::output::{Page, When};
-use crate::reply;
 use crate::status::Status;
+use crate::{reply, reply_json};
 
 /// Carries out commands until they end, and gives the worst that was found.
 pub fn run(session: &mut Session, format: Format, color: When) -> Result<Status, String> {
@@ -73,7 +73,7 @@ fn perform(session: &mut Session, line: &str, format: Format, color: When) -> Op
         return Some(Performed::Ended);
     }
     let bytes = match format {
-        Format::Json => reply::json(session, &reply),
+        Format::Json => reply_json::json(session, &reply),
         Format::Text => {
             let mut page = Page::for_output(color);
             reply::text(&mut page, session, line, &reply);

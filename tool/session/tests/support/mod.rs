@@ -1,6 +1,7 @@
 //! What the tests have in common.
 #![allow(dead_code)] // each test takes what it needs
 
+pub mod laboratory;
 pub mod memory;
 
 use design::Design;

@@ -230,7 +230,7 @@ fn links(random: &mut Random, tables: &[Table], text: &mut String) {
             link(&child, &parent);
         }
     }
-    for (number, table) in tables.iter().enumerate() {
+    for table in tables {
         if random.percent(12) {
             let other = &tables[random.below(tables.len())];
             link(
@@ -238,7 +238,6 @@ fn links(random: &mut Random, tables: &[Table], text: &mut String) {
                 &format!("{}.grp", other.name),
             );
         }
-        let _ = number;
     }
 }
 

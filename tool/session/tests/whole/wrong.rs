@@ -108,8 +108,8 @@ impl Source for Wrong {
             _ => self.source.fetch(&condition)?,
         };
         match self.fault {
-            Fault::ForgottenFetch if self.fetches % 9 == 0 => found.clear(),
-            Fault::LostRow if self.fetches % 9 == 0 => {
+            Fault::ForgottenFetch if self.fetches.is_multiple_of(9) => found.clear(),
+            Fault::LostRow if self.fetches.is_multiple_of(9) => {
                 found.truncate(found.len().saturating_sub(1))
             }
             Fault::Limit => found.truncate(20),
