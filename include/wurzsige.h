@@ -29,8 +29,8 @@
  * Null pointers: for the functions on a desk (wurzsige_open to wurzsige_sizes) a null pointer counts as a buffer of no bytes, for the script, the words, the
  * text and the written bytes. The desk and the answer are never null, and nothing is where the rule isn't said: wurzsige_parts_* take no null pointer at all.
  *
- * Version: this header and the library have to be of the same version. wurzsige_open, wurzsige_step, wurzsige_write and wurzsige_sizes look first, and refuse
- * with WURZSIGE_CAUSE_OTHER_VERSION, having touched nothing, if they aren't.
+ * Version: this header and the library have to be of the same version. wurzsige_open, wurzsige_step, wurzsige_write, wurzsige_sizes, wurzsige_missing and
+ * wurzsige_verdicts look first, and refuse with WURZSIGE_CAUSE_OTHER_VERSION, having touched nothing, if they aren't.
  */
 #ifndef WURZSIGE_H
 #define WURZSIGE_H
