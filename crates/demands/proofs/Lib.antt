@@ -4,6 +4,7 @@
 -- values that stand in a script, and the candidates of an accepted design, are u32 numbers. Probes: of each probe. RowSets: with any predicate as a row set.
 -- Demand 2. Demand2, Queries: of each query and total, in a sound state and at every moment of a run.
 -- The exported library. HeldBytes: tested words with those of a record mean it. Library: demand 3 of any list of calls. LibraryAnswers: of each probe, query, total and reason.
+-- A part of a larger database. Slices: what the exported library tells of it.
 -- Document 02. Designs: Req 01 and 11. Counted: Req 04. Unissued: Req 06. Reasons: Req 08. Openers: Req 09. Counts: the rows that came and went, Req 10 and 12. Seeing: Req 13.
 pub mod Ends
 pub mod Refused
@@ -31,3 +32,4 @@ pub mod States
 pub mod HeldBytes
 pub mod Library
 pub mod LibraryAnswers
+pub mod Slices

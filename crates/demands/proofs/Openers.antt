@@ -1,10 +1,10 @@
 -- 02, Req 09 of what is answered, by what REFER and PROBE then answer. Assumes nothing.
-use Prim.Native.Nat.{ℕ, _<_}
+use Prim.Native.Nat.{ℕ, _<_, _^_}
 use native.Mathlib.Omega.{arith}
 use mathlib.Core.Path.{_≡_, refl, sym, ap, subst, _∙_}
 use mathlib.Core.Bool.{Bool, true, false, not, _&&_, and-eq-true-iff}
-use mathlib.Core.Logic.{⊎-elim}
-use borrow.Author.Tests.{eqb-true, eq-eqb, ltb-true, ltb-false, lt-ltb}
+use mathlib.Core.Logic.{_↔_, ⊎-elim}
+use borrow.Author.Tests.{eqb-true, eq-eqb, ne-eqb, ltb-true, ltb-false, lt-ltb}
 use lib.Dec.{eqb, ltb}
 use Rattle.finite.proofs.Bools.{dec, clash, both, cond-true, cond-false}
 use Rattle.model.specs.Cell.{Cell, numberless, issued}
@@ -16,7 +16,7 @@ use Rattle.model.specs.Runs.{ask, probe, opener, refer, name, taken, marked, Ca
 use Rattle.model.specs.Rounds.{addedRows, laterRounds}
 use Rattle.model.specs.Opener.{isOpen, opens, opensAt}
 use Rattle.model.specs.Answers.{Answer, refused, sent, ground, held, loaded, opened, openedBy, noOpener, unless, orAnswer, groundOf, Yes, openerAnswer, questionAnswer, answer}
-use Rattle.model.proofs.OpenerLaws.{opened-says, none-says, lowest-says}
+use Rattle.model.proofs.OpenerLaws.{open-answer, opened-says, none-says, lowest-says}
 use Rattle.model.proofs.OpenerDesks.{desk-opens-alike, held-opens-nothing, pair-held}
 use Rattle.state.specs.Meaning.{schemeOf}
 use Rattle.state.specs.Lent.{State, scheme, database, cache, sound, answerAt, stateAfter}
@@ -24,7 +24,8 @@ use Rattle.lawful.proofs.DesignLaws.{low-full}
 use Rattle.lawful.proofs.SoundState.{parts, sound-smallest, answer-at, sound-after}
 use Rattle.cache.proofs.Answering.{probe-full}
 use Rattle.script.proofs.StepLaws.{after-cache}
-use Rattle.demands.specs.Opening.{pairAt, probedBehind, OpenedBy, NothingOpens}
+use Rattle.demands.proofs.Demand2.{carries}
+use Rattle.demands.specs.Opening.{pairAt, probedBehind, ComesBefore, OpenedBy, NothingOpens}
 
 -- ---- a probe whose operands fit
 
@@ -67,6 +68,12 @@ asked S D c k v a e n = go (isColumn S k) (numberless v) refl refl e
     go false y p q h = absurd (n 5 (sym h))
     go true true p q h = absurd (n 9 (sym h))
     go true false p q h = (p, q, h)
+
+-- a question with its operands is answered
+passes : (a b : Bool) (x : Answer) → a ≡ true → b ≡ false → unless (not a) 5 (unless b 9 x) ≡ x
+passes true false x p q = refl
+passes false b x p q = clash {b = false} p refl
+passes true true x p q = clash {b = true} refl q
 
 module _ (s : State) (e : sound s ≡ true) (k : Column) (v : Cell) where
   abbrev S : Scheme
@@ -157,21 +164,34 @@ module _ (s : State) (e : sound s ≡ true) (k : Column) (v : Cell) where
       let x = parts-of opened h (λ n z. let w : _≡_ {A = ℕ} 0 1 = cc in omega arith) in
       open-yes s e k v (x .0) (x .1) (opened-says S D c k v (sym (x .2)))
 
+  -- THEOREM: and it is answered wherever the probe has one
+  pub open-exactly : (answerAt s (ask (opener k v)) ≡ opened) ↔ Yes (answerAt s (ask (probe k v)))
+  unfolding answer questionAnswer isOpen
+  open-exactly = (
+    open-says,
+    λ y. let x = carries S D c k v (y .0) (y .1) (sym (answer-at s e (ask (probe k v))) ∙ y .2) in
+        answer-at s e (ask (opener k v)) ∙ passes (isColumn S k) (numberless v) (openerAnswer S D c k v) (x .column) (x .full) ∙
+        sym (open-answer S D c k v (ap not (ne-eqb _ 0 (x .ground)))),
+  )
+
   pub opened-by : (f n i : ℕ) → answerAt s (ask (opener k v)) ≡ openedBy f n i → OpenedBy s k v f n i
   opened-by f n i h =
       let x = parts-of (openedBy f n i) h (λ m z. let w : _≡_ {A = ℕ} 0 1 = cc in omega arith) in
       let y = lowest-says S D c k v f n i (sym (x .2)) in
       let l = y .1 in
+      let earlier : (g m j : ℕ) → m < 2 ^ 32 → j < 2 ^ 8 → ComesBefore g m j f n i → opensAt S D k v c g m j ≡ false =
+      λ g m j a b q. ⊎-elim (λ r. l .fillings g m j r a b)
+      (⊎-elim (λ r. subst (λ (u : ℕ). opensAt S D k v c u m j ≡ false) (sym (r .0)) (l .numbers m j (r .1) b))
+      (λ r. subst (λ (u : ℕ). opensAt S D k v c u m j ≡ false) (sym (r .0))
+      (subst (λ (u : ℕ). opensAt S D k v c f u j ≡ false) (sym (r .1)) (l .issues j (r .2))))) q in
       record {
         shut = shut-sent s e k v (x .0) (x .1) (y .0);
         filling = l .filling;
         loads = refer-loads (x .0) (x .1) (y .0) f n i (l .filling) (l .opens);
         opens = refer-opens (x .0) (x .1) (y .0) f n i (l .filling) (l .opens);
-        lowest = λ g m j a b q. stays-shut (x .0) (x .1) (y .0) (pairAt g m j)
-            (λ z. ⊎-elim (λ r. l .fillings g m j r a b)
-            (⊎-elim (λ r. subst (λ (u : ℕ). opensAt S D k v c u m j ≡ false) (sym (r .0)) (l .numbers m j (r .1) b))
-            (λ r. subst (λ (u : ℕ). opensAt S D k v c u m j ≡ false) (sym (r .0))
-            (subst (λ (u : ℕ). opensAt S D k v c f u j ≡ false) (sym (r .1)) (l .issues j (r .2))))) q);
+        lowest = λ g m j a b q. stays-shut (x .0) (x .1) (y .0) (pairAt g m j) (λ z. earlier g m j a b q);
+        would = l .opens;
+        first = λ g m j z a b q. earlier g m j a b q;
       }
 
   pub none-opens : answerAt s (ask (opener k v)) ≡ noOpener → NothingOpens s k v
@@ -181,6 +201,7 @@ module _ (s : State) (e : sound s ≡ true) (k : Column) (v : Cell) where
       record {
         shut = shut-sent s e k v (x .0) (x .1) (y .0);
         none = λ f n i a b. stays-shut (x .0) (x .1) (y .0) (pairAt f n i) (λ l. y .1 f n i l a b);
+        wouldNot = λ f n i l a b. y .1 f n i l a b;
       }
 
   -- "Desk limits are disregarded": whichever desk is named, the answer is the same; so the value that is answered opens the query at any desk with room

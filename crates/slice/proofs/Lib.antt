@@ -5,6 +5,7 @@ pub mod CoverLaws
 pub mod SeekLaws
 pub mod AcceptedLaws
 pub mod LackLaws
+pub mod NearLaws
 pub mod ReplyLaws
 pub mod Theorems
 pub mod Bridges

@@ -80,7 +80,7 @@ fn covers_value(f: Fetch, k: Column, v: Cell) -> bool
 }
 
 // Whether there is a fetch number i among the n, and it has the value. Constant time.
-fn covers_at(words: &[u32], n: usize, i: usize, k: Column, v: Cell) -> bool
+pub(crate) fn covers_at(words: &[u32], n: usize, i: usize, k: Column, v: Cell) -> bool
     requires { ⌜ 5 * n ≤ length (now words) ⌝ }
     ensures { λ r. ⌜ r ≡ ltb i n && covers (fetchOf (fetchAt (now (words .entry)) i)) (columnOf k) (cellOf v) ⌝ }
 {

@@ -5,6 +5,7 @@ mod fetched;
 mod gaps;
 mod held;
 mod lack;
+mod near;
 mod ranges;
 mod rows;
 mod whole;

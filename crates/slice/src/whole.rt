@@ -55,17 +55,7 @@ pub fn missing_lawful(
     if q.found {
         return q;
     }
-    rows_lack(
-        design,
-        cells,
-        issues,
-        tables,
-        catalog,
-        keys,
-        marks,
-        words,
-        n,
-    )
+    rows_lack(design, cells, issues, tables, catalog, marks, words, n)
 }
 
 // The same for whatever fetches are lent, over a sound state with its catalog: 7 where the words are fewer than five for each fetch, 5 where a fetch

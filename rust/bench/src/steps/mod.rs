@@ -3,6 +3,7 @@
 
 #![allow(unsafe_code)]
 
+mod missing;
 pub mod page;
 pub mod stack;
 
@@ -80,8 +81,17 @@ pub fn figures() -> String {
     let sizes = markdown(&["What is lent", "bytes"], &sizes());
     let head = ["A step", "rows", "plain", "trusted", "plain / trusted"];
     let costs = markdown(&head, &costs());
+    let head = [
+        "What lacks",
+        "rows cached",
+        "fetches",
+        "plain",
+        "trusted",
+        "plain / trusted",
+    ];
+    let missing = markdown(&head, &missing::costs());
     let stack = markdown(&["A call", "bytes of stack"], &stacks());
-    format!("{sizes}\n{costs}\n{stack}")
+    format!("{sizes}\n{costs}\n{missing}\n{stack}")
 }
 
 fn sizes() -> Vec<Vec<String>> {
@@ -228,6 +238,9 @@ fn stacks() -> Vec<Vec<String>> {
     let sizes = touched(|| {
         lent.memory.sizes(&listed, 0).expect("sizes");
     });
+    let lacks = touched(|| {
+        lent.memory.missing(&[]).expect("no fetches");
+    });
     vec![
         row("open, 512 rows", open),
         plain("PROBE", full(), &asked),
@@ -245,6 +258,7 @@ fn stacks() -> Vec<Vec<String>> {
         trusted("a reason of 511 links", full(), &reason),
         row("write, 512 rows", write),
         row("sizes of a QUERY with 4 joins", sizes),
+        row("what lacks, by the plain name", lacks),
     ]
 }
 

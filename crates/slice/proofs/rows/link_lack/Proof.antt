@@ -1,6 +1,9 @@
 -- `slice::rows::link_lack` meets its contract. Assumes nothing.
 use native.Mathlib.Omega.{arith}
 use mathlib.Core.Path.{_∙_}
+use Rattle.state.specs.Cells.{cellsIn}
+use Rattle.state.specs.Meaning.{databaseOf, schemeOf}
+use Rattle.slice.proofs.NearLaws.{only-is}
 use Rattle.slice.proofs.LackLaws.{row-other, row-there}
 use borrow.Author.Needs.{needs}
 use Rattle.slice.proofs.rows.link_lack.Statement.{statement}
@@ -27,16 +30,21 @@ cast-cell-at c = search needs
 cell-at-requires : tie.Need-cell-at-requires
 cell-at-requires c κs = let s = c .before .before .before .before .before .before .before .before .before .before in (s .pre .3, s .pre .0 .source _, s .pre .1 .rows, s .pre .1 .issued)
 
-lack-of-requires : tie.Need-lack-of-requires
-lack-of-requires c κs =
-    let s = c .before .before .before .before .before .before .before .before .before .before .before in (
-      omega (arith, s .pre .0 .target-table (s .args .i), s .pre .0 .source-table (s .args .i)),
-      omega (arith, s .pre .0 .target (s .args .i), s .pre .0 .source (s .args .i)),
-      s .pre .2,
-    )
+others-whole-requires : tie.Need-others-whole-requires
+others-whole-requires c κs = let s = c .before .before .before .before .before .before .before .before .before .before .before in (s .pre .3, omega (arith, s .pre .4, s .pre .0 .constraints))
+
+near-lack-requires : tie.Need-near-lack-requires
+near-lack-requires c κs = let s = c .before .before .before .before .before .before .before .before .before .before .before .before .before in (s .pre .2, omega (arith, s .pre .4, s .pre .0 .constraints))
 
 returns-2 : tie.Need-returns-2
-returns-2 c = λ x. let s = c .before .before .before .before .before .before .before .before .before .before .before .before in row-there _ _ _ _ _ _ _ (s .pre .0 .source _) (c .before .before .before .if1 .left) (c .before .cell-at .ensures) (c .lack-of .ensures _ x)
+returns-2 c = λ x. let s = c .before .before .before .before .before .before .before .before .before .before .before .before .before .before in
+    let e = c .before .before .before .before .before .if1 .left in
+    let f = c .before .before .before .cell-at .ensures in
+    let cells = cellsIn (s .args .cells .now) (s .args .issues .now) in
+    let tables = s .args .tables .now in
+    row-there _ cells tables _ _ _ _ (s .pre .0 .source _) e f
+    (c .near-lack .ensures (schemeOf _) (databaseOf cells tables)
+    (only-is _ cells tables _ _ _ (s .pre .3) (s .pre .0 .source _) (s .pre .0 .source-table _) e f (s .pre .4) (c .before .before .others-whole .ensures (databaseOf cells tables) x)))
 
 pub link-lack-spec : {M : Type 1} → statement M
 link-lack-spec =
@@ -49,5 +57,6 @@ link-lack-spec =
     returns
     cast-cell-at
     cell-at-requires
-    lack-of-requires
+    others-whole-requires
+    near-lack-requires
     returns-2)

@@ -4,7 +4,7 @@ use mathlib.Core.Path.{_≡_}
 use Rattle.model.specs.Missing as Model
 use Rattle.state.specs.Cells.{cellsIn}
 use Rattle.state.specs.Meaning.{databaseOf, schemeOf}
-use Rattle.catalog.specs.Catalog.{Indexed}
+use Rattle.catalog.specs.Catalog.{Demands}
 use Rattle.model.proofs.MissingLoops.{lack-start}
 use Rattle.slice.specs.Fetches.{fetchesIn}
 use Rattle.slice.proofs.LackLaws.{leaves, goes-on, ends}
@@ -14,20 +14,20 @@ use Rattle.slice.proofs.rows.links_lack.Statement.{statement}
 use Rattle.slice.proofs.rows.links_lack.Tie as tie
 
 abbrev Inv-loop : tie.InvT-loop
-Inv-loop d cells issues tables catalog keys words n r m i₀ i = (i ≤ m) × (Indexed (databaseOf (cellsIn cells issues) tables) catalog keys → Model.lackBelow i (Model.linkLack (schemeOf d) (databaseOf (cellsIn cells issues) tables) (fetchesIn words n) r) ≡ Model.nothing)
+Inv-loop d cells issues tables catalog words n places₀ r m i₀ places i = (i ≤ m) × (Demands (schemeOf d) (databaseOf (cellsIn cells issues) tables) catalog → Model.lackBelow i (Model.linkLack (schemeOf d) (databaseOf (cellsIn cells issues) tables) (fetchesIn words n) r) ≡ Model.nothing)
 
 abbrev μ-loop : tie.MeasureT-loop
-μ-loop d cells issues tables catalog keys words n r m i₀ i = m - i
+μ-loop d cells issues tables catalog words n places₀ r m i₀ places i = m - i
 
 loop-holds : tie.Need-loop-holds Inv-loop μ-loop
 loop-holds c = (omega arith, λ x. lack-start _)
 
 link-lack-requires : tie.Need-link-lack-requires Inv-loop μ-loop
-link-lack-requires c κs = let s = c .before .before .before .before .before .before in (s .pre .0, s .pre .1, s .pre .2, s .pre .3, omega (arith, c .loop-test .taken, s .pre .0 .constraints))
+link-lack-requires c κs = let s = c .before .before .before .before .before .before .before in (s .pre .0, s .pre .1, s .pre .2, s .pre .3, c .before .loop-test .taken)
 
 returns : tie.Need-returns Inv-loop μ-loop
 unfolding schemeOf
-returns c = λ x. leaves _ _ _ _ (c .before .before .loop-test .taken) (c .before .before .before .loop .inv .1 x) (c .before .link-lack .ensures x) (c .if1 .taken)
+returns c = λ x. leaves _ _ _ _ (c .before .before .before .loop-test .taken) (c .before .before .before .before .loop .inv .1 x) (c .before .link-lack .ensures x) (c .if1 .taken)
 
 add-i : tie.Need-add-i Inv-loop μ-loop
 add-i c = omega arith
@@ -36,7 +36,7 @@ loop-less : tie.Need-loop-less Inv-loop μ-loop
 loop-less c = omega arith
 
 loop-again : tie.Need-loop-again Inv-loop μ-loop
-loop-again c = (omega arith, λ x. goes-on _ _ _ (c .before .before .before .loop .inv .1 x) (c .before .link-lack .ensures x) (c .if1 .left))
+loop-again c = (omega arith, λ x. goes-on _ _ _ (c .before .before .before .before .loop .inv .1 x) (c .before .link-lack .ensures x) (c .if1 .left))
 
 nothing-requires : tie.Need-nothing-requires Inv-loop μ-loop
 nothing-requires c κs = search needs

@@ -18,7 +18,7 @@ links-lack-requires : tie.Need-links-lack-requires
 links-lack-requires c κs = search needs
 
 returns-2 : tie.Need-returns-2
-returns-2 c = λ x. let s = c .before .before .before .before .before .before .before .before in marks-in _ _ _ _ (s .args .marks .now) (s .pre .4) (c .before .if1 .left) (c .links-lack .ensures x)
+returns-2 c = λ x. let s = c .before .before .before .before .before .before .before .before .before in marks-in _ _ _ _ (s .args .marks .now) (s .pre .4) (c .before .before .if1 .left) (c .links-lack .ensures x)
 
 pub row-lack-spec : {M : Type 1} → statement M
 row-lack-spec =

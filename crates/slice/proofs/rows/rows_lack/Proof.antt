@@ -6,7 +6,7 @@ use Rattle.model.specs.Missing as Model
 use Rattle.model.specs.Runs.{marked}
 use Rattle.state.specs.Cells.{cellsIn}
 use Rattle.state.specs.Meaning.{databaseOf, schemeOf}
-use Rattle.catalog.specs.Catalog.{Indexed}
+use Rattle.catalog.specs.Catalog.{Demands}
 use Rattle.model.proofs.MissingLoops.{lack-start}
 use Rattle.slice.specs.Fetches.{fetchesIn}
 use Rattle.slice.proofs.LackLaws.{leaves, goes-on, ends}
@@ -16,19 +16,19 @@ use Rattle.slice.proofs.rows.rows_lack.Statement.{statement}
 use Rattle.slice.proofs.rows.rows_lack.Tie as tie
 
 abbrev Inv-loop : tie.InvT-loop
-Inv-loop d cells issues tables catalog keys marks words n r₀ r = (r ≤ 512) × (Indexed (databaseOf (cellsIn cells issues) tables) catalog keys → Model.lackBelow r (Model.rowLack (schemeOf d) (databaseOf (cellsIn cells issues) tables) (fetchesIn words n) (marked (take 512 marks))) ≡ Model.nothing)
+Inv-loop d cells issues tables catalog marks words n places₀ r₀ places r = (r ≤ 512) × (Demands (schemeOf d) (databaseOf (cellsIn cells issues) tables) catalog → Model.lackBelow r (Model.rowLack (schemeOf d) (databaseOf (cellsIn cells issues) tables) (fetchesIn words n) (marked (take 512 marks))) ≡ Model.nothing)
 
 abbrev μ-loop : tie.MeasureT-loop
-μ-loop d cells issues tables catalog keys marks words n r₀ r = 512 - r
+μ-loop d cells issues tables catalog marks words n places₀ r₀ places r = 512 - r
 
 loop-holds : tie.Need-loop-holds Inv-loop μ-loop
 loop-holds c = (omega arith, λ x. lack-start _)
 
 row-lack-requires : tie.Need-row-lack-requires Inv-loop μ-loop
-row-lack-requires c κs = let s = c .before .before .before .before .before .before .before in (s .pre .0, s .pre .1, s .pre .2, s .pre .3, c .loop-test .taken)
+row-lack-requires c κs = let s = c .before .before .before .before .before .before .before .before in (s .pre .0, s .pre .1, s .pre .2, s .pre .3, c .before .loop-test .taken)
 
 returns : tie.Need-returns Inv-loop μ-loop
-returns c = λ x. leaves _ _ _ _ (c .before .before .loop-test .taken) (c .before .before .before .loop .inv .1 x) (c .before .row-lack .ensures x) (c .if1 .taken)
+returns c = λ x. leaves _ _ _ _ (c .before .before .before .loop-test .taken) (c .before .before .before .before .loop .inv .1 x) (c .before .row-lack .ensures x) (c .if1 .taken)
 
 add-r : tie.Need-add-r Inv-loop μ-loop
 add-r c = omega arith
@@ -37,7 +37,7 @@ loop-less : tie.Need-loop-less Inv-loop μ-loop
 loop-less c = omega arith
 
 loop-again : tie.Need-loop-again Inv-loop μ-loop
-loop-again c = (omega arith, λ x. goes-on _ _ _ (c .before .before .before .loop .inv .1 x) (c .before .row-lack .ensures x) (c .if1 .left))
+loop-again c = (omega arith, λ x. goes-on _ _ _ (c .before .before .before .before .loop .inv .1 x) (c .before .row-lack .ensures x) (c .if1 .left))
 
 nothing-requires : tie.Need-nothing-requires Inv-loop μ-loop
 nothing-requires c κs = search needs

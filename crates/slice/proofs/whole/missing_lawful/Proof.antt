@@ -27,7 +27,7 @@ rows-lack-requires c κs = let s = c .before .before .before .before .before .be
 
 returns-3 : tie.Need-returns-3
 unfolding missingAt
-returns-3 c = let s = c .before .before .before .before .before .before .before .before .before .before in missing-rows _ _ _ _ _ _ _ _ (c .before .before .before .before .pairs-lack .ensures _ (s .pre .1 .index)) (c .before .before .before .if1 .left) (c .before .before .ranges-lack .ensures _ (s .pre .1 .index)) (c .before .if2 .left) (c .rows-lack .ensures (s .pre .1 .index))
+returns-3 c = let s = c .before .before .before .before .before .before .before .before .before .before in missing-rows _ _ _ _ _ _ _ _ (c .before .before .before .before .pairs-lack .ensures _ (s .pre .1 .index)) (c .before .before .before .if1 .left) (c .before .before .ranges-lack .ensures _ (s .pre .1 .index)) (c .before .if2 .left) (c .rows-lack .ensures (s .pre .1 .demands))
 
 pub missing-lawful-spec : {M : Type 1} → statement M
 missing-lawful-spec =
