@@ -104,15 +104,16 @@ module _ (cells : Cells) (tables : List ℕ) (r c : ℕ) (l : r < 512) (q : c < 
   abbrev F : Database
   F = databaseOf cells tables
 
-  module _ (b : isBlank (cellOf v) ≡ true) (E : Database) (x : Without E F r) where
-    none : (k : Model.Column) → k .place ≡ c → (u : Cell) → has F k u r ≡ false
-    none k e u = has-blank F (k .table) (k .place) r (subst (λ (z : ℕ). isBlank (F .cell r z) ≡ true) (sym e) (blank-at cells tables r c q v w b)) u
+  -- in every column of its place
+  pub none-blank : isBlank (cellOf v) ≡ true → (k : Model.Column) → k .place ≡ c → (u : Cell) → has F k u r ≡ false
+  none-blank b k e u = has-blank F (k .table) (k .place) r (subst (λ (z : ℕ). isBlank (F .cell r z) ≡ true) (sym e) (blank-at cells tables r c q v w b)) u
 
+  module _ (b : isBlank (cellOf v) ≡ true) (E : Database) (x : Without E F r) where
     pub blank-comes : (catalog : List ℕ) → Chained E c catalog → Chained F c catalog
-    blank-comes catalog y = record { at = λ s h. y .at s h ∙ next-blank E F r x c none s }
+    blank-comes catalog y = record { at = λ s h. y .at s h ∙ next-blank E F r x c (none-blank b) s }
 
     pub blank-goes : (catalog : List ℕ) → Chained F c catalog → Chained E c catalog
-    blank-goes catalog y = record { at = λ s h. y .at s h ∙ sym (next-blank E F r x c none s) }
+    blank-goes catalog y = record { at = λ s h. y .at s h ∙ sym (next-blank E F r x c (none-blank b) s) }
 
   pub has-own-value : isBlank (cellOf v) ≡ false → has F (record { table = getD tables r 0; place = c }) (cellOf v) r ≡ true
   has-own-value b = value-at cells tables r c q v w (getD tables r 0) l (live-in cells tables r (getD tables r 0) l t refl) refl b

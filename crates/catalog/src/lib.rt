@@ -4,16 +4,20 @@
 // directory's values, falling in each column. They are read by `next_row`, `first_row`, `find`, `find_range` and `first_of` alone.
 mod chaining;
 mod columns;
+mod demanding;
 mod finding;
 mod firsts;
 mod linking;
 mod listing;
 mod making;
 mod reading;
+mod redirecting;
 mod relinking;
+mod revaluing;
 mod scanning;
 mod spanning;
 mod storing;
+mod values;
 
 pub use finding::find;
 pub use firsts::make_firsts;
