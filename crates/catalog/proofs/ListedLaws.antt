@@ -22,7 +22,7 @@ use Rattle.catalog.proofs.CatalogLaws.{has-cell}
 use Rattle.catalog.proofs.KeyLaws.{key-value, value-none}
 
 -- falling keys differ
-one-place : (from to : ℕ) (keys : List ℕ) → Falls from to keys → (i j : ℕ) → from ≤ i → i < to → from ≤ j → j < to → getD keys i 0 ≡ getD keys j 0 → i ≡ j
+pub one-place : (from to : ℕ) (keys : List ℕ) → Falls from to keys → (i j : ℕ) → from ≤ i → i < to → from ≤ j → j < to → getD keys i 0 ≡ getD keys j 0 → i ≡ j
 one-place from to keys f i j a b c d e = go (order i j)
   where
     go : (i < j) ⊎ ((i ≡ j) ⊎ (j < i)) → i ≡ j

@@ -1,9 +1,9 @@
-// Putting a row in and removing one, over a sound state with the catalog of its rows. A change that is refused costs its tests; any other makes the catalog
-// anew and loads all that is held from nothing.
-ghost use mathlib.Core.Bool.{true};
+// Putting a row in and removing one, over a sound state with the catalog of its rows. A change that is refused costs its tests; any other mends the catalog in
+// place and loads all that is held from nothing.
+ghost use mathlib.Core.Bool.{true, false};
 ghost use mathlib.Core.Path.{_≡_};
 ghost use Prim.Native.Nat.{_≤_, _<_};
-ghost use lib.ListN.{length};
+ghost use lib.ListN.{length, getD};
 ghost use Rattle.model.specs.Database.{Database};
 ghost use Rattle.state.specs.Cells.{cellsIn};
 ghost use Rattle.state.specs.Design.{Backed, InRange};
@@ -11,7 +11,7 @@ ghost use Rattle.state.specs.Held.{Bounded};
 ghost use Rattle.state.specs.HeldWords.{wordsHeld};
 ghost use Rattle.state.specs.Meaning.{answerOf, databaseOf, schemeOf};
 ghost use Rattle.state.specs.Lent.{lent, sound};
-ghost use Rattle.state.specs.Changes.{put, remove, Changed};
+ghost use Rattle.state.specs.Changes.{freeRow, put, remove, Changed};
 ghost use Rattle.catalog.specs.Catalog.{Catalogued};
 ghost use Rattle.change.specs.Replacing.{Remarked, Replaced};
 use crate::causes::put_cause;
@@ -20,7 +20,8 @@ use crate::counting::rows_came;
 use crate::counting::rows_went;
 use crate::storing::free_row;
 use crate::storing::store_row;
-use catalog::build;
+use catalog::put_in;
+use catalog::take_out;
 use load::load_held;
 use load::settle;
 use state::Answer;
@@ -49,8 +50,8 @@ fn remark(
     Answer::Changed(came, went)
 }
 
-// Stores x as row r, makes the catalog anew, and marks the smallest set.
-fn replace(
+// Stores x at the free number r, mends the catalog, and marks the smallest set.
+fn come(
     design: Design,
     cells: &mut [u32],
     issues: &mut [u8],
@@ -63,13 +64,40 @@ fn replace(
     x: Row,
 ) -> Answer
     requires { ⌜ (r < 512) × InRange design × Bounded (wordsHeld (now held)) × Backed (cellsIn (now cells) (now issues)) (now tables) × (512 ≤ length (now marks)) ⌝ }
+    requires { ⌜ (x .table < 8) × (databaseOf (cellsIn (now cells) (now issues)) (now tables) .live r ≡ false)
+        × Catalogued (schemeOf design) (databaseOf (cellsIn (now cells) (now issues)) (now tables)) (now catalog) (now keys) ⌝ }
     ensures { λ a. ⌜ Replaced (lent design (cellsIn (now (cells .entry)) (now (issues .entry))) (now (tables .entry)) (now (marks .entry)) (wordsHeld (now (held .entry))))
         r x (answerOf a)
         (lent design (cellsIn (now (cells .exit)) (now (issues .exit))) (now (tables .exit)) (now (marks .exit)) (wordsHeld (now (held .entry)))) ⌝ }
     ensures { λ _. ⌜ Catalogued (schemeOf design) (databaseOf (cellsIn (now (cells .exit)) (now (issues .exit))) (now (tables .exit))) (now (catalog .exit)) (now (keys .exit)) ⌝ }
 {
     store_row(cells, issues, tables, r, x);
-    build(design, cells, issues, tables, catalog, keys);
+    put_in(design, cells, issues, tables, catalog, keys, r);
+    remark(design, catalog, keys, marks, held)
+}
+
+// Mends the catalog for the rows without row r, frees its number, and marks the smallest set.
+fn go(
+    design: Design,
+    cells: &mut [u32],
+    issues: &mut [u8],
+    tables: &mut [u8],
+    catalog: &mut [u16; 16449],
+    keys: &mut [u64; 4096],
+    marks: &mut [u8],
+    held: &[u32; 358],
+    r: usize,
+) -> Answer
+    requires { ⌜ (r < 512) × InRange design × Bounded (wordsHeld (now held)) × Backed (cellsIn (now cells) (now issues)) (now tables) × (512 ≤ length (now marks)) ⌝ }
+    requires { ⌜ (getD (now tables) r 0 < 8)
+        × Catalogued (schemeOf design) (databaseOf (cellsIn (now cells) (now issues)) (now tables)) (now catalog) (now keys) ⌝ }
+    ensures { λ a. ⌜ Replaced (lent design (cellsIn (now (cells .entry)) (now (issues .entry))) (now (tables .entry)) (now (marks .entry)) (wordsHeld (now (held .entry))))
+        r freeRow (answerOf a)
+        (lent design (cellsIn (now (cells .exit)) (now (issues .exit))) (now (tables .exit)) (now (marks .exit)) (wordsHeld (now (held .entry)))) ⌝ }
+    ensures { λ _. ⌜ Catalogued (schemeOf design) (databaseOf (cellsIn (now (cells .exit)) (now (issues .exit))) (now (tables .exit))) (now (catalog .exit)) (now (keys .exit)) ⌝ }
+{
+    take_out(design, cells, issues, tables, catalog, keys, r);
+    store_row(cells, issues, tables, r, free_row());
     remark(design, catalog, keys, marks, held)
 }
 
@@ -98,7 +126,7 @@ pub fn put_lawful(
     if why != 0 {
         return Answer::Refused(why);
     }
-    replace(
+    come(
         design,
         cells,
         issues,
@@ -136,16 +164,5 @@ pub fn remove_lawful(
     if why != 0 {
         return Answer::Refused(why);
     }
-    replace(
-        design,
-        cells,
-        issues,
-        tables,
-        catalog,
-        keys,
-        marks,
-        held,
-        n,
-        free_row(),
-    )
+    go(design, cells, issues, tables, catalog, keys, marks, held, n)
 }

@@ -6,6 +6,8 @@ use Rattle.state.proofs.Arrays.{sized}
 use Rattle.state.proofs.HeldWords.{words-sized}
 use Rattle.lawful.proofs.Asked.{sound-backed}
 use Rattle.change.proofs.ReplaceLaws.{changed-refused, replace-asked, changed-well}
+use Rattle.change.proofs.BesideLaws.{remove-asked}
+use borrow.Author.Needs.{needs}
 use Rattle.change.proofs.changing.remove_lawful.Statement.{statement}
 use Rattle.change.proofs.changing.remove_lawful.Tie as tie
 
@@ -20,14 +22,13 @@ returns c =
     let s = c .before .before .before .before .before .before .before in
     (changed-refused _ (s .pre .0) (remove (s .args .r)) _ (c .before .remove-cause .ensures _) (c .if1 .taken), s .pre .1)
 
-free-row-requires : tie.Need-free-row-requires
-free-row-requires c κs = search needs
-
-replace-requires : tie.Need-replace-requires
-replace-requires c κs =
-    let s = c .before .before .before .before .before .before .before .before .before .before .before .before .before .before in
-    replace-asked _ (s .pre .0) (remove (s .args .r)) _ (c .before .before .before .before .before .before .before .before .remove-cause .ensures _) (c .before .before .before .before .before .before .before .if1 .left)
-    (sized (s .args .design) _ (s .good .0)) (words-sized (now (s .args .held)))
+go-requires : tie.Need-go-requires
+go-requires c κs =
+    let s = c .before .before .before .before .before .before .before .before .before .before .before .before .before in
+    let f = c .before .before .before .before .before .before .before .remove-cause .ensures _ in
+    let z = c .before .before .before .before .before .before .if1 .left in
+    let p = replace-asked _ (s .pre .0) (remove (s .args .r)) _ f z (sized (s .args .design) _ (s .good .0)) (words-sized (now (s .args .held))) in
+    (p, (remove-asked _ (s .pre .0) (p .1) (s .args .r) _ z f, s .pre .1))
 
 same-length-2 : tie.Need-same-length-2
 same-length-2 c = search needs
@@ -43,9 +44,9 @@ same-length-5 c = search needs
 
 returns-2 : tie.Need-returns-2
 returns-2 c =
-    let s = c .before .before .before .before .before .before .before .before .before .before .before .before .before .before .before .before .before .before .before .before .before .before .before in
-    let w = c .before .before .before .before .before .before .before .before .replace .ensures in
-    (changed-well _ (s .pre .0) (remove (s .args .r)) _ (c .before .before .before .before .before .before .before .before .before .before .before .before .before .before .before .before .before .remove-cause .ensures _) (c .before .before .before .before .before .before .before .before .before .before .before .before .before .before .before .before .if1 .left) _ _ (rw (c .before .before .before .before .before .before .before .before .before .free-row .ensures) at (w .0)), w .1)
+    let s = c .before .before .before .before .before .before .before .before .before .before .before .before .before .before .before .before .before .before .before .before .before .before in
+    let w = c .before .before .before .before .before .before .before .before .go .ensures in
+    (changed-well _ (s .pre .0) (remove (s .args .r)) _ (c .before .before .before .before .before .before .before .before .before .before .before .before .before .before .before .before .remove-cause .ensures _) (c .before .before .before .before .before .before .before .before .before .before .before .before .before .before .before .if1 .left) _ _ (w .0), w .1)
 
 pub remove-lawful-spec : {M : Type 1} → statement M
 remove-lawful-spec =
@@ -54,8 +55,7 @@ remove-lawful-spec =
     remove-cause-requires
     same-length
     returns
-    free-row-requires
-    replace-requires
+    go-requires
     same-length-2
     same-length-3
     same-length-4
