@@ -46,6 +46,17 @@ pub enum Command {
         output: Option<PathBuf>,
     },
 
+    /// Write one HTML page with all of it: the picture, knots, questions and links, which needs nothing else
+    #[command(after_help = EXIT)]
+    Page {
+        /// The design's file, or - for standard input
+        design: PathBuf,
+
+        /// Where to write it; without it standard output
+        #[arg(short, long, value_name = "FILE")]
+        output: Option<PathBuf>,
+    },
+
     /// Tell what a change of a design adds and loses
     #[command(
         after_help = "Exit status: 0 nothing got worse; 1 a knot came, or a question is answered less often or not at all; 2 a design or the command is refused; 3 a file can't be read."

@@ -11,6 +11,8 @@ pub mod file;
 pub mod json;
 pub mod library;
 pub mod output;
+pub mod page;
 pub mod report;
 pub mod run;
 pub mod status;
+pub mod unseen;

@@ -13,7 +13,7 @@ use crate::file::{File, Unreadable};
 use crate::library::Refused;
 use crate::output::{Page, When};
 use crate::status::Status;
-use crate::{diff, draw, explain, json, report};
+use crate::{diff, draw, explain, json, page, report};
 
 /// Carries a command out, and says how to end.
 pub fn run(arguments: &Arguments) -> Status {
@@ -21,6 +21,7 @@ pub fn run(arguments: &Arguments) -> Status {
     let ended = match &arguments.command {
         Command::Check { design, format } => check(design, *format, color),
         Command::Draw { design, output } => draw(design, output.as_deref(), color),
+        Command::Page { design, output } => page(design, output.as_deref(), color),
         Command::Diff { old, new, format } => diff(old, new, *format, color),
         Command::Script { design, output } => write_script(design, output.as_deref(), color),
         Command::Explain { code } => explain(code.as_deref()),
@@ -130,6 +131,14 @@ fn draw(path: &Path, output: Option<&Path>, color: When) -> Ended {
     let dot = draw::dot(&file).map_err(|refusal| refused(&file, refusal))?;
     let drawn = draw::rendered(dot, form).map_err(|message| fail(Status::Unreadable, &message))?;
     put_to(output, &drawn)?;
+    Ok(Status::Good)
+}
+
+fn page(path: &Path, output: Option<&Path>, color: When) -> Ended {
+    let file = accepted(path, color)?;
+    let checked = Checked::of(&file).map_err(|refusal| refused(&file, refusal))?;
+    let html = page::html(&file, &checked).map_err(|message| fail(Status::Unreadable, &message))?;
+    put_to(output, html.as_bytes())?;
     Ok(Status::Good)
 }
 

@@ -1,0 +1,135 @@
+//! `page`: all that can be told of a design, in one HTML file that needs nothing else: no network, no other file, and for reading no script.
+//!
+//! What stands on it was said by the library beforehand. The script on the page shows and hides parts of the document, and makes nothing up.
+
+mod facts;
+mod markup;
+mod picture;
+mod policy;
+mod table;
+
+use crate::check::Checked;
+use crate::facts::Facts;
+use crate::file::File;
+
+use self::markup::{element, void, with, Markup};
+
+const STYLE: &str = include_str!("page/page.css");
+const SCRIPT: &str = include_str!("page/page.js");
+
+/// The page of a design without errors. Fails where Graphviz's `dot` does.
+pub fn html(file: &File, checked: &Checked) -> Result<String, String> {
+    let (Some(design), Some(facts)) = (file.design(), &checked.facts) else {
+        return Ok(String::new());
+    };
+    let main = [
+        facts::glance(design, facts),
+        section("picture", "The picture", [picture::figure(design, facts)?]),
+        facts::evenness(file, design, facts),
+        facts::seen(design, facts),
+        facts::questions(file, design, facts, checked),
+        facts::links(file, design, facts),
+        facts::loads(design),
+    ];
+    let body = [
+        header(file, &design.title),
+        contents(),
+        with("main", &[("id", "main")], main),
+        footer(),
+        element("script", [Markup::made(SCRIPT)]),
+    ];
+    Ok(document(&design.title, facts, body))
+}
+
+fn document(title: &str, _facts: &Facts, body: impl IntoIterator<Item = Markup>) -> String {
+    let policy = policy::policy(STYLE, SCRIPT);
+    let head = [
+        void("meta", &[("charset", "utf-8")]),
+        void(
+            "meta",
+            &[
+                ("http-equiv", "Content-Security-Policy"),
+                ("content", &policy),
+            ],
+        ),
+        void(
+            "meta",
+            &[
+                ("name", "viewport"),
+                ("content", "width=device-width, initial-scale=1"),
+            ],
+        ),
+        void(
+            "meta",
+            &[("name", "color-scheme"), ("content", "light dark")],
+        ),
+        element(
+            "title",
+            [format!("{title}: a design for the review desk").into()],
+        ),
+        element("style", [Markup::made(STYLE)]),
+    ];
+    let html = with(
+        "html",
+        &[("lang", "en")],
+        [element("head", head), element("body", body)],
+    );
+    format!("<!doctype html>\n{}\n", html.into_string())
+}
+
+fn header(file: &File, title: &str) -> Markup {
+    let parts = [
+        with("p", &[("class", "kind")], ["A design for the review desk".into()]),
+        element("h1", [Markup::name(title)]),
+        element(
+            "p",
+            [
+                "From ".into(),
+                Markup::name(&file.name),
+                ". What is said here was decided by the proved library, and put into words by the tool.".into(),
+            ],
+        ),
+    ];
+    element("header", parts)
+}
+
+/// Where the page's parts are.
+fn contents() -> Markup {
+    const PARTS: [(&str, &str); 6] = [
+        ("#picture", "Picture"),
+        ("#even", "Knots"),
+        ("#seen", "Seeing is enough"),
+        ("#questions", "Questions"),
+        ("#links", "Links"),
+        ("#loads", "Loads"),
+    ];
+    let parts =
+        PARTS.map(|(place, name)| element("li", [with("a", &[("href", place)], [name.into()])]));
+    with(
+        "nav",
+        &[("aria-label", "Parts of this page")],
+        [element("ul", parts)],
+    )
+}
+
+fn footer() -> Markup {
+    let version = env!("CARGO_PKG_VERSION");
+    let made = format!("Made by wurzsige {version}. The page needs no network and sends nothing.");
+    element("footer", [paragraph(&made)])
+}
+
+/// A part of the page with its heading.
+fn section(id: &'static str, heading: &str, parts: impl IntoIterator<Item = Markup>) -> Markup {
+    let labelled = format!("{id}-heading");
+    let heading = with("h2", &[("id", &labelled)], [heading.into()]);
+    let parts = std::iter::once(heading).chain(parts);
+    with(
+        "section",
+        &[("id", id), ("aria-labelledby", &labelled)],
+        parts,
+    )
+}
+
+fn paragraph(text: &str) -> Markup {
+    element("p", [text.into()])
+}

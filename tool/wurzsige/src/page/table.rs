@@ -1,0 +1,93 @@
+//! Tables that can be read aloud: each has a caption, a head of columns, and a head in each row.
+
+use super::markup::{element, with, Markup};
+
+/// A column of a table.
+#[derive(Clone, Copy)]
+pub struct Column {
+    head: &'static str,
+    is_number: bool,
+}
+
+impl Column {
+    /// A column of text.
+    pub const fn text(head: &'static str) -> Column {
+        Column {
+            head,
+            is_number: false,
+        }
+    }
+
+    /// A column of numbers, which stand below each other.
+    pub const fn number(head: &'static str) -> Column {
+        Column {
+            head,
+            is_number: true,
+        }
+    }
+}
+
+/// A row: its cells, of which the first is its head, and the number by which the script knows it, if it does.
+pub struct Row {
+    cells: Vec<Markup>,
+    known_by: Option<usize>,
+}
+
+impl Row {
+    /// A row of cells.
+    pub fn new(cells: impl IntoIterator<Item = Markup>) -> Row {
+        Row {
+            cells: cells.into_iter().collect(),
+            known_by: None,
+        }
+    }
+
+    /// The same with a number for the script.
+    pub fn known_by(mut self, number: usize) -> Row {
+        self.known_by = Some(number);
+        self
+    }
+}
+
+/// A table of rows. Where it is wider than the page it scrolls by itself, by keyboard too.
+pub fn table(caption: &str, columns: &[Column], rows: impl IntoIterator<Item = Row>) -> Markup {
+    let heads = columns.iter().map(|column| {
+        let attributes = [("scope", "col"), ("class", class(column))];
+        with("th", &attributes, [column.head.into()])
+    });
+    let rows = rows.into_iter().map(|row| body_row(columns, row));
+    let table = element(
+        "table",
+        [
+            element("caption", [caption.into()]),
+            element("thead", [element("tr", heads)]),
+            element("tbody", rows),
+        ],
+    );
+    let scrolls = [
+        ("class", "scrolls"),
+        ("role", "region"),
+        ("aria-label", caption),
+        ("tabindex", "0"),
+    ];
+    with("div", &scrolls, [table])
+}
+
+fn class(column: &Column) -> &'static str {
+    match column.is_number {
+        true => "number",
+        false => "text",
+    }
+}
+
+fn body_row(columns: &[Column], row: Row) -> Markup {
+    let cells = row.cells.into_iter().zip(columns).enumerate();
+    let cells = cells.map(|(index, (cell, column))| match index {
+        0 => with("th", &[("scope", "row")], [cell]),
+        _ => with("td", &[("class", class(column))], [cell]),
+    });
+    match row.known_by {
+        Some(number) => with("tr", &[("data-row", &number.to_string())], cells),
+        None => element("tr", cells),
+    }
+}
