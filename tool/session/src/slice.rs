@@ -1,0 +1,226 @@
+//! A desk over a part of a database, and the loop of docs/SLICES.md that keeps the part large enough: what an operation is answered is what the whole database
+//! would answer.
+
+use std::collections::HashSet;
+
+use design::Design;
+use source::{Failure, Record, Source};
+use wurzsige::{Cause, Desk, Fetch, Fetches, Refusal, Row};
+
+use crate::brought::{brought, Brought};
+use crate::coder::Coder;
+use crate::rows::{Entry, Rows, MOST_ROWS};
+
+/// The desk, the fetches that were made, and which row of the database has which number. Between operations nothing is missing.
+#[derive(Clone)]
+pub(crate) struct Slice {
+    pub(crate) desk: Desk,
+    pub(crate) fetches: Fetches,
+    pub(crate) rows: Rows,
+}
+
+/// From where rows are fetched, and how they become the desk's.
+pub(crate) struct Feed<'f, 'd> {
+    pub(crate) design: &'d Design,
+    pub(crate) source: &'f mut dyn Source,
+    pub(crate) coder: &'f mut Coder<'d>,
+}
+
+/// Why the loop was broken off.
+pub(crate) enum Stopped {
+    /// No number is free for a row.
+    Full {
+        /// The rows that were known to be needed.
+        rows: usize,
+        /// What brought those that were on the desk.
+        brought: Vec<Brought>,
+    },
+    /// The database can't be read, or has what no desk can have.
+    Failed(Failure),
+}
+
+impl From<Failure> for Stopped {
+    fn from(failure: Failure) -> Stopped {
+        Stopped::Failed(failure)
+    }
+}
+
+impl Slice {
+    /// A desk without rows.
+    pub(crate) fn new(desk: Desk) -> Slice {
+        Slice {
+            desk,
+            fetches: Fetches::new(),
+            rows: Rows::new(),
+        }
+    }
+
+    /// The loop. On an error the slice may be anything between, and is to be thrown away.
+    ///
+    /// Each time around the operation is carried out on a copy of the desk. Rows that the copy lacks go into both: in the copy they are cached as they come, so that it
+    /// asks for what they bring along; when it has all, the operation is carried out anew on the desk from before, and is answered as one that found all rows there.
+    pub(crate) fn perform<T>(
+        &mut self,
+        feed: &mut Feed,
+        operation: &dyn Fn(&mut Desk) -> Result<T, Refusal>,
+    ) -> Result<Result<T, Refusal>, Stopped> {
+        loop {
+            let mut copy = self.desk.clone();
+            let answer = operation(&mut copy);
+            if !self.fill(feed, &mut copy)? {
+                self.desk = copy;
+                return Ok(answer);
+            }
+        }
+    }
+
+    /// Fetches all that a copy of the desk lacks; false if it is nothing.
+    fn fill(&mut self, feed: &mut Feed, copy: &mut Desk) -> Result<bool, Stopped> {
+        let mut lacked = false;
+        while let Some(fetch) = missing(copy, &self.fetches) {
+            lacked = true;
+            self.fetch(feed, fetch, Some(copy))?;
+        }
+        Ok(lacked)
+    }
+
+    /// Fetches a value or span whole, puts in the rows that aren't there yet, and notes the fetch.
+    pub(crate) fn fetch(
+        &mut self,
+        feed: &mut Feed,
+        fetch: Fetch,
+        mut copy: Option<&mut Desk>,
+    ) -> Result<(), Stopped> {
+        let found = fetched(feed, fetch)?;
+        let is_new = |(entry, _): &(Entry, Row)| self.rows.number(&entry.identity).is_none();
+        let (new, known): (Vec<_>, Vec<_>) = found.into_iter().partition(is_new);
+        for (entry, _) in &known {
+            self.same(feed.design, entry)?;
+        }
+        if self.rows.len() + new.len() > MOST_ROWS {
+            let rows = self.rows.len() + new.len();
+            let desk = copy.as_deref().unwrap_or(&self.desk);
+            let brought = brought(desk, desk.cached()).unwrap_or_default();
+            return Err(Stopped::Full { rows, brought });
+        }
+        for (entry, row) in new {
+            let Some(number) = self.rows.free() else {
+                unreachable!("there is room for all of them");
+            };
+            put(feed.design, &mut self.desk, number, &entry, &row)?;
+            if let Some(copy) = &mut copy {
+                put(feed.design, copy, number, &entry, &row)?;
+            }
+            self.rows.put(number, entry);
+        }
+        self.fetches.note(fetch);
+        Ok(())
+    }
+
+    /// A row that is fetched again is the same: all is of one snapshot.
+    fn same(&self, design: &Design, entry: &Entry) -> Result<(), Failure> {
+        let number = self.rows.number(&entry.identity);
+        let here = number.and_then(|number| self.rows.get(number));
+        match here.is_some_and(|here| here.record == entry.record) {
+            true => Ok(()),
+            false => Err(Failure::Unfit(format!(
+                "{} {} was read twice, and differs: the database isn't read in one snapshot",
+                design.tables[entry.identity.table].name, entry.key
+            ))),
+        }
+    }
+
+    /// Takes out the rows that aren't cached, so that their numbers are free, and makes the list of fetches anew: all that is asked for was fetched, for nothing
+    /// was missing.
+    pub(crate) fn shrink(&mut self) {
+        let numbers: Vec<u16> = self.rows.iter().map(|(number, _)| number).collect();
+        for number in numbers {
+            if !self.desk.is_cached(number) {
+                remove(&mut self.desk, number);
+                self.rows.remove(number);
+            }
+        }
+        self.fetches = Fetches::new();
+        while let Some(fetch) = missing(&self.desk, &self.fetches) {
+            self.fetches.note(fetch);
+        }
+    }
+}
+
+/// What a desk still lacks.
+pub(crate) fn missing(desk: &Desk, fetches: &Fetches) -> Option<Fetch> {
+    let missing = desk.missing(fetches);
+    missing.unwrap_or_else(|refusal| unreachable!("the list names the desk's columns: {refusal}"))
+}
+
+/// All rows of the database that a fetch asks for, with the rows of the desk that they are. None of them may be another one, and none may be there twice.
+pub(crate) fn fetched(feed: &mut Feed, fetch: Fetch) -> Result<Vec<(Entry, Row)>, Failure> {
+    let condition = feed.coder.condition(fetch);
+    let records = feed.source.fetch(&condition)?;
+    let mut keys = HashSet::new();
+    let mut found = Vec::with_capacity(records.len());
+    for record in records {
+        let (entry, row) = entry(feed, record)?;
+        asked_for(feed.design, fetch, &entry, &row)?;
+        if !keys.insert(entry.identity.clone()) {
+            return Err(Failure::Unfit(format!(
+                "two rows of {} have the key {}",
+                feed.design.tables[entry.identity.table].name, entry.key
+            )));
+        }
+        found.push((entry, row));
+    }
+    Ok(found)
+}
+
+/// A row of the database with its key, and as one of the desk.
+fn entry(feed: &mut Feed, record: Record) -> Result<(Entry, Row), Failure> {
+    let row = feed.coder.row(&record)?;
+    let table = record.table;
+    let entry = Entry::new(feed.design, record);
+    let entry = entry.ok_or_else(|| {
+        let table = &feed.design.tables[table].name;
+        Failure::Unfit(format!("a row of {table} has no key"))
+    })?;
+    Ok((entry, row))
+}
+
+/// The row has what was asked for as the desk compares it. A value that the database takes for equal, though it writes it otherwise, would be complete without rows.
+fn asked_for(design: &Design, fetch: Fetch, entry: &Entry, row: &Row) -> Result<(), Failure> {
+    let column = fetch.column();
+    let cell = row.cells[usize::from(column.column)];
+    if row.table == column.table && fetch.covers(column, cell) {
+        return Ok(());
+    }
+    Err(Failure::Unfit(format!(
+        "{} {} was read for a value that it doesn't have: write the value as the database does",
+        design.tables[entry.identity.table].name, entry.key
+    )))
+}
+
+/// Puts a row of the database into a desk.
+pub(crate) fn put(
+    design: &Design,
+    desk: &mut Desk,
+    number: u16,
+    entry: &Entry,
+    row: &Row,
+) -> Result<(), Failure> {
+    let Err(refusal) = desk.put_row(number, row) else {
+        return Ok(());
+    };
+    let table = &design.tables[entry.identity.table].name;
+    Err(Failure::Unfit(match refusal.cause {
+        Cause::ValueTwice => format!(
+            "a unique column of {table} has a value twice: {} isn't the first row with it",
+            entry.label
+        ),
+        _ => format!("the desk doesn't take {table} {}: {refusal}", entry.key),
+    }))
+}
+
+/// Takes a row out of a desk.
+pub(crate) fn remove(desk: &mut Desk, number: u16) {
+    let removed = desk.remove_row(number);
+    removed.unwrap_or_else(|refusal| unreachable!("the desk has the slice's rows: {refusal}"));
+}
