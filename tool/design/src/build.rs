@@ -165,6 +165,8 @@ impl<'a> Builder<'a> {
         });
         self.spans.tables.push(name.span);
         self.spans.columns.push(Vec::new());
+        self.spans.parts.push(Vec::new());
+        self.spans.shown.push(Vec::new());
     }
 
     /// The table that an indented line belongs to; without one it is a mistake.
@@ -191,6 +193,10 @@ impl<'a> Builder<'a> {
             return;
         };
         self.once(table, &item.name);
+        let parts = match &item.kind {
+            TypeItem::Named(_) => Vec::new(),
+            TypeItem::Tuple { parts, .. } => parts.iter().map(|part| part.span.clone()).collect(),
+        };
         let kind = match item.kind {
             TypeItem::Named(name) => types::named(&name),
             TypeItem::Tuple { parts, span } => types::tuple(&parts, span),
@@ -213,6 +219,7 @@ impl<'a> Builder<'a> {
             issue: item.issue.as_ref().map(|issue| issue.text.clone()),
         };
         let place = self.add_column(table, column, item.name.span);
+        self.spans.parts[table][place.column] = parts;
         if !typed {
             self.untyped.insert(place);
         }
@@ -223,6 +230,7 @@ impl<'a> Builder<'a> {
         let columns = &mut self.design.tables[table].columns;
         columns.push(column);
         self.spans.columns[table].push(span);
+        self.spans.parts[table].push(Vec::new());
         let column = columns.len() - 1;
         Place { table, column }
     }
@@ -270,6 +278,7 @@ impl<'a> Builder<'a> {
         for name in names {
             self.once(table, &name);
             self.design.tables[table].show.push(name.text);
+            self.spans.shown[table].push(name.span);
         }
     }
 

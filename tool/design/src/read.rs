@@ -28,6 +28,10 @@ pub struct Spans {
     pub tables: Vec<Span>,
     /// The columns' names, table by table.
     pub columns: Vec<Vec<Span>>,
+    /// For each column of each table the names in its tuple; none of another type.
+    pub parts: Vec<Vec<Vec<Span>>>,
+    /// The names that are shown, table by table.
+    pub shown: Vec<Vec<Span>>,
     /// The links' source and target columns.
     pub links: Vec<(Span, Span)>,
     /// The loads' names.

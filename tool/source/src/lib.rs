@@ -1,14 +1,28 @@
 //! The database behind a design: one read-only snapshot of SQLite or of PostgreSQL, from which rows are fetched whole.
 //!
-//! A [`Source`] reads catalogs and rows and decides nothing. [`bind()`] holds a design to its catalog, and refuses by name whatever could make a proved yes
+//! A [`Source`] reads catalogs and rows and decides nothing. [`open()`] holds a design to the catalog, and refuses by name whatever could make a proved yes
 //! wrong: names that aren't there, collations that aren't binary, types that pad or don't fit, a unique column that has a value twice.
 
+mod bind;
+mod catalog;
+mod counts;
+mod database;
+mod forms;
+mod kind;
+mod label;
+mod place;
+mod rows;
+mod snapshot;
+mod sqlite;
+mod sqlite_catalog;
 mod value;
 
 use std::fmt;
 
-use design::Place;
+use design::{Design, Place, Problem, SourceKind, Spans};
 
+pub use label::label;
+pub use place::{given, place};
 pub use value::Value;
 
 /// A row of a table of the design, as the database has it.
@@ -72,12 +86,44 @@ pub trait Source {
     /// All rows that meet a condition, by key, rising: whole, without a limit.
     fn fetch(&mut self, condition: &Condition) -> Result<Vec<Record>, Failure>;
 
-    /// The row of a table with a key, if there is one.
+    /// The row of a table with a key, if there is one; at issue 0, where the key has issues.
     fn with_key(&mut self, table: usize, key: &Value) -> Result<Option<Record>, Failure>;
+
+    /// The lowest values that rows have in a column, each once, rising, at most so many, and beside each its issue: 0 where the column has none. NULL is
+    /// no value.
+    fn values(&mut self, column: Place, most: usize) -> Result<Vec<(Value, u8)>, Failure>;
+
+    /// The value that texts mean in a column, as [`Source::fetch`] gives it: one text, or one for each part of a tuple.
+    fn meant(&mut self, column: Place, texts: &[&str]) -> Result<Value, Failure>;
 
     /// How many rows the tables of the design have together.
     fn size(&mut self) -> Result<u64, Failure>;
 
     /// Ends the snapshot and takes a new one. The design is held to the catalog again; on a failure nothing more can be read.
     fn refresh(&mut self) -> Result<(), Failure>;
+}
+
+/// A database that a design was held to.
+pub struct Opened {
+    /// The database.
+    pub source: Box<dyn Source>,
+    /// What is worth a second look.
+    pub warnings: Vec<Problem>,
+}
+
+/// Why a database isn't open.
+#[derive(Clone, Debug, PartialEq, Eq)]
+pub enum NotOpened {
+    /// It can't be read.
+    Unreadable(String),
+    /// It isn't what the design says.
+    Problems(Vec<Problem>),
+}
+
+/// Opens a database, takes a snapshot, and holds a design to it.
+pub fn open(place: &design::Source, design: &Design, spans: &Spans) -> Result<Opened, NotOpened> {
+    match place.kind {
+        SourceKind::Sqlite => snapshot::open(sqlite::Sqlite::open(&place.place)?, design, spans),
+        SourceKind::Postgres => Err(NotOpened::Unreadable("PostgreSQL".into())),
+    }
 }
