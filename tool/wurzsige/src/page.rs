@@ -2,23 +2,62 @@
 //!
 //! What stands on it was said by the library beforehand. The script on the page shows and hides parts of the document, and makes nothing up.
 
+mod boxes;
+mod choices;
+mod costs;
 mod facts;
 mod markup;
 mod picture;
 mod policy;
 mod table;
 
+use design::Design;
+use session::{Session, Trouble};
+use source::Source;
+
 use crate::check::Checked;
-use crate::facts::Facts;
 use crate::file::File;
+use crate::loads;
 
 use self::markup::{element, void, with, Markup};
 
 const STYLE: &str = include_str!("page/page.css");
 const SCRIPT: &str = include_str!("page/page.js");
 
-/// The page of a design without errors. Fails where Graphviz's `dot` does.
-pub fn html(file: &File, checked: &Checked) -> Result<String, String> {
+pub use self::choices::Picked;
+pub use self::costs::Costs;
+
+/// What was asked of a database, and how the values of each load were picked.
+pub struct Asked {
+    /// What loads drag in.
+    pub costs: Costs,
+    /// For each load how its values were picked.
+    pub picked: Vec<Picked>,
+}
+
+impl Asked {
+    /// Asks for the values that are given, or else for the database's own.
+    pub fn of(
+        design: &Design,
+        source: &mut dyn Source,
+        given: &[loads::Asked],
+    ) -> Result<Asked, Trouble> {
+        let own = match given {
+            [] => Some(choices::own(design, source)?),
+            _ => None,
+        };
+        let mut session = Session::open(design, source)?;
+        let (choices, picked) = match own {
+            Some(own) => own,
+            None => choices::given(&mut session, given)?,
+        };
+        let costs = Costs::of(&mut session, choices)?;
+        Ok(Asked { costs, picked })
+    }
+}
+
+/// The page of a design without errors, with boxes of what a database was asked. Fails where Graphviz's `dot` does.
+pub fn html(file: &File, checked: &Checked, asked: Option<&Asked>) -> Result<String, String> {
     let (Some(design), Some(facts)) = (file.design(), &checked.facts) else {
         return Ok(String::new());
     };
@@ -29,7 +68,10 @@ pub fn html(file: &File, checked: &Checked) -> Result<String, String> {
         facts::seen(design, facts),
         facts::questions(file, design, facts, checked),
         facts::links(file, design, facts),
-        facts::loads(design),
+        match asked {
+            Some(Asked { costs, picked }) => boxes::loads(design, costs, picked),
+            None => facts::loads(design),
+        },
     ];
     let body = [
         header(file, &design.title),
@@ -38,10 +80,10 @@ pub fn html(file: &File, checked: &Checked) -> Result<String, String> {
         footer(),
         element("script", [Markup::made(SCRIPT)]),
     ];
-    Ok(document(&design.title, facts, body))
+    Ok(document(&design.title, body))
 }
 
-fn document(title: &str, _facts: &Facts, body: impl IntoIterator<Item = Markup>) -> String {
+fn document(title: &str, body: impl IntoIterator<Item = Markup>) -> String {
     let policy = policy::policy(STYLE, SCRIPT);
     let head = [
         void("meta", &[("charset", "utf-8")]),

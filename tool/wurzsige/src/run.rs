@@ -21,7 +21,20 @@ pub fn run(arguments: &Arguments) -> Status {
     let ended = match &arguments.command {
         Command::Check { design, format } => check(design, *format, color),
         Command::Draw { design, output } => draw(design, output.as_deref(), color),
-        Command::Page { design, output } => page(design, output.as_deref(), color),
+        Command::Page {
+            design,
+            output,
+            source,
+            value,
+            no_source,
+        } => page(
+            design,
+            output.as_deref(),
+            source.as_deref(),
+            value,
+            *no_source,
+            color,
+        ),
         Command::Diff { old, new, format } => diff(old, new, *format, color),
         Command::Script { design, output } => write_script(design, output.as_deref(), color),
         Command::Explain { code } => explain(code.as_deref()),
@@ -134,12 +147,40 @@ fn draw(path: &Path, output: Option<&Path>, color: When) -> Ended {
     Ok(Status::Good)
 }
 
-fn page(path: &Path, output: Option<&Path>, color: When) -> Ended {
+fn page(
+    path: &Path,
+    output: Option<&Path>,
+    source: Option<&str>,
+    values: &[String],
+    no_source: bool,
+    color: When,
+) -> Ended {
     let file = accepted(path, color)?;
     let checked = Checked::of(&file).map_err(|refusal| refused(&file, refusal))?;
-    let html = page::html(&file, &checked).map_err(|message| fail(Status::Unreadable, &message))?;
+    let named = file.design().is_some_and(|design| design.source.is_some());
+    let asked = match !no_source && (named || source.is_some() || !values.is_empty()) {
+        true => Some(page_asked(&file, source, values, color)?),
+        false => None,
+    };
+    let html = page::html(&file, &checked, asked.as_ref());
+    let html = html.map_err(|message| fail(Status::Unreadable, &message))?;
     put_to(output, html.as_bytes())?;
     Ok(Status::Good)
+}
+
+/// What the boxes of a page show.
+fn page_asked(
+    file: &File,
+    source: Option<&str>,
+    values: &[String],
+    color: When,
+) -> Result<page::Asked, Status> {
+    let Some(design) = file.design() else {
+        unreachable!("the design was accepted");
+    };
+    let values = read_loads(file, values)?;
+    let mut source = database::open(file, source, color)?;
+    page::Asked::of(design, &mut *source, &values).map_err(|trouble| troubled(&trouble))
 }
 
 fn diff(old: &Path, new: &Path, format: Format, color: When) -> Ended {

@@ -5,11 +5,9 @@ mod program;
 
 use std::path::PathBuf;
 
-use browser::{Browser, Look};
+use browser::{assert_good, check, Browser};
 use program::{design, scratch, wurzsige, wurzsige_alone, wurzsige_reading, SLEEP};
 use serde_json::{json, Value};
-
-const CHECKS: &str = include_str!("browser/checks.js");
 
 /// Names that would be markup, script or another direction if they weren't text.
 const HOSTILE: &str = "design \"</title><script>document.title='run'</script>\"
@@ -24,41 +22,19 @@ question \"<script>document.title=4</script>\" `</script><script>document.title=
 /// Writes the page of a design.
 fn page_of(path: &str, name: &str) -> PathBuf {
     let file = scratch(name);
-    let ran = wurzsige(&["page", path, "-o", file.to_str().expect("a name")]);
+    let ran = wurzsige(&[
+        "page",
+        "--no-source",
+        path,
+        "-o",
+        file.to_str().expect("a name"),
+    ]);
     assert_eq!(
         (ran.output.as_str(), ran.errors.as_str(), ran.status),
         ("", "", 0),
         "{path}"
     );
     file
-}
-
-/// Asks one of the checks.
-fn check(browser: &mut Browser, function: &str) -> Value {
-    browser.value(&format!("{CHECKS};{function}()"))
-}
-
-/// Holds a page to what is asked of every one: it can be read aloud, in light, dark and on paper, on a narrow screen; it asks for nothing else,
-/// and the browser has nothing to complain of.
-fn assert_good(browser: &mut Browser, file: &PathBuf) {
-    browser.size(1200, 900);
-    browser.look(Look::Light);
-    browser.open(file);
-    for function in ["headings", "names", "tables"] {
-        assert_eq!(check(browser, function), json!([]), "{function}");
-    }
-    assert_eq!(browser.text("document.documentElement.lang"), "en");
-    for look in Look::ALL {
-        browser.look(look);
-        let found = check(browser, "contrast");
-        assert_eq!(found["faults"], json!([]), "{look:?}");
-        assert!(found["seen"].as_u64() > Some(40), "{look:?}: {found}");
-    }
-    browser.look(Look::Light);
-    browser.size(360, 740);
-    assert_eq!(check(browser, "wide"), json!([]));
-    assert_eq!(browser.requests.len(), 1, "{:?}", browser.requests);
-    assert_eq!(browser.errors, [""; 0]);
 }
 
 #[test]
@@ -198,7 +174,7 @@ fn only_the_pages_own_script_may_run() {
 
 #[test]
 fn without_graphviz_there_is_no_page() {
-    let ran = wurzsige_alone(&["page", SLEEP]);
+    let ran = wurzsige_alone(&["page", "--no-source", SLEEP]);
     assert!(
         ran.errors
             .starts_with("wurzsige: Graphviz's `dot` can't be run: "),

@@ -105,7 +105,7 @@ pub fn seen(design: &Design, facts: &Facts) -> Markup {
 
 /// The questions with their verdicts.
 pub fn questions(file: &File, design: &Design, facts: &Facts, checked: &Checked) -> Markup {
-    const COLUMNS: [Column; 3] = [
+    let columns = [
         Column::text("Question"),
         Column::text("Answered here"),
         Column::text("Because"),
@@ -123,7 +123,7 @@ pub fn questions(file: &File, design: &Design, facts: &Facts, checked: &Checked)
         ])
     });
     let caption = "What becomes of each question, whatever the rows are";
-    section("questions", "Questions", [table(caption, &COLUMNS, rows)])
+    section("questions", "Questions", [table(caption, &columns, rows)])
 }
 
 /// A verdict, by its name and by its colour.
@@ -153,7 +153,7 @@ fn because(
 
 /// The links in words.
 pub fn links(file: &File, design: &Design, facts: &Facts) -> Markup {
-    const COLUMNS: [Column; 4] = [
+    let columns = [
         Column::text("Link"),
         Column::number("Line"),
         Column::text("In words"),
@@ -178,7 +178,7 @@ pub fn links(file: &File, design: &Design, facts: &Facts) -> Markup {
         ])
     });
     let caption = "What a row that is here brings along";
-    section("links", "Links in words", [table(caption, &COLUMNS, rows)])
+    section("links", "Links in words", [table(caption, &columns, rows)])
 }
 
 /// A link as a sentence: of the row that it brings, and of the one that brings it.
@@ -196,7 +196,7 @@ fn words(design: &Design, link: &Link) -> Markup {
 
 /// The loads, where no database says what they bring.
 pub fn loads(design: &Design) -> Markup {
-    const COLUMNS: [Column; 3] = [
+    let columns = [
         Column::text("Load"),
         Column::text("Column"),
         Column::text("Values"),
@@ -220,7 +220,7 @@ pub fn loads(design: &Design) -> Markup {
     });
     let caption = "What somebody at the desk can ask for by name";
     let without = paragraph("This page was made without a database. With one (--source) it shows here what each value drags in, and why.");
-    section("loads", "Loads", [table(caption, &COLUMNS, rows), without])
+    section("loads", "Loads", [table(caption, &columns, rows), without])
 }
 
 /// A name as a design writes it.

@@ -3,25 +3,24 @@
 use super::markup::{element, with, Markup};
 
 /// A column of a table.
-#[derive(Clone, Copy)]
 pub struct Column {
-    head: &'static str,
+    head: String,
     is_number: bool,
 }
 
 impl Column {
     /// A column of text.
-    pub const fn text(head: &'static str) -> Column {
+    pub fn text(head: &str) -> Column {
         Column {
-            head,
+            head: head.into(),
             is_number: false,
         }
     }
 
     /// A column of numbers, which stand below each other.
-    pub const fn number(head: &'static str) -> Column {
+    pub fn number(head: &str) -> Column {
         Column {
-            head,
+            head: head.into(),
             is_number: true,
         }
     }
@@ -53,7 +52,7 @@ impl Row {
 pub fn table(caption: &str, columns: &[Column], rows: impl IntoIterator<Item = Row>) -> Markup {
     let heads = columns.iter().map(|column| {
         let attributes = [("scope", "col"), ("class", class(column))];
-        with("th", &attributes, [column.head.into()])
+        with("th", &attributes, [column.head.as_str().into()])
     });
     let rows = rows.into_iter().map(|row| body_row(columns, row));
     let table = element(

@@ -80,12 +80,17 @@ impl Browser {
 
     /// Opens a file, and waits until it is there.
     pub fn open(&mut self, file: &Path) {
+        self.open_at(file, "");
+    }
+
+    /// Opens a file at a part of it.
+    pub fn open_at(&mut self, file: &Path, part: &str) {
         self.requests.clear();
         self.errors.clear();
         let file = file.canonicalize().expect("a file");
         self.ask(
             "Page.navigate",
-            json!({"url": format!("file://{}", file.display())}),
+            json!({"url": format!("file://{}{part}", file.display())}),
         );
         while self.message()["method"] != "Page.loadEventFired" {}
     }
@@ -151,10 +156,18 @@ impl Browser {
         );
     }
 
-    /// The page as a picture.
-    pub fn picture(&mut self, file: &Path) {
-        let asked = json!({"format": "png", "captureBeyondViewport": true, "fromSurface": true});
-        self.keep("Page.captureScreenshot", asked, file);
+    /// The page as pictures, one below the other.
+    pub fn pictures(&mut self, name: &Path, width: u32) {
+        const HEIGHT: u64 = 1600;
+        let whole = self.value("document.documentElement.scrollHeight");
+        let whole = whole.as_u64().expect("a height");
+        for (number, top) in (0..whole).step_by(HEIGHT as usize).enumerate() {
+            let height = HEIGHT.min(whole - top);
+            let clip = json!({"x": 0, "y": top, "width": width, "height": height, "scale": 1});
+            let asked = json!({"format": "png", "captureBeyondViewport": true, "clip": clip});
+            let file = format!("{}-{number}.png", name.display());
+            self.keep("Page.captureScreenshot", asked, Path::new(&file));
+        }
     }
 
     /// The page on paper.
@@ -213,6 +226,41 @@ impl Browser {
         }
         message
     }
+}
+
+const CHECKS: &str = include_str!("checks.js");
+
+/// Asks one of the checks.
+pub fn check(browser: &mut Browser, function: &str) -> Value {
+    browser.value(&format!("{CHECKS};{function}()"))
+}
+
+/// Holds a page to what is asked of every one: it can be read aloud, in light, dark and on paper, on a narrow screen; it asks for nothing else,
+/// and the browser has nothing to complain of.
+pub fn assert_good(browser: &mut Browser, file: &Path) {
+    browser.size(1200, 900);
+    browser.look(Look::Light);
+    browser.open(file);
+    for function in ["headings", "names", "tables"] {
+        assert_eq!(check(browser, function), json!([]), "{function}");
+    }
+    assert_eq!(browser.text("document.documentElement.lang"), "en");
+    assert_looks(browser);
+    assert_eq!(browser.requests.len(), 1, "{:?}", browser.requests);
+    assert_eq!(browser.errors, [""; 0]);
+}
+
+/// Holds what a page shows now to its looks: light, dark, on paper, and narrow.
+pub fn assert_looks(browser: &mut Browser) {
+    for look in Look::ALL {
+        browser.look(look);
+        let found = check(browser, "contrast");
+        assert_eq!(found["faults"], json!([]), "{look:?}");
+        assert!(found["seen"].as_u64() > Some(40), "{look:?}: {found}");
+    }
+    browser.look(Look::Light);
+    browser.size(360, 740);
+    assert_eq!(check(browser, "wide"), json!([]));
 }
 
 impl Drop for Browser {
