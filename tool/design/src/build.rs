@@ -74,6 +74,17 @@ impl<'a> Builder<'a> {
         }
     }
 
+    /// Over a design that was read of another text, whose places are lost.
+    pub(crate) fn over(text: &'a str, design: &Design) -> Builder<'a> {
+        let mut builder = Builder::new(text);
+        let columns = design.tables.iter();
+        builder.spans.columns = columns
+            .map(|table| vec![0..0; table.columns.len()])
+            .collect();
+        builder.design = design.clone();
+        builder
+    }
+
     pub(crate) fn problem(&mut self, problem: Problem) {
         self.problems.push(problem);
     }

@@ -13,6 +13,7 @@
 //! assert_eq!(problem.at.text, "did you mean `ward`?");
 //! ```
 
+mod asked;
 mod build;
 mod cells;
 mod cursor;
@@ -34,7 +35,9 @@ mod span;
 mod text;
 mod token;
 mod types;
+mod word;
 
+pub use asked::{asked, Asked};
 pub use cells::{Cells, MOST_CELLS};
 pub use design::{
     Column, Design, Join, Link, Load, Place, Question, Role, Source, SourceKind, Table, Total, Type,
@@ -50,3 +53,4 @@ pub use read::{read, Reading, Spans};
 pub use script::{script, script_with};
 pub use span::{Position, Span};
 pub use text::{text, NotText};
+pub use word::{words, Word};

@@ -1,6 +1,7 @@
 //! The page of a code: what it means, an example that has the mistake and one without it.
 
-/// A page, as text: a title, what there is to say, `## Wrong, at LINE:COLUMN` and `## Right` with a design each, indented by four.
+/// A page, as text: a title, what there is to say, `## Wrong, at LINE:COLUMN` and `## Right` with a design each, indented by four. Where only a database can
+/// show the mistake, `## Database, KIND` stands before them, with the statements that make one.
 #[derive(Clone, Copy, Debug)]
 pub struct Page(pub(crate) &'static str);
 
@@ -23,6 +24,15 @@ impl Page {
             .lines()
             .find_map(|line| line.strip_prefix("## Wrong, at "))?;
         Some((self.example("## Wrong")?, head))
+    }
+
+    /// The statements of the database that shows the mistake, and its kind as the page has it.
+    pub fn database(&self) -> Option<(String, &'static str)> {
+        let head = self
+            .0
+            .lines()
+            .find_map(|line| line.strip_prefix("## Database, "))?;
+        Some((self.example("## Database")?, head))
     }
 
     /// The example without it.

@@ -265,6 +265,11 @@ fn load(cursor: &mut Cursor) -> Result<Item, Problem> {
 
 fn question(cursor: &mut Cursor) -> Result<Item, Problem> {
     let text = cursor.expect_text("the question's text in double quotes")?;
+    Ok(Item::Question(asked(cursor, text)?))
+}
+
+/// What stands behind a question's text.
+pub(crate) fn asked(cursor: &mut Cursor, text: Name) -> Result<QuestionItem, Problem> {
     let column = cursor.dotted()?;
     cursor.expect("=")?;
     cursor.expect("?")?;
@@ -284,12 +289,12 @@ fn question(cursor: &mut Cursor) -> Result<Item, Problem> {
         (_, None) => &["total", "by"],
         _ => &[],
     })?;
-    Ok(Item::Question(QuestionItem {
+    Ok(QuestionItem {
         text,
         column,
         with,
         total,
-    }))
+    })
 }
 
 fn joined_table(cursor: &mut Cursor) -> Result<WithItem, Problem> {

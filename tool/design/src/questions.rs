@@ -15,17 +15,25 @@ const ALL: &str = "the question's tables";
 pub(crate) fn resolve(builder: &mut Builder) {
     for item in std::mem::take(&mut builder.questions) {
         asked_twice(builder, &item.text);
-        let Some(column) = builder.resolve(&item.column) else {
-            check_names(builder, &item);
-            continue;
-        };
-        let measured = measure(builder, column, &item.column.span(), "a question");
-        builder.problems.extend(measured);
-        if let Some(question) = question(builder, item, column) {
+        if let Some(question) = resolve_one(builder, item) {
             builder.design.questions.push(question.0);
             builder.spans.questions.push(question.1);
         }
     }
+}
+
+/// A question with the place of its text; otherwise there are mistakes.
+pub(crate) fn resolve_one(
+    builder: &mut Builder,
+    item: QuestionItem,
+) -> Option<(Question, crate::span::Span)> {
+    let Some(column) = builder.resolve(&item.column) else {
+        check_names(builder, &item);
+        return None;
+    };
+    let measured = measure(builder, column, &item.column.span(), "a question");
+    builder.problems.extend(measured);
+    question(builder, item, column)
 }
 
 /// The names of a question whose first column is lost.

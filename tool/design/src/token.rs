@@ -5,6 +5,9 @@ use crate::span::Span;
 
 const SIGNS: [&str; 8] = ["->", "..", ".", "=", "?", ",", "(", ")"];
 
+/// What no token is.
+const NO_SIGN: &str = "";
+
 /// What a token is.
 #[derive(Clone, Debug, PartialEq, Eq)]
 pub(crate) enum Kind {
@@ -54,29 +57,42 @@ fn in_word(character: char) -> bool {
 
 /// The tokens of the line that begins at a byte of its file; a comment has none. The first piece that is none ends it.
 pub(crate) fn tokens(line: &str, start: usize) -> Result<Vec<Token<'_>>, Problem> {
-    let mut tokens = Vec::new();
-    let mut at = 0;
-    while let Some(character) = line[at..].chars().next() {
-        if character == '#' {
-            break;
-        }
-        if character.is_whitespace() {
-            at += character.len_utf8();
-            continue;
-        }
-        let (kind, length) = token(line, at).map_err(|problem| problem.moved(start))?;
-        tokens.push(Token {
-            kind,
-            raw: &line[at..at + length],
-            span: start + at..start + at + length,
-        });
-        at += length;
+    let cut = tokens_up_to(line, NO_SIGN).map_err(|problem| problem.moved(start));
+    let (mut tokens, _) = cut?;
+    for token in &mut tokens {
+        token.span = start + token.span.start..start + token.span.end;
     }
     Ok(tokens)
 }
 
+/// The tokens of a line up to a sign and with it, and the byte behind it; the whole line if it doesn't have the sign.
+pub(crate) fn tokens_up_to<'a>(
+    line: &'a str,
+    sign: &str,
+) -> Result<(Vec<Token<'a>>, usize), Problem> {
+    let mut found = Vec::new();
+    let mut at = 0;
+    while !found.last().is_some_and(|last: &Token| last.is(sign)) {
+        let Some(character) = line[at..].chars().next().filter(|&first| first != '#') else {
+            return Ok((found, line.len()));
+        };
+        if character.is_whitespace() {
+            at += character.len_utf8();
+            continue;
+        }
+        let (kind, length) = token(line, at)?;
+        found.push(Token {
+            kind,
+            raw: &line[at..at + length],
+            span: at..at + length,
+        });
+        at += length;
+    }
+    Ok((found, at))
+}
+
 /// The token at a byte of a line, with its length in bytes. Places are those of the line.
-fn token(line: &str, start: usize) -> Result<(Kind, usize), Problem> {
+pub(crate) fn token(line: &str, start: usize) -> Result<(Kind, usize), Problem> {
     let text = &line[start..];
     let word = text.find(|c| !in_word(c)).unwrap_or(text.len());
     if word > 0 {

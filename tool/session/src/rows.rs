@@ -3,8 +3,8 @@
 use std::collections::HashMap;
 use std::rc::Rc;
 
-use design::{pieces, Design, Piece, Role, Type};
-use source::{Record, Value};
+use design::{Design, Role};
+use source::{label, Record};
 
 use crate::issued::Issued;
 
@@ -44,52 +44,12 @@ impl Entry {
         let text = key.to_string();
         let table = record.table;
         Some(Entry {
-            label: label(design, &record, &text),
+            label: label(&design.tables[table], &record),
             key: text,
             identity: Rc::new(Identity { table, key }),
             record,
         })
     }
-}
-
-/// How a row is called.
-fn label(design: &Design, record: &Record, key: &str) -> String {
-    let table = &design.tables[record.table];
-    let Some(label) = &table.label else {
-        return format!("{} {key}", table.name);
-    };
-    let pieces = pieces(label).into_iter();
-    pieces
-        .map(|piece| match piece {
-            Piece::Text(text) => text,
-            Piece::Value(name) => shown(design, record, &name).unwrap_or_default(),
-        })
-        .collect()
-}
-
-/// What a row has under a name: a column, what is shown, or a tuple's part; none for NULL.
-fn shown(design: &Design, record: &Record, name: &str) -> Option<String> {
-    let table = &design.tables[record.table];
-    let mut columns = table.columns.iter();
-    if let Some(column) = columns.position(|column| column.name == name) {
-        let value = record.values[column].clone()?;
-        let issue = record.issues[column];
-        return Some(Issued { value, issue }.to_string());
-    }
-    if let Some(shown) = table.show.iter().position(|shown| shown == name) {
-        return record.shown[shown].clone();
-    }
-    table
-        .columns
-        .iter()
-        .zip(&record.values)
-        .find_map(|(column, value)| {
-            let (Type::Tuple(parts), Some(Value::Tuple(values))) = (&column.kind, value) else {
-                return None;
-            };
-            let part = parts.iter().position(|part| part == name)?;
-            Some(values[part].to_string())
-        })
 }
 
 /// All rows of a slice.

@@ -2,13 +2,13 @@
 
 use std::rc::Rc;
 
-use design::{script, Design, Place, Question, Role, Total, Type};
-use source::{Failure, Source};
+use design::{script, Design, Place, Question, Role, Total, Type, Word};
+use source::{Condition, Failure, Source};
 use wurzsige::{Column, Desk, Dropped, Join, Probed, Query, Range, Referred, Refusal, Totalled};
 
 use crate::answers::{Answered, Lists, Wanted};
 use crate::coder::Coder;
-use crate::issued::Issued;
+use crate::issued::{texts, Issued};
 use crate::rows::{Entry, Identity};
 use crate::slice::{Feed, Slice, Stopped};
 use crate::trouble::{TooLarge, Trouble};
@@ -57,30 +57,72 @@ impl<'s> Session<'s> {
         self.source.size()
     }
 
+    /// Lends the database, in its snapshot, for another session beside this one.
+    pub fn over<T>(&mut self, with: impl FnOnce(&mut dyn Source) -> T) -> T {
+        with(self.source)
+    }
+
     /// How many rows of the database are in the slice, cached or not.
     pub fn rows_read(&self) -> usize {
         self.slice.rows.len()
     }
 
-    /// The value that a text means in a column.
-    pub fn read(&self, place: Place, text: &str) -> Result<Issued, Trouble> {
-        Issued::read(self.design, place, text)
-            .map_err(|why| Trouble::Wrong(format!("{}: {why}", self.design.column_name(place))))
+    /// The value that a word means in a column, as the database writes it.
+    pub fn read(&mut self, place: Place, word: &Word) -> Result<Issued, Trouble> {
+        let name = || self.design.column_name(place);
+        let texts = texts(self.design.column(place), word);
+        let (texts, issue) = texts.map_err(|why| Trouble::Wrong(format!("{}: {why}", name())))?;
+        let texts: Vec<&str> = texts.iter().map(String::as_str).collect();
+        match self.source.meant(place, &texts) {
+            Ok(value) => Ok(Issued { value, issue }),
+            Err(Failure::Unfit(why)) => Err(Trouble::Wrong(why)),
+            Err(failure) => Err(failure.into()),
+        }
     }
 
-    /// What a text means for a load: a value, or `LOW..HIGH` where its column is `integer`.
-    pub fn wanted(&self, load: usize, text: &str) -> Result<Wanted, Trouble> {
+    /// What a word means for a load: a value, or `LOW..HIGH` where its column is `integer`.
+    pub fn wanted(&mut self, load: usize, word: &Word) -> Result<Wanted, Trouble> {
         let column = self.design.loads[load].column;
-        let ends = text.split_once("..");
+        let ends = word.text.split_once("..");
         let (Type::Integer, Some((low, high))) = (&self.design.column(column).kind, ends) else {
-            return Ok(Wanted::Value(self.read(column, text)?));
+            return Ok(Wanted::Value(self.read(column, word)?));
         };
         match (low.parse(), high.parse()) {
             (Ok(low), Ok(high)) => Ok(Wanted::Range { low, high }),
             _ => Err(Trouble::Wrong(format!(
-                "`{text}` is no range of whole numbers up to 4,294,967,295"
+                "`{}` is no range of whole numbers up to 4,294,967,295",
+                word.text
             ))),
         }
+    }
+
+    /// The lowest values that the database has for a load, at most so many.
+    pub fn values(&mut self, load: usize, most: usize) -> Result<Vec<Issued>, Trouble> {
+        let column = self.design.loads[load].column;
+        let values = self.source.values(column, most)?.into_iter();
+        Ok(values
+            .map(|(value, issue)| Issued { value, issue })
+            .collect())
+    }
+
+    /// Whether the database has a row, cached or not.
+    pub fn is_there(&mut self, identity: &Identity) -> Result<bool, Trouble> {
+        let Issued { value, issue } = identity.key.clone();
+        let column = self.key(identity.table);
+        let condition = Condition::Value {
+            column,
+            value,
+            issue,
+        };
+        Ok(!self.source.fetch(&condition)?.is_empty())
+    }
+
+    /// The column that is a table's key.
+    pub fn key(&self, table: usize) -> Place {
+        let mut columns = self.design.tables[table].columns.iter();
+        let column = columns.position(|column| column.role == Role::Key);
+        let column = column.expect("a session's tables have keys");
+        Place { table, column }
     }
 
     /// Loads a value, or a range of numbers.
@@ -228,7 +270,7 @@ impl<'s> Session<'s> {
     }
 
     /// Whether all that is here is of the snapshot that the source has.
-    pub(crate) fn usable(&self) -> Result<(), Trouble> {
+    pub fn usable(&self) -> Result<(), Trouble> {
         match &self.stale {
             None => Ok(()),
             Some(failure) => Err(Trouble::Stale(failure.clone())),

@@ -10,7 +10,10 @@ mod database;
 mod forms;
 mod kind;
 mod label;
+mod libpq;
 mod place;
+mod postgres;
+mod postgres_catalog;
 mod rows;
 mod snapshot;
 mod sqlite;
@@ -124,6 +127,8 @@ pub enum NotOpened {
 pub fn open(place: &design::Source, design: &Design, spans: &Spans) -> Result<Opened, NotOpened> {
     match place.kind {
         SourceKind::Sqlite => snapshot::open(sqlite::Sqlite::open(&place.place)?, design, spans),
-        SourceKind::Postgres => Err(NotOpened::Unreadable("PostgreSQL".into())),
+        SourceKind::Postgres => {
+            snapshot::open(postgres::Postgres::open(&place.place)?, design, spans)
+        }
     }
 }

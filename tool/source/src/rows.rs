@@ -259,7 +259,7 @@ fn issue(database: &dyn Database, part: &Part, cell: &Cell) -> Result<u8, String
     let wrong = |why: String| {
         let name = design::name(&part.column.name);
         format!(
-            "has the issue {} in {name}, and {why} (E033)",
+            "has the issue {} in {name}, and {why} (E031)",
             cell_text(cell)
         )
     };

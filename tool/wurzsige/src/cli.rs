@@ -6,7 +6,11 @@ use clap::{Parser, Subcommand, ValueEnum};
 
 use crate::output::When;
 
-const EXIT: &str = "Exit status: 0 good; 1 a warning was found (knots, questions that are never answered); 2 the design or the command is refused; 3 a file can't be read or written.";
+const EXIT: &str = "Exit status: 0 good; 1 a warning was found (knots, questions that are never answered); 2 the design or the command is refused; 3 a file or the database can't be read, or a file can't be written.";
+
+const TRIED: &str = "Exit status: 0 all is loaded; 2 something isn't, or the design or the command is refused; 3 a file or the database can't be read. Nothing is ever written to the database.";
+
+const ASKED: &str = "Commands: load, drop, ask, probe, why, opener, desk, held, rows, refresh, help, quit; `help` says how each is written.\n\nExit status: 0 every command was carried out; 2 some wasn't, or the design is refused; 3 a file or the database can't be read. Nothing is ever written to the database.";
 
 /// Designs for the review desk, decided by the proved desk
 #[derive(Debug, Parser)]
@@ -69,9 +73,43 @@ pub enum Command {
         no_source: bool,
     },
 
-    /// Tell what a change of a design adds and loses
+    /// Load values from the database: what each drags in, link by link
+    #[command(after_help = TRIED)]
+    Try {
+        /// The design's file, or - for standard input
+        design: PathBuf,
+
+        /// What to load, one after the other: ward=W-NORD, or night=50000..50010
+        #[arg(required = true, value_name = "LOAD=VALUE")]
+        loads: Vec<String>,
+
+        /// The database in place of the design's: sqlite:FILE or postgres:CONNINFO
+        #[arg(long, value_name = "SOURCE")]
+        source: Option<String>,
+
+        /// Text for people, or a line of JSON for each load
+        #[arg(long, value_name = "FORMAT", default_value = "text")]
+        format: Format,
+    },
+
+    /// Ask the desk over the database: a shell on a terminal, otherwise a command to a line of standard input
+    #[command(after_help = ASKED)]
+    Ask {
+        /// The design's file
+        design: PathBuf,
+
+        /// The database in place of the design's: sqlite:FILE or postgres:CONNINFO
+        #[arg(long, value_name = "SOURCE")]
+        source: Option<String>,
+
+        /// Text for people, or a line of JSON for each command
+        #[arg(long, value_name = "FORMAT", default_value = "text")]
+        format: Format,
+    },
+
+    /// Tell what a change of a design adds and loses; with a database, what each load costs before and after
     #[command(
-        after_help = "Exit status: 0 nothing got worse; 1 a knot came, or a question is answered less often or not at all; 2 a design or the command is refused; 3 a file can't be read."
+        after_help = "Exit status: 0 nothing got worse; 1 a knot came, a question is answered less often or not at all, or a load doesn't fit any more; 2 a design or the command is refused; 3 a file or the database can't be read."
     )]
     Diff {
         /// The design before
@@ -80,16 +118,36 @@ pub enum Command {
         /// The design after
         new: PathBuf,
 
+        /// The database of which loads are tried: sqlite:FILE or postgres:CONNINFO
+        #[arg(long, value_name = "SOURCE")]
+        source: Option<String>,
+
+        /// A value to be tried, ward=W-NORD; without any the lowest few of the database
+        #[arg(long = "value", value_name = "LOAD=VALUE", requires = "source")]
+        values: Vec<String>,
+
         /// Text for people, or a line of JSON for programs
         #[arg(long, value_name = "FORMAT", default_value = "text")]
         format: Format,
     },
 
-    /// Write the bytes for `desk`: tables, constraints and fillings
+    /// Write the bytes for `desk`: tables, constraints and fillings; with --rows the rows that loads need
     #[command(after_help = EXIT)]
     Script {
         /// The design's file, or - for standard input
         design: PathBuf,
+
+        /// With --rows, what is loaded: ward=W-NORD, or night=50000..50010
+        #[arg(value_name = "LOAD=VALUE", requires = "rows")]
+        loads: Vec<String>,
+
+        /// With the rows of the database that the loads need
+        #[arg(long, requires = "loads")]
+        rows: bool,
+
+        /// The database in place of the design's: sqlite:FILE or postgres:CONNINFO
+        #[arg(long, value_name = "SOURCE", requires = "rows")]
+        source: Option<String>,
 
         /// Where to write them; without it standard output
         #[arg(short, long, value_name = "FILE")]

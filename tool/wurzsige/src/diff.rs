@@ -4,6 +4,7 @@ use codespan_reporting::term::termcolor::Color;
 use design::{column_kind, link_line, load_line, name, question_line, table_line, Design, Place};
 use serde::Serialize;
 
+use crate::cost::{self, Costs};
 use crate::facts::{Facts, Outcome};
 use crate::file::File;
 use crate::json::link_names;
@@ -55,6 +56,9 @@ pub struct Changes {
     verdicts: Vec<Changed>,
     /// Questions of the new design alone that are never answered.
     never: Vec<String>,
+    /// What loads cost, if a database was named.
+    #[serde(skip_serializing_if = "Option::is_none")]
+    pub costs: Option<Vec<Costs>>,
 }
 
 impl Changes {
@@ -75,10 +79,11 @@ impl Changes {
             },
             verdicts: verdicts(before, &old_facts, after, &new_facts),
             never: never(before, after, &new_facts),
+            costs: None,
         })
     }
 
-    /// A warning if something got worse: a knot came, or a question is answered less often, or a new one never.
+    /// A warning if something got worse: a knot came, a question is answered less often, or a new one never, or a load doesn't fit any more.
     pub fn status(&self) -> Status {
         let knot_came = self
             .knots
@@ -86,7 +91,8 @@ impl Changes {
             .iter()
             .any(|knot| !self.knots.before.contains(knot));
         let worse = self.verdicts.iter().any(|changed| !changed.better);
-        match knot_came || worse || !self.never.is_empty() {
+        let unfit = self.costs.iter().flatten().any(Costs::is_worse);
+        match knot_came || worse || unfit || !self.never.is_empty() {
             true => Status::Warned,
             false => Status::Good,
         }
@@ -219,6 +225,7 @@ pub fn report(page: &mut Page, old: &File, new: &File, changes: &Changes) {
     }
     report_knots(page, old, new, &changes.knots);
     report_questions(page, changes);
+    cost::report(page, changes.costs.as_deref().unwrap_or_default());
 }
 
 fn report_knots(page: &mut Page, old: &File, new: &File, knots: &Knots) {

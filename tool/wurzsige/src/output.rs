@@ -57,8 +57,13 @@ impl Page {
 
     /// Adds text.
     pub fn text(&mut self, text: &str) {
+        self.bytes(text.as_bytes());
+    }
+
+    /// Adds bytes of text.
+    pub fn bytes(&mut self, bytes: &[u8]) {
         // a buffer in memory takes whatever is written to it
-        self.0.write_all(text.as_bytes()).expect("a buffer");
+        self.0.write_all(bytes).expect("a buffer");
     }
 
     /// Adds text in a colour.
@@ -70,9 +75,14 @@ impl Page {
         self.0.reset().expect("a buffer");
     }
 
-    /// Adds a mistake with its lines and carets.
+    /// Adds a mistake of a file with its lines and carets.
     pub fn problem(&mut self, file: &File, problem: &Problem) {
-        let source = SimpleFile::new(&file.name, &file.text);
+        self.problem_in(&file.name, &file.text, problem);
+    }
+
+    /// Adds a mistake of a text with its lines and carets.
+    pub fn problem_in(&mut self, name: &str, text: &str, problem: &Problem) {
+        let source = SimpleFile::new(name, text);
         emit(
             &mut self.0,
             &Config::default(),

@@ -6,14 +6,18 @@ use std::path::Path;
 
 use clap::CommandFactory;
 use design::{script, Code};
+use session::{Session, Trouble};
+use source::Source;
 
 use crate::check::Checked;
 use crate::cli::{Arguments, Command, Format};
+use crate::database::told as fail;
 use crate::file::{File, Unreadable};
 use crate::library::Refused;
+use crate::loads::Asked;
 use crate::output::{Page, When};
 use crate::status::Status;
-use crate::{diff, draw, explain, json, page, report};
+use crate::{cost, database, diff, draw, explain, json, page, report, shell, try_load};
 
 /// Carries a command out, and says how to end.
 pub fn run(arguments: &Arguments) -> Status {
@@ -35,8 +39,31 @@ pub fn run(arguments: &Arguments) -> Status {
             *no_source,
             color,
         ),
-        Command::Diff { old, new, format } => diff(old, new, *format, color),
-        Command::Script { design, output } => write_script(design, output.as_deref(), color),
+        Command::Try {
+            design,
+            loads,
+            source,
+            format,
+        } => try_loads(design, loads, source.as_deref(), *format, color),
+        Command::Ask {
+            design,
+            source,
+            format,
+        } => ask(design, source.as_deref(), *format, color),
+        Command::Diff {
+            old,
+            new,
+            source,
+            values,
+            format,
+        } => diff(old, new, source.as_deref(), values, *format, color),
+        Command::Script {
+            design,
+            loads,
+            rows: _,
+            source,
+            output,
+        } => write_script(design, loads, source.as_deref(), output.as_deref(), color),
         Command::Explain { code } => explain(code.as_deref()),
         Command::Completion { shell } => completion(*shell),
     };
@@ -45,13 +72,6 @@ pub fn run(arguments: &Arguments) -> Status {
 
 /// How a command ends, early or not.
 type Ended = Result<Status, Status>;
-
-/// Tells on standard error what keeps the command from being carried out.
-fn fail(status: Status, message: &str) -> Status {
-    // if standard error is closed, the status alone has to do
-    let _ = writeln!(io::stderr(), "wurzsige: {message}");
-    status
-}
 
 /// Writes to standard output. A reader that has gone away has read enough.
 fn put(bytes: &[u8]) -> Result<(), Status> {
@@ -183,9 +203,89 @@ fn page_asked(
     page::Asked::of(design, &mut *source, &values).map_err(|trouble| troubled(&trouble))
 }
 
-fn diff(old: &Path, new: &Path, format: Format, color: When) -> Ended {
+/// A session over the database of a file's design.
+fn open_session<'s>(file: &'s File, source: &'s mut dyn Source) -> Result<Session<'s>, Status> {
+    let Some(design) = file.design() else {
+        unreachable!("the design was accepted");
+    };
+    Session::open(design, source).map_err(|trouble| troubled(&trouble))
+}
+
+/// Tells why something isn't carried out.
+fn troubled(trouble: &Trouble) -> Status {
+    let status = match trouble {
+        Trouble::Failed(_) | Trouble::Stale(_) => Status::Unreadable,
+        _ => Status::Refused,
+    };
+    fail(status, &trouble.to_string())
+}
+
+fn read_loads(file: &File, loads: &[String]) -> Result<Vec<Asked>, Status> {
+    let design = file.design().into_iter();
+    let asked = design.flat_map(|design| loads.iter().map(|text| Asked::read(design, text)));
+    let asked: Result<Vec<Asked>, String> = asked.collect();
+    asked.map_err(|message| fail(Status::Refused, &message))
+}
+
+fn try_loads(
+    path: &Path,
+    loads: &[String],
+    source: Option<&str>,
+    format: Format,
+    color: When,
+) -> Ended {
+    let file = accepted(path, color)?;
+    let loads = read_loads(&file, loads)?;
+    let mut source = database::open(&file, source, color)?;
+    let mut page = Page::for_output(color);
+    let mut worst = Status::Good;
+    let tried = try_load::try_all(&file, &mut *source, &loads, |session, asked, tried| {
+        worst = worst.max(try_load::status(tried));
+        match format {
+            Format::Json => page.bytes(&json::line(&try_load::Json::of(
+                session.design(),
+                asked,
+                tried,
+            ))),
+            Format::Text => try_load::report(&mut page, &file, session, asked, tried),
+        }
+    });
+    let read = tried.map_err(|trouble| troubled(&trouble))?;
+    if format == Format::Text && worst == Status::Good {
+        let size = source.size().map_err(|failure| troubled(&failure.into()))?;
+        try_load::not_read(&mut page, size.saturating_sub(read as u64));
+    }
+    put(&page.into_bytes())?;
+    Ok(worst)
+}
+
+fn ask(path: &Path, source: Option<&str>, format: Format, color: When) -> Ended {
+    if path.to_str() == Some("-") {
+        return Err(fail(
+            Status::Refused,
+            "standard input has the commands: name the design's file",
+        ));
+    }
+    let file = accepted(path, color)?;
+    let mut source = database::open(&file, source, color)?;
+    let mut session = open_session(&file, &mut *source)?;
+    shell::run(&mut session, format, color).map_err(|message| fail(Status::Unreadable, &message))
+}
+
+fn diff(
+    old: &Path,
+    new: &Path,
+    source: Option<&str>,
+    values: &[String],
+    format: Format,
+    color: When,
+) -> Ended {
     let (old, new) = (accepted(old, color)?, accepted(new, color)?);
-    let changes = diff::Changes::between(&old, &new).map_err(|refusal| refused(&new, refusal))?;
+    let mut changes =
+        diff::Changes::between(&old, &new).map_err(|refusal| refused(&new, refusal))?;
+    if source.is_some() {
+        changes.costs = Some(costs(&old, &new, source, values, color)?);
+    }
     match format {
         Format::Json => put(&json::line(&changes))?,
         Format::Text => {
@@ -197,15 +297,66 @@ fn diff(old: &Path, new: &Path, format: Format, color: When) -> Ended {
     Ok(changes.status())
 }
 
-fn write_script(path: &Path, output: Option<&Path>, color: When) -> Ended {
+/// What loads cost with both designs on a database.
+fn costs(
+    old: &File,
+    new: &File,
+    source: Option<&str>,
+    values: &[String],
+    color: When,
+) -> Result<Vec<cost::Costs>, Status> {
+    let mut first = database::open(old, source, color)?;
+    let mut second = database::open(new, source, color)?;
+    let (Some(before), Some(after)) = (old.design(), new.design()) else {
+        unreachable!("both designs were accepted");
+    };
+    let mut before = cost::Side {
+        design: before,
+        source: &mut *first,
+    };
+    let mut after = cost::Side {
+        design: after,
+        source: &mut *second,
+    };
+    cost::costs(&mut before, &mut after, values).map_err(|trouble| troubled(&trouble))
+}
+
+fn write_script(
+    path: &Path,
+    loads: &[String],
+    source: Option<&str>,
+    output: Option<&Path>,
+    color: When,
+) -> Ended {
     if output.is_none() && io::stdout().is_terminal() {
         return Err(fail(Status::Refused, "a script is bytes, and this is a terminal: name a file with --output, or a program behind a pipe"));
     }
     let file = accepted(path, color)?;
-    let bytes = file.design().map(script).unwrap_or_default();
+    let bytes = match loads.is_empty() {
+        true => file.design().map(script).unwrap_or_default(),
+        false => script_with_rows(&file, loads, source, color)?,
+    };
     crate::library::Library::open(&bytes).map_err(|refusal| refused(&file, refusal))?;
     put_to(output, &bytes)?;
     Ok(Status::Good)
+}
+
+/// The script with the rows that loads need.
+fn script_with_rows(
+    file: &File,
+    loads: &[String],
+    source: Option<&str>,
+    color: When,
+) -> Result<Vec<u8>, Status> {
+    let loads = read_loads(file, loads)?;
+    let mut source = database::open(file, source, color)?;
+    let mut session = open_session(file, &mut *source)?;
+    for asked in &loads {
+        let wanted = asked.wanted(&mut session);
+        let loaded = wanted.and_then(|wanted| session.load(asked.load, &wanted));
+        loaded.map_err(|trouble| troubled(&trouble))?;
+    }
+    Ok(session.script())
 }
 
 fn explain(code: Option<&str>) -> Ended {

@@ -1,0 +1,497 @@
+//! Replies of `ask`: for people and, one object to a line, for programs.
+
+use std::collections::BTreeMap;
+
+use codespan_reporting::term::termcolor::Color;
+use design::Design;
+use serde::Serialize;
+use session::{
+    Held, Issued, Lists, Needs, Opener, Reason, Referred, Refreshed, Session, TooLarge, Trouble,
+    MOST_ROWS,
+};
+use wurzsige::Ground;
+
+use crate::ask::{Reply, COMMANDS};
+use crate::output::Page;
+use crate::status::Status;
+use crate::try_load::counted;
+
+/// How a program ends that has replied this.
+pub fn status(reply: &Reply) -> Status {
+    match reply {
+        Reply::Trouble(Trouble::Failed(_) | Trouble::Stale(_)) => Status::Unreadable,
+        Reply::Trouble(_) | Reply::Mistakes(_) | Reply::TooLarge(_) => Status::Refused,
+        Reply::Refreshed(Refreshed::TooLarge { .. }, _) => Status::Refused,
+        _ => Status::Good,
+    }
+}
+
+/// The label of a row.
+fn label<'s>(session: &'s Session, row: u16) -> &'s str {
+    session.row(row).map_or("", |row| &row.label)
+}
+
+/// A row by its table's name and its key.
+fn row_name(session: &Session, row: u16) -> String {
+    session.row(row).map_or_else(String::new, |row| {
+        let table = &session.design().tables[row.identity.table].name;
+        format!("{table} {}", row.key)
+    })
+}
+
+/// A load as it is written in a command.
+fn load_command(design: &Design, load: usize, value: &Issued) -> String {
+    let name = design::name(&design.loads[load].name);
+    format!("load {name} {}", value.word())
+}
+
+/// The reply to the command of a line, for people.
+pub fn text(page: &mut Page, session: &Session, line: &str, reply: &Reply) {
+    let design = session.design();
+    match reply {
+        Reply::Loaded(Referred::Loaded { rows, rounds }) => page.text(&format!(
+            "{} in {}\n",
+            counted(*rows, "row"),
+            counted(*rounds, "round")
+        )),
+        Reply::Loaded(Referred::Held) => page.text("it is held already\n"),
+        Reply::Loaded(Referred::NoCandidate) => page.text("the load's `values` don't have it\n"),
+        Reply::Dropped(rows) => page.text(&format!("{} gone\n", counted(*rows, "row"))),
+        Reply::TooLarge(large) => too_large(page, design, large),
+        Reply::Complete(ground, rows) => page.text(&format!(
+            "complete: {}; {} it\n",
+            because(*ground),
+            match rows {
+                0 => "no row has".to_string(),
+                1 => "1 row has".into(),
+                _ => format!("{rows} rows have"),
+            }
+        )),
+        Reply::Sent(opener) => sent(page, design, opener),
+        Reply::Open => page.text("the desk answers already\n"),
+        Reply::Lists(lists, ground) => lists_of(page, session, lists, *ground),
+        Reply::Total(total) => page.text(&format!("{total}\n")),
+        Reply::Reason(reason, desks) => why(page, session, reason, desks),
+        Reply::Absent(row, true) => page.text(&format!("{row} isn't here\n")),
+        Reply::Absent(row, false) => page.text(&format!("the database has no {row}\n")),
+        Reply::Desk(desk) => page.text(&format!("desk {desk}\n")),
+        Reply::Holds(held) => holds(page, design, held),
+        Reply::Rows(rows) => rows_of(page, session, rows),
+        Reply::Refreshed(refreshed, rows) => renewed(page, session, refreshed, *rows),
+        Reply::Help => help(page),
+        Reply::Quit => {}
+        Reply::Trouble(trouble) => {
+            page.coloured(Color::Red, "refused");
+            page.text(&format!(": {trouble}\n"));
+        }
+        Reply::Mistakes(problems) => problems
+            .iter()
+            .for_each(|problem| page.problem_in("command", line.trim(), problem)),
+    }
+}
+
+fn because(ground: Ground) -> &'static str {
+    match ground {
+        Ground::Held => "it is held",
+        Ground::Linked => "a row that is here has brought all of it",
+        Ground::Unique => "the column is unique, and the row is here",
+    }
+}
+
+fn too_large(page: &mut Page, design: &Design, large: &TooLarge) {
+    page.coloured(Color::Red, "too large");
+    page.text(&format!(
+        ": it needs at least {} rows, and a desk has {MOST_ROWS}; nothing has changed\n",
+        large.rows
+    ));
+    let links = large.brought.iter().filter_map(|brought| match brought.by {
+        session::By::Link(link) => Some((brought.rows, link)),
+        session::By::Load(_) => None,
+    });
+    if let Some((rows, link)) = links.max_by_key(|(rows, _)| *rows) {
+        let link = design.link_name(&design.links[link]);
+        page.text(&format!(
+            "{link} brings most: {rows} of those that were read\n"
+        ));
+    }
+}
+
+fn sent(page: &mut Page, design: &Design, opener: &Opener) {
+    page.coloured(Color::Yellow, "sent");
+    match opener {
+        Opener::Load { load, value } => page.text(&format!(
+            ": ask the database. `{}` would let the desk answer.\n",
+            load_command(design, *load, value)
+        )),
+        _ => page.text(": ask the database. No load is known that would let the desk answer.\n"),
+    }
+}
+
+/// Lists as a table of labels.
+fn lists_of(page: &mut Page, session: &Session, lists: &Lists, ground: Option<Ground>) {
+    let names = lists.tables.iter();
+    let head: Vec<&str> = names
+        .map(|&table| session.design().tables[table].name.as_str())
+        .collect();
+    let lines: Vec<Vec<&str>> = lists
+        .lists
+        .iter()
+        .map(|list| list.iter().map(|&row| label(session, row)).collect())
+        .collect();
+    let width = |position: usize| {
+        let all = lines.iter().chain([&head]);
+        let widths = all.map(|line| line[position].chars().count());
+        widths.max().unwrap_or(0)
+    };
+    let widths: Vec<usize> = (0..head.len()).map(width).collect();
+    if !lines.is_empty() {
+        for line in [&head].into_iter().chain(&lines) {
+            let cells = line.iter().zip(&widths);
+            let cells: Vec<String> = cells
+                .map(|(cell, &width)| format!("{cell:width$}"))
+                .collect();
+            page.text(&format!("{}\n", cells.join("  ").trim_end()));
+        }
+    }
+    let why = ground.map_or(String::new(), |ground| {
+        format!("; complete: {}", because(ground))
+    });
+    page.text(&format!("({}{why})\n", counted(lists.lists.len(), "list")));
+}
+
+fn why(page: &mut Page, session: &Session, reason: &Reason, desks: &[u8]) {
+    let design = session.design();
+    page.text(&format!("{} is here because\n", label(session, reason.row)));
+    let mut pronoun = "it";
+    for step in &reason.steps {
+        let link = &design.links[step.link];
+        let from = label(session, step.from);
+        let line = match &link.words {
+            Some(words) => format!("{pronoun} {words} {from}"),
+            None => format!(
+                "{pronoun} was brought by {from} ({})",
+                design.link_name(link)
+            ),
+        };
+        page.text(&format!("  {line}\n"));
+        pronoun = "which";
+    }
+    let column = design.column_name(design.loads[reason.load].column);
+    let numbers: Vec<String> = desks.iter().map(u8::to_string).collect();
+    let who = match &numbers[..] {
+        [desk] => format!("desk {desk}"),
+        _ => format!("desks {}", numbers.join(", ")),
+    };
+    page.text(&format!(
+        "  {pronoun} has {column} {}, which {who} loaded as {}\n",
+        reason.wanted, design.loads[reason.load].name
+    ));
+}
+
+fn holds(page: &mut Page, design: &Design, held: &[(Held, Needs)]) {
+    if held.is_empty() {
+        page.text("nothing is held\n");
+    }
+    for (held, needs) in held {
+        page.text(&format!(
+            "desk {}: {} {} ({}, of which {} nobody else needs)\n",
+            held.desk,
+            design.loads[held.load].name,
+            held.wanted,
+            counted(needs.rows, "row"),
+            needs.alone
+        ));
+    }
+}
+
+/// The keys of rows, by table.
+fn keys_by_table<'s>(session: &'s Session, rows: &[u16]) -> Vec<(&'s str, Vec<&'s str>)> {
+    let tables = session.design().tables.iter().enumerate();
+    let keys = |table| {
+        let rows = rows.iter().filter_map(|&row| session.row(row));
+        let rows = rows.filter(|row| row.identity.table == table);
+        rows.map(|row| row.key.as_str()).collect::<Vec<&str>>()
+    };
+    let tables = tables.map(|(number, table)| (table.name.as_str(), keys(number)));
+    tables.filter(|(_, keys)| !keys.is_empty()).collect()
+}
+
+fn rows_of(page: &mut Page, session: &Session, rows: &[u16]) {
+    page.text(&format!("{} of {MOST_ROWS}\n", counted(rows.len(), "row")));
+    for (table, keys) in keys_by_table(session, rows) {
+        page.text(&format!(
+            "  {:4}  {table}: {}\n",
+            keys.len(),
+            keys.join(", ")
+        ));
+    }
+}
+
+fn renewed(page: &mut Page, session: &Session, refreshed: &Refreshed, rows: usize) {
+    match refreshed {
+        Refreshed::Kept {
+            came,
+            went,
+            changed,
+        } => page.text(&format!(
+            "as of {}: {came} came, {went} went, {changed} changed; {} here\n",
+            session.taken(),
+            counted(rows, "row")
+        )),
+        Refreshed::TooLarge { rows, dropped } => {
+            page.coloured(Color::Red, "too large");
+            page.text(&format!(
+                ": as of {} what was held needs at least {rows} rows, and a desk has {MOST_ROWS}. All of it was dropped:\n",
+                session.taken()
+            ));
+            for held in dropped {
+                let load = &session.design().loads[held.load].name;
+                page.text(&format!("  desk {}: {load} {}\n", held.desk, held.wanted));
+            }
+        }
+    }
+}
+
+fn help(page: &mut Page) {
+    let width = COMMANDS.iter().map(|(_, form, _)| form.len()).max();
+    let width = width.unwrap_or(0);
+    for (_, form, what) in COMMANDS {
+        page.text(&format!("  {form:width$}  {what}\n"));
+    }
+    page.text("A value or key is a word, or a string in double quotes with \\\" and \\\\ for \" and \\.\n");
+    page.text("A tuple's parts are joined by |; within a part \\| and \\\\ stand for | and \\.\n");
+    page.text("Behind a value of a column with issues # and the issue may stand.\n");
+}
+
+/// A line of JSON.
+#[derive(Serialize)]
+#[serde(tag = "answer")]
+enum Json<'a> {
+    #[serde(rename = "loaded")]
+    Loaded { rows: usize, rounds: usize },
+    #[serde(rename = "held")]
+    Held,
+    #[serde(rename = "no candidate")]
+    NoCandidate,
+    #[serde(rename = "dropped")]
+    Dropped { rows: usize },
+    #[serde(rename = "too large")]
+    TooLarge {
+        rows: usize,
+        #[serde(skip_serializing_if = "Option::is_none")]
+        dropped: Option<Vec<JsonHeld<'a>>>,
+    },
+    #[serde(rename = "complete")]
+    Complete { ground: u8, rows: usize },
+    #[serde(rename = "sent")]
+    Sent { opener: Option<JsonLoad<'a>> },
+    #[serde(rename = "open")]
+    Open,
+    #[serde(rename = "lists")]
+    Lists {
+        tables: Vec<&'a str>,
+        lists: Vec<Vec<&'a str>>,
+    },
+    #[serde(rename = "total")]
+    Total { total: u64 },
+    #[serde(rename = "reason")]
+    Reason {
+        row: String,
+        steps: Vec<JsonStep<'a>>,
+    },
+    #[serde(rename = "absent")]
+    Absent,
+    #[serde(rename = "desk")]
+    Desk { desk: u8 },
+    #[serde(rename = "holds")]
+    Holds { held: Vec<JsonHeld<'a>> },
+    #[serde(rename = "rows")]
+    Rows {
+        tables: BTreeMap<&'a str, Vec<&'a str>>,
+    },
+    #[serde(rename = "refreshed")]
+    Refreshed {
+        came: usize,
+        went: usize,
+        changed: usize,
+        rows: usize,
+        taken: &'a str,
+    },
+    #[serde(rename = "help")]
+    Help { commands: Vec<&'a str> },
+    #[serde(rename = "refused")]
+    Refused { cause: Option<u8>, message: String },
+    #[serde(rename = "unreadable")]
+    Unreadable { message: String },
+}
+
+/// A load with a value.
+#[derive(Serialize)]
+struct JsonLoad<'a> {
+    load: &'a str,
+    value: String,
+}
+
+/// Something held.
+#[derive(Serialize)]
+struct JsonHeld<'a> {
+    desk: u8,
+    load: &'a str,
+    value: String,
+    #[serde(skip_serializing_if = "Option::is_none")]
+    rows: Option<usize>,
+    #[serde(skip_serializing_if = "Option::is_none")]
+    alone: Option<usize>,
+}
+
+impl<'a> JsonHeld<'a> {
+    fn of(design: &'a Design, held: &Held, needs: Option<&Needs>) -> JsonHeld<'a> {
+        JsonHeld {
+            desk: held.desk,
+            load: &design.loads[held.load].name,
+            value: held.wanted.to_string(),
+            rows: needs.map(|needs| needs.rows),
+            alone: needs.map(|needs| needs.alone),
+        }
+    }
+}
+
+/// A step of a reason.
+#[derive(Serialize)]
+#[serde(untagged)]
+enum JsonStep<'a> {
+    Link { link: String, from: String },
+    Load(JsonLoad<'a>),
+}
+
+/// The reply for programs: an object on a line; nothing for `quit`.
+pub fn json(session: &Session, reply: &Reply) -> Vec<u8> {
+    let design = session.design();
+    let json = match reply {
+        Reply::Loaded(Referred::Loaded { rows, rounds }) => Json::Loaded {
+            rows: *rows,
+            rounds: *rounds,
+        },
+        Reply::Loaded(Referred::Held) => Json::Held,
+        Reply::Loaded(Referred::NoCandidate) => Json::NoCandidate,
+        Reply::Dropped(rows) => Json::Dropped { rows: *rows },
+        Reply::TooLarge(large) => Json::TooLarge {
+            rows: large.rows,
+            dropped: None,
+        },
+        Reply::Complete(ground, rows) => Json::Complete {
+            ground: ground.number(),
+            rows: *rows,
+        },
+        Reply::Sent(opener) => Json::Sent {
+            opener: match opener {
+                Opener::Load { load, value } => Some(JsonLoad {
+                    load: &design.loads[*load].name,
+                    value: value.to_string(),
+                }),
+                _ => None,
+            },
+        },
+        Reply::Open => Json::Open,
+        Reply::Lists(lists, _) => json_lists(session, lists),
+        Reply::Total(total) => Json::Total { total: *total },
+        Reply::Reason(reason, _) => json_reason(session, reason),
+        Reply::Absent(..) => Json::Absent,
+        Reply::Desk(desk) => Json::Desk { desk: *desk },
+        Reply::Holds(held) => Json::Holds {
+            held: held
+                .iter()
+                .map(|(held, needs)| JsonHeld::of(design, held, Some(needs)))
+                .collect(),
+        },
+        Reply::Rows(rows) => Json::Rows {
+            tables: keys_by_table(session, rows).into_iter().collect(),
+        },
+        Reply::Refreshed(refreshed, rows) => json_refreshed(session, refreshed, *rows),
+        Reply::Help => Json::Help {
+            commands: COMMANDS.iter().map(|(_, form, _)| *form).collect(),
+        },
+        Reply::Quit => return Vec::new(),
+        Reply::Trouble(trouble) => json_trouble(trouble),
+        Reply::Mistakes(problems) => Json::Refused {
+            cause: None,
+            message: problems
+                .iter()
+                .map(|problem| problem.message.as_str())
+                .collect::<Vec<_>>()
+                .join("; "),
+        },
+    };
+    crate::json::line(&json)
+}
+
+fn json_lists<'a>(session: &'a Session, lists: &Lists) -> Json<'a> {
+    let tables = lists.tables.iter();
+    let key = |row: &u16| session.row(*row).map_or("", |row| row.key.as_str());
+    Json::Lists {
+        tables: tables
+            .map(|&table| session.design().tables[table].name.as_str())
+            .collect(),
+        lists: lists
+            .lists
+            .iter()
+            .map(|list| list.iter().map(key).collect())
+            .collect(),
+    }
+}
+
+fn json_reason<'a>(session: &'a Session, reason: &Reason) -> Json<'a> {
+    let design = session.design();
+    let links = reason.steps.iter().map(|step| JsonStep::Link {
+        link: design.link_name(&design.links[step.link]),
+        from: row_name(session, step.from),
+    });
+    let load = JsonStep::Load(JsonLoad {
+        load: &design.loads[reason.load].name,
+        value: reason.wanted.to_string(),
+    });
+    Json::Reason {
+        row: row_name(session, reason.row),
+        steps: links.chain([load]).collect(),
+    }
+}
+
+fn json_refreshed<'a>(session: &'a Session, refreshed: &Refreshed, rows: usize) -> Json<'a> {
+    match refreshed {
+        Refreshed::Kept {
+            came,
+            went,
+            changed,
+        } => Json::Refreshed {
+            came: *came,
+            went: *went,
+            changed: *changed,
+            rows,
+            taken: session.taken(),
+        },
+        Refreshed::TooLarge { rows, dropped } => Json::TooLarge {
+            rows: *rows,
+            dropped: Some(
+                dropped
+                    .iter()
+                    .map(|held| JsonHeld::of(session.design(), held, None))
+                    .collect(),
+            ),
+        },
+    }
+}
+
+fn json_trouble<'a>(trouble: &Trouble) -> Json<'a> {
+    let message = trouble.to_string();
+    match trouble {
+        Trouble::Refused(refusal) => Json::Refused {
+            cause: Some(refusal.cause.number()),
+            message,
+        },
+        Trouble::Failed(_) | Trouble::Stale(_) => Json::Unreadable { message },
+        _ => Json::Refused {
+            cause: None,
+            message,
+        },
+    }
+}
