@@ -69,7 +69,7 @@ pub fn html(file: &File, checked: &Checked, asked: Option<&Asked>) -> Result<Str
         facts::questions(file, design, facts, checked),
         facts::links(file, design, facts),
         match asked {
-            Some(Asked { costs, picked }) => boxes::loads(design, costs, picked),
+            Some(Asked { costs, picked }) => boxes::loads(design, facts, costs, picked),
             None => facts::loads(design),
         },
     ];

@@ -7,7 +7,7 @@ use std::collections::BTreeMap;
 use std::path::{Path, PathBuf};
 
 use browser::{assert_good, Browser, Look};
-use design::Design;
+use design::{Design, Word};
 use program::{scratch, text, wurzsige, SLEEP};
 use serde_json::{json, Value};
 use session::{Probed, Referred, Session, Trouble};
@@ -105,7 +105,9 @@ fn told(lab: &Lab, load: &str, value: &str) -> Option<Told> {
         .iter()
         .position(|named| named.name == load)
         .expect("a load");
-    let wanted = session.wanted(number, value).expect("a value");
+    let wanted = session
+        .wanted(number, &Word::plain(value))
+        .expect("a value");
     let (rows, rounds) = match session.load(number, &wanted) {
         Ok(Referred::Loaded { rows, rounds }) => (rows, rounds),
         Err(Trouble::TooLarge(_)) => return None,
@@ -136,7 +138,7 @@ fn told(lab: &Lab, load: &str, value: &str) -> Option<Told> {
         .iter()
         .filter(|asked| asked.column == column)
     {
-        let value = session.read(column, value).expect("a value");
+        let value = session.read(column, &Word::plain(value)).expect("a value");
         let probed = session.probe(column, &value).expect("an answer");
         told.complete
             .push((question.text.clone(), probed != Probed::Sent));
@@ -181,7 +183,7 @@ const SHOWN: &str = "(() => {
             round: row.cells[1].textContent,
             reason: row.cells[2].textContent,
             named: [...row.cells[2].querySelectorAll('b')].map(name => name.textContent)})),
-        questions: captioned('For how many') ? rows(captioned('For how many')) : []};
+        questions: captioned('Of the values') ? rows(captioned('Of the values')) : []};
 })()";
 
 fn shown(browser: &mut Browser, load: usize) -> Value {
@@ -242,7 +244,11 @@ fn assert_shows(browser: &mut Browser, lab: &Lab, load: usize, name: &str, value
             .find(|(known, _)| written(known) == label);
         let (_, (round, labels)) = same.unwrap_or_else(|| panic!("no row {label}"));
         let shown_round = reason["round"].as_str().expect("a round");
-        assert_eq!(shown_round.replace('–', "0"), round.to_string(), "{label}");
+        assert_eq!(
+            shown_round.replace("at once", "0"),
+            round.to_string(),
+            "{label}"
+        );
         let mut named: Vec<String> = labels.iter().map(|label| written(label)).collect();
         named.push(written(value));
         assert_eq!(reason["named"], json!(named), "{label}");

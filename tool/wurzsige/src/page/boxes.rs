@@ -10,18 +10,17 @@ use super::choices::Picked;
 use super::costs::{Beside, Complete, Cost, Costs, Loaded, Reached, Said};
 use super::facts::code;
 use super::markup::{element, with, Markup};
-use super::table::{table, Column, Row};
+use super::table::{figures, table, Column, Row};
 use super::{paragraph, section};
+use crate::facts::{Facts, Outcome};
+use crate::try_load::counted;
 
 /// The part of the page on what loads drag in.
-pub fn loads(design: &Design, costs: &Costs, picked: &[Picked]) -> Markup {
-    let size = match costs.size {
-        1 => "1 row".to_string(),
-        size => format!("{size} rows"),
-    };
+pub fn loads(design: &Design, facts: &Facts, costs: &Costs, picked: &[Picked]) -> Markup {
     let taken = paragraph(&format!(
-        "What the database has was read at {}, when the design's tables had {size} together. A desk has room for {MOST_ROWS}.",
-        costs.taken
+        "What the database has was read at {}, when the design's tables had {} together. A desk has room for {MOST_ROWS}.",
+        costs.taken,
+        counted(costs.size as usize, "row")
     ));
     let warning = with(
         "p",
@@ -34,7 +33,7 @@ pub fn loads(design: &Design, costs: &Costs, picked: &[Picked]) -> Markup {
     let loads = picked
         .iter()
         .enumerate()
-        .map(|(load, picked)| load_part(design, costs, load, picked));
+        .map(|(load, picked)| load_part(design, facts, costs, load, picked));
     let parts = [taken, warning].into_iter().chain(loads);
     section("loads", "What a load drags in", parts)
 }
@@ -42,16 +41,24 @@ pub fn loads(design: &Design, costs: &Costs, picked: &[Picked]) -> Markup {
 /// A box of the page.
 struct Box<'p> {
     design: &'p Design,
+    facts: &'p Facts,
     costs: &'p Costs,
     number: usize,
 }
 
-fn load_part(design: &Design, costs: &Costs, load: usize, picked: &Picked) -> Markup {
+fn load_part(
+    design: &Design,
+    facts: &Facts,
+    costs: &Costs,
+    load: usize,
+    picked: &Picked,
+) -> Markup {
     let numbered = costs.boxes.iter().enumerate();
     let of_load = numbered.filter(|(_, cost)| cost.choice.load == load);
     let boxes: Vec<Box> = of_load
         .map(|(number, _)| Box {
             design,
+            facts,
             costs,
             number,
         })
@@ -139,13 +146,16 @@ impl Box<'_> {
     fn loaded(&self, loaded: &Loaded) -> Vec<Markup> {
         let mut parts = vec![
             room(loaded.rows.len()),
-            self.by_round(loaded),
-            self.by_link(&loaded.brought),
+            with(
+                "div",
+                &[("class", "beside")],
+                [self.by_round(loaded), self.by_link(&loaded.brought)],
+            ),
             heading("Why each row is here"),
         ];
         parts.extend((0..self.design.tables.len()).filter_map(|table| self.reasons(loaded, table)));
         parts.push(heading("Which questions are complete then"));
-        parts.push(questions(self.design, &loaded.questions));
+        parts.push(self.questions(&loaded.questions));
         if self.costs.boxes.len() > 1 {
             parts.push(heading("A second load beside it"));
             parts.push(self.second());
@@ -178,11 +188,9 @@ impl Box<'_> {
                 (!rows.is_empty()).then(|| line(Markup::name(&table.name), &rows))
             })
             .collect();
-        lines.push(line(
-            "all tables".into(),
-            &loaded.rows.iter().collect::<Vec<_>>(),
-        ));
-        table(
+        let all: Vec<&Reached> = loaded.rows.iter().collect();
+        lines.push(line("all tables".into(), &all).sum());
+        figures(
             "Rows by table and by the round in which they come",
             &columns,
             lines,
@@ -192,8 +200,8 @@ impl Box<'_> {
     fn by_link(&self, brought: &[Brought]) -> Markup {
         let columns = [
             Column::text("Table"),
-            Column::text("By"),
             Column::number("Rows"),
+            Column::text("By"),
         ];
         let rows = brought.iter().map(|brought| {
             let by = match brought.by {
@@ -201,9 +209,9 @@ impl Box<'_> {
                 By::Link(link) => code(&self.design.link_name(&self.design.links[link])),
             };
             let table = Markup::name(&self.design.tables[brought.table].name);
-            Row::new([table, by, figure(brought.rows)])
+            Row::new([table, figure(brought.rows), by])
         });
-        table("What brought them, each row counted once", &columns, rows)
+        figures("What brought them, each row counted once", &columns, rows)
     }
 
     /// The rows of a table, each with its reason.
@@ -217,12 +225,18 @@ impl Box<'_> {
         let name = &self.design.tables[number].name;
         let rows = self.rows(loaded, number).map(|reached| {
             let label = Markup::name(&self.costs.rows[reached.row].label);
-            let cells = [label, figure(reached.round()), self.reason(reached)];
-            Row::new(cells).known_by(reached.row)
+            let round = match reached.round() {
+                0 => "at once".into(),
+                round => figure(round),
+            };
+            Row::new([label, round, self.reason(reached)]).known_by(reached.row)
         });
         let summary = element(
             "summary",
-            [Markup::name(name), format!(": {}", rows_of(count)).into()],
+            [
+                Markup::name(name),
+                format!(": {}", counted(count, "row")).into(),
+            ],
         );
         let caption = format!("Rows of {name}");
         let inside = [summary, table(&caption, &columns, rows)];
@@ -261,6 +275,33 @@ impl Box<'_> {
             Markup::name(&load.name),
         ]);
         parts.into_iter().collect()
+    }
+
+    /// Which questions are complete after the load.
+    fn questions(&self, complete: &[Complete]) -> Markup {
+        let columns = [Column::text("Question"), Column::text("Complete for")];
+        let questions = self.design.questions.iter().zip(complete);
+        let rows = questions.map(|(question, complete)| {
+            let class = match complete {
+                Complete { complete: 0, .. } => "verdict never",
+                Complete { known, complete } if known == complete => "verdict always",
+                _ => "verdict once",
+            };
+            let mut told = vec![with("span", &[("class", class)], [told(complete).into()])];
+            let loads = Outcome::of(self.facts, question) == Outcome::Always;
+            if loads && complete.complete < complete.known {
+                told.push(" asked for another, it loads that".into());
+            }
+            Row::new([
+                Markup::name(&question.text),
+                told.into_iter().collect::<Markup>(),
+            ])
+        });
+        figures(
+            "Of the values that the rows here know of, by probes",
+            &columns,
+            rows,
+        )
     }
 
     /// The control by which a second load is chosen, which the script shows.
@@ -312,8 +353,8 @@ impl Box<'_> {
             Beside::Both { adds, shared } => (
                 format!(
                     ": it adds {}, and both need {}; together {} of {MOST_ROWS}",
-                    rows_of(adds.len()),
-                    rows_of(shared.len()),
+                    counted(adds.len(), "row"),
+                    counted(shared.len(), "row"),
                     loaded.rows.len() + adds.len()
                 ),
                 vec![
@@ -353,7 +394,7 @@ impl Box<'_> {
             (adds + shared > 0)
                 .then(|| Row::new([Markup::name(&table.name), figure(adds), figure(shared)]))
         });
-        table("What the second load adds, by table", &columns, rows)
+        figures("What the second load adds, by table", &columns, rows)
     }
 
     /// Rows by their names, table by table.
@@ -390,11 +431,8 @@ impl Box<'_> {
 fn summed(said: &Said) -> String {
     match said {
         Said::Loaded(loaded) => {
-            let rounds = match loaded.rounds {
-                1 => "1 round".to_string(),
-                rounds => format!("{rounds} rounds"),
-            };
-            format!("{} in {rounds}", rows_of(loaded.rows.len()))
+            let (rows, rounds) = (loaded.rows.len(), loaded.rounds);
+            format!("{} in {}", counted(rows, "row"), counted(rounds, "round"))
         }
         Said::TooLarge(_) => format!("more than {MOST_ROWS} rows: it can't be loaded"),
         Said::NoCandidate => "not among the load's values".into(),
@@ -429,29 +467,6 @@ fn room(rows: usize) -> Markup {
     )
 }
 
-/// Which questions are answered after a load.
-fn questions(design: &Design, complete: &[Complete]) -> Markup {
-    let columns = [Column::text("Question"), Column::text("Answered for")];
-    let rows = design
-        .questions
-        .iter()
-        .zip(complete)
-        .map(|(question, complete)| {
-            let class = match complete {
-                Complete { complete: 0, .. } => "verdict never",
-                Complete { known, complete } if known == complete => "verdict always",
-                _ => "verdict once",
-            };
-            let told = with("span", &[("class", class)], [told(complete).into()]);
-            Row::new([Markup::name(&question.text), told])
-        });
-    table(
-        "For how many of the values that the rows here know of, by probes",
-        &columns,
-        rows,
-    )
-}
-
 fn told(complete: &Complete) -> String {
     match *complete {
         Complete { known: 0, .. } => "no value is known here".into(),
@@ -467,13 +482,6 @@ fn told(complete: &Complete) -> String {
 
 fn heading(text: &str) -> Markup {
     element("h4", [text.into()])
-}
-
-fn rows_of(count: usize) -> String {
-    match count {
-        1 => "1 row".into(),
-        count => format!("{count} rows"),
-    }
 }
 
 /// A figure of a table; none stands for 0.

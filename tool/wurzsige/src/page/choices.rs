@@ -6,6 +6,7 @@ use source::{Failure, Source};
 
 use super::costs::Choice;
 use crate::loads;
+use crate::try_load::counted;
 
 /// The most values of the database's own, of all loads together. Each two of them are tried beside each other, so that what is written grows with their square.
 const MOST_VALUES: usize = 32;
@@ -30,10 +31,7 @@ pub enum Picked {
 impl Picked {
     /// How they were picked, in words.
     pub fn told(self, here: usize) -> String {
-        let values = |count| match count {
-            1 => "1 value".to_string(),
-            count => format!("{count} values"),
-        };
+        let values = |count| counted(count, "value");
         match self {
             Picked::Given if here == 0 => {
                 "None of its values was given, and the page has none.".into()

@@ -197,7 +197,10 @@ fn loaded(
                 .collect(),
         });
     }
-    reached.sort_by_key(|reached| (rows.named[reached.row].table, reached.round()));
+    reached.sort_by_key(|reached| {
+        let Named { table, label } = &rows.named[reached.row];
+        (*table, reached.round(), label)
+    });
     let design = session.design();
     let mut questions = Vec::new();
     for question in &design.questions {

@@ -33,6 +33,10 @@ pub fn glance(design: &Design, facts: &Facts) -> Markup {
             of(outcomes(Outcome::Always), design.questions.len()),
         ),
         (
+            "Questions answered once a row is here",
+            of(outcomes(Outcome::OnceHere), design.questions.len()),
+        ),
+        (
             "Questions never answered here",
             of(outcomes(Outcome::Never), design.questions.len()),
         ),

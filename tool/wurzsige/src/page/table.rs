@@ -26,10 +26,11 @@ impl Column {
     }
 }
 
-/// A row: its cells, of which the first is its head, and the number by which the script knows it, if it does.
+/// A row: its cells, of which the first is its head.
 pub struct Row {
     cells: Vec<Markup>,
     known_by: Option<usize>,
+    is_sum: bool,
 }
 
 impl Row {
@@ -38,25 +39,48 @@ impl Row {
         Row {
             cells: cells.into_iter().collect(),
             known_by: None,
+            is_sum: false,
         }
     }
 
-    /// The same with a number for the script.
+    /// The same with a number by which the script knows it.
     pub fn known_by(mut self, number: usize) -> Row {
         self.known_by = Some(number);
         self
     }
+
+    /// The same as the sum of the rows above it.
+    pub fn sum(mut self) -> Row {
+        self.is_sum = true;
+        self
+    }
+}
+
+/// A table of figures, no wider than they need.
+pub fn figures(caption: &str, columns: &[Column], rows: impl IntoIterator<Item = Row>) -> Markup {
+    framed("figures", caption, columns, rows)
+}
+
+/// A table of texts.
+pub fn table(caption: &str, columns: &[Column], rows: impl IntoIterator<Item = Row>) -> Markup {
+    framed("texts", caption, columns, rows)
 }
 
 /// A table of rows. Where it is wider than the page it scrolls by itself, by keyboard too.
-pub fn table(caption: &str, columns: &[Column], rows: impl IntoIterator<Item = Row>) -> Markup {
+fn framed(
+    kind: &'static str,
+    caption: &str,
+    columns: &[Column],
+    rows: impl IntoIterator<Item = Row>,
+) -> Markup {
     let heads = columns.iter().map(|column| {
         let attributes = [("scope", "col"), ("class", class(column))];
         with("th", &attributes, [column.head.as_str().into()])
     });
     let rows = rows.into_iter().map(|row| body_row(columns, row));
-    let table = element(
+    let table = with(
         "table",
+        &[("class", kind)],
         [
             element("caption", [caption.into()]),
             element("thead", [element("tr", heads)]),
@@ -87,6 +111,7 @@ fn body_row(columns: &[Column], row: Row) -> Markup {
     });
     match row.known_by {
         Some(number) => with("tr", &[("data-row", &number.to_string())], cells),
+        None if row.is_sum => with("tr", &[("class", "sum")], cells),
         None => element("tr", cells),
     }
 }
