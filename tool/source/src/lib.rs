@@ -7,6 +7,9 @@ mod bind;
 mod catalog;
 mod counts;
 mod database;
+mod draft;
+mod draft_text;
+mod draft_types;
 mod forms;
 mod kind;
 mod label;
@@ -131,4 +134,19 @@ pub fn open(place: &design::Source, design: &Design, spans: &Spans) -> Result<Op
             snapshot::open(postgres::Postgres::open(&place.place)?, design, spans)
         }
     }
+}
+
+/// Drafts a design from a database: tables, keys, unique columns and types, and every foreign key as two links to choose from.
+pub fn draft(place: &design::Source) -> Result<String, Failure> {
+    let (title, draft) = match place.kind {
+        SourceKind::Sqlite => {
+            let mut database = sqlite::Sqlite::open(&place.place)?;
+            (database.title(), draft::draft(&mut database)?)
+        }
+        SourceKind::Postgres => {
+            let mut database = postgres::Postgres::open(&place.place)?;
+            (database.title()?, draft::draft(&mut database)?)
+        }
+    };
+    Ok(draft_text::text(draft, &title, place))
 }

@@ -46,7 +46,7 @@ impl Refusal {
 /// What the server says beside results isn't printed.
 unsafe extern "C" fn silent(_: *mut c_void, _: *const c_char) {}
 
-/// A text of libpq's, without the line's end.
+/// A text of libpq's, on one line.
 ///
 /// # Safety
 /// It is null, or ends with a zero byte.
@@ -56,7 +56,8 @@ unsafe fn text(text: *const c_char) -> String {
     }
     // SAFETY: by the caller's word.
     let text = unsafe { CStr::from_ptr(text) };
-    text.to_string_lossy().trim_end().to_string()
+    let text = text.to_string_lossy();
+    text.split_whitespace().collect::<Vec<_>>().join(" ")
 }
 
 fn terminated(text: &str) -> Result<CString, Refusal> {

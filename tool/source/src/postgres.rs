@@ -8,7 +8,8 @@ use crate::catalog::{quoted, Column, Misfit, Relation, TableName};
 use crate::database::{Cell, Database, Fit};
 use crate::kind::Kind;
 use crate::libpq::{Connection, Refusal};
-use crate::{forms, postgres_catalog, Failure, Value};
+use crate::postgres_catalog::{self, Found};
+use crate::{forms, Failure, Value};
 
 /// What a connection is set to: dates in ISO's order and times in UTC, so that equal values have one text; rows that a policy would hide are an error and not
 /// left out; and a server that can, looks whether we are still there.
@@ -30,6 +31,8 @@ pub(crate) struct Postgres {
     zone: String,
     /// The names of prepared statements.
     statements: HashMap<String, String>,
+    /// What the tables' names meant when the snapshot was taken: a name is looked up in the latest catalog, whatever the snapshot.
+    found: Vec<Found>,
 }
 
 impl Postgres {
@@ -41,12 +44,19 @@ impl Postgres {
             connection,
             zone: String::new(),
             statements: HashMap::new(),
+            found: Vec::new(),
         };
         if let [row] = &postgres.run("SHOW TimeZone")?[..] {
             postgres.zone = row.iter().map(cell_text).collect();
         }
         postgres.run(SETTINGS)?;
         Ok(postgres)
+    }
+
+    /// What the database is called.
+    pub(crate) fn title(&mut self) -> Result<String, Failure> {
+        let rows = self.run("SELECT current_database()")?;
+        Ok(rows.iter().flatten().map(cell_text).collect())
     }
 
     /// Runs statements that are needed once.
@@ -166,15 +176,19 @@ fn misfit(column: &Column, kind: Kind) -> Misfit {
 
 impl Database for Postgres {
     fn begin(&mut self, tables: &[TableName]) -> Result<String, Failure> {
-        self.run("ROLLBACK")?;
-        let locked = postgres_catalog::lockable(self, tables)?;
+        // statements that were prepared for tables that have changed since are refused
+        self.run("ROLLBACK; DEALLOCATE ALL")?;
+        self.statements.clear();
+        self.found = postgres_catalog::find(self, tables)?;
         self.run("BEGIN ISOLATION LEVEL REPEATABLE READ READ ONLY")?;
         // Before the snapshot: a table that is emptied or made anew between the snapshot and our first look at it would look empty.
-        if !locked.is_empty() {
-            self.run(&format!(
-                "LOCK TABLE {} IN ACCESS SHARE MODE",
-                locked.join(", ")
-            ))?;
+        let lockable = self.found.iter().filter(|found| found.lockable);
+        let mut names: Vec<String> = lockable.map(|found| found.whole.quoted()).collect();
+        names.sort();
+        names.dedup();
+        if !names.is_empty() {
+            let names = names.join(", ");
+            self.run(&format!("LOCK TABLE {names} IN ACCESS SHARE MODE"))?;
         }
         let zone = self.zone.replace('\'', "''");
         let time = self.run(&format!(
@@ -185,7 +199,11 @@ impl Database for Postgres {
     }
 
     fn relation(&mut self, name: &TableName) -> Result<Option<Relation>, Failure> {
-        postgres_catalog::relation(self, name)
+        let found = self.found.iter().find(|found| found.name == *name);
+        match found.map(|found| found.whole.clone()) {
+            Some(whole) => postgres_catalog::relation(self, &whole),
+            None => postgres_catalog::relation(self, name),
+        }
     }
 
     fn relations(&mut self) -> Result<Vec<TableName>, Failure> {

@@ -7,12 +7,13 @@ use crate::database::{Cell, Database};
 use crate::postgres::{cell_text, Postgres};
 use crate::{Failure, Value};
 
-/// The number of the table with a name, its kind, whether rows of tables that inherit from it count among its own, and whether a policy hides rows.
+/// The number of the table with a name, its kind, whether rows of tables that inherit from it count among its own, whether a policy hides rows, and its schema
+/// and name.
 const RELATION: &str = "
     SELECT c.oid::int8, c.relkind::text,
         c.relkind = 'r' AND EXISTS (SELECT FROM pg_inherits AS i WHERE i.inhparent = c.oid),
-        row_security_active(c.oid)
-    FROM pg_class AS c
+        row_security_active(c.oid), n.nspname::text, c.relname::text
+    FROM pg_class AS c JOIN pg_namespace AS n ON n.oid = c.relnamespace
     WHERE c.oid = to_regclass($1::text) AND c.relkind IN ('r', 'p', 'v', 'm', 'f')";
 
 /// A materialized view or a foreign table that a table is, or that stands behind a view or a partition.
@@ -92,22 +93,28 @@ const RELATIONS: &str = "
         AND n.nspname <> 'information_schema' AND n.nspname NOT LIKE 'pg\\_%'
     ORDER BY 1 NULLS FIRST, 2";
 
-/// The names of those tables that a transaction can lock.
-pub(crate) fn lockable(
-    postgres: &mut Postgres,
-    tables: &[TableName],
-) -> Result<Vec<String>, Failure> {
-    let mut names = Vec::new();
-    for table in tables {
-        let name = table.quoted();
-        let found = postgres.rows(RELATION, &[&Value::Text(name.clone())])?;
-        let kind = found.first().and_then(|row| row.get(1));
-        let lockable = ["r", "p", "v"].map(|kind| Cell::Text(kind.into()));
-        if kind.is_some_and(|kind| lockable.contains(kind)) && !names.contains(&name) {
-            names.push(name);
-        }
+/// A table that a name was found to mean.
+pub(crate) struct Found {
+    /// The name that was looked for.
+    pub(crate) name: TableName,
+    /// The name with the schema in which it was found.
+    pub(crate) whole: TableName,
+    /// Whether a transaction can lock it.
+    pub(crate) lockable: bool,
+}
+
+/// Looks names up along the search path, those that are there.
+pub(crate) fn find(postgres: &mut Postgres, names: &[TableName]) -> Result<Vec<Found>, Failure> {
+    let mut found = Vec::new();
+    for name in names {
+        let rows = postgres.rows(RELATION, &[&Value::Text(name.quoted())])?;
+        found.extend(rows.iter().map(|row| Found {
+            name: name.clone(),
+            whole: table_name(&row[4], &row[5]),
+            lockable: ["r", "p", "v"].contains(&cell_text(&row[1]).as_str()),
+        }));
     }
-    Ok(names)
+    Ok(found)
 }
 
 pub(crate) fn relations(postgres: &mut Postgres) -> Result<Vec<TableName>, Failure> {
@@ -136,11 +143,12 @@ pub(crate) fn relation(
 ) -> Result<Option<Relation>, Failure> {
     let found = postgres.rows(RELATION, &[&Value::Text(name.quoted())])?;
     let Some(
-        [Cell::Number(number), Cell::Text(kind), Cell::Number(inherited), Cell::Number(hidden)],
+        [Cell::Number(number), Cell::Text(kind), Cell::Number(inherited), Cell::Number(hidden), schema, own],
     ) = found.first().map(|row| &row[..])
     else {
         return Ok(None);
     };
+    let name = table_name(schema, own);
     let number = Value::Number(*number);
     let inherited = *inherited == 1;
     let refused = match *hidden {
@@ -148,7 +156,7 @@ pub(crate) fn relation(
         _ => behind(postgres, &number)?,
     };
     Ok(Some(Relation {
-        name: name.clone(),
+        name,
         columns: columns(postgres, &number, kind == "v", inherited)?,
         unique: unique(postgres, &number, inherited)?,
         foreign: foreign(postgres, &number)?,

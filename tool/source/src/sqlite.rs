@@ -48,6 +48,12 @@ impl Sqlite {
         Ok(sqlite)
     }
 
+    /// What the file is called, without its ending.
+    pub(crate) fn title(&self) -> String {
+        let stem = Path::new(&self.file).file_stem().unwrap_or_default();
+        stem.to_string_lossy().into_owned()
+    }
+
     fn failure(&self, error: rusqlite::Error) -> Failure {
         let file = &self.file;
         Failure::Unreadable(match error.sqlite_error_code() {

@@ -7,4 +7,4 @@ mod server;
 
 pub use folder::Folder;
 pub use lab::Lab;
-pub use server::Server;
+pub use server::{Server, Session};

@@ -2,7 +2,7 @@
 
 use std::io::{BufRead, BufReader, Write};
 use std::path::{Path, PathBuf};
-use std::process::{Child, Command, Stdio};
+use std::process::{Child, ChildStdin, ChildStdout, Command, Stdio};
 use std::sync::atomic::{AtomicUsize, Ordering};
 use std::sync::OnceLock;
 
@@ -89,17 +89,19 @@ impl Server {
         format!("host={folder} user=postgres dbname={database}")
     }
 
+    /// Opens a connection that stays.
+    pub fn session(&self, database: &str) -> Session {
+        let mut psql = psql(&self.conninfo(database));
+        Session {
+            input: psql.stdin.take().expect("its input"),
+            output: BufReader::new(psql.stdout.take().expect("its output")),
+            psql,
+        }
+    }
+
     /// Runs statements on a connection of their own, and gives what they print: a row on a line, with `|` between its values.
     pub fn run(&self, database: &str, statements: &str) -> String {
-        let mut psql = Command::new("psql")
-            .args(["--no-psqlrc", "--quiet", "--tuples-only", "--no-align"])
-            .args(["--set=ON_ERROR_STOP=1", "--file=-"])
-            .arg(self.conninfo(database))
-            .stdin(Stdio::piped())
-            .stdout(Stdio::piped())
-            .stderr(Stdio::piped())
-            .spawn()
-            .expect("psql");
+        let mut psql = psql(&self.conninfo(database));
         let mut input = psql.stdin.take().expect("its input");
         input.write_all(statements.as_bytes()).expect("statements");
         drop(input);
@@ -107,5 +109,44 @@ impl Server {
         let errors = String::from_utf8_lossy(&ended.stderr);
         assert!(ended.status.success(), "{statements}\n{errors}");
         String::from_utf8_lossy(&ended.stdout).into_owned()
+    }
+}
+
+/// PostgreSQL's shell, which reads statements from its standard input, and prints nothing but values.
+fn psql(conninfo: &str) -> Child {
+    Command::new("psql")
+        .args(["--no-psqlrc", "--quiet", "--tuples-only", "--no-align"])
+        .args(["--set=ON_ERROR_STOP=1", "--file=-"])
+        .arg(conninfo)
+        .stdin(Stdio::piped())
+        .stdout(Stdio::piped())
+        .stderr(Stdio::piped())
+        .spawn()
+        .expect("psql")
+}
+
+/// A connection that stays until it is dropped.
+pub struct Session {
+    input: ChildStdin,
+    output: BufReader<ChildStdout>,
+    psql: Child,
+}
+
+impl Session {
+    /// Runs statements that print nothing, and waits until they are done.
+    pub fn run(&mut self, statements: &str) {
+        let written = writeln!(self.input, "{statements};\n\\echo done");
+        written.expect("statements");
+        let mut line = String::new();
+        self.output.read_line(&mut line).expect("a line");
+        assert_eq!(line, "done\n", "{statements}");
+    }
+}
+
+impl Drop for Session {
+    fn drop(&mut self) {
+        // it ends itself when its input does; what it holds is the server's matter
+        let _ = self.psql.kill();
+        let _ = self.psql.wait();
     }
 }

@@ -28,6 +28,17 @@ pub struct Arguments {
 /// What the tool can do.
 #[derive(Debug, Subcommand)]
 pub enum Command {
+    /// Draft a design from a database: tables, keys and types, with every foreign key as two links to choose from
+    #[command(after_help = EXIT)]
+    Init {
+        /// The database: sqlite:FILE or postgres:CONNINFO
+        source: String,
+
+        /// Where to write the draft; without it standard output
+        #[arg(short, long, value_name = "FILE")]
+        output: Option<PathBuf>,
+    },
+
     /// Tell all mistakes of a design; whether it has knots; which questions are answered here
     #[command(after_help = EXIT)]
     Check {

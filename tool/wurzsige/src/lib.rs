@@ -12,6 +12,7 @@ pub mod draw;
 pub mod explain;
 pub mod facts;
 pub mod file;
+pub mod init;
 pub mod json;
 pub mod library;
 pub mod loads;

@@ -17,12 +17,13 @@ use crate::library::Refused;
 use crate::loads::Asked;
 use crate::output::{Page, When};
 use crate::status::Status;
-use crate::{cost, database, diff, draw, explain, json, page, report, shell, try_load};
+use crate::{cost, database, diff, draw, explain, init, json, page, report, shell, try_load};
 
 /// Carries a command out, and says how to end.
 pub fn run(arguments: &Arguments) -> Status {
     let color = arguments.color;
     let ended = match &arguments.command {
+        Command::Init { source, output } => init(source, output.as_deref()),
         Command::Check { design, format } => check(design, *format, color),
         Command::Draw { design, output } => draw(design, output.as_deref(), color),
         Command::Page {
@@ -135,6 +136,12 @@ fn accepted(path: &Path, color: When) -> Result<File, Status> {
     // if standard error is closed, the status alone has to do
     let _ = io::stderr().write_all(&page.into_bytes());
     Err(Status::Refused)
+}
+
+fn init(source: &str, output: Option<&Path>) -> Ended {
+    let draft = init::draft(source).map_err(|(status, message)| fail(status, &message))?;
+    put_to(output, draft.as_bytes())?;
+    Ok(Status::Good)
 }
 
 fn check(path: &Path, format: Format, color: When) -> Ended {
