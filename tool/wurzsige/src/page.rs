@@ -19,31 +19,50 @@ use crate::check::Checked;
 use crate::file::File;
 use crate::loads;
 
+use self::choices::Picked;
+use self::costs::Costs;
 use self::markup::{element, void, with, Markup};
 
 const STYLE: &str = include_str!("page/page.css");
 const SCRIPT: &str = include_str!("page/page.js");
 
-pub use self::choices::Picked;
-pub use self::costs::Costs;
+/// How many of the database's own values are tried, of all loads together: the first number of these with which the page isn't too long. Each two values are tried beside each
+/// other, so that what is written grows with their square.
+const VALUES: [usize; 6] = [32, 16, 8, 4, 2, 1];
+
+/// How long a page may be for more than the fewest values.
+const MOST_BYTES: usize = 4_000_000;
+
+/// Why there is no page.
+pub enum NoPage {
+    /// The database can't be asked, or what is given can't be asked for.
+    Trouble(Trouble),
+    /// There is no picture, in words for the user.
+    Undrawn(String),
+}
+
+impl From<Trouble> for NoPage {
+    fn from(trouble: Trouble) -> NoPage {
+        NoPage::Trouble(trouble)
+    }
+}
 
 /// What was asked of a database, and how the values of each load were picked.
-pub struct Asked {
-    /// What loads drag in.
-    pub costs: Costs,
-    /// For each load how its values were picked.
-    pub picked: Vec<Picked>,
+struct Asked {
+    costs: Costs,
+    picked: Vec<Picked>,
 }
 
 impl Asked {
-    /// Asks for the values that are given, or else for the database's own.
-    pub fn of(
+    /// Asks for the values that are given, or else for so many of the database's own.
+    fn of(
         design: &Design,
         source: &mut dyn Source,
         given: &[loads::Asked],
+        most: usize,
     ) -> Result<Asked, Trouble> {
         let own = match given {
-            [] => Some(choices::own(design, source)?),
+            [] => Some(choices::own(design, source, most)?),
             _ => None,
         };
         let mut session = Session::open(design, source)?;
@@ -56,8 +75,34 @@ impl Asked {
     }
 }
 
+/// The page of a design without errors, which reads no database.
+pub fn html(file: &File, checked: &Checked) -> Result<String, NoPage> {
+    written(file, checked, None).map_err(NoPage::Undrawn)
+}
+
+/// The same with what loads drag in of a database: of the values that are given, or else of so many of its own that the page stays short.
+pub fn html_over(
+    file: &File,
+    checked: &Checked,
+    source: &mut dyn Source,
+    given: &[loads::Asked],
+) -> Result<String, NoPage> {
+    let Some(design) = file.design() else {
+        unreachable!("the design was accepted");
+    };
+    let mut html = String::new();
+    for most in VALUES {
+        let asked = Asked::of(design, source, given, most)?;
+        html = written(file, checked, Some(&asked)).map_err(NoPage::Undrawn)?;
+        if !given.is_empty() || html.len() <= MOST_BYTES {
+            break;
+        }
+    }
+    Ok(html)
+}
+
 /// The page of a design without errors, with boxes of what a database was asked. Fails where Graphviz's `dot` does.
-pub fn html(file: &File, checked: &Checked, asked: Option<&Asked>) -> Result<String, String> {
+fn written(file: &File, checked: &Checked, asked: Option<&Asked>) -> Result<String, String> {
     let (Some(design), Some(facts)) = (file.design(), &checked.facts) else {
         return Ok(String::new());
     };
@@ -74,6 +119,11 @@ pub fn html(file: &File, checked: &Checked, asked: Option<&Asked>) -> Result<Str
         },
     ];
     let body = [
+        with(
+            "a",
+            &[("class", "skip"), ("href", "#main")],
+            ["To what the page says".into()],
+        ),
         header(file, &design.title),
         contents(),
         with("main", &[("id", "main")], main),

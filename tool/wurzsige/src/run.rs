@@ -185,29 +185,20 @@ fn page(
     let file = accepted(path, color)?;
     let checked = Checked::of(&file).map_err(|refusal| refused(&file, refusal))?;
     let named = file.design().is_some_and(|design| design.source.is_some());
-    let asked = match !no_source && (named || source.is_some() || !values.is_empty()) {
-        true => Some(page_asked(&file, source, values, color)?),
-        false => None,
+    let html = match !no_source && (named || source.is_some() || !values.is_empty()) {
+        true => {
+            let values = read_loads(&file, values)?;
+            let mut source = database::open(&file, source, color)?;
+            page::html_over(&file, &checked, &mut *source, &values)
+        }
+        false => page::html(&file, &checked),
     };
-    let html = page::html(&file, &checked, asked.as_ref());
-    let html = html.map_err(|message| fail(Status::Unreadable, &message))?;
+    let html = html.map_err(|failed| match failed {
+        page::NoPage::Trouble(trouble) => troubled(&trouble),
+        page::NoPage::Undrawn(message) => fail(Status::Unreadable, &message),
+    })?;
     put_to(output, html.as_bytes())?;
     Ok(Status::Good)
-}
-
-/// What the boxes of a page show.
-fn page_asked(
-    file: &File,
-    source: Option<&str>,
-    values: &[String],
-    color: When,
-) -> Result<page::Asked, Status> {
-    let Some(design) = file.design() else {
-        unreachable!("the design was accepted");
-    };
-    let values = read_loads(file, values)?;
-    let mut source = database::open(file, source, color)?;
-    page::Asked::of(design, &mut *source, &values).map_err(|trouble| troubled(&trouble))
 }
 
 /// A session over the database of a file's design.

@@ -495,6 +495,49 @@ fn wrong_values_are_refused() {
     assert_eq!(ran.status, 2, "{}", ran.errors);
 }
 
+/// A page over values that share many rows has fewer of them, and says how many it leaves out.
+#[test]
+fn a_page_stays_short() {
+    let lab = Lab::sqlite(
+        "create table ward (code integer primary key, department integer);
+        create table staff (id integer primary key, department integer);
+        with recursive n (i) as (select 1 union all select i + 1 from n where i < 300)
+        insert into staff select i, 1 from n;
+        insert into ward select id, 1 from staff where id <= 40;",
+    );
+    let design = "design \"Wards\"
+table ward
+    code       key integer
+    department integer
+table staff
+    id         key integer
+    department integer
+link ward.department -> staff.department
+load ward by ward.code
+";
+    let file = scratch("short.html");
+    let arguments = [
+        "page",
+        "-",
+        "--source",
+        &lab.argument(),
+        "-o",
+        file.to_str().expect("a name"),
+    ];
+    let ran = program::wurzsige_reading(&arguments, design.as_bytes());
+    assert_eq!((ran.errors.as_str(), ran.status), ("", 0), "{}", ran.output);
+    let html = std::fs::read_to_string(&file).expect("a page");
+    assert!(html.len() <= 4_000_000, "{}", html.len());
+    let boxes = html.matches("<details class=\"value\"").count();
+    assert!((2..32).contains(&boxes), "{boxes}");
+    let told = format!(
+        "The page has the lowest {boxes} values; {} more aren&#39;t on it (--value LOAD=VALUE picks others).",
+        40 - boxes
+    );
+    assert!(html.contains(&told), "{told}");
+    assert!(html.contains("was brought by <b><bdi>ward 1</bdi></b>"));
+}
+
 /// Pictures of the page for people to look at: light, dark, narrow, and on paper. PAGE names a page of another database, LOOKS the folder.
 #[test]
 #[ignore = "for people to look at"]

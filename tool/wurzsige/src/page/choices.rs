@@ -8,9 +8,6 @@ use super::costs::Choice;
 use crate::loads;
 use crate::try_load::counted;
 
-/// The most values of the database's own, of all loads together. Each two of them are tried beside each other, so that what is written grows with their square.
-const MOST_VALUES: usize = 32;
-
 /// How many values of a column are counted.
 const MOST_COUNTED: usize = 100_000;
 
@@ -72,12 +69,13 @@ pub fn given(
     Ok((choices, picked))
 }
 
-/// The database's own values for each load, an equal share of what the page has room for.
+/// The database's own values, so many of all loads together, of which each load has an equal share.
 pub fn own(
     design: &Design,
     source: &mut dyn Source,
+    most: usize,
 ) -> Result<(Vec<Choice>, Vec<Picked>), Failure> {
-    let share = MOST_VALUES / design.loads.len().max(1);
+    let share = (most / design.loads.len().max(1)).max(1);
     let (mut choices, mut picked) = (Vec::new(), Vec::new());
     for (load, declared) in design.loads.iter().enumerate() {
         let found = source.values(declared.column, MOST_COUNTED)?;
