@@ -359,8 +359,8 @@ impl Box<'_> {
                 ),
                 vec![
                     self.added(adds, shared),
-                    self.names("Both need", "shared", shared),
-                    with("div", &[("class", "adds"), ("hidden", "")], []),
+                    self.names(shared),
+                    others_of(other),
                 ],
             ),
         };
@@ -397,34 +397,40 @@ impl Box<'_> {
         figures("What the second load adds, by table", &columns, rows)
     }
 
-    /// Rows by their names, table by table.
-    fn names(&self, head: &str, class: &'static str, rows: &BTreeSet<usize>) -> Markup {
+    /// The rows that both need by their names, table by table.
+    fn names(&self, shared: &BTreeSet<usize>) -> Markup {
         let tables = self.design.tables.iter().enumerate();
         let lists = tables.filter_map(|(number, table)| {
-            let of_table: Vec<&usize> = rows
-                .iter()
-                .filter(|&&row| self.costs.rows[row].table == number)
-                .collect();
-            if of_table.is_empty() {
-                return None;
-            }
-            let items = of_table.into_iter().map(|&row| {
+            let is_of = |row: &&usize| self.costs.rows[**row].table == number;
+            let items = shared.iter().filter(is_of).map(|&row| {
                 let label = Markup::name(&self.costs.rows[row].label);
                 with("li", &[("data-row", &row.to_string())], [label])
             });
-            let head = element(
-                "p",
-                [
-                    head.into(),
-                    " of ".into(),
-                    Markup::name(&table.name),
-                    ":".into(),
-                ],
-            );
-            Some([head, element("ul", items)].into_iter().collect())
+            let items: Vec<Markup> = items.collect();
+            let head = [
+                "Both need of ".into(),
+                Markup::name(&table.name),
+                ":".into(),
+            ];
+            (!items.is_empty()).then(|| {
+                [element("p", head), element("ul", items)]
+                    .into_iter()
+                    .collect()
+            })
         });
-        with("div", &[("class", class)], lists)
+        with("div", &[("class", "shared")], lists)
     }
+}
+
+/// Where the rows are that another load adds; the script puts their names in its place.
+fn others_of(other: usize) -> Markup {
+    let place = format!("#value-{other}");
+    let parts = [
+        "It adds the other rows of ".into(),
+        with("a", &[("href", &place)], ["its own box".into()]),
+        ".".into(),
+    ];
+    with("div", &[("class", "adds")], [element("p", parts)])
 }
 
 /// What the desk said, in a few words.

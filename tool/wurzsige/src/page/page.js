@@ -14,11 +14,13 @@ function summed(box) {
   return box.querySelector("summary").textContent;
 }
 
-// The rows of a second load that the first one doesn't need: the second one's own, without those that both need.
+// Names the rows of a second load that the first one doesn't need: the second one's own, without those that both need.
 function showAdded(pair) {
   const adds = pair.querySelector(".adds");
   const second = document.getElementById(pair.dataset.second);
-  if (!adds || adds.childElementCount > 0) return;
+  if (!adds || adds.dataset.named) return;
+  adds.dataset.named = "yes";
+  adds.replaceChildren();
   const shared = new Set([...pair.querySelectorAll(".shared [data-row]")].map((row) => row.dataset.row));
   for (const table of second.querySelectorAll(".rows")) {
     const rows = [...table.querySelectorAll("tr[data-row]")].filter((row) => !shared.has(row.dataset.row));
@@ -34,7 +36,6 @@ function showAdded(pair) {
     }
     adds.append(head, list);
   }
-  adds.hidden = false;
 }
 
 // The chooser of a second load in a box.
@@ -42,6 +43,7 @@ function chooseSecond(box, told) {
   const select = box.querySelector("select");
   if (!select) return;
   const pairs = [...box.querySelectorAll(".pair")];
+  for (const pair of pairs) pair.addEventListener("toggle", () => pair.open && showAdded(pair));
   const show = () => {
     choose(pairs, select.value);
     pairs.filter((pair) => pair.open).forEach(showAdded);

@@ -12,7 +12,7 @@ pub fn figure(design: &Design, facts: &Facts) -> Result<Markup, String> {
     let svg = inline(&String::from_utf8_lossy(&drawn));
     let scrolls = [
         ("class", "scrolls picture"),
-        ("role", "region"),
+        ("role", "group"),
         ("aria-label", "The picture"),
         ("tabindex", "0"),
     ];

@@ -89,7 +89,7 @@ fn framed(
     );
     let scrolls = [
         ("class", "scrolls"),
-        ("role", "region"),
+        ("role", "group"),
         ("aria-label", caption),
         ("tabindex", "0"),
     ];

@@ -10,7 +10,7 @@ function headings() {
   return faults.concat([...document.querySelectorAll("h1, h2, h3, h4")].filter((heading) => !heading.textContent.trim()).map(() => "an empty heading"));
 }
 
-// Every control has a label that says something, every picture a text, every region a name, and no id stands twice.
+// Every control has a label that says something, every picture a text, every part and whatever is reached by Tab a name; no id stands twice, and no link leads nowhere.
 function names() {
   const faults = [];
   for (const control of document.querySelectorAll("select, input, button, textarea, meter, progress")) {
@@ -21,7 +21,7 @@ function names() {
     const isNamed = picture.getAttribute("aria-label") || picture.getAttribute("alt") || picture.getAttribute("aria-hidden") === "true";
     if (!isNamed) faults.push(`no text: ${picture.outerHTML.slice(0, 80)}`);
   }
-  for (const region of document.querySelectorAll("[role=region], nav, section")) {
+  for (const region of document.querySelectorAll("[tabindex], nav, section")) {
     const named = region.getAttribute("aria-label") ?? document.getElementById(region.getAttribute("aria-labelledby"))?.textContent;
     if (!named?.trim()) faults.push(`no name: ${region.outerHTML.slice(0, 80)}`);
   }
