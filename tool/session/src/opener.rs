@@ -32,13 +32,11 @@ impl Session<'_> {
                 return Ok(Opener::NoneKnown);
             }
             let known = slice.rows.len();
-            for fetch in asked.drain(..) {
-                fetches.note(fetch);
-                match slice.fetch(&mut self.feed(), fetch, None) {
-                    Ok(()) => {}
-                    Err(Stopped::Failed(failure)) => return Err(failure.into()),
-                    Err(Stopped::Full { .. }) => return Ok(Opener::NoneKnown),
-                }
+            asked.iter().for_each(|&fetch| fetches.note(fetch));
+            match slice.fetch(&mut self.feed(), &asked, None) {
+                Ok(()) => asked.clear(),
+                Err(Stopped::Failed(failure)) => return Err(failure.into()),
+                Err(Stopped::Full { .. }) => return Ok(Opener::NoneKnown),
             }
             if slice.rows.len() > known {
                 asked = self.one_step_back(&slice);

@@ -57,8 +57,8 @@ impl Slice {
 
     /// The loop. On an error the slice may be anything between, and is to be thrown away.
     ///
-    /// Each time around the operation is carried out on a copy of the desk. Rows that the copy lacks go into both: in the copy they are cached as they come, so that it
-    /// asks for what they bring along; when it has all, the operation is carried out anew on the desk from before, and is answered as one that found all rows there.
+    /// Each time around the operation is carried out on a copy of the desk, and all that the copy lacks is fetched, since all of it is needed: a load goes around once
+    /// for each of its rounds.
     pub(crate) fn perform<T>(
         &mut self,
         feed: &mut Feed,
@@ -67,60 +67,76 @@ impl Slice {
         loop {
             let mut copy = self.desk.clone();
             let answer = operation(&mut copy);
-            if !self.fill(feed, &mut copy)? {
+            let lacking = lacking(&copy, &self.fetches);
+            if lacking.is_empty() {
                 self.desk = copy;
                 return Ok(answer);
             }
+            self.fetch(feed, &lacking, Some(&copy))?;
         }
     }
 
-    /// Fetches all that a copy of the desk lacks; false if it is nothing.
-    fn fill(&mut self, feed: &mut Feed, copy: &mut Desk) -> Result<bool, Stopped> {
-        let mut lacked = false;
-        while let Some(fetch) = missing(copy, &self.fetches) {
-            lacked = true;
-            self.fetch(feed, fetch, Some(copy))?;
-        }
-        Ok(lacked)
-    }
-
-    /// Fetches a value or span whole, puts in the rows that aren't there yet, and notes the fetch.
+    /// Fetches values and spans whole, puts in the rows that aren't there yet, and notes the fetches. `copy` is the desk that asks for them.
     pub(crate) fn fetch(
         &mut self,
         feed: &mut Feed,
-        fetch: Fetch,
-        mut copy: Option<&mut Desk>,
+        fetches: &[Fetch],
+        copy: Option<&Desk>,
     ) -> Result<(), Stopped> {
-        let found = fetched(feed, fetch)?;
-        let is_new = |(entry, _): &(Entry, Row)| self.rows.number(&entry.identity).is_none();
-        let (new, known): (Vec<_>, Vec<_>) = found.into_iter().partition(is_new);
-        for (entry, _) in &known {
-            self.same(feed.design, entry)?;
-        }
-        if self.rows.len() + new.len() > MOST_ROWS {
-            let rows = self.rows.len() + new.len();
-            let desk = copy.as_deref().unwrap_or(&self.desk);
-            let brought = brought(desk, desk.cached()).unwrap_or_default();
-            return Err(Stopped::Full { rows, brought });
-        }
-        for (entry, row) in new {
-            let Some(number) = self.rows.free() else {
-                unreachable!("there is room for all of them");
-            };
-            put(feed.design, &mut self.desk, number, &entry, &row)?;
-            if let Some(copy) = &mut copy {
-                put(feed.design, copy, number, &entry, &row)?;
+        let mut new = Vec::new();
+        for &fetch in fetches {
+            let found = fetched(feed, fetch)?;
+            let here = |(entry, _): &&(Entry, Row)| self.rows.number(&entry.identity).is_some();
+            let rows = self.rows.len() + found.len() - found.iter().filter(here).count();
+            if rows > MOST_ROWS {
+                let desk = copy.unwrap_or(&self.desk);
+                let brought = brought(desk, desk.cached()).unwrap_or_default();
+                return Err(Stopped::Full { rows, brought });
             }
-            self.rows.put(number, entry);
+            for (entry, row) in found {
+                if let Some(number) = self.rows.number(&entry.identity) {
+                    self.same(feed.design, number, &entry)?;
+                    continue;
+                }
+                let Some(number) = self.rows.free() else {
+                    unreachable!("there is room for all of them");
+                };
+                new.push((number, row));
+                self.rows.put(number, entry);
+            }
+            self.fetches.note(fetch);
         }
-        self.fetches.note(fetch);
+        self.desk = self.with_rows(feed.design, &new)?;
         Ok(())
     }
 
+    /// The desk with rows more. They aren't cached, since nothing was missing: so they can be written beside the others, and the library tests the whole once,
+    /// where putting them in one by one would have it look through all rows for each.
+    fn with_rows(&self, design: &Design, new: &[(u16, Row)]) -> Result<Desk, Failure> {
+        let mut memory = self.desk.to_memory();
+        for (number, row) in new {
+            let number = usize::from(*number);
+            memory.tables_mut()[number] = row.table;
+            for (column, cell) in row.cells.iter().enumerate() {
+                memory.cells_mut()[number * Row::CELLS + column] = cell.number;
+                memory.issues_mut()[number * Row::CELLS + column] = cell.issue;
+            }
+        }
+        if let Ok(desk) = Desk::from_memory(memory) {
+            return Ok(desk);
+        }
+        // what is wrong is told by the first row that the desk doesn't take
+        let mut desk = self.desk.clone();
+        for (number, row) in new {
+            let entry = self.rows.get(*number).expect("it was just put there");
+            put(design, &mut desk, *number, entry, row)?;
+        }
+        Ok(desk)
+    }
+
     /// A row that is fetched again is the same: all is of one snapshot.
-    fn same(&self, design: &Design, entry: &Entry) -> Result<(), Failure> {
-        let number = self.rows.number(&entry.identity);
-        let here = number.and_then(|number| self.rows.get(number));
+    fn same(&self, design: &Design, number: u16, entry: &Entry) -> Result<(), Failure> {
+        let here = self.rows.get(number);
         match here.is_some_and(|here| here.record == entry.record) {
             true => Ok(()),
             false => Err(Failure::Unfit(format!(
@@ -133,22 +149,34 @@ impl Slice {
     /// Takes out the rows that aren't cached, so that their numbers are free, and makes the list of fetches anew: all that is asked for was fetched, for nothing
     /// was missing.
     pub(crate) fn shrink(&mut self) {
-        let numbers: Vec<u16> = self.rows.iter().map(|(number, _)| number).collect();
-        for number in numbers {
-            if !self.desk.is_cached(number) {
-                remove(&mut self.desk, number);
-                self.rows.remove(number);
-            }
+        let numbers = self.rows.iter().map(|(number, _)| number);
+        let idle: Vec<u16> = numbers
+            .filter(|&number| !self.desk.is_cached(number))
+            .collect();
+        for number in idle {
+            remove(&mut self.desk, number);
+            self.rows.remove(number);
         }
         self.fetches = Fetches::new();
-        while let Some(fetch) = missing(&self.desk, &self.fetches) {
+        for fetch in lacking(&self.desk, &self.fetches) {
             self.fetches.note(fetch);
         }
     }
 }
 
+/// All that a desk lacks beside what was fetched.
+fn lacking(desk: &Desk, fetches: &Fetches) -> Vec<Fetch> {
+    let mut noted = fetches.clone();
+    let mut lacking = Vec::new();
+    while let Some(fetch) = missing(desk, &noted) {
+        noted.note(fetch);
+        lacking.push(fetch);
+    }
+    lacking
+}
+
 /// What a desk still lacks.
-pub(crate) fn missing(desk: &Desk, fetches: &Fetches) -> Option<Fetch> {
+fn missing(desk: &Desk, fetches: &Fetches) -> Option<Fetch> {
     let missing = desk.missing(fetches);
     missing.unwrap_or_else(|refusal| unreachable!("the list names the desk's columns: {refusal}"))
 }
