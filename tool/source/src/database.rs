@@ -55,8 +55,11 @@ pub(crate) trait Database {
     /// The expression of a column's text as the database writes it.
     fn shown(&self, column: &Column) -> String;
 
-    /// Whether a text is one that a column of a kind can have.
+    /// Whether a text is written as values of a kind are.
     fn has_form(&self, kind: Kind, text: &str) -> bool;
+
+    /// Whether a row may have a text in a column of a kind, in whatever form.
+    fn may_have(&self, kind: Kind, text: &str) -> bool;
 
     /// The text by which the database writes what a user's text means, if it means anything of the kind, which is one of texts.
     fn canonical(

@@ -8,8 +8,6 @@ mod catalog;
 mod counts;
 mod database;
 mod draft;
-mod draft_text;
-mod draft_types;
 mod forms;
 mod kind;
 mod label;
@@ -89,7 +87,7 @@ pub trait Source {
     /// When the snapshot was taken, as `2025-11-17 12:41:07`.
     fn taken(&self) -> &str;
 
-    /// All rows that meet a condition, by key, rising: whole, without a limit.
+    /// All rows that meet a condition, by key, rising: whole, without a limit. A value of another type than the column's is unfit.
     fn fetch(&mut self, condition: &Condition) -> Result<Vec<Record>, Failure>;
 
     /// The row of a table with a key, if there is one; at issue 0, where the key has issues.
@@ -148,5 +146,5 @@ pub fn draft(place: &design::Source) -> Result<String, Failure> {
             (database.title()?, draft::draft(&mut database)?)
         }
     };
-    Ok(draft_text::text(draft, &title, place))
+    Ok(draft::text::text(draft, &title, place))
 }

@@ -5,6 +5,7 @@ use design::{Design, Place};
 use crate::bind::{Binding, BoundColumn, BoundTable, Part};
 use crate::catalog::quoted;
 use crate::database::{Cell, Database};
+use crate::kind::Kind;
 use crate::{Condition, Failure, Record, Value};
 
 /// All rows that meet a condition, by key, rising.
@@ -14,17 +15,26 @@ pub(crate) fn fetch(
     binding: &Binding,
     condition: &Condition,
 ) -> Result<Vec<Record>, Failure> {
-    let (place, terms, values) = match condition {
+    let (place, terms) = match condition {
         Condition::Value {
             column,
             value,
             issue,
-        } => equal(database, binding, *column, value, *issue),
-        Condition::Range { column, low, high } => between(database, binding, *column, *low, *high),
+        } => (*column, equal(database, binding, *column, value, *issue)),
+        Condition::Range { column, low, high } => {
+            (*column, between(database, binding, *column, *low, *high))
+        }
     };
     let table = &binding.tables[place.table];
-    let Some(terms) = terms else {
-        return Ok(Vec::new());
+    let (terms, values) = match terms {
+        Terms::Of(terms, values) => (terms, values),
+        Terms::Never => return Ok(Vec::new()),
+        Terms::Senseless => {
+            let name = design.column_name(place);
+            return Err(Failure::Unfit(format!(
+                "{name} is asked for what it can't have: {condition:?}"
+            )));
+        }
     };
     let sql = format!("{} WHERE {}", select(database, table), terms.join(" AND "));
     let values: Vec<&Value> = values.iter().collect();
@@ -43,7 +53,7 @@ pub(crate) fn fetch(
 /// The expressions, in the order in which [`record`] reads them, and the table.
 fn select(database: &dyn Database, table: &BoundTable) -> String {
     let parts = table.columns.iter().flat_map(parts);
-    let parts = parts.map(|part| expression(part));
+    let parts = parts.map(expression);
     let shown = table.shown.iter().map(|column| database.shown(column));
     let expressions: Vec<String> = parts.chain(shown).collect();
     format!("SELECT {} FROM {} AS t", expressions.join(", "), table.name)
@@ -59,8 +69,15 @@ pub(crate) fn expression(part: &Part) -> String {
     format!("t.{}", quoted(&part.column.name))
 }
 
-/// A column, the terms of a condition on it, and the values of their parameters; no terms where no row can meet them.
-type Terms = (Place, Option<Vec<String>>, Vec<Value>);
+/// What a condition asks for.
+enum Terms {
+    /// That these are so, with these parameters.
+    Of(Vec<String>, Vec<Value>),
+    /// What no row has.
+    Never,
+    /// A value of another type than the column's. No answer is right then, since whoever asks means something else.
+    Senseless,
+}
 
 /// That a column has a value. An issue of NULL is asked for too, since it is none.
 fn equal(
@@ -75,8 +92,9 @@ fn equal(
         Value::Tuple(parts) => parts.clone(),
         single => vec![single.clone()],
     };
-    if values.len() != column.parts.len() || !of_kind(database, column, &values) {
-        return (place, None, values);
+    let is_tuple = matches!(value, Value::Tuple(_));
+    if is_tuple != column.is_tuple || !are_of_kind(database, column, &values) {
+        return Terms::Senseless;
     }
     let numbered = column.parts.iter().zip(1..);
     let equal = numbered.map(|(part, number)| {
@@ -89,22 +107,21 @@ fn equal(
             values.push(Value::Number(issue.into()));
             terms.push(issue_term(database, part, values.len()));
         }
-        None if issue != 0 => return (place, None, values),
+        None if issue != 0 => return Terms::Never,
         None => {}
     }
-    (place, Some(terms), values)
+    Terms::Of(terms, values)
 }
 
-/// Whether values can stand in a column at all: otherwise no row has them, and the database isn't asked.
-fn of_kind(database: &dyn Database, column: &BoundColumn, values: &[Value]) -> bool {
-    let parts = column.parts.iter().zip(values);
+/// Whether values are such as a column's parts can have.
+fn are_of_kind(database: &dyn Database, column: &BoundColumn, values: &[Value]) -> bool {
     let fits = |(part, value): (&Part, &Value)| match value {
         Value::Number(_) => part.kind.is_number(),
-        Value::Boolean(_) => part.kind == crate::kind::Kind::Boolean,
-        Value::Text(text) => part.kind.is_text() && database.has_form(part.kind, text),
+        Value::Boolean(_) => part.kind == Kind::Boolean,
+        Value::Text(text) => part.kind.is_text() && database.may_have(part.kind, text),
         Value::Tuple(_) => false,
     };
-    parts.into_iter().all(fits)
+    values.len() == column.parts.len() && column.parts.iter().zip(values).all(fits)
 }
 
 fn issue_term(database: &dyn Database, part: &Part, number: usize) -> String {
@@ -115,13 +132,13 @@ fn issue_term(database: &dyn Database, part: &Part, number: usize) -> String {
 /// That a column has a number of a range, at issue 0.
 fn between(database: &dyn Database, binding: &Binding, place: Place, low: u32, high: u32) -> Terms {
     let column = &binding.tables[place.table].columns[place.column];
-    let mut values = vec![Value::Number(low.into()), Value::Number(high.into())];
     let [part] = &column.parts[..] else {
-        return (place, None, values);
+        return Terms::Senseless;
     };
-    if !part.kind.is_number() {
-        return (place, None, values);
+    if part.kind != Kind::Integer {
+        return Terms::Senseless;
     }
+    let mut values = vec![Value::Number(low.into()), Value::Number(high.into())];
     let (first, second) = (
         database.parameter(&part.column, 1),
         database.parameter(&part.column, 2),
@@ -131,7 +148,7 @@ fn between(database: &dyn Database, binding: &Binding, place: Place, low: u32, h
         values.push(Value::Number(0));
         terms.push(issue_term(database, part, 3));
     }
-    (place, Some(terms), values)
+    Terms::Of(terms, values)
 }
 
 /// A row as the database gives it to one of the design. What no column can have is named with its row.

@@ -28,6 +28,10 @@ pub(crate) struct Sqlite {
 impl Sqlite {
     /// Opens a file that is there.
     pub(crate) fn open(file: &str) -> Result<Sqlite, Failure> {
+        Sqlite::open_waiting(file, PATIENCE)
+    }
+
+    fn open_waiting(file: &str, patience: Duration) -> Result<Sqlite, Failure> {
         let unreadable = |why: String| Failure::Unreadable(format!("{file}: {why}"));
         let found = std::fs::metadata(file).map_err(|error| unreadable(error.to_string()))?;
         if !found.is_file() {
@@ -39,12 +43,18 @@ impl Sqlite {
         let connection = Connection::open_with_flags(path, flags)
             .map_err(|error| unreadable(error.to_string()))?;
         connection.set_prepared_statement_cache_capacity(STATEMENTS);
-        let sqlite = Sqlite {
+        let mut sqlite = Sqlite {
             connection,
             file: file.into(),
         };
-        let settled = sqlite.connection.busy_timeout(PATIENCE);
+        let settled = sqlite.connection.busy_timeout(patience);
         settled.map_err(|error| sqlite.failure(error))?;
+        // in UTF-16 a text may stand that is none, and is another one when it is read as UTF-8
+        if sqlite.rows("PRAGMA encoding", &[])? != [[Cell::Text("UTF-8".into())]] {
+            return Err(unreadable(
+                "its texts are in UTF-16: copy it into a database in UTF-8".into(),
+            ));
+        }
         Ok(sqlite)
     }
 
@@ -59,7 +69,7 @@ impl Sqlite {
         Failure::Unreadable(match error.sqlite_error_code() {
             Some(ErrorCode::DatabaseBusy) => {
                 let seconds = PATIENCE.as_secs();
-                format!("{file}: somebody has been writing to it for {seconds} seconds")
+                format!("{file}: it is locked; a writer was waited for, for {seconds} seconds")
             }
             Some(ErrorCode::NotADatabase) => format!("{file}: that is no database of SQLite"),
             _ => format!("{file}: {error}"),
@@ -256,11 +266,15 @@ impl Database for Sqlite {
         if let Some(collation) = column.collation.as_deref().filter(|_| kind.is_text()) {
             return Err(collated(collation));
         }
-        let equality = storage(kind);
+        // 1 is a number and yes, which are no one value of a tuple
+        let equality = match kind {
+            Kind::Boolean => "boolean",
+            _ => storage(kind),
+        };
         let affinity = Affinity::of(&column.base);
         if affinity == Affinity::None && column.derived {
-            let column = quoted(&column.name);
-            let strays = format!("typeof(t.{column}) NOT IN ('null', '{equality}')");
+            let (column, storage) = (quoted(&column.name), storage(kind));
+            let strays = format!("typeof(t.{column}) NOT IN ('null', '{storage}')");
             return Ok(Fit {
                 equality,
                 strays: Some(strays),
@@ -316,6 +330,10 @@ impl Database for Sqlite {
         }
     }
 
+    fn may_have(&self, _kind: Kind, _text: &str) -> bool {
+        true
+    }
+
     fn canonical(
         &mut self,
         _column: &Column,
@@ -332,7 +350,7 @@ impl Database for Sqlite {
 
 #[cfg(test)]
 mod tests {
-    use super::{blob, Affinity};
+    use super::*;
 
     #[test]
     fn affinities_as_sqlite_documents_them() {
@@ -353,6 +371,23 @@ mod tests {
         ] {
             assert_eq!(Affinity::of(declared), affinity, "{declared}");
         }
+    }
+
+    #[test]
+    fn a_writer_is_not_waited_for_for_ever() {
+        let file = std::env::temp_dir().join(format!("wurzsige-busy-{}", std::process::id()));
+        let writer = Connection::open(&file).expect("a file");
+        writer
+            .execute_batch("CREATE TABLE t (a); BEGIN EXCLUSIVE; INSERT INTO t VALUES (1)")
+            .expect("a writer");
+        let opened = Sqlite::open_waiting(file.to_str().expect("a path"), Duration::ZERO);
+        let begun = opened.and_then(|mut sqlite| sqlite.begin(&[]));
+        drop(writer);
+        std::fs::remove_file(&file).expect("the file");
+        let Err(Failure::Unreadable(why)) = begun else {
+            panic!("{begun:?}");
+        };
+        assert!(why.contains("it is locked"), "{why}");
     }
 
     #[test]

@@ -10,7 +10,7 @@ use crate::{Failure, Value};
 /// The only schema of a file.
 const SCHEMA: &str = "main";
 
-/// Two texts each that one of SQLite's own collations calls equal, and BINARY doesn't. A column with another collation can't be compared here at all.
+/// Two texts each that one of SQLite's own collations calls equal, and BINARY doesn't.
 const COLLATIONS: [(&str, &str, &str); 2] = [("NOCASE", "A", "a"), ("RTRIM", "A ", "A")];
 
 pub(crate) fn relations(sqlite: &mut Sqlite) -> Result<Vec<TableName>, Failure> {
@@ -94,14 +94,24 @@ fn columns(
     Ok((columns, keys.into_values().collect()))
 }
 
-/// The collation of a column that calls different texts equal. A text put below the column's rows, of which there are none here, is compared as they are.
+/// What SQLite says of a collation that a program has brought along, and that isn't here.
+const FOREIGN: &str = "no such collation sequence: ";
+
+/// The collation of a column that calls different texts equal, or may do so. A text put below the column's rows, of which there are none here, is compared as they are.
 fn collation(sqlite: &mut Sqlite, table: &str, column: &str) -> Result<Option<String>, Failure> {
     let (table, column) = (quoted(table), quoted(column));
     for (name, left, right) in COLLATIONS {
         let sql = format!(
             "SELECT count(*) FROM (SELECT t.{column} AS x FROM {table} AS t WHERE 0 UNION ALL SELECT '{left}') WHERE x = '{right}'"
         );
-        if sqlite.rows(&sql, &[])? != [[Cell::Number(0)]] {
+        let found = match sqlite.rows(&sql, &[]) {
+            Err(Failure::Unreadable(why)) if why.contains(FOREIGN) => {
+                let (_, collation) = why.split_once(FOREIGN).unwrap_or_default();
+                return Ok(Some(collation.into()));
+            }
+            found => found?,
+        };
+        if found != [[Cell::Number(0)]] {
             return Ok(Some(name.into()));
         }
     }

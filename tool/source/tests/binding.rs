@@ -250,6 +250,19 @@ fn collations_of_sqlite() {
     }
 }
 
+/// A collation that another program has brought along can't be tried here.
+#[test]
+fn a_collation_that_is_not_known() {
+    let lab = Lab::sqlite(&format!(
+        "{}; PRAGMA writable_schema = ON; UPDATE sqlite_master SET sql = replace(sql, 'NOCASE', 'german')",
+        table("text COLLATE NOCASE")
+    ));
+    assert_eq!(
+        as_type(&lab, "text"),
+        "E073 at 4:5: t.c is compared by the collation german, which calls different texts equal"
+    );
+}
+
 #[test]
 fn collations_of_postgresql() {
     let lab = Lab::postgres(
@@ -345,6 +358,48 @@ load all by u.id
             lab.name()
         );
     }
+}
+
+/// In SQLite 1 is a number and a yes: a tuple's parts that the design doesn't declare are what their types say.
+#[test]
+fn a_yes_is_no_number_in_a_tuple() {
+    let lab = Lab::sqlite(
+        "CREATE TABLE t (id integer PRIMARY KEY, a integer, b boolean); CREATE TABLE u (id integer PRIMARY KEY, a integer, b integer)",
+    );
+    let text = "design \"Yes\"
+table t
+    id   key integer
+    pair (a, b)
+table u
+    id   key integer
+    pair (a, b)
+link t.pair -> u.pair
+load all by t.id
+";
+    assert!(problem(&lab, text).starts_with("E076 at 8:6: t.pair is "));
+    opened(&lab, &text.replace("table t\n", "table t from u\n"));
+}
+
+/// A value of one form is asked for wherever the database may have it, whatever form is expected there.
+#[test]
+fn a_part_of_another_form_is_not_passed_over() {
+    let lab = Lab::sqlite(
+        "CREATE TABLE t (id integer PRIMARY KEY, a integer, b text); CREATE TABLE u (id integer PRIMARY KEY, a integer, b uuid);
+         INSERT INTO t VALUES (1, 1, 'none'); INSERT INTO u VALUES (7, 1, 'none')",
+    );
+    let text = "design \"Forms\"
+table t
+    id   key integer
+    pair (a, b)
+table u
+    id   key integer
+    pair (a, b)
+link t.pair -> u.pair
+load all by t.id
+";
+    let mut source = opened(&lab, text);
+    let words = unfit(source.fetch(&has(at(1, 1), (1, "none"))));
+    assert_eq!(words, "u 7: u.pair is \"none\", and that is no UUID (E031)");
 }
 
 #[test]

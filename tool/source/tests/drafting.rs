@@ -212,11 +212,13 @@ fn what_does_not_fit_is_noted() {
          CREATE TABLE subject (id integer PRIMARY KEY, ward_code text REFERENCES ward, tag string UNIQUE, doctor text REFERENCES staff (id));
          CREATE TABLE staff (id integer PRIMARY KEY, low bigint);
          CREATE TABLE recording (id integer PRIMARY KEY, gone integer REFERENCES nowhere);
-         INSERT INTO staff VALUES (0, 1)",
+         INSERT INTO staff VALUES (0, 1);
+         CREATE TABLE gone (id integer); CREATE VIEW broken AS SELECT id FROM gone; DROP TABLE gone",
     );
     let text = draft(&lab);
     for note in [
         "# note: ward has the key code, which is compared by the collation NOCASE, which calls different texts equal",
+        "# note: broken is left out, since it can't be read: ",
         "# note: subject's foreign key to ward is left out, since that isn't here\n",
         "# note: recording's foreign key to nowhere is left out, since that isn't here\n",
         "# note: subject.tag has the type string, which no column of a design has: only shown\n",

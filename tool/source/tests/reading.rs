@@ -12,7 +12,7 @@ const LAB: &str = "
         id bigint PRIMARY KEY NOT NULL, ward varchar(20), minutes bigint, note text,
         started timestamp, born date, urgent boolean, subject uuid
     );
-    CREATE TABLE channel (recording bigint NOT NULL, label text NOT NULL, big bigint, PRIMARY KEY (recording, label));
+    CREATE TABLE channel (recording integer NOT NULL, label text NOT NULL, big bigint, PRIMARY KEY (recording, label));
     INSERT INTO ward VALUES ('W-NORD', 'North'), ('W-SÜD', 'South'), ('w-nord', 'other');
     INSERT INTO recording VALUES
         (3, 'W-NORD', 0, 'c', '2025-03-08 22:00:00', '1970-01-01', true, '5d0c1f7a-0000-4000-8000-00000000abcd'),
@@ -92,17 +92,49 @@ fn every_type_is_asked_for() {
         assert_eq!(keys(WARD, "w-nord".into()), ["4294967295"]);
         assert_eq!(keys(WARD, "W-nord".into()), [""; 0]);
         assert_eq!(keys(WARD, "W-NORD ".into()), [""; 0]);
-        assert_eq!(keys(WARD, "W-NORD\0".into()), [""; 0]);
         assert_eq!(keys(STARTED, "2025-03-09 22:00:00.25".into()), ["2"]);
         assert_eq!(keys(BORN, "2025-02-28".into()), ["2"]);
         assert_eq!(keys(URGENT, true.into()), ["3"]);
         assert_eq!(keys(SUBJECT, uuid.into()), ["3"]);
-        // values of another type stand in no row
-        assert_eq!(keys(0, "3".into()), [""; 0]);
-        assert_eq!(keys(WARD, 3.into()), [""; 0]);
-        assert_eq!(keys(SUBJECT, "5d0c".into()), [""; 0]);
         assert_eq!(keys(0, i64::MAX.into()), [""; 0]);
     }
+}
+
+/// Who asks for a value of another type means something else: that no row has it would be no answer.
+#[test]
+fn values_of_another_type_are_not_asked_for() {
+    for lab in Lab::both(LAB) {
+        let mut source = opened(&lab, DESIGN);
+        for (column, value) in [
+            (at(1, 0), Given::from("3")),
+            (at(1, WARD), 3.into()),
+            (at(1, WARD), true.into()),
+            (at(1, URGENT), 1.into()),
+            (at(1, 0), (1, 2).into()),
+            (at(2, 0), 1.into()),
+            (at(2, 0), ("1", "C3").into()),
+        ] {
+            let words = unfit(source.fetch(&has(column, value)));
+            assert!(words.contains("is asked for what it can't have"), "{words}");
+        }
+        for column in [at(1, WARD), at(2, 0), at(2, 2)] {
+            unfit(source.fetch(&Condition::Range {
+                column,
+                low: 1,
+                high: 2,
+            }));
+        }
+        let issued = Condition::Value {
+            column: at(1, 0),
+            value: Value::Number(3),
+            issue: 1,
+        };
+        assert_eq!(fetched(&mut *source, &issued), []);
+        assert_eq!(source.size(), Ok(11), "{}", lab.name());
+    }
+    let mut source = opened(&Lab::postgres(LAB), DESIGN);
+    unfit(source.fetch(&has(at(1, WARD), "W-NORD\0")));
+    unfit(source.fetch(&has(at(1, SUBJECT), "5d0c")));
 }
 
 #[test]
@@ -112,14 +144,26 @@ fn tuples_are_compared_part_by_part() {
         let rows = fetched(&mut *source, &has(at(2, 0), (1, "C3")));
         assert_eq!(texts(&rows, 0), ["1|C3"], "{}", lab.name());
         assert_eq!(rows[0].values[2], Some(Value::Number(i64::MIN)));
-        let wrong = has(at(2, 0), ("1", "C3"));
-        assert_eq!(fetched(&mut *source, &wrong), []);
-        let short = has(at(2, 0), 1);
-        assert_eq!(fetched(&mut *source, &short), []);
         let found = source.with_key(2, &Given::from((1, "C4")).0);
         let found = found.expect("a row").expect("one row");
         assert_eq!(found.values[2], Some(Value::Number(i64::MAX)));
         assert_eq!(source.with_key(2, &Given::from((1, "C5")).0), Ok(None));
+    }
+}
+
+/// PostgreSQL's `integer` ends at 2,147,483,647; what is above is no mistake to ask for, and no row's.
+#[test]
+fn a_number_that_is_too_large_for_the_column() {
+    for lab in Lab::both(LAB) {
+        let mut source = opened(&lab, DESIGN);
+        let large = has(at(2, 1), i64::from(u32::MAX));
+        assert_eq!(fetched(&mut *source, &large), [], "{}", lab.name());
+        let range = Condition::Range {
+            column: at(2, 1),
+            low: 1,
+            high: u32::MAX,
+        };
+        assert_eq!(fetched(&mut *source, &range).len(), 4);
     }
 }
 

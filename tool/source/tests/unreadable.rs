@@ -106,9 +106,8 @@ fn a_server_that_goes_away() {
     opened(&lab, DESIGN);
 }
 
-/// One state, read only, and nothing left open.
 #[test]
-fn a_transaction_of_postgresql_is_read_only_and_ends() {
+fn a_transaction_of_postgresql_ends_with_its_source() {
     let lab = Lab::postgres(TABLE);
     let ours = format!("SELECT state FROM {OURS}");
     let source = opened(&lab, DESIGN);

@@ -11,7 +11,7 @@ use crate::folder::fresh;
 /// Makes a server in the folder `$1` and says `ready`. When standard input ends, as it does with the test program, however that ends, the server ends and the
 /// folder goes. A server doesn't run as root: then the user that Debian makes for it does.
 const SCRIPT: &str = r#"
-trap '' INT
+trap '' HUP INT TERM
 folder=$1
 programs=/usr/lib/postgresql/15/bin
 as=

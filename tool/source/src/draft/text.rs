@@ -2,7 +2,7 @@
 
 use design::{link_line, load_line, print, Design, Source, SourceKind};
 
-use crate::draft::{Draft, Offer};
+use super::{Draft, Offer};
 
 /// The text of a draft, which names the database that it is from.
 pub(crate) fn text(mut draft: Draft, title: &str, place: &Source) -> String {

@@ -2,9 +2,9 @@
 
 use std::collections::HashMap;
 
+use super::entries::{unusable, Entry, Reference};
 use crate::catalog::{Column, TableName};
 use crate::database::{Cell, Database};
-use crate::draft::{unusable, Entry, Reference};
 use crate::kind::Kind;
 use crate::Failure;
 
