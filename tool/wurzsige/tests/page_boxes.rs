@@ -557,21 +557,12 @@ fn pictures_to_look_at() {
         browser.look(look);
         browser.open(&file);
         browser.value("document.querySelectorAll('.value[open] .rows')[2].open = true");
-        choose(
-            &mut browser,
-            "beside-0",
-            &browser_option(&mut Browser::start("option"), &file),
-        );
+        let second = browser.text("document.getElementById('beside-0').options[1].textContent");
+        choose(&mut browser, "beside-0", &second);
         browser.pictures(&folder.join(name), width);
     }
     browser.size(1200, 900);
     browser.look(Look::Light);
     browser.open(&file);
     browser.paper(&folder.join("paper.pdf"));
-}
-
-/// The first second load that a page offers.
-fn browser_option(browser: &mut Browser, file: &Path) -> String {
-    browser.open(file);
-    browser.text("document.getElementById('beside-0').options[1].textContent")
 }

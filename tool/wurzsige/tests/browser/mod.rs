@@ -26,6 +26,8 @@ pub struct Browser {
     output: BufReader<ChildStdout>,
     session: Option<String>,
     asked: u64,
+    /// The documents that are wholly there.
+    loaded: Vec<Value>,
     /// What the page has done since it was opened: requests, and errors that the browser told.
     pub requests: Vec<String>,
     pub errors: Vec<String>,
@@ -60,6 +62,7 @@ impl Browser {
             output,
             session: None,
             asked: 0,
+            loaded: Vec::new(),
             requests: Vec::new(),
             errors: Vec::new(),
             profile,
@@ -76,6 +79,7 @@ impl Browser {
         for domain in ["Page", "Runtime", "Log", "Network"] {
             self.ask(&format!("{domain}.enable"), json!({}));
         }
+        self.ask("Page.setLifecycleEventsEnabled", json!({"enabled": true}));
     }
 
     /// Opens a file, and waits until it is there.
@@ -88,11 +92,12 @@ impl Browser {
         self.requests.clear();
         self.errors.clear();
         let file = file.canonicalize().expect("a file");
-        self.ask(
-            "Page.navigate",
-            json!({"url": format!("file://{}{part}", file.display())}),
-        );
-        while self.message()["method"] != "Page.loadEventFired" {}
+        let place = json!({"url": format!("file://{}{part}", file.display())});
+        let loader = self.ask("Page.navigate", place)["loaderId"].clone();
+        // it may have been there before the answer was
+        while !self.loaded.contains(&loader) {
+            self.message();
+        }
     }
 
     /// The value of an expression in the page.
@@ -213,6 +218,9 @@ impl Browser {
         let message: Value = serde_json::from_slice(&bytes).expect("JSON");
         let parameters = &message["params"];
         match message["method"].as_str() {
+            Some("Page.lifecycleEvent") if parameters["name"] == "load" => {
+                self.loaded.push(parameters["loaderId"].clone())
+            }
             Some("Network.requestWillBeSent") => self
                 .requests
                 .push(parameters["request"]["url"].as_str().unwrap_or("").into()),
