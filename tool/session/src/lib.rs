@@ -4,6 +4,7 @@
 //! would answer too: before an answer is told, the loop of docs/SLICES.md has fetched all that the library says is missing, whole. What is decided the library
 //! decides; that names, dictionaries and fetching keep it true is held to SQL on whole databases by the tests.
 
+mod ahead;
 mod answers;
 mod brought;
 mod classes;

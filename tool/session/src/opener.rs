@@ -33,7 +33,7 @@ impl Session<'_> {
             }
             let known = slice.rows.len();
             asked.iter().for_each(|&fetch| fetches.note(fetch));
-            match slice.fetch(&mut self.feed(), &asked, None) {
+            match slice.fetch_these(&mut self.feed(), &asked) {
                 Ok(()) => asked.clear(),
                 Err(Stopped::Failed(failure)) => return Err(failure.into()),
                 Err(Stopped::Full { .. }) => return Ok(Opener::NoneKnown),

@@ -81,17 +81,17 @@ impl Session<'_> {
             match found.remove(&here.identity) {
                 Some((entry, _)) if entry.record == here.record => {}
                 Some(changed) => {
-                    remove(&mut slice.desk, number);
+                    remove(slice.desk_mut(), number);
                     stayed.push((number, changed));
                 }
                 None => {
-                    remove(&mut slice.desk, number);
+                    remove(slice.desk_mut(), number);
                     slice.rows.remove(number);
                 }
             }
         }
         for (number, (entry, row)) in stayed {
-            put(self.design, &mut slice.desk, number, &entry, &row)?;
+            put(self.design, slice.desk_mut(), number, &entry, &row)?;
             slice.rows.put(number, entry);
         }
         self.come(slice, found)?;
@@ -125,7 +125,7 @@ impl Session<'_> {
             let Some(number) = slice.rows.free() else {
                 unreachable!("there is room for all of them");
             };
-            put(self.design, &mut slice.desk, number, &entry, &row)?;
+            put(self.design, slice.desk_mut(), number, &entry, &row)?;
             slice.rows.put(number, entry);
         }
         Ok(())

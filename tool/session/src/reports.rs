@@ -38,9 +38,9 @@ impl Session<'_> {
     pub fn needs(&mut self, held: &Held) -> Result<Needs, Trouble> {
         self.usable()?;
         let all = self.held();
-        let mut others = self.slice.desk.clone();
+        let mut others = Desk::clone(&self.slice.desk);
         let alone = self.dropped(&mut others, held)?;
-        let mut only = self.slice.desk.clone();
+        let mut only = Desk::clone(&self.slice.desk);
         for other in all.iter().filter(|other| *other != held) {
             self.dropped(&mut only, other)?;
         }

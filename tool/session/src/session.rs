@@ -150,7 +150,7 @@ impl<'s> Session<'s> {
 
     /// Names the desk, from 0 to 3, whose places are used from now on.
     pub fn name_desk(&mut self, desk: u8) -> Result<(), Trouble> {
-        Ok(self.slice.desk.name_desk(desk)?)
+        Ok(self.slice.desk_mut().name_desk(desk)?)
     }
 
     /// The desk that is named.
@@ -262,7 +262,7 @@ impl<'s> Session<'s> {
         let place = self.coder.place(query.column);
         let mut loads = self.design.loads.iter();
         let loads = loads.any(|load| load.column == place);
-        let desk = &mut self.slice.desk;
+        let desk = self.slice.desk_mut();
         if !loads || desk.probe(query.column, query.value)? != Probed::Sent {
             return Ok(operation(desk)?);
         }

@@ -2,11 +2,13 @@
 //! would answer.
 
 use std::collections::HashSet;
+use std::rc::Rc;
 
 use design::Design;
 use source::{Failure, Record, Source};
 use wurzsige::{Cause, Desk, Fetch, Fetches, Refusal, Row};
 
+use crate::ahead::Ahead;
 use crate::brought::{brought, Brought};
 use crate::coder::Coder;
 use crate::rows::{Entry, Rows, MOST_ROWS};
@@ -14,7 +16,8 @@ use crate::rows::{Entry, Rows, MOST_ROWS};
 /// The desk, the fetches that were made, and which row of the database has which number. Between operations nothing is missing.
 #[derive(Clone)]
 pub(crate) struct Slice {
-    pub(crate) desk: Desk,
+    /// Shared while an operation may still be undone.
+    pub(crate) desk: Rc<Desk>,
     pub(crate) fetches: Fetches,
     pub(crate) rows: Rows,
 }
@@ -49,64 +52,119 @@ impl Slice {
     /// A desk without rows.
     pub(crate) fn new(desk: Desk) -> Slice {
         Slice {
-            desk,
+            desk: Rc::new(desk),
             fetches: Fetches::new(),
             rows: Rows::new(),
         }
     }
 
+    /// The desk, to be changed.
+    pub(crate) fn desk_mut(&mut self) -> &mut Desk {
+        Rc::make_mut(&mut self.desk)
+    }
+
     /// The loop. On an error the slice may be anything between, and is to be thrown away.
     ///
-    /// Each time around the operation is carried out on a copy of the desk, and all that the copy lacks is fetched, since all of it is needed: a load goes around once
-    /// for each of its rounds.
+    /// Each time around the operation is carried out on a copy of the desk, and what the copy lacks is fetched, with what the rows that come will make it lack.
     pub(crate) fn perform<T>(
         &mut self,
         feed: &mut Feed,
         operation: &dyn Fn(&mut Desk) -> Result<T, Refusal>,
     ) -> Result<Result<T, Refusal>, Stopped> {
         loop {
-            let mut copy = self.desk.clone();
+            let mut copy = Desk::clone(&self.desk);
             let answer = operation(&mut copy);
             let lacking = lacking(&copy, &self.fetches);
             if lacking.is_empty() {
-                self.desk = copy;
+                self.desk = Rc::new(copy);
                 return Ok(answer);
             }
-            self.fetch(feed, &lacking, Some(&copy))?;
+            let ahead = Ahead::new(&self.desk, &self.fetches, &lacking);
+            if let Err(stopped) = self.fetch_all(feed, ahead) {
+                return Err(self.broken_off(stopped, operation));
+            }
         }
     }
 
-    /// Fetches values and spans whole, puts in the rows that aren't there yet, and notes the fetches. `copy` is the desk that asks for them.
-    pub(crate) fn fetch(
+    /// An operation that needs more rows than there are numbers was broken off: with what brought those that have numbers.
+    fn broken_off<T>(
+        &self,
+        stopped: Stopped,
+        operation: &dyn Fn(&mut Desk) -> Result<T, Refusal>,
+    ) -> Stopped {
+        let Stopped::Full { rows, .. } = stopped else {
+            return stopped;
+        };
+        let mut copy = Desk::clone(&self.desk);
+        // refused or not, the rows that are cached after it have reasons
+        let _ = operation(&mut copy);
+        let brought = brought(&copy, copy.cached()).unwrap_or_default();
+        Stopped::Full { rows, brought }
+    }
+
+    /// Fetches whole what is asked for, and what the rows that come bring along.
+    fn fetch_all(&mut self, feed: &mut Feed, mut ahead: Ahead) -> Result<(), Stopped> {
+        let mut new = Vec::new();
+        let mut fetched = Ok(());
+        while let Some(fetch) = ahead.next() {
+            let before = new.len();
+            fetched = self.fetch(feed, fetch, &mut new);
+            if fetched.is_err() {
+                break;
+            }
+            new[before..].iter().for_each(|(_, row)| ahead.follow(row));
+        }
+        self.add(feed.design, &new)?;
+        fetched
+    }
+
+    /// Fetches some values and spans whole, and nothing else.
+    pub(crate) fn fetch_these(
         &mut self,
         feed: &mut Feed,
         fetches: &[Fetch],
-        copy: Option<&Desk>,
     ) -> Result<(), Stopped> {
         let mut new = Vec::new();
         for &fetch in fetches {
-            let found = fetched(feed, fetch)?;
-            let here = |(entry, _): &&(Entry, Row)| self.rows.number(&entry.identity).is_some();
-            let rows = self.rows.len() + found.len() - found.iter().filter(here).count();
-            if rows > MOST_ROWS {
-                let desk = copy.unwrap_or(&self.desk);
-                let brought = brought(desk, desk.cached()).unwrap_or_default();
-                return Err(Stopped::Full { rows, brought });
-            }
-            for (entry, row) in found {
-                if let Some(number) = self.rows.number(&entry.identity) {
-                    self.same(feed.design, number, &entry)?;
-                    continue;
-                }
-                let Some(number) = self.rows.free() else {
-                    unreachable!("there is room for all of them");
-                };
-                new.push((number, row));
-                self.rows.put(number, entry);
-            }
-            self.fetches.note(fetch);
+            self.fetch(feed, fetch, &mut new)?;
         }
-        self.desk = self.with_rows(feed.design, &new)?;
+        Ok(self.add(feed.design, &new)?)
+    }
+
+    /// Fetches a value or span whole, and notes it. Rows that aren't there yet get numbers, and are to be added to the desk.
+    fn fetch(
+        &mut self,
+        feed: &mut Feed,
+        fetch: Fetch,
+        new: &mut Vec<(u16, Row)>,
+    ) -> Result<(), Stopped> {
+        let found = fetched(feed, fetch)?;
+        let here = |(entry, _): &&(Entry, Row)| self.rows.number(&entry.identity).is_some();
+        let rows = self.rows.len() + found.len() - found.iter().filter(here).count();
+        if rows > MOST_ROWS {
+            let brought = Vec::new();
+            return Err(Stopped::Full { rows, brought });
+        }
+        for (entry, row) in found {
+            if let Some(number) = self.rows.number(&entry.identity) {
+                self.same(feed.design, number, &entry)?;
+                continue;
+            }
+            let Some(number) = self.rows.free() else {
+                unreachable!("there is room for all of them");
+            };
+            new.push((number, row));
+            self.rows.put(number, entry);
+        }
+        self.fetches.note(fetch);
+        Ok(())
+    }
+
+    /// Adds rows to the desk.
+    fn add(&mut self, design: &Design, new: &[(u16, Row)]) -> Result<(), Failure> {
+        if !new.is_empty() {
+            self.desk = Rc::new(self.with_rows(design, new)?);
+        }
         Ok(())
     }
 
@@ -126,7 +184,7 @@ impl Slice {
             return Ok(desk);
         }
         // what is wrong is told by the first row that the desk doesn't take
-        let mut desk = self.desk.clone();
+        let mut desk = Desk::clone(&self.desk);
         for (number, row) in new {
             let entry = self.rows.get(*number).expect("it was just put there");
             put(design, &mut desk, *number, entry, row)?;
@@ -154,7 +212,7 @@ impl Slice {
             .filter(|&number| !self.desk.is_cached(number))
             .collect();
         for number in idle {
-            remove(&mut self.desk, number);
+            remove(self.desk_mut(), number);
             self.rows.remove(number);
         }
         self.fetches = Fetches::new();

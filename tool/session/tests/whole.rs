@@ -129,16 +129,16 @@ fn sessions_over_postgresql_answer_as_sql_does() {
 #[test]
 fn what_is_wrong_is_found() {
     for fault in FAULTS {
-        let found = (0..12).find(|&number| {
-            sqlite_with(fault, 1, number, 2_000, 150, &mut Tally::default()).is_err()
+        let found = (0..30).find(|&number| {
+            sqlite_with(fault, 1, number, 1_500, 80, &mut Tally::default()).is_err()
         });
         assert!(found.is_some(), "{fault:?} is never found");
         let compared = sqlite_with(
             Fault::None,
             1,
             found.unwrap_or(0),
-            2_000,
-            150,
+            1_500,
+            80,
             &mut Tally::default(),
         );
         assert_eq!(compared, Ok(()), "{fault:?}");
