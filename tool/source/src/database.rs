@@ -17,6 +17,16 @@ pub(crate) enum Cell {
     Other(String),
 }
 
+impl Cell {
+    /// The text, if it is one.
+    pub(crate) fn text(&self) -> Option<String> {
+        match self {
+            Cell::Text(text) => Some(text.clone()),
+            _ => None,
+        }
+    }
+}
+
 /// How a column of the database serves as one of a kind.
 #[derive(Clone, Debug, PartialEq, Eq)]
 pub(crate) struct Fit {

@@ -46,9 +46,7 @@ impl Postgres {
             statements: HashMap::new(),
             found: Vec::new(),
         };
-        if let [row] = &postgres.run("SHOW TimeZone")?[..] {
-            postgres.zone = row.iter().map(cell_text).collect();
-        }
+        postgres.zone = one_text(&postgres.run("SHOW TimeZone")?);
         postgres.run(SETTINGS)?;
         Ok(postgres)
     }
@@ -56,7 +54,7 @@ impl Postgres {
     /// What the database is called.
     pub(crate) fn title(&mut self) -> Result<String, Failure> {
         let rows = self.run("SELECT current_database()")?;
-        Ok(rows.iter().flatten().map(cell_text).collect())
+        Ok(one_text(&rows))
     }
 
     /// Runs statements that are needed once.
@@ -116,11 +114,9 @@ fn cell((value, kind): (Option<Vec<u8>>, &u32)) -> Cell {
     }
 }
 
-pub(crate) fn cell_text(cell: &Cell) -> String {
-    match cell {
-        Cell::Text(text) => text.clone(),
-        _ => String::new(),
-    }
+/// The text of a statement that gives one.
+fn one_text(rows: &[Vec<Cell>]) -> String {
+    rows.iter().flatten().filter_map(Cell::text).collect()
 }
 
 /// What a type of PostgreSQL's is compared as: by types with the same word, values are equal alike.
@@ -195,7 +191,7 @@ impl Database for Postgres {
             "SELECT to_char(now() AT TIME ZONE '{zone}', 'YYYY-MM-DD HH24:MI:SS')"
         ))?;
         self.run("SAVEPOINT reading")?;
-        Ok(time.iter().flatten().map(cell_text).collect())
+        Ok(one_text(&time))
     }
 
     fn relation(&mut self, name: &TableName) -> Result<Option<Relation>, Failure> {
@@ -283,7 +279,7 @@ impl Database for Postgres {
         }
         let sql = format!("SELECT ({})::text", self.parameter(column, 1));
         match self.rows(&sql, &[&Value::Text(text.into())]) {
-            Ok(rows) => Ok(Some(rows.iter().flatten().map(cell_text).collect())),
+            Ok(rows) => Ok(Some(one_text(&rows))),
             Err(Failure::Unfit(_)) => Ok(None),
             Err(failure) => Err(failure),
         }

@@ -4,7 +4,7 @@ use design::Code;
 
 use crate::catalog::{Column, ForeignKey, Misfit, Relation, TableName, Unique};
 use crate::database::{Cell, Database};
-use crate::postgres::{cell_text, Postgres};
+use crate::postgres::Postgres;
 use crate::{Failure, Value};
 
 /// The number of the table with a name, its kind, whether rows of tables that inherit from it count among its own, whether a policy hides rows, and its schema
@@ -111,7 +111,7 @@ pub(crate) fn find(postgres: &mut Postgres, names: &[TableName]) -> Result<Vec<F
         found.extend(rows.iter().map(|row| Found {
             name: name.clone(),
             whole: table_name(&row[4], &row[5]),
-            lockable: ["r", "p", "v"].contains(&cell_text(&row[1]).as_str()),
+            lockable: ["r", "p", "v"].contains(&name_of(&row[1]).as_str()),
         }));
     }
     Ok(found)
@@ -125,16 +125,14 @@ pub(crate) fn relations(postgres: &mut Postgres) -> Result<Vec<TableName>, Failu
 
 fn table_name(schema: &Cell, name: &Cell) -> TableName {
     TableName {
-        schema: text(schema),
-        name: cell_text(name),
+        schema: schema.text(),
+        name: name_of(name),
     }
 }
 
-fn text(cell: &Cell) -> Option<String> {
-    match cell {
-        Cell::Text(text) => Some(text.clone()),
-        _ => None,
-    }
+/// The text of a cell that is never NULL.
+fn name_of(cell: &Cell) -> String {
+    cell.text().unwrap_or_default()
 }
 
 pub(crate) fn relation(
@@ -197,10 +195,10 @@ fn columns(
 ) -> Result<Vec<Column>, Failure> {
     let rows = postgres.rows(COLUMNS, &[number])?;
     let columns = rows.iter().map(|row| Column {
-        name: cell_text(&row[0]),
-        written: cell_text(&row[1]),
-        base: cell_text(&row[2]),
-        collation: text(&row[3]),
+        name: name_of(&row[0]),
+        written: name_of(&row[1]),
+        base: name_of(&row[2]),
+        collation: row[3].text(),
         filled: row[4] == Cell::Number(1) && !inherited,
         derived: view,
     });
@@ -223,11 +221,11 @@ fn unique(
             unique.push(Unique {
                 columns: Vec::new(),
                 primary: row[1] == Cell::Number(1),
-                weakness: text(&row[2]).or(inherits),
+                weakness: row[2].text().or(inherits),
             });
         }
         if let Some(last) = unique.last_mut() {
-            last.columns.extend(text(&row[3]));
+            last.columns.extend(row[3].text());
         }
     }
     Ok(unique)
@@ -247,8 +245,8 @@ fn foreign(postgres: &mut Postgres, number: &Value) -> Result<Vec<ForeignKey>, F
             });
         }
         if let Some(last) = keys.last_mut() {
-            last.columns.push(cell_text(&row[3]));
-            last.targets.push(cell_text(&row[4]));
+            last.columns.push(name_of(&row[3]));
+            last.targets.push(name_of(&row[4]));
         }
     }
     Ok(keys)

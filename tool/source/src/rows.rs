@@ -46,8 +46,13 @@ pub(crate) fn fetch(
         records.push(record);
     }
     // the order is that of values, the same for every database
-    records.sort_by(|left, right| left.values[table.key].cmp(&right.values[table.key]));
+    records.sort_by(|left, right| key(table, left).cmp(&key(table, right)));
     Ok(records)
+}
+
+/// What tells a row apart from the others of its table.
+fn key<'r>(table: &BoundTable, record: &'r Record) -> (&'r Option<Value>, u8) {
+    (&record.values[table.key], record.issues[table.key])
 }
 
 /// The expressions, in the order in which [`record`] reads them, and the table.

@@ -245,13 +245,7 @@ impl Database for Sqlite {
         // the snapshot begins with the first read
         self.rows("SELECT count(*) FROM sqlite_master", &[])?;
         let time = self.rows("SELECT datetime('now', 'localtime')", &[])?;
-        match &time[..] {
-            [row] => match &row[..] {
-                [Cell::Text(time)] => Ok(time.clone()),
-                _ => Ok(String::new()),
-            },
-            _ => Ok(String::new()),
-        }
+        Ok(time.iter().flatten().filter_map(Cell::text).collect())
     }
 
     fn relation(&mut self, name: &TableName) -> Result<Option<Relation>, Failure> {

@@ -18,7 +18,7 @@ pub(crate) fn relations(sqlite: &mut Sqlite) -> Result<Vec<TableName>, Failure> 
         "SELECT name FROM sqlite_master WHERE type IN ('table', 'view') AND name NOT LIKE 'sqlite\\_%' ESCAPE '\\' ORDER BY name",
         &[],
     )?;
-    Ok(texts(rows)
+    Ok(texts(&rows)
         .iter()
         .map(|name| TableName::plain(name))
         .collect())
@@ -48,16 +48,8 @@ pub(crate) fn relation(sqlite: &mut Sqlite, name: &TableName) -> Result<Option<R
 }
 
 /// The texts of a statement with one column.
-fn texts(rows: Vec<Vec<Cell>>) -> Vec<String> {
-    let firsts = rows.into_iter().filter_map(|row| row.into_iter().next());
-    firsts.filter_map(text).collect()
-}
-
-fn text(cell: Cell) -> Option<String> {
-    match cell {
-        Cell::Text(text) => Some(text),
-        _ => None,
-    }
+fn texts(rows: &[Vec<Cell>]) -> Vec<String> {
+    rows.iter().flatten().filter_map(Cell::text).collect()
 }
 
 /// The columns, and the names of those of the primary key in its order.
@@ -140,7 +132,7 @@ fn unique(sqlite: &mut Sqlite, table: &str, keys: Vec<String>) -> Result<Vec<Uni
             _ => None,
         };
         unique.push(Unique {
-            columns: texts(names),
+            columns: texts(&names),
             primary: *primary == 1,
             weakness,
         });
@@ -162,7 +154,7 @@ fn partial_index(sqlite: &mut Sqlite, index: &str) -> Result<String, Failure> {
         "SELECT sql FROM sqlite_master WHERE type = 'index' AND name = ?1",
         &[&Value::Text(index.into())],
     )?;
-    let sql = texts(sql).concat();
+    let sql = texts(&sql).concat();
     let upper = sql.to_ascii_uppercase();
     Ok(match upper.find("WHERE") {
         Some(at) => format!("has a condition ({})", sql[at..].replace('\n', " ")),
@@ -191,7 +183,7 @@ fn foreign(sqlite: &mut Sqlite, table: &str) -> Result<Vec<ForeignKey>, Failure>
         }
         if let Some(key) = keys.last_mut() {
             key.columns.push(from.clone());
-            key.targets.extend(text(to.clone()));
+            key.targets.extend(to.text());
         }
     }
     for key in &mut keys {

@@ -248,6 +248,24 @@ fn what_does_not_fit_is_noted() {
     assert_fits(&lab, &text);
 }
 
+/// Tuples of parts without a type aren't drafted, and two tuples never have one name.
+#[test]
+fn tuples_that_are_hard_to_name() {
+    for lab in Lab::both(
+        "CREATE TABLE a (x integer NOT NULL, y real NOT NULL, z text NOT NULL, PRIMARY KEY (x, z), UNIQUE (x, y));
+         CREATE TABLE b (
+            id integer PRIMARY KEY NOT NULL, p integer, q_r text, p_q integer, r text, f real, p_q_r_2 integer,
+            FOREIGN KEY (p, q_r) REFERENCES a (x, z), FOREIGN KEY (p_q, r) REFERENCES a (x, z), FOREIGN KEY (p, f) REFERENCES a (x, y)
+         )",
+    ) {
+        let text = draft(&lab);
+        assert!(text.contains("    p_q_r   (p, q_r)\n    p_q_r_3 (p_q, r)\n"), "{text}");
+        assert!(text.contains("# note: b refers to a by p, f: no link is offered"), "{text}");
+        assert_eq!(text.matches("# link ").count(), 4, "{text}");
+        assert_fits(&lab, &text);
+    }
+}
+
 #[test]
 fn schemas_and_passwords() {
     let lab = Lab::postgres("CREATE SCHEMA lab; CREATE TABLE lab.ward (code text PRIMARY KEY); CREATE TABLE ward (code text PRIMARY KEY)");

@@ -252,6 +252,26 @@ fn a_number_given_again_is_another_value() {
     }
 }
 
+/// Rows of a key with issues are told apart by both, and come in the order of both.
+#[test]
+fn a_key_with_issues() {
+    let text = "design \"Issues\"\ntable subject\n    no key integer issue issue_no\n    ward text\nload ward by subject.ward\n";
+    for lab in Lab::both(
+        "CREATE TABLE subject (no bigint NOT NULL, issue_no integer NOT NULL, ward text, PRIMARY KEY (no, issue_no));
+         INSERT INTO subject VALUES (8, 0, 'W'), (7, 2, 'W'), (7, 0, 'W'), (7, 1, 'W')",
+    ) {
+        let mut source = opened(&lab, text);
+        let rows = fetched(&mut *source, &has(at(0, 1), "W"));
+        let keys: Vec<String> = rows
+            .iter()
+            .map(|row| format!("{}/{}", texts(std::slice::from_ref(row), 0)[0], row.issues[0]))
+            .collect();
+        assert_eq!(keys, ["7/0", "7/1", "7/2", "8/0"], "{}", lab.name());
+        let first = source.with_key(0, &Value::Number(7)).expect("rows");
+        assert_eq!(first.expect("a row").issues, [0, 0]);
+    }
+}
+
 #[test]
 fn issues_that_are_none() {
     for (row, wrong) in [

@@ -23,6 +23,13 @@ pub(crate) struct Reference {
     pub(crate) targets: Vec<String>,
 }
 
+impl Reference {
+    /// Its columns at either end, each with its table.
+    pub(crate) fn ends(&self) -> [(usize, &Vec<String>); 2] {
+        [(self.from, &self.columns), (self.to, &self.targets)]
+    }
+}
+
 /// The tables with a key that a design can write.
 pub(crate) fn entries(
     database: &mut dyn Database,

@@ -44,40 +44,22 @@ impl Drafter<'_> {
         self.typing.kind(&self.entries[table].name, column)
     }
 
-    /// The columns that take a line: those of the key, of foreign keys, and of unique indexes; not those that only stand in the key's tuple.
+    /// The columns of foreign keys at either end in a table.
+    fn ends(&self, table: usize) -> impl Iterator<Item = &Vec<String>> {
+        let ends = self.references.iter().flat_map(Reference::ends);
+        ends.filter(move |(end, _)| *end == table)
+            .map(|(_, columns)| columns)
+    }
+
+    /// The columns that take a line: those of the key, of foreign keys, and of unique indexes; not those that only stand in a tuple.
     fn used(&self, table: usize) -> BTreeSet<String> {
         let entry = &self.entries[table];
-        let mut used = BTreeSet::new();
-        for reference in self.references {
-            let Reference { from, to, .. } = *reference;
-            let alone = reference.columns.len() == 1;
-            used.extend(
-                reference
-                    .columns
-                    .iter()
-                    .filter(|_| from == table && alone)
-                    .cloned(),
-            );
-            used.extend(
-                reference
-                    .targets
-                    .iter()
-                    .filter(|_| to == table && alone)
-                    .cloned(),
-            );
-        }
-        for unique in entry
-            .relation
-            .unique
-            .iter()
-            .filter(|unique| unique.columns != entry.key)
-        {
-            used.extend(unique.columns.iter().cloned());
-        }
-        if let [only] = &entry.key[..] {
-            used.insert(only.clone());
-        }
-        used
+        let others = entry.relation.unique.iter();
+        let others = others.filter(|unique| unique.columns != entry.key);
+        let alone = |columns: &&Vec<String>| columns.len() == 1;
+        let ends = self.ends(table).chain([&entry.key]).filter(alone);
+        let used = ends.chain(others.map(|unique| &unique.columns));
+        used.flatten().cloned().collect()
     }
 
     fn table(&mut self, number: usize) -> Table {
@@ -116,14 +98,8 @@ impl Drafter<'_> {
 
     /// Whether a column stands in a tuple, of the key or of a foreign key.
     fn is_part(&self, number: usize, column: &str) -> bool {
-        let has = |columns: &[String]| columns.iter().any(|name| name == column);
-        let mut ends = self.references.iter().flat_map(|reference| {
-            [
-                (reference.from, &reference.columns),
-                (reference.to, &reference.targets),
-            ]
-        });
-        has(&self.entries[number].key) || ends.any(|(end, columns)| end == number && has(columns))
+        let mut tuples = self.ends(number).chain([&self.entries[number].key]);
+        tuples.any(|columns| columns.iter().any(|name| name == column))
     }
 
     fn key_column(&self, number: usize) -> Column {
@@ -133,7 +109,10 @@ impl Drafter<'_> {
                 let kind = self.kind(number, only).unwrap_or(Kind::Text);
                 (only.clone(), type_of(kind))
             }
-            parts => (self.tuple_name(number, parts), Type::Tuple(parts.to_vec())),
+            parts => (
+                self.tuple_name(number, parts, &[]),
+                Type::Tuple(parts.to_vec()),
+            ),
         };
         Column {
             name,
@@ -143,18 +122,18 @@ impl Drafter<'_> {
         }
     }
 
-    /// A name for a tuple that no column of the table has.
-    fn tuple_name(&self, number: usize, parts: &[String]) -> String {
+    /// A name for a tuple that no column of the table has, in the database or among those that are drafted.
+    fn tuple_name(&self, number: usize, parts: &[String], drafted: &[Column]) -> String {
         let name = parts.join("_");
         let numbered = (2..).map(|number| format!("{name}_{number}"));
         let mut names = std::iter::once(name.clone()).chain(numbered);
-        let columns = &self.entries[number].relation.columns;
-        let taken = |name: &String| {
-            columns
-                .iter()
-                .any(|column| column.name.eq_ignore_ascii_case(name))
-        };
-        names.find(|name| !taken(name)).unwrap_or_default()
+        let own = self.entries[number].relation.columns.iter();
+        let own = own.map(|column| &column.name);
+        let taken: Vec<&String> = own
+            .chain(drafted.iter().map(|column| &column.name))
+            .collect();
+        let free = |name: &String| !taken.iter().any(|taken| taken.eq_ignore_ascii_case(name));
+        names.find(free).unwrap_or_default()
     }
 
     fn role(&mut self, number: usize, column: &str) -> Role {
@@ -173,16 +152,17 @@ impl Drafter<'_> {
         Role::Plain
     }
 
-    /// The tuples of foreign keys of several columns, here and at the other end.
+    /// The tuples of foreign keys of several columns, here and at the other end, if all of their parts have a type.
     fn add_tuples(&self, number: usize, columns: &mut Vec<Column>) {
         for reference in self.references.iter().filter(|one| one.columns.len() > 1) {
             let (here, there) = self.sides(reference);
             for (table, parts) in [(reference.from, here), (reference.to, there)] {
+                let typed = parts.iter().all(|part| self.kind(table, part).is_some());
                 let kind = Type::Tuple(parts.clone());
-                let there_already = columns.iter().any(|column| column.kind == kind);
-                if table == number && !there_already {
+                let drafted = columns.iter().any(|column| column.kind == kind);
+                if table == number && typed && !drafted {
                     columns.push(Column {
-                        name: self.tuple_name(number, &parts),
+                        name: self.tuple_name(number, &parts, columns),
                         role: self.tuple_role(number, &parts),
                         kind,
                         issue: None,

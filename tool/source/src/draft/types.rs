@@ -68,9 +68,7 @@ fn column<'e>(entries: &'e [Entry], (table, name): &Member) -> &'e Column {
 
 /// Whether a foreign key or a unique index uses a column, so that it would be more than shown.
 fn concerns(entries: &[Entry], references: &[Reference], (table, name): &Member) -> bool {
-    let mut ends = references
-        .iter()
-        .flat_map(|one| [(one.from, &one.columns), (one.to, &one.targets)]);
+    let mut ends = references.iter().flat_map(Reference::ends);
     let mut unique = entries[*table].relation.unique.iter();
     ends.any(|(end, columns)| end == *table && columns.contains(name))
         || unique.any(|unique| unique.columns.contains(name))
