@@ -116,8 +116,11 @@ impl Session<'_> {
     fn come(&mut self, slice: &mut Slice, found: Found) -> Result<(), Stopped> {
         let rows = slice.rows.len() + found.len();
         if rows > MOST_ROWS {
-            let brought = Vec::new();
-            return Err(Stopped::Full { rows, brought });
+            return Err(Stopped::Full {
+                rows,
+                brought: Vec::new(),
+                last: None,
+            });
         }
         let mut come: Vec<(Entry, Row)> = found.into_values().collect();
         come.sort_by(|(left, _), (right, _)| left.identity.cmp(&right.identity));

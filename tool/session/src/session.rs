@@ -339,7 +339,15 @@ fn empty(design: &Design) -> Result<Slice, Refusal> {
 fn trouble(stopped: Stopped) -> Trouble {
     match stopped {
         Stopped::Failed(failure) => Trouble::Failed(failure),
-        Stopped::Full { rows, brought } => Trouble::TooLarge(TooLarge { rows, brought }),
+        Stopped::Full {
+            rows,
+            brought,
+            last,
+        } => Trouble::TooLarge(TooLarge {
+            rows,
+            brought,
+            last,
+        }),
     }
 }
 

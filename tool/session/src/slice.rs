@@ -4,7 +4,7 @@
 use std::collections::HashSet;
 use std::rc::Rc;
 
-use design::Design;
+use design::{Design, Place};
 use source::{Failure, Record, Source};
 use wurzsige::{Cause, Desk, Fetch, Fetches, Refusal, Row};
 
@@ -35,8 +35,10 @@ pub(crate) enum Stopped {
     Full {
         /// The rows that were known to be needed.
         rows: usize,
-        /// What brought those that were on the desk.
+        /// What brought those that have numbers.
         brought: Vec<Brought>,
+        /// The column whose value was fetched last, and the rows that it would have added.
+        last: Option<(Place, usize)>,
     },
     /// The database can't be read, or has what no desk can have.
     Failed(Failure),
@@ -92,14 +94,18 @@ impl Slice {
         stopped: Stopped,
         operation: &dyn Fn(&mut Desk) -> Result<T, Refusal>,
     ) -> Stopped {
-        let Stopped::Full { rows, .. } = stopped else {
+        let Stopped::Full { rows, last, .. } = stopped else {
             return stopped;
         };
         let mut copy = Desk::clone(&self.desk);
         // refused or not, the rows that are cached after it have reasons
         let _ = operation(&mut copy);
         let brought = brought(&copy, copy.cached()).unwrap_or_default();
-        Stopped::Full { rows, brought }
+        Stopped::Full {
+            rows,
+            brought,
+            last,
+        }
     }
 
     /// Fetches whole what is asked for, and what the rows that come bring along.
@@ -142,8 +148,11 @@ impl Slice {
         let here = |(entry, _): &&(Entry, Row)| self.rows.number(&entry.identity).is_some();
         let rows = self.rows.len() + found.len() - found.iter().filter(here).count();
         if rows > MOST_ROWS {
-            let brought = Vec::new();
-            return Err(Stopped::Full { rows, brought });
+            return Err(Stopped::Full {
+                rows,
+                brought: Vec::new(),
+                last: Some((feed.coder.place(fetch.column()), rows - self.rows.len())),
+            });
         }
         for (entry, row) in found {
             if let Some(number) = self.rows.number(&entry.identity) {

@@ -2,8 +2,9 @@
 
 use std::fmt;
 
+use design::Place;
 use source::Failure;
-use wurzsige::Refusal;
+use wurzsige::{Operand, Refusal};
 
 use crate::brought::Brought;
 use crate::rows::MOST_ROWS;
@@ -28,8 +29,10 @@ pub enum Trouble {
 pub struct TooLarge {
     /// The rows that it was known to need when it was broken off; it may need more.
     pub rows: usize,
-    /// What brought them, as far as they were on the desk.
+    /// What brought them, as far as there were numbers for them.
     pub brought: Vec<Brought>,
+    /// The column whose value was fetched when there were no numbers left, and the rows that it would have added.
+    pub last: Option<(Place, usize)>,
 }
 
 impl From<Refusal> for Trouble {
@@ -48,7 +51,13 @@ impl fmt::Display for Trouble {
     fn fmt(&self, out: &mut fmt::Formatter<'_>) -> fmt::Result {
         match self {
             Trouble::TooLarge(_) => write!(out, "it needs more than {MOST_ROWS} rows"),
-            Trouble::Refused(refusal) => write!(out, "{}", refusal.cause),
+            // a value's number says nothing to users
+            Trouble::Refused(refusal) => match refusal.operand {
+                Some(operand @ (Operand::Desk(_) | Operand::Low(_) | Operand::High(_))) => {
+                    write!(out, "{}: {operand}", refusal.cause)
+                }
+                _ => write!(out, "{}", refusal.cause),
+            },
             Trouble::Failed(failure) => write!(out, "{failure}"),
             Trouble::Stale(failure) => write!(
                 out,

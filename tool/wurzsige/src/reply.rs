@@ -14,7 +14,10 @@ use wurzsige::Ground;
 use crate::ask::{Reply, COMMANDS};
 use crate::output::Page;
 use crate::status::Status;
-use crate::try_load::counted;
+use crate::try_load::{counted, most};
+
+/// How many keys of a table are shown, at most; programs are told all.
+const SHOWN_KEYS: usize = 6;
 
 /// How a program ends that has replied this.
 pub fn status(reply: &Reply) -> Status {
@@ -104,16 +107,7 @@ fn too_large(page: &mut Page, design: &Design, large: &TooLarge) {
         ": it needs at least {} rows, and a desk has {MOST_ROWS}; nothing has changed\n",
         large.rows
     ));
-    let links = large.brought.iter().filter_map(|brought| match brought.by {
-        session::By::Link(link) => Some((brought.rows, link)),
-        session::By::Load(_) => None,
-    });
-    if let Some((rows, link)) = links.max_by_key(|(rows, _)| *rows) {
-        let link = design.link_name(&design.links[link]);
-        page.text(&format!(
-            "{link} brings most: {rows} of those that were read\n"
-        ));
-    }
+    page.text(&format!("{}\n", most(design, large)));
 }
 
 fn sent(page: &mut Page, design: &Design, opener: &Opener) {
@@ -219,11 +213,9 @@ fn keys_by_table<'s>(session: &'s Session, rows: &[u16]) -> Vec<(&'s str, Vec<&'
 fn rows_of(page: &mut Page, session: &Session, rows: &[u16]) {
     page.text(&format!("{} of {MOST_ROWS}\n", counted(rows.len(), "row")));
     for (table, keys) in keys_by_table(session, rows) {
-        page.text(&format!(
-            "  {:4}  {table}: {}\n",
-            keys.len(),
-            keys.join(", ")
-        ));
+        let more = if keys.len() > SHOWN_KEYS { ", .." } else { "" };
+        let shown = keys[..keys.len().min(SHOWN_KEYS)].join(", ");
+        page.text(&format!("  {:4}  {table}: {shown}{more}\n", keys.len()));
     }
 }
 

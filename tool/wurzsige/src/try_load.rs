@@ -85,12 +85,13 @@ fn fits_without(
     loads: &[(usize, Wanted)],
     large: &TooLarge,
 ) -> Option<(usize, usize)> {
-    let mut brought = large.brought.clone();
-    brought.sort_by_key(|brought| std::cmp::Reverse(brought.rows));
-    let links = brought.iter().filter_map(|brought| match brought.by {
-        By::Link(link) => Some(link),
-        By::Load(_) => None,
-    });
+    let rows = |link: &usize| {
+        let brought = large.brought.iter();
+        let by = brought.filter(|brought| brought.by == By::Link(*link));
+        by.map(|brought| brought.rows).sum::<usize>()
+    };
+    let mut links: Vec<usize> = (0..design.links.len()).collect();
+    links.sort_by_key(|link| std::cmp::Reverse(rows(link)));
     for link in links {
         let mut design = design.clone();
         design.links.remove(link);
@@ -212,18 +213,8 @@ fn too_large(
     large: &TooLarge,
     without: Option<(usize, usize)>,
 ) {
-    let links = large.brought.iter().filter_map(|brought| match brought.by {
-        By::Link(link) => Some((brought.rows, link)),
-        By::Load(_) => None,
-    });
     page.text(&format!("   = it needs at least {}", large.rows));
-    match links.max_by_key(|(rows, _)| *rows) {
-        Some((rows, link)) => page.text(&format!(
-            "; {} brought most of those that were read, {rows}\n",
-            design.link_name(&design.links[link])
-        )),
-        None => page.text("; all of those that were read have the value itself\n"),
-    }
+    page.text(&format!("; {}\n", most(design, large)));
     page.text("   = nothing was loaded: a desk with a part of these rows would call wrong answers complete\n");
     if let Some((link, rows)) = without {
         page.text(&format!(
@@ -231,6 +222,26 @@ fn too_large(
             file.link_line(link),
             counted(rows, "row")
         ));
+    }
+}
+
+/// What brought most of the rows of a load that is too large, as far as they were read.
+pub fn most(design: &Design, large: &TooLarge) -> String {
+    let links = large.brought.iter().filter_map(|brought| match brought.by {
+        By::Link(link) => Some((brought.rows, link)),
+        By::Load(_) => None,
+    });
+    let most = links.max_by_key(|(rows, _)| *rows);
+    match (most, large.last) {
+        (Some((rows, link)), last) if last.is_none_or(|(_, more)| more <= rows) => format!(
+            "{} brought most of those that were read, {rows}",
+            design.link_name(&design.links[link])
+        ),
+        (_, Some((place, more))) => format!(
+            "{more} of them have one value of {}",
+            design.column_name(place)
+        ),
+        _ => "they have the value itself".into(),
     }
 }
 
