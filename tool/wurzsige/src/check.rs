@@ -75,7 +75,7 @@ pub fn knot_warning(file: &File, facts: &Facts, knot: &[usize]) -> Problem {
 }
 
 /// How a knot is untied.
-fn untying(file: &File, facts: &Facts, knot: &[usize]) -> String {
+pub fn untying(file: &File, facts: &Facts, knot: &[usize]) -> String {
     let alone = |link: &usize| facts.untied_by.contains(link);
     let untying: Vec<usize> = knot.iter().copied().filter(alone).collect();
     match (&untying[..], knot) {

@@ -65,6 +65,29 @@ pub enum Command {
         output: Option<PathBuf>,
     },
 
+    /// Write one HTML page with all of it, and with a database what loads drag in; it needs nothing else
+    #[command(after_help = EXIT)]
+    Page {
+        /// The design's file, or - for standard input
+        design: PathBuf,
+
+        /// Where to write it; without it standard output
+        #[arg(short, long, value_name = "FILE")]
+        output: Option<PathBuf>,
+
+        /// The database: sqlite:FILE or postgres:CONNINFO; without it the design's own, if it names one
+        #[arg(long, value_name = "SOURCE")]
+        source: Option<String>,
+
+        /// Show what this value drags in, and no others but those given so; without it the database's lowest values
+        #[arg(long, value_name = "LOAD=VALUE")]
+        value: Vec<String>,
+
+        /// Read no database: the page has nothing of its rows
+        #[arg(long, conflicts_with_all = ["source", "value"])]
+        no_source: bool,
+    },
+
     /// Load values from the database: what each drags in, link by link
     #[command(after_help = TRIED)]
     Try {

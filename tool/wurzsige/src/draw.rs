@@ -9,6 +9,7 @@ use design::{Cells, Design, Link, Place};
 use crate::facts::Facts;
 use crate::file::File;
 use crate::library::Refused;
+use crate::unseen::written_out;
 
 const FONT: &str = "DejaVu Sans,Verdana,sans-serif";
 const HEAD: &str = "#d9e2f0";
@@ -82,16 +83,26 @@ pub fn rendered(dot: String, form: Form) -> Result<Vec<u8>, String> {
 
 /// The picture of a design without errors.
 pub fn dot(file: &File) -> Result<String, Refused> {
-    match file.design() {
-        Some(design) => Ok(picture(design, &Facts::of(design)?)),
-        None => Ok(String::new()),
-    }
+    let Some(design) = file.design() else {
+        return Ok(String::new());
+    };
+    let facts = Facts::of(design)?;
+    let title = title(design, &facts, &Cells::of(design));
+    let label = format!(", labelloc=t, labeljust=l, label=<{title}>");
+    Ok(picture(design, &facts, &label))
 }
 
-fn picture(design: &Design, facts: &Facts) -> String {
+/// The picture without a title, for a page that has one.
+pub fn untitled(design: &Design, facts: &Facts) -> String {
+    picture(design, facts, "")
+}
+
+fn picture(design: &Design, facts: &Facts, label: &str) -> String {
     let cells = Cells::of(design);
     let mut dot = String::from("digraph design {\n");
-    dot += &format!("  graph [rankdir=LR, nodesep=0.35, ranksep=1.1, pad=0.3, fontname=\"{FONT}\", labelloc=t, labeljust=l, label=<{}>];\n", title(design, facts, &cells));
+    dot += &format!(
+        "  graph [rankdir=LR, nodesep=0.35, ranksep=1.1, pad=0.3, fontname=\"{FONT}\"{label}];\n"
+    );
     dot += &format!("  node [shape=plain, fontname=\"{FONT}\", fontsize=11];\n");
     dot += "  edge [arrowsize=0.8];\n";
     for table in 0..design.tables.len() {
@@ -250,13 +261,17 @@ fn escaped(text: &str) -> String {
         '<' => "&lt;".into(),
         '>' => "&gt;".into(),
         '"' => "&quot;".into(),
-        _ if char::is_control(character) => " ".into(),
-        _ => character.to_string(),
+        _ => written_out(character).unwrap_or_else(|| character.to_string()),
     };
     text.chars().map(escape).collect()
 }
 
 /// Text in strings of DOT. A backslash would begin an escape of its own there.
 fn quoted(text: &str) -> String {
-    text.replace('\\', "\\\\").replace('"', "\\\"")
+    let escape = |character| match character {
+        '\\' => "\\\\".to_string(),
+        '"' => "\\\"".into(),
+        _ => written_out(character).unwrap_or_else(|| character.to_string()),
+    };
+    text.chars().map(escape).collect()
 }

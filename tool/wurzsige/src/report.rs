@@ -1,7 +1,7 @@
 //! The report of `check` for people.
 
 use codespan_reporting::term::termcolor::Color;
-use design::{Code, Design, Problem, Question, Role, Severity};
+use design::{Code, Design, Problem, Question, Role, Severity, Span};
 
 use crate::check::{knot_warning, lines, one_of, Checked};
 use crate::facts::{Facts, Outcome};
@@ -75,24 +75,33 @@ fn refused(page: &mut Page, file: &File, problems: &[Problem]) {
 }
 
 fn evenness(page: &mut Page, file: &File, design: &Design, facts: &Facts) {
-    let rounds = most_rounds(design.tables.len());
-    let bound =
-        format!("every load is over after at most {rounds} rounds, whatever the rows (proved)");
+    let bound = bound(design);
     if facts.is_even() {
         page.coloured(Color::Green, "  even       ");
         return page.text(&format!("{bound}\n"));
     }
     page.coloured(Color::Yellow, "  uneven     ");
-    page.text(&match facts.knots.len() {
-        1 => "1 knot".to_string(),
-        count => format!("{count} knots"),
-    });
+    page.text(&knot_count(facts));
     match &facts.untied_by[..] {
         [] => page.text("; no single link makes the design even by being taken out\n"),
         links => page.text(&format!(
             "; even without {}: then {bound}\n",
             one_of(file, links)
         )),
+    }
+}
+
+/// The bound on rounds of an even design.
+pub fn bound(design: &Design) -> String {
+    let rounds = most_rounds(design.tables.len());
+    format!("every load is over after at most {rounds} rounds, whatever the rows (proved)")
+}
+
+/// How many knots there are.
+pub fn knot_count(facts: &Facts) -> String {
+    match facts.knots.len() {
+        1 => "1 knot".to_string(),
+        count => format!("{count} knots"),
     }
 }
 
@@ -120,14 +129,19 @@ fn questions(page: &mut Page, file: &File, design: &Design, checked: &Checked, f
         page.coloured(color(outcome), &format!("    {:9}", outcome.name()));
         let reason = reason(file, design, facts, question);
         page.text(&format!("  {:width$}  {reason}\n", question.text));
-        let warnings = checked
-            .problems
-            .iter()
-            .filter(|problem| problem.code == Code::W02 && problem.at.span == *span);
-        for note in warnings.flat_map(|problem| &problem.notes) {
+        for note in never_notes(checked, span) {
             page.text(&format!("{:1$}{note}\n", "", 4 + 9 + 2 + width + 2));
         }
     }
+}
+
+/// What would have a question answered that never is: the notes of the warning at its place.
+pub fn never_notes<'a>(checked: &'a Checked, span: &'a Span) -> impl Iterator<Item = &'a String> {
+    let warnings = checked
+        .problems
+        .iter()
+        .filter(move |problem| problem.code == Code::W02 && problem.at.span == *span);
+    warnings.flat_map(|problem| &problem.notes)
 }
 
 fn color(outcome: Outcome) -> Color {
@@ -139,7 +153,7 @@ fn color(outcome: Outcome) -> Color {
 }
 
 /// Why a question has its outcome.
-fn reason(file: &File, design: &Design, facts: &Facts, question: &Question) -> String {
+pub fn reason(file: &File, design: &Design, facts: &Facts, question: &Question) -> String {
     let verdict = facts.verdict_on(question);
     let table = |table: usize| design::name(&design.tables[table].name);
     let load = design

@@ -17,7 +17,7 @@ use crate::library::Refused;
 use crate::loads::Asked;
 use crate::output::{Page, When};
 use crate::status::Status;
-use crate::{cost, database, diff, draw, explain, init, json, report, shell, try_load};
+use crate::{cost, database, diff, draw, explain, init, json, page, report, shell, try_load};
 
 /// Carries a command out, and says how to end.
 pub fn run(arguments: &Arguments) -> Status {
@@ -26,6 +26,20 @@ pub fn run(arguments: &Arguments) -> Status {
         Command::Init { source, output } => init(source, output.as_deref()),
         Command::Check { design, format } => check(design, *format, color),
         Command::Draw { design, output } => draw(design, output.as_deref(), color),
+        Command::Page {
+            design,
+            output,
+            source,
+            value,
+            no_source,
+        } => page(
+            design,
+            output.as_deref(),
+            source.as_deref(),
+            value,
+            *no_source,
+            color,
+        ),
         Command::Try {
             design,
             loads,
@@ -157,6 +171,33 @@ fn draw(path: &Path, output: Option<&Path>, color: When) -> Ended {
     let dot = draw::dot(&file).map_err(|refusal| refused(&file, refusal))?;
     let drawn = draw::rendered(dot, form).map_err(|message| fail(Status::Unreadable, &message))?;
     put_to(output, &drawn)?;
+    Ok(Status::Good)
+}
+
+fn page(
+    path: &Path,
+    output: Option<&Path>,
+    source: Option<&str>,
+    values: &[String],
+    no_source: bool,
+    color: When,
+) -> Ended {
+    let file = accepted(path, color)?;
+    let checked = Checked::of(&file).map_err(|refusal| refused(&file, refusal))?;
+    let named = file.design().is_some_and(|design| design.source.is_some());
+    let html = match !no_source && (named || source.is_some() || !values.is_empty()) {
+        true => {
+            let values = read_loads(&file, values)?;
+            let mut source = database::open(&file, source, color)?;
+            page::html_over(&file, &checked, &mut *source, &values)
+        }
+        false => page::html(&file, &checked),
+    };
+    let html = html.map_err(|failed| match failed {
+        page::NoPage::Trouble(trouble) => troubled(&trouble),
+        page::NoPage::Undrawn(message) => fail(Status::Unreadable, &message),
+    })?;
+    put_to(output, html.as_bytes())?;
     Ok(Status::Good)
 }
 

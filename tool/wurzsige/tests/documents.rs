@@ -33,6 +33,27 @@ fn the_page_for_users_is_whole() {
     }
 }
 
+/// The session on the first page is what the tool answers over the example's database.
+#[test]
+fn the_session_of_the_first_page() {
+    const PROMPT: &str = "    desk 0> ";
+    let page = text("README.md");
+    let lines = page.lines().skip_while(|line| !line.starts_with(PROMPT));
+    let session: Vec<&str> = lines.take_while(|line| line.starts_with("    ")).collect();
+    let asked = session.iter().filter_map(|line| line.strip_prefix(PROMPT));
+    let asked: String = asked.map(|line| format!("{line}\n")).collect();
+    let told = session.iter().filter(|line| !line.starts_with(PROMPT));
+    let told: String = told.map(|line| format!("{}\n", &line[4..])).collect();
+    assert!(asked.lines().count() > 2, "{asked}");
+    let lab = testing::Lab::sqlite(&text("examples/lab.sql"));
+    let arguments = ["ask", SLEEP, "--source", &lab.argument()];
+    let ran = program::wurzsige_reading(&arguments, asked.as_bytes());
+    assert_eq!(
+        (ran.output, ran.errors, ran.status),
+        (told, String::new(), 0)
+    );
+}
+
 /// The picture of the pages is that of the design: each of its names is in it, and a knot's links are red.
 #[test]
 fn the_picture_of_the_pages() {
