@@ -1,9 +1,8 @@
--- HeldRecord, RangeRecord: the record and what it holds. HeldShifts: its words when a value comes or goes. RecordWords: a record stored as words, and read. TakenLaws: whether a REFER takes a pair. LoadLaws: the levels of a load over lent rows. Covered: why a drop adds no row. CauseWords: causes 7 and 12 of lent words.
+-- HeldRecord, RangeRecord: the record and what it holds. HeldShifts: its words when a value comes or goes. TakenLaws: whether a REFER takes a pair. LoadLaws: the levels of a load over lent rows. Covered: why a drop adds no row. CauseWords: causes 7 and 12 of lent words.
 -- DistinctLaws: when rows have no value twice in a unique column. Answering, RangeAnswers: the answers along the order of causes. Steps, RangeSteps, ProbeSteps,
--- NameSteps: what the code's tests say of the answer and of the state afterwards. ThinForm, Thin: the wrappers over a record that is lent.
+-- NameSteps: what the code's tests say of the answer and of the state afterwards.
 pub mod HeldRecord
 pub mod HeldShifts
-pub mod RecordWords
 pub mod RangeRecord
 pub mod TakenLaws
 pub mod LoadLaws
@@ -16,5 +15,3 @@ pub mod Steps
 pub mod RangeSteps
 pub mod ProbeSteps
 pub mod NameSteps
-pub mod ThinForm
-pub mod Thin

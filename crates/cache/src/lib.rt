@@ -1,24 +1,18 @@
 // REFER, DROP, PROBE, the naming of a desk, and holding and dropping a range over a sound state, and the test for causes 7 and 12 that stands before them.
 mod distinct;
 mod dropping;
-mod lending;
 mod loads;
 mod naming;
-mod outcome;
 mod probing;
 mod ranges;
 mod ranging;
-mod records;
 mod referring;
 mod taking;
 mod tests;
 mod values;
 
 pub use dropping::drop_lawful;
-pub use lending::drop;
-pub use lending::refer;
 pub use naming::name_lawful;
-pub use outcome::Outcome;
 pub use probing::probe_lawful;
 pub use ranging::drop_range_lawful;
 pub use ranging::refer_range_lawful;

@@ -16,12 +16,12 @@ use Rattle.format.specs.declared.command.Command.the-variants.{Operate}
 use Rattle.format.specs.Bytes.{byteAt}
 use Rattle.format.specs.Commands.{commandAt, widthOf}
 use Rattle.format.specs.Reading.{mostBytes}
-use Rattle.operate.specs.Sizes.{ample, wordsTaken, textTaken}
-use Rattle.operate.proofs.Sizes.{sizes-enough, sizes-needed}
+use Rattle.sizes.specs.Sizes.{ample, wordsTaken, textTaken}
+use Rattle.sizes.proofs.Sizes.{sizes-enough, sizes-needed}
 use Rattle.script.specs.Step.{Outputs, roomsOf, operationIn, Stepped, operated, carried, stepAt}
-use Rattle.script.specs.Sizes.{ofStep, wordsTakenAt, textTakenAt}
+use Rattle.sizes.specs.StepSizes.{ofStep, wordsTakenAt, textTakenAt}
 use Rattle.script.proofs.StepLaws.{step-overlong, step-carried}
-use Rattle.script.proofs.Sizes.{Kind, operates, other, kind, overlong-takes, command-takes, operation-takes}
+use Rattle.sizes.proofs.StepSizes.{Kind, operates, other, kind, overlong-takes, command-takes, operation-takes}
 
 -- as much is lent as the step at place i takes, or more; or less
 abbrev pub Enough : State → List ℕ → ℕ → Outputs → Type 0

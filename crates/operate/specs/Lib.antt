@@ -1,5 +1,3 @@
--- Queries: what a query is asked for, what it draws from lists, and what one that is referred first stands on. Sizes: how much an operation writes where
--- enough is lent.
+-- Queries: what a query is asked for, what it draws from lists, and what one that is referred first stands on. Lending: an operation over lent words of what is held.
 pub mod Queries
-pub mod Sizes
 pub mod Lending

@@ -17,7 +17,7 @@ use Rattle.state.specs.Design.{Backed, InRange}
 use Rattle.state.proofs.Arrays.{Sized}
 use Rattle.lawful.proofs.Asked.{sound-range, sound-backed}
 use Rattle.format.specs.Writing.{designBytes}
-use Rattle.script.specs.Sizes.{wordsTakenAt, textTakenAt}
+use Rattle.sizes.specs.StepSizes.{wordsTakenAt, textTakenAt}
 use Rattle.script.specs.Writing.{bytesOf}
 use Rattle.words.specs.Words.{wordsDesign}
 use Rattle.wurzsige.specs.Calls.{Memory, memory, stateIn, soundMemory, memoryCause, writeCause, DesignWritten, sizesIn, SizesTold}

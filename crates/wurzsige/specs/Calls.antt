@@ -17,7 +17,7 @@ use Rattle.format.specs.Reading.{DesignRead, readInto, verdictOf, designOf, row
 use Rattle.format.specs.Reading.DesignRead.{accepted, refusedAt}
 use Rattle.script.specs.Step.{Outputs, Stepped, refusing, stepAt}
 use Rattle.script.specs.Runs.{Left}
-use Rattle.script.specs.Sizes.{wordsTakenAt, textTakenAt}
+use Rattle.sizes.specs.StepSizes.{wordsTakenAt, textTakenAt}
 use Rattle.script.specs.Writing.{bytesOf}
 use Rattle.state.specs.HeldWords.{heldLength, longHeld, heldWords, wordsHeld, narrowHeld}
 use Rattle.state.specs.Meaning.{schemeOf, databaseOf}

@@ -4,7 +4,7 @@ use borrow.Author.Needs.{needs}
 use denote.Ref.{now}
 use lib.ListN.{length}
 use Rattle.state.specs.Lent.{State, sound}
-use Rattle.script.specs.Sizes.{wordsTakenAt, textTakenAt}
+use Rattle.sizes.specs.StepSizes.{wordsTakenAt, textTakenAt}
 use Rattle.wurzsige.proofs.Memories.{own-words-state, own-whole, catalog-words, memory-parts, cause-sound}
 use Rattle.wurzsige.proofs.WriteTaking.{written-range, written-backed, written-bytes, caused-sizes, told-sizes}
 use Rattle.wurzsige.proofs.sizing.wurzsige_parts_sizes.Statement.{statement}
