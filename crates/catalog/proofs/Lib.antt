@@ -4,9 +4,6 @@
 -- LinkLaws: the next row of a cell. DemandLaws: the first rows that constraints demand. Entries: what stands where, for those who walk
 -- the catalog. CatalogLaws: a row that has a value, and its link. Walks: a loop along the links does what a loop over all rows does. SpanLaws: the values of a
 -- range. PartLaws: the parts of the array. MakingLaws: the catalog made part by part.
--- Where one row comes or goes: BesideLaws: two databases that differ by it. ChainLaws: the next rows in one place; RelinkLaws: in all places. ValueLaws: one
--- of its values in the arrays of the directory; ListsLaws: in a column; DirectoryLaws: column by column; RevalueLaws: as a lent row's cell; RedirectLaws: in the
--- catalog's array. ResetLaws: the first demanded rows. ChangedLaws: the whole catalog.
 pub mod PartLaws
 pub mod HitLaws
 pub mod Searching
@@ -23,13 +20,3 @@ pub mod Walks
 pub mod CatalogLaws
 pub mod SpanLaws
 pub mod MakingLaws
-pub mod BesideLaws
-pub mod ChainLaws
-pub mod RelinkLaws
-pub mod ValueLaws
-pub mod ListsLaws
-pub mod DirectoryLaws
-pub mod RevalueLaws
-pub mod RedirectLaws
-pub mod ResetLaws
-pub mod ChangedLaws

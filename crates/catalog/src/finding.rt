@@ -16,7 +16,7 @@ use state::Column;
 use state::Design;
 
 // The key of a value, which no other value has: keys are ordered as values are, by number, then issue. Constant time.
-pub(crate) fn key_of(v: Cell) -> u64
+pub fn key_of(v: Cell) -> u64
     ensures { λ x. ⌜ (x ≡ keyOf (cellOf v)) × (v .issue < 256) ⌝ }
 {
     let number = v.number as u64;
@@ -25,7 +25,7 @@ pub(crate) fn key_of(v: Cell) -> u64
 }
 
 // Where x stands or belongs among the falling keys from place `from` to place `to`. A step for each halving: at most 13.
-pub(crate) fn seat(keys: &[u64; 4096], from: usize, to: usize, x: u64) -> usize
+pub fn seat(keys: &[u64; 4096], from: usize, to: usize, x: u64) -> usize
     requires { ⌜ to ≤ 4096 ⌝ }
     ensures { λ a. ⌜ (from ≤ to → Falls from to (now (keys .entry)) → Searched from to x a a (now (keys .entry))) ⌝ }
 {
@@ -43,7 +43,7 @@ pub(crate) fn seat(keys: &[u64; 4096], from: usize, to: usize, x: u64) -> usize
 }
 
 // Whether x stands at place a, of the places before `to`. Constant time.
-pub(crate) fn stands(keys: &[u64; 4096], to: usize, a: usize, x: u64) -> bool
+pub fn stands(keys: &[u64; 4096], to: usize, a: usize, x: u64) -> bool
     requires { ⌜ to ≤ 4096 ⌝ }
     ensures { λ b. ⌜ b ≡ ltb a to && eqb (getD (now (keys .entry)) a 0) x ⌝ }
 {

@@ -18,7 +18,7 @@ use state::cell_at;
 use state::is_live;
 
 // The first row that constraint j demands of row s; 512 if there is none. The cost is that of `find`.
-pub(crate) fn demanded(
+pub fn demanded(
     cells: &[u32],
     issues: &[u8],
     tables: &[u8],

@@ -17,7 +17,7 @@ use state::cell_at;
 use state::is_blank;
 
 // Moves the elements from place a to place m one place on. A step for each.
-pub(crate) fn make_room(keys: &mut [u64; 4096], heads: &mut [u16; 4096], a: usize, m: usize)
+pub fn make_room(keys: &mut [u64; 4096], heads: &mut [u16; 4096], a: usize, m: usize)
     requires { ⌜ (a ≤ m) × (m < 4096) × (length (now keys) ≡ 4096) × (length (now heads) ≡ 4096) ⌝ }
     ensures { λ _. ⌜ Moved a m (now (keys .entry)) (now (keys .exit)) × Moved a m (now (heads .entry)) (now (heads .exit)) ⌝ }
 {

@@ -1,4 +1,4 @@
-// What stands where in the catalog's array: nothing outside this crate indexes it.
+// What stands where in the catalog's array: nothing but this crate, and `mend`, which changes it, indexes it.
 ghost use mathlib.Core.Path.{_≡_};
 ghost use Prim.Native.Nat.{_<_};
 ghost use lib.ListN.{getD};
@@ -9,14 +9,14 @@ ghost use Rattle.model.specs.Scheme.{Scheme};
 ghost use Rattle.catalog.specs.Catalog.{nextOf, headsIn, startsIn, Links, Demands};
 
 // The next rows come first; where the other parts begin.
-pub(crate) const FIRSTS: usize = 4096;
+pub const FIRSTS: usize = 4096;
 
-pub(crate) const HEADS: usize = 12288;
+pub const HEADS: usize = 12288;
 
-pub(crate) const STARTS: usize = 16384;
+pub const STARTS: usize = 16384;
 
 // A u16 as a usize.
-pub(crate) fn wide(x: u16) -> usize
+pub fn wide(x: u16) -> usize
     ensures { λ r. ⌜ r ≡ x ⌝ }
 {
     x as usize
@@ -48,7 +48,7 @@ pub(crate) fn head_at(catalog: &[u16; 16449], i: usize) -> usize
 }
 
 // The place of the directory at which column i begins, and the one before it ends. Constant time.
-pub(crate) fn start_at(catalog: &[u16; 16449], i: usize) -> usize
+pub fn start_at(catalog: &[u16; 16449], i: usize) -> usize
     requires { ⌜ i < 65 ⌝ }
     ensures { λ n. ⌜ n ≡ getD (startsIn (now (catalog .entry))) i 0 ⌝ }
 {

@@ -19,7 +19,7 @@ use Rattle.lawful.proofs.SoundChange.{put-free, remove-live}
 use Rattle.lawful.proofs.SoundState.{parts}
 use Rattle.lawful.proofs.StoredLaws.{RowSized, free-sized, table-other, live-other, cell-other, live-same, stored-backed}
 use Rattle.catalog.specs.Catalog.{Catalogued}
-use Rattle.catalog.specs.Changing.{Without}
+use Rattle.mend.specs.Changing.{Without}
 use Rattle.catalog.proofs.MakingLaws.{size-lent}
 
 -- ---- a row is stored
