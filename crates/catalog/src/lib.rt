@@ -3,6 +3,7 @@
 // row that the constraint demands of it, and of the directory the first row of each value and where each column's values begin; `keys` has the keys of the
 // directory's values, falling in each column. They are read by `next_row`, `first_row`, `find`, `find_range` and `first_of` alone.
 mod columns;
+mod demanding;
 mod finding;
 mod firsts;
 mod linking;
@@ -13,6 +14,8 @@ mod scanning;
 mod spanning;
 mod storing;
 
+pub use demanding::demanding_rows;
+pub use demanding::turn_firsts;
 pub use finding::find;
 pub use firsts::make_firsts;
 pub use making::build;
