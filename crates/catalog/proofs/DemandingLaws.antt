@@ -12,12 +12,12 @@ use lib.ListN.{length, getD, set, replicate, length-set, length-replicate}
 use lib.Seq.{getD-set-same, getD-set-other}
 use Rattle.finite.specs.Finite.{firstFrom}
 use Rattle.finite.proofs.Bools.{dec, both, clash, refute, bool-ext, same-number, and-left, and-right, cond-true, cond-false}
-use Rattle.finite.proofs.First.{first-from, first-same, first-is, first-after}
-use Rattle.finite.proofs.Tables.{tab-at, tab-of, replicate-tab}
+use Rattle.finite.proofs.First.{first-from, first-same, first-is, first-after, first-here, first-skip, first-past}
+use Rattle.finite.proofs.Tables.{tab-at, tab-of, replicate-tab, ltb-next}
 use Rattle.model.specs.Cell.{Cell, equal}
 use Rattle.model.specs.Scheme.{Constraint, Scheme}
 use Rattle.model.specs.Database.{Database, has}
-use Rattle.model.specs.Rounds.{leads, level}
+use Rattle.model.specs.Rounds.{leads, level, reached}
 use Rattle.model.specs.Turned.{turnedRound, turned}
 use Rattle.model.proofs.CellLaws.{equal-same, equal-self}
 use Rattle.model.proofs.DatabaseLaws.{has-Has, Has-has, has-full}
@@ -25,7 +25,7 @@ use Rattle.state.specs.declared.design.Design.{Design}
 use Rattle.state.specs.Meaning.{schemeOf}
 use Rattle.catalog.specs.Hits.{Hit}
 use Rattle.catalog.specs.Catalog.{demandedFirst, firsts}
-use Rattle.catalog.specs.Demanding.{Nearest, nearerOf, firstBy, ByFirst, Spread, Demanding}
+use Rattle.catalog.specs.Demanding.{Nearest, nearerOf, firstBy, ByFirst, chosenAt, Rising, Spread, Demanding}
 use Rattle.catalog.proofs.HitLaws.{first-hit}
 
 -- ---- the nearer of two
@@ -165,6 +165,152 @@ module _ (L : List ℕ) where
           go (inr n) (yes m) (yes g) = subst (Nearest L (below (k + 1))) (nearer-lower L b k n m g) (lower (above n) g)
           go (inr n) (yes m) (no g) = subst (Nearest L (below (k + 1))) (nearer-kept L b k n m (omega arith)) (kept m (omega arith))
 
+-- ---- the rows that have a level, one after the other
+
+level-reached : (L : List ℕ) (s : ℕ) → 0 < level L s → reached L s ≡ true
+unfolding reached
+level-reached L s o = lt-ltb 0 (level L s) o
+
+flat-reached : (L : List ℕ) (s : ℕ) → level L s ≡ 0 → reached L s ≡ false
+unfolding reached
+flat-reached L s e = le-ltb 0 (level L s) (omega arith)
+
+-- a row that has a level is below k exactly if it is below the next row from k on
+jump-same : (L : List ℕ) (k k′ : ℕ) → k ≤ 512 → k′ ≡ firstFrom 512 (reached L) k → (s : ℕ) → 0 < level L s → ltb s k ≡ ltb s k′
+jump-same L k k′ h e s o = go (decLt s k) (decLt s k′)
+  where
+    go : Dec (s < k) → Dec (s < k′) → ltb s k ≡ ltb s k′
+    go (yes a) (yes b) = lt-ltb s k a ∙ sym (lt-ltb s k′ b)
+    go (no a) (no b) = le-ltb s k (omega arith) ∙ sym (le-ltb s k′ (omega arith))
+    go (yes a) (no b) = absurd (omega (arith, e, first-from 512 (reached L) k h .start))
+    go (no a) (yes b) = clash (level-reached L s o) (first-from 512 (reached L) k h .none s (omega arith) (omega (arith, e)))
+
+module _ (L : List ℕ) where
+  -- e lists the first m rows that have a level, and then x
+  abbrev listed : (ℕ → ℕ) → ℕ → ℕ → ℕ → ℕ
+  listed e m x k = cond (eqb k m) x (e k)
+
+  -- the rows below s have been passed, and m of them were listed
+  pub record Listing (s m : ℕ) (rows : List ℕ) : Type 0 where
+    pub long : length rows ≡ 513
+    pub few : m ≤ s
+    pub start : listed (λ k. getD rows k 0) m (firstFrom 512 (reached L) s) 0 ≡ firstFrom 512 (reached L) 0
+    pub below : (k : ℕ) → k < m → getD rows k 0 < 512
+    pub next : (k : ℕ) → k < m → listed (λ k. getD rows k 0) m (firstFrom 512 (reached L) s) (k + 1) ≡ firstFrom 512 (reached L) (getD rows k 0 + 1)
+
+  pub listing-none : (rows : List ℕ) → length rows ≡ 513 → Listing 0 0 rows
+  listing-none rows l =
+      record {
+        long = l;
+        few = omega arith;
+        start = cond-true (eqb 0 0) (firstFrom 512 (reached L) 0) (getD rows 0 0) (eq-eqb 0 0 refl);
+        below = λ k h. absurd (omega arith);
+        next = λ k h. absurd (omega arith);
+      }
+
+  module _ (s m : ℕ) (rows : List ℕ) (x : Listing s m rows) (l : s < 512) where
+    entry-old : (k : ℕ) → (k ≡ m → ⊥) → getD (set rows m s) k 0 ≡ getD rows k 0
+    entry-old k n = getD-set-other rows m k s 0 n
+
+    entry-new : getD (set rows m s) m 0 ≡ s
+    entry-new = getD-set-same rows m s 0 (omega (arith, x .long, x .few))
+
+    entry-less : (k : ℕ) → k < m → k ≡ m → ⊥
+    entry-less k h e = omega arith
+
+    list-flat : level L s ≡ 0 → Listing (s + 1) m (set rows m s)
+    list-flat e =
+        record {
+          long = length-set rows m s ∙ x .long;
+          few = omega (arith, x .few);
+          start = sym (same 0) ∙ x .start;
+          below = λ k h. subst (λ (y : ℕ). y < 512) (sym (entry-old k (entry-less k h))) (x .below k h);
+          next = λ k h. sym (same (k + 1)) ∙ x .next k h ∙ ap (λ (y : ℕ). firstFrom 512 (reached L) (y + 1)) (sym (entry-old k (entry-less k h)));
+        }
+      where
+        same : (k : ℕ) → listed (λ k. getD rows k 0) m (firstFrom 512 (reached L) s) k ≡ listed (λ k. getD (set rows m s) k 0) m (firstFrom 512 (reached L) (s + 1)) k
+        same k =
+            ⊎-elim
+            (λ (q : k ≡ m).
+            cond-true (eqb k m) _ _ (eq-eqb k m q) ∙ first-skip 512 (reached L) s (flat-reached L s e) ∙ sym (cond-true (eqb k m) _ _ (eq-eqb k m q)))
+            (λ (q : k ≡ m → ⊥). cond-false (eqb k m) _ _ (ne-eqb k m q) ∙ sym (entry-old k q) ∙ sym (cond-false (eqb k m) _ _ (ne-eqb k m q)))
+            (same-number k m)
+
+    list-more : (level L s ≡ 0 → ⊥) → Listing (s + 1) (m + 1) (set rows m s)
+    list-more n =
+        record {
+          long = length-set rows m s ∙ x .long;
+          few = omega (arith, x .few);
+          start = sym (same 0 (omega arith)) ∙ x .start;
+          below = λ k h. go-below k h (same-number k m);
+          next = λ k h. go-next k h (same-number k m);
+        }
+      where
+        o : 0 < level L s
+        o = check (decLt 0 (level L s))
+          where
+            check : Dec (0 < level L s) → 0 < level L s
+            check (yes q) = q
+            check (no q) = let z : level L s ≡ 0 = omega arith in absurd (n z)
+
+        here : firstFrom 512 (reached L) s ≡ s
+        here = first-here 512 (reached L) s l (level-reached L s o)
+
+        same : (k : ℕ) → k ≤ m → listed (λ k. getD rows k 0) m (firstFrom 512 (reached L) s) k ≡ listed (λ k. getD (set rows m s) k 0) (m + 1) (firstFrom 512 (reached L) (s + 1)) k
+        same k h =
+            ⊎-elim
+            (λ (q : k ≡ m). cond-true (eqb k m) _ _ (eq-eqb k m q) ∙ here ∙ sym entry-new ∙ ap (λ (y : ℕ). getD (set rows m s) y 0) (sym q))
+            (λ (q : k ≡ m → ⊥). cond-false (eqb k m) _ _ (ne-eqb k m q) ∙ sym (entry-old k q))
+            (same-number k m) ∙
+            sym (cond-false (eqb k (m + 1)) _ _ (ne-eqb k (m + 1) (λ (q : k ≡ m + 1). omega arith)))
+
+        lower : (k : ℕ) → k < m + 1 → (k ≡ m → ⊥) → k < m
+        lower k h q = check (decLt k m)
+          where
+            check : Dec (k < m) → k < m
+            check (yes y) = y
+            check (no y) = let z : k ≡ m = omega arith in absurd (q z)
+
+        go-below : (k : ℕ) → k < m + 1 → (k ≡ m) ⊎ (k ≡ m → ⊥) → getD (set rows m s) k 0 < 512
+        go-below k h (inl q) = subst (λ (y : ℕ). y < 512) (sym (ap (λ (y : ℕ). getD (set rows m s) y 0) q ∙ entry-new)) l
+        go-below k h (inr q) = subst (λ (y : ℕ). y < 512) (sym (entry-old k q)) (x .below k (lower k h q))
+
+        go-next : (k : ℕ) → k < m + 1 → (k ≡ m) ⊎ (k ≡ m → ⊥) →
+            listed (λ k. getD (set rows m s) k 0) (m + 1) (firstFrom 512 (reached L) (s + 1)) (k + 1) ≡ firstFrom 512 (reached L) (getD (set rows m s) k 0 + 1)
+        go-next k h (inl q) =
+            cond-true (eqb (k + 1) (m + 1)) _ _ (eq-eqb (k + 1) (m + 1) (omega arith)) ∙
+            ap (λ (y : ℕ). firstFrom 512 (reached L) (y + 1)) (sym (ap (λ (y : ℕ). getD (set rows m s) y 0) q ∙ entry-new))
+        go-next k h (inr q) =
+            sym (same (k + 1) (omega (arith, lower k h q))) ∙ x .next k (lower k h q) ∙ ap (λ (y : ℕ). firstFrom 512 (reached L) (y + 1)) (sym (entry-old k q))
+
+    pub listing-more : (n : ℕ) → n ≡ cond (eqb (level L s) 0) m (m + 1) → Listing (s + 1) n (set rows m s)
+    listing-more n e =
+        ⊎-elim (λ (q : level L s ≡ 0). subst (λ (y : ℕ). Listing (s + 1) y (set rows m s)) (sym (e ∙ cond-true (eqb (level L s) 0) _ _ (eq-eqb _ _ q))) (list-flat q))
+        (λ (q : level L s ≡ 0 → ⊥). subst (λ (y : ℕ). Listing (s + 1) y (set rows m s)) (sym (e ∙ cond-false (eqb (level L s) 0) _ _ (ne-eqb _ _ q))) (list-more q))
+        (same-number (level L s) 0)
+
+  pub listing-end : (s m : ℕ) (rows : List ℕ) → s ≤ 512 → 512 ≤ s → Listing s m rows → Rising L m (set rows m 512)
+  listing-end s m rows a b x =
+      record {
+        few = omega (arith, x .few);
+        start = sym (same 0) ∙ x .start;
+        below = λ k h. subst (λ (y : ℕ). y < 512) (sym (old k h)) (x .below k h);
+        next = λ k h. sym (same (k + 1)) ∙ x .next k h ∙ ap (λ (y : ℕ). firstFrom 512 (reached L) (y + 1)) (sym (old k h));
+        end = getD-set-same rows m 512 0 (omega (arith, x .long, x .few));
+      }
+    where
+      old : (k : ℕ) → k < m → getD (set rows m 512) k 0 ≡ getD rows k 0
+      old k h = getD-set-other rows m k 512 0 (λ (q : k ≡ m). omega arith)
+
+      same : (k : ℕ) → listed (λ k. getD rows k 0) m (firstFrom 512 (reached L) s) k ≡ getD (set rows m 512) k 0
+      same k =
+          ⊎-elim
+          (λ (q : k ≡ m).
+          cond-true (eqb k m) _ _ (eq-eqb k m q) ∙ first-past 512 (reached L) s b ∙ sym (getD-set-same rows m 512 0 (omega (arith, x .long, x .few))) ∙
+          ap (λ (y : ℕ). getD (set rows m 512) y 0) (sym q))
+          (λ (q : k ≡ m → ⊥). cond-false (eqb k m) _ _ (ne-eqb k m q) ∙ sym (getD-set-other rows m k 512 0 q))
+          (same-number k m)
+
 -- ---- by the first row that is demanded
 
 -- the rows below k have been looked at
@@ -206,6 +352,14 @@ module _ (S : Scheme) (D : Database) (L : List ℕ) (i : ℕ) where
               (same-number g f);
         }
 
+  -- over rows that have no level
+  pub looked-jump : (k k′ : ℕ) (best : List ℕ) → k ≤ 512 → k′ ≡ firstFrom 512 (reached L) k → Looked S D L i k best → Looked S D L i k′ best
+  looked-jump k k′ best h e x =
+      record {
+        long = x .long;
+        at = λ f l. nearest-same L _ _ _ (λ s m o. ap (λ (b : Bool). eqb (firstBy S D i s) f && b) (jump-same L k k′ h e s o)) (x .at f l);
+      }
+
   pub looked-end : (k : ℕ) (best : List ℕ) → 512 ≤ k → Looked S D L i k best → ByFirst S D L i best
   looked-end k best h x =
       record {
@@ -219,6 +373,32 @@ module _ (S : Scheme) (D : Database) (L : List ℕ) (i : ℕ) where
           and-true : (b : Bool) → b && true ≡ b
           and-true true = refl
           and-true false = refl
+
+-- over the rows that have a level, one after the other
+module _ (S : Scheme) (D : Database) (L : List ℕ) (i m : ℕ) (rows : List ℕ) (r : Rising L m rows) where
+  pub looked-start : Looked S D L i (getD rows 0 0) (replicate 512 512)
+  looked-start = looked-jump S D L i 0 (getD rows 0 0) (replicate 512 512) (omega arith) (r .start) (looked-none S D L i)
+
+  module _ (k : ℕ) (l : k < m) (best : List ℕ) (x : Looked S D L i (getD rows k 0) best) (s : ℕ) (q : s ≡ getD rows k 0) (f : ℕ) (e : f ≡ firstBy S D i s) where
+    here : Looked S D L i s best
+    here = subst (λ (y : ℕ). Looked S D L i y best) (sym q) x
+
+    low : s < 512
+    low = omega (arith, q, r .below k l)
+
+    on : (best′ : List ℕ) → Looked S D L i (s + 1) best′ → Looked S D L i (getD rows (k + 1) 0) best′
+    on best′ z =
+        looked-jump S D L i (s + 1) (getD rows (k + 1) 0) best′ (omega (arith, q, r .below k l))
+        (r .next k l ∙ ap (λ (y : ℕ). firstFrom 512 (reached L) (y + 1)) (sym q)) z
+
+    pub looked-past : 512 ≤ f → Looked S D L i (getD rows (k + 1) 0) best
+    looked-past h = on best (looked-skip S D L i s low best here f e h)
+
+    pub looked-on : f < 512 → (b : ℕ) → b ≡ nearerOf L (getD best f 0) s → Looked S D L i (getD rows (k + 1) 0) (set best f b)
+    looked-on h b z = on (set best f b) (looked-more S D L i s low best here f e h b z)
+
+  pub looked-done : (k : ℕ) (best : List ℕ) → k ≤ m → m ≤ k → Looked S D L i (getD rows k 0) best → ByFirst S D L i best
+  looked-done k best a b x = let e : k ≡ m = omega arith in looked-end S D L i (getD rows k 0) best (omega (arith, ap (λ (y : ℕ). getD rows y 0) e, r .end)) x
 
 -- ---- along the links
 
@@ -339,131 +519,188 @@ module _ (D : Database) (j : Constraint) where
       bool-ext _ _ (λ q. eq-eqb _ _ (first-alike s b t q h ∙ e))
       (λ q. leads-alike s b f (leads-first s f (eqb-true _ _ q) l) (leads-first b f e l) t ∙ h)
 
-  -- ---- the rows with a first row below n have been noted for those that they demand
+  -- ---- the nearest rows below n have been noted for those that they demand
 
-  module _ (L : List ℕ) (a : ℕ) where
-    pub record Noted (n : ℕ) (near : List ℕ) : Type 0 where
-      pub at : (t : ℕ) → t < 512 → Nearest L (λ s. leads D j s t && ltb (first s) n) (getD near (a + t) 0)
+  module _ (L best : List ℕ) (y : (f : ℕ) → f < 512 → Nearest L (λ s. eqb (first s) f) (getD best f 0)) where
+    -- the nearest of the rows that demand the same rows as s
+    abbrev chief : ℕ → ℕ
+    chief s = chosenAt best (first s)
 
-    pub noted-none : (near : List ℕ) → ((t : ℕ) → t < 512 → getD near (a + t) 0 ≡ 512) → Noted 0 near
-    noted-none near h =
-        record { at = λ t l. nearest-none L _ _ (h t l) (λ s _ _. and-right (leads D j s t) (ltb (first s) 0) (le-ltb (first s) 0 (omega arith))) }
+    chief-is : (s : ℕ) → first s < 512 → chief s ≡ getD best (first s) 0
+    unfolding chosenAt
+    chief-is s l = cond-true (ltb (first s) 512) _ 512 (lt-ltb (first s) 512 l)
 
-    module _ (f : ℕ) (l : f < 512) (b : ℕ) (x : Nearest L (λ s. eqb (first s) f) b) (near : List ℕ) (y : Noted f near) where
-      abbrev upto : ℕ → ℕ → ℕ → Bool
-      upto n t s = leads D j s t && ltb (first s) n
+    chief-past : (s : ℕ) → 512 ≤ first s → chief s ≡ 512
+    unfolding chosenAt
+    chief-past s l = cond-false (ltb (first s) 512) (getD best (first s) 0) 512 (le-ltb (first s) 512 l)
 
-      next-same : (t s : ℕ) → (first s ≡ f → leads D j s t ≡ true → ⊥) → upto f t s ≡ upto (f + 1) t s
-      next-same t s h = go (same-number (first s) f)
-        where
-          go : (first s ≡ f) ⊎ (first s ≡ f → ⊥) → upto f t s ≡ upto (f + 1) t s
-          go (inl e) =
-              let z = refute (leads D j s t) (h e) in
-              and-left (leads D j s t) (ltb (first s) f) z ∙ sym (and-left (leads D j s t) (ltb (first s) (f + 1)) z)
-          go (inr n) = ap (λ (q : Bool). leads D j s t && q) (order (decLt (first s) f))
+    -- it is one, and has a level, if one of them has
+    chief-below : (s t : ℕ) → t < 512 → s < 512 → 0 < level L s → leads D j s t ≡ true → (chief s < 512) × (0 < level L (chief s)) × (first (chief s) ≡ first s)
+    chief-below s t a b o e =
+        let l = first-below s t a e in
+        let x = y (first s) l in
+        let m = x .least s b (eq-eqb (first s) (first s) refl) o .0 in
+        subst (λ (c : ℕ). (c < 512) × (0 < level L c) × (first c ≡ first s)) (sym (chief-is s l)) (m, x .levelled m, eqb-true _ _ (x .here m))
+
+    module _ (a : ℕ) where
+      pub record Noted (n : ℕ) (near : List ℕ) : Type 0 where
+        pub at : (t : ℕ) → t < 512 → Nearest L (λ s. leads D j s t && ltb (chief s) n) (getD near (a + t) 0)
+
+      pub noted-none : (near : List ℕ) → ((t : ℕ) → t < 512 → getD near (a + t) 0 ≡ 512) → Noted 0 near
+      noted-none near h =
+          record { at = λ t l. nearest-none L _ _ (h t l) (λ s _ _. and-right (leads D j s t) (ltb (chief s) 0) (le-ltb (chief s) 0 (omega arith))) }
+
+      -- tests that differ at most where the row demands t
+      noted-same : (n m : ℕ) (near : List ℕ) → ((t : ℕ) → t < 512 → (s : ℕ) → s < 512 → 0 < level L s → leads D j s t ≡ true → ltb (chief s) n ≡ ltb (chief s) m) →
+          Noted n near → Noted m near
+      noted-same n m near h x =
+          record {
+            at = λ t k.
+                nearest-same L _ _ _ (λ s l o.
+                ⊎-elim (λ (q : leads D j s t ≡ true). ap (λ (b : Bool). leads D j s t && b) (h t k s l o q))
+                (λ (q : leads D j s t ≡ false). and-left (leads D j s t) (ltb (chief s) n) q ∙ sym (and-left (leads D j s t) (ltb (chief s) m) q))
+                (dec (leads D j s t))) (x .at t k);
+          }
+
+      -- over rows that have no level
+      pub noted-jump : (n m : ℕ) (near : List ℕ) → n ≤ 512 → m ≡ firstFrom 512 (reached L) n → Noted n near → Noted m near
+      noted-jump n m near h e x = noted-same n m near (λ t k s l o q. jump-same L n m h e (chief s) (chief-below s t k l o q .1)) x
+
+      module _ (b : ℕ) (l : b < 512) (near : List ℕ) (x : Noted b near) where
+        next-ltb : (c : ℕ) → (c ≡ b → ⊥) → ltb c b ≡ ltb c (b + 1)
+        next-ltb c n = ltb-next c b n
+
+        -- b is not the nearest of those with its first row
+        pub noted-skip : (chief b ≡ b → ⊥) → Noted (b + 1) near
+        noted-skip n =
+            noted-same b (b + 1) near
+            (λ t k s m o q. next-ltb (chief s) (λ e.
+            let w = chief-below s t k m o q .2 in
+            n (ap (chosenAt best) (ap first (sym e) ∙ w) ∙ e))) x
+
+        module _ (h : chief b ≡ b) where
+          first-is-one : first b < 512
+          first-is-one = check (decLt (first b) 512)
             where
-              order : Dec (first s < f) → ltb (first s) f ≡ ltb (first s) (f + 1)
-              order (yes q) = lt-ltb (first s) f q ∙ sym (lt-ltb (first s) (f + 1) (omega arith))
-              order (no q) = le-ltb (first s) f (omega arith) ∙ sym (le-ltb (first s) (f + 1) (more (decLt f (first s))))
+              check : Dec (first b < 512) → first b < 512
+              check (yes q) = q
+              check (no q) = absurd (omega (arith, h, chief-past b (omega arith)))
+
+          own : Nearest L (λ s. eqb (first s) (first b)) b
+          own = subst (Nearest L (λ s. eqb (first s) (first b))) (sym (chief-is b first-is-one) ∙ h) (y (first b) first-is-one)
+
+          -- it is noted for the rows that it demands
+          pub noted-more : (near′ : List ℕ) → Spread (has D (j .target) (D .cell b (j .source .place))) b a near near′ → Noted (b + 1) near′
+          noted-more near′ u = record { at = λ t k. go t k (dec (leads D j b t)) }
+            where
+              here : leads D j b (first b) ≡ true
+              here = leads-first b (first b) refl first-is-one
+
+              read : (t : ℕ) → t < 512 → getD near′ (a + t) 0 ≡ cond (leads D j b t) b (getD near (a + t) 0)
+              read t k = u .at t k ∙ ap (λ (q : Bool). cond q b (getD near (a + t) 0)) (sym (leads-value b (first b) here t))
+
+              go : (t : ℕ) → t < 512 → (leads D j b t ≡ true) ⊎ (leads D j b t ≡ false) → Nearest L (λ s. leads D j s t && ltb (chief s) (b + 1)) (getD near′ (a + t) 0)
+              go t k (inl q) =
+                  subst (Nearest L (λ s. leads D j s t && ltb (chief s) (b + 1))) (sym (read t k ∙ cond-true (leads D j b t) b _ q))
+                  (nearest-same L (λ s. eqb (first s) (first b)) _ b (λ s _ _. sym (alike s)) own)
                 where
-                  more : Dec (f < first s) → f + 1 ≤ first s
-                  more (yes w) = omega arith
-                  more (no w) = let z : first s ≡ f = omega arith in absurd (n z)
+                  by : (s : ℕ) → leads D j s t ≡ eqb (first s) (first b)
+                  by s = leads-by-first b (first b) refl first-is-one t q s
 
-      -- no row with a level has f as its first
-      pub noted-skip : 512 ≤ b → Noted (f + 1) near
-      noted-skip h =
-          record { at = λ t k. nearest-same L (upto f t) (upto (f + 1) t) _ (λ s m o. next-same t s (λ e _. omega (arith, x .least s m (eq-eqb _ _ e) o .0))) (y .at t k) }
+                  alike : (s : ℕ) → leads D j s t && ltb (chief s) (b + 1) ≡ eqb (first s) (first b)
+                  alike s =
+                      bool-ext _ _ (λ w. sym (by s) ∙ and-eq-true-iff (leads D j s t) _ .0 w .0)
+                      (λ w. both (by s ∙ w) (lt-ltb (chief s) (b + 1) (omega (arith, ap (chosenAt best) (eqb-true (first s) (first b) w), h))))
+              go t k (inr q) =
+                  subst (Nearest L (λ s. leads D j s t && ltb (chief s) (b + 1))) (sym (read t k ∙ cond-false (leads D j b t) b _ q))
+                  (nearest-same L (λ s. leads D j s t && ltb (chief s) b) _ _ (λ s m o. still s m o (dec (leads D j s t))) (x .at t k))
+                where
+                  still : (s : ℕ) → s < 512 → 0 < level L s → (leads D j s t ≡ true) ⊎ (leads D j s t ≡ false) →
+                      leads D j s t && ltb (chief s) b ≡ leads D j s t && ltb (chief s) (b + 1)
+                  still s m o (inl w) =
+                      ap (λ (c : Bool). leads D j s t && c) (next-ltb (chief s) (λ e.
+                      let z = chief-below s t k m o w .2 in
+                      clash (leads-alike b s (first b) here (leads-first s (first b) (sym z ∙ ap first e) first-is-one) t ∙ w) q))
+                  still s m o (inr w) = and-left (leads D j s t) (ltb (chief s) b) w ∙ sym (and-left (leads D j s t) (ltb (chief s) (b + 1)) w)
 
-      module _ (h : b < 512) where
-        first-is-f : first b ≡ f
-        first-is-f = eqb-true _ _ (x .here h)
+          -- where the walk of these rows begins
+          pub noted-from : first b ≡ firstFrom 512 (has D (j .target) (D .cell b (j .source .place))) 0
+          noted-from = first-same 512 (leads D j b) _ 0 (λ t _ _. leads-value b (first b) (leads-first b (first b) refl first-is-one) t)
 
-        -- b is the nearest of them, and is noted for the rows that it demands
-        pub noted-more : (near′ : List ℕ) → Spread (has D (j .target) (D .cell b (j .source .place))) b a near near′ → Noted (f + 1) near′
-        noted-more near′ u = record { at = λ t k. go t k (dec (leads D j b t)) }
-          where
-            read : (t : ℕ) → t < 512 → getD near′ (a + t) 0 ≡ cond (leads D j b t) b (getD near (a + t) 0)
-            read t k =
-                u .at t k ∙ ap (λ (q : Bool). cond q b (getD near (a + t) 0)) (sym (leads-value b f (leads-first b f first-is-f l) t))
-
-            go : (t : ℕ) → t < 512 → (leads D j b t ≡ true) ⊎ (leads D j b t ≡ false) → Nearest L (upto (f + 1) t) (getD near′ (a + t) 0)
-            go t k (inl q) =
-                subst (Nearest L (upto (f + 1) t)) (sym (read t k ∙ cond-true (leads D j b t) b _ q))
-                (nearest-same L (λ s. eqb (first s) f) (upto (f + 1) t) b (λ s _ _. sym (own s)) x)
-              where
-                own : (s : ℕ) → upto (f + 1) t s ≡ eqb (first s) f
-                own s = bool-ext _ _ (λ w. sym (leads-by-first b f first-is-f l t q s) ∙ and-eq-true-iff (leads D j s t) _ .0 w .0)
-                    (λ w. both (leads-by-first b f first-is-f l t q s ∙ w) (lt-ltb (first s) (f + 1) (omega (arith, eqb-true (first s) f w))))
-            go t k (inr q) =
-                subst (Nearest L (upto (f + 1) t)) (sym (read t k ∙ cond-false (leads D j b t) b _ q))
-                (nearest-same L (upto f t) (upto (f + 1) t) _
-                (λ s _ _. next-same t s (λ e w. clash (leads-alike b s f (leads-first b f first-is-f l) (leads-first s f e l) t ∙ w) q)) (y .at t k))
-
-        -- where the walk of these rows begins
-        pub noted-from : f ≡ firstFrom 512 (has D (j .target) (D .cell b (j .source .place))) 0
-        noted-from = sym first-is-f ∙ first-same 512 (leads D j b) _ 0 (λ t _ _. leads-value b f (leads-first b f first-is-f l) t)
-
-    pub noted-end : (n : ℕ) (near : List ℕ) → 512 ≤ n → Noted n near → (t : ℕ) → t < 512 → Nearest L (λ s. leads D j s t) (getD near (a + t) 0)
-    noted-end n near h x t l =
-        nearest-same L _ _ _ (λ s _ _. bool-ext _ _ (λ q. and-eq-true-iff (leads D j s t) _ .0 q .0)
-        (λ q. both q (lt-ltb (first s) n (omega (arith, first-below s t l q))))) (x .at t l)
+      pub noted-end : (n : ℕ) (near : List ℕ) → 512 ≤ n → Noted n near → (t : ℕ) → t < 512 → Nearest L (λ s. leads D j s t) (getD near (a + t) 0)
+      noted-end n near h x t l =
+          nearest-same L _ _ _ (λ s m o. bool-ext _ _ (λ q. and-eq-true-iff (leads D j s t) _ .0 q .0)
+          (λ q. both q (lt-ltb (chief s) n (omega (arith, chief-below s t l m o q .0))))) (x .at t l)
 
 -- ---- one constraint after the other
 
-module _ (S : Scheme) (D : Database) (L : List ℕ) (i : ℕ) (near₀ : List ℕ) where
-  -- for constraint i, the rows with a first row below n have been noted, and nothing else was
+module _ (S : Scheme) (D : Database) (L : List ℕ) (i : ℕ) (near₀ best : List ℕ) (y : ByFirst S D L i best) where
+  -- for constraint i, the nearest rows below n have been noted, and nothing else was
   pub record Noting (n : ℕ) (near : List ℕ) : Type 0 where
     pub long : length near ≡ 8192
-    pub noted : Noted D (S .constraint i) L (512 * i) n near
+    pub noted : Noted D (S .constraint i) L best (y .at) (512 * i) n near
     pub below : (x : ℕ) → x < 512 * i → getD near x 0 ≡ getD near₀ x 0
     pub above : (x : ℕ) → 512 * i + 512 ≤ x → getD near x 0 ≡ getD near₀ x 0
 
-  pub noting-none : i < 16 → Demanding S D L i near₀ → Noting 0 near₀
+  noting-none : i < 16 → Demanding S D L i near₀ → Noting 0 near₀
   noting-none l x =
       record {
         long = x .long;
-        noted = noted-none D (S .constraint i) L (512 * i) near₀ (λ t k. x .rest (512 * i + t) (omega arith) (omega arith));
+        noted = noted-none D (S .constraint i) L best (y .at) (512 * i) near₀ (λ t k. x .rest (512 * i + t) (omega arith) (omega arith));
         below = λ y k. refl;
         above = λ y k. refl;
       }
 
-  module _ (f : ℕ) (l : f < 512) (best : List ℕ) (y : ByFirst S D L i best) (near : List ℕ) (x : Noting f near) where
-    pub noting-skip : 512 ≤ getD best f 0 → Noting (f + 1) near
-    noting-skip h =
-        record {
-          long = x .long;
-          noted = noted-skip D (S .constraint i) L (512 * i) f l (getD best f 0) (y .at f l) near (x .noted) h;
-          below = x .below;
-          above = x .above;
-        }
+  noting-jump : (n m : ℕ) (near : List ℕ) → n ≤ 512 → m ≡ firstFrom 512 (reached L) n → Noting n near → Noting m near
+  noting-jump n m near h e x =
+      record { long = x .long; noted = noted-jump D (S .constraint i) L best (y .at) (512 * i) n m near h e (x .noted); below = x .below; above = x .above }
 
-    module _ (h : getD best f 0 < 512) where
-      pub noting-from : f ≡ firstFrom 512 (has D (S .constraint i .target) (D .cell (getD best f 0) (S .constraint i .source .place))) 0
-      noting-from = noted-from D (S .constraint i) L (512 * i) f l (getD best f 0) (y .at f l) near (x .noted) h
+  module _ (m : ℕ) (rows : List ℕ) (r : Rising L m rows) where
+    pub noting-start : i < 16 → Demanding S D L i near₀ → Noting (getD rows 0 0) near₀
+    noting-start l x = noting-jump 0 (getD rows 0 0) near₀ (omega arith) (r .start) (noting-none l x)
 
-      pub noting-more : (near′ : List ℕ) →
-          Spread (has D (S .constraint i .target) (D .cell (getD best f 0) (S .constraint i .source .place))) (getD best f 0) (512 * i) near near′ → Noting (f + 1) near′
-      noting-more near′ u =
-          record {
-            long = u .long ∙ x .long;
-            noted = noted-more D (S .constraint i) L (512 * i) f l (getD best f 0) (y .at f l) near (x .noted) h near′ u;
-            below = λ z k. u .below z k ∙ x .below z k;
-            above = λ z k. u .above z k ∙ x .above z k;
-          }
+    module _ (k : ℕ) (l : k < m) (near : List ℕ) (x : Noting (getD rows k 0) near) (f : ℕ) (e : f ≡ firstBy S D i (getD rows k 0)) where
+      noting-on : (near′ : List ℕ) → Noting (getD rows k 0 + 1) near′ → Noting (getD rows (k + 1) 0) near′
+      noting-on near′ z = noting-jump (getD rows k 0 + 1) (getD rows (k + 1) 0) near′ (omega (arith, r .below k l)) (r .next k l) z
+
+      chief-read : chosenAt best f ≡ chosenAt best (firstBy S D i (getD rows k 0))
+      chief-read = ap (chosenAt best) e
+
+      pub noting-skip : (chosenAt best f ≡ getD rows k 0 → ⊥) → Noting (getD rows (k + 1) 0) near
+      noting-skip n =
+          noting-on near (record {
+            long = x .long;
+            noted = noted-skip D (S .constraint i) L best (y .at) (512 * i) (getD rows k 0) (r .below k l) near (x .noted) (λ q. n (chief-read ∙ q));
+            below = x .below;
+            above = x .above;
+          })
+
+      module _ (h : chosenAt best f ≡ getD rows k 0) where
+        pub noting-from : f ≡ firstFrom 512 (has D (S .constraint i .target) (D .cell (getD rows k 0) (S .constraint i .source .place))) 0
+        noting-from = e ∙ noted-from D (S .constraint i) L best (y .at) (512 * i) (getD rows k 0) (r .below k l) near (x .noted) (sym chief-read ∙ h)
+
+        pub noting-more : (near′ : List ℕ) →
+            Spread (has D (S .constraint i .target) (D .cell (getD rows k 0) (S .constraint i .source .place))) (getD rows k 0) (512 * i) near near′ → Noting (getD rows (k + 1) 0) near′
+        noting-more near′ u =
+            noting-on near′ (record {
+              long = u .long ∙ x .long;
+              noted = noted-more D (S .constraint i) L best (y .at) (512 * i) (getD rows k 0) (r .below k l) near (x .noted) (sym chief-read ∙ h) near′ u;
+              below = λ z k. u .below z k ∙ x .below z k;
+              above = λ z k. u .above z k ∙ x .above z k;
+            })
 
   pub noting-end : (n : ℕ) (near : List ℕ) → 512 ≤ n → Demanding S D L i near₀ → Noting n near → Demanding S D L (i + 1) near
   noting-end n near h d x =
       record {
         long = x .long;
         row = λ k t a b. go k t a b (same-number k i);
-        rest = λ y a b. x .above y (omega arith) ∙ d .rest y (omega arith) b;
+        rest = λ z a b. x .above z (omega arith) ∙ d .rest z (omega arith) b;
       }
     where
       go : (k t : ℕ) → k < i + 1 → t < 512 → (k ≡ i) ⊎ (k ≡ i → ⊥) → Nearest L (λ s. leads D (S .constraint k) s t) (getD near (512 * k + t) 0)
       go k t a b (inl e) =
           subst (λ (y : ℕ). Nearest L (λ s. leads D (S .constraint y) s t) (getD near (512 * y + t) 0)) (sym e)
-          (noted-end D (S .constraint i) L (512 * i) n near h (x .noted) t b)
+          (noted-end D (S .constraint i) L best (y .at) (512 * i) n near h (x .noted) t b)
       go k t a b (inr e) =
           subst (Nearest L (λ s. leads D (S .constraint k) s t)) (sym (x .below (512 * k + t) (omega (arith, less k a e)))) (d .row k t (less k a e) b)
         where
@@ -473,6 +710,12 @@ module _ (S : Scheme) (D : Database) (L : List ℕ) (i : ℕ) (near₀ : List �
               check : Dec (k < i) → k < i
               check (yes q) = q
               check (no q) = let z : k ≡ i = omega arith in absurd (e z)
+
+pub noting-done : (S : Scheme) (D : Database) (L : List ℕ) (i : ℕ) (near₀ best : List ℕ) (y : ByFirst S D L i best) (m : ℕ) (rows : List ℕ) → Rising L m rows →
+    (k : ℕ) (near : List ℕ) → k ≤ m → m ≤ k → Demanding S D L i near₀ → Noting S D L i near₀ best y (getD rows k 0) near → Demanding S D L (i + 1) near
+noting-done S D L i near₀ best y m rows r k near a b d x =
+    let e : k ≡ m = omega arith in
+    noting-end S D L i near₀ best y (getD rows k 0) near (omega (arith, ap (λ (z : ℕ). getD rows z 0) e, r .end)) d x
 
 pub demanding-none : (S : Scheme) (D : Database) (L : List ℕ) → Demanding S D L 0 (replicate 8192 512)
 demanding-none S D L =
@@ -539,3 +782,21 @@ ones-flat s l = ap (λ (xs : List ℕ). getD xs s 0) (replicate-tab 512 1) ∙ t
 pub turned-scheme-firsts : (D : Database) (d : Design) (near : List ℕ) → Demanding (schemeOf d) D (replicate 512 1) (d .constraints) near → near ≡ firsts (turned (schemeOf d)) D
 unfolding schemeOf
 turned-scheme-firsts D d near x = turned-firsts D (schemeOf d) (replicate 512 1) near ones-flat x
+
+-- ---- what stands at a row
+
+module _ (best : List ℕ) (f : ℕ) where
+  pub chosen-past : 512 ≤ f → 512 ≡ chosenAt best f
+  unfolding chosenAt
+  chosen-past l = sym (cond-false (ltb f 512) (getD best f 0) 512 (le-ltb f 512 l))
+
+  pub chosen-here : f < 512 → getD best f 0 ≡ chosenAt best f
+  unfolding chosenAt
+  chosen-here l = sym (cond-true (ltb f 512) (getD best f 0) 512 (lt-ltb f 512 l))
+
+module _ (m l : ℕ) where
+  pub count-flat : l ≡ 0 → m ≡ cond (eqb l 0) m (m + 1)
+  count-flat e = sym (cond-true (eqb l 0) m (m + 1) (eq-eqb l 0 e))
+
+  pub count-more : (l ≡ 0 → ⊥) → m + 1 ≡ cond (eqb l 0) m (m + 1)
+  count-more n = sym (cond-false (eqb l 0) m (m + 1) (ne-eqb l 0 n))

@@ -8,7 +8,7 @@ use lib.ListN.{length, getD}
 use Rattle.finite.specs.Finite.{firstFrom}
 use Rattle.model.specs.Scheme.{Scheme}
 use Rattle.model.specs.Database.{Database}
-use Rattle.model.specs.Rounds.{leads, level}
+use Rattle.model.specs.Rounds.{leads, level, reached}
 
 -- b is the lowest of the rows of the lowest level among those that pass the test and have a level; 512 if there is none
 pub record Nearest (L : List ℕ) (p : ℕ → Bool) (b : ℕ) : Type 0 where
@@ -29,6 +29,18 @@ firstBy S D i s = firstFrom 512 (leads D (S .constraint i) s) 0
 pub record ByFirst (S : Scheme) (D : Database) (L : List ℕ) (i : ℕ) (best : List ℕ) : Type 0 where
   pub long : length best ≡ 512
   pub at : (f : ℕ) → f < 512 → Nearest L (λ s. eqb (firstBy S D i s) f) (getD best f 0)
+
+-- what stands at row f; 512 past the rows
+unfoldable pub chosenAt : List ℕ → ℕ → ℕ
+chosenAt best f = cond (ltb f 512) (getD best f 0) 512
+
+-- the first m elements are the rows that have a level, rising, and 512 stands behind them
+pub record Rising (L : List ℕ) (m : ℕ) (rows : List ℕ) : Type 0 where
+  pub few : m ≤ 512
+  pub start : getD rows 0 0 ≡ firstFrom 512 (reached L) 0
+  pub below : (k : ℕ) → k < m → getD rows k 0 < 512
+  pub next : (k : ℕ) → k < m → getD rows (k + 1) 0 ≡ firstFrom 512 (reached L) (getD rows k 0 + 1)
+  pub end : getD rows m 0 ≡ 512
 
 -- row b stands at place a + t for each row t that passes the test, and else what stood there
 pub record Spread (p : ℕ → Bool) (b a : ℕ) (near near′ : List ℕ) : Type 0 where

@@ -1,7 +1,9 @@
 // The rows that demand a row, without a search of the directory: rows of which a constraint demands rows with the same first one demand the same rows, those
-// along the links from that first one. So one pass over the rows finds the nearest for each first row, and one walk hands it on.
+// along the links from that first one. So one pass over the rows that have a level finds the nearest for each first row, and one walk hands it on.
 ghost use mathlib.Core.Path.{_≡_};
-ghost use Prim.Native.Nat.{ℕ, _+_, _*_, _≤_, _<_};
+ghost use mathlib.Core.Bool.{cond};
+ghost use Prim.Native.Nat.{_+_, _≤_, _<_};
+ghost use lib.Dec.{eqb};
 ghost use lib.ListN.{length};
 ghost use Rattle.finite.specs.Finite.{firstFrom};
 ghost use Rattle.model.specs.Cell.{Cell};
@@ -11,10 +13,11 @@ ghost use Rattle.model.specs.Turned.{turned};
 ghost use Rattle.state.specs.Design.{InRange};
 ghost use Rattle.state.specs.Meaning.{schemeOf};
 ghost use Rattle.catalog.specs.Catalog.{Demands, Links, Stored, firsts};
-ghost use Rattle.catalog.specs.Demanding.{ByFirst, Demanding, Spread, nearerOf};
+ghost use Rattle.catalog.specs.Demanding.{ByFirst, Demanding, Rising, Spread, chosenAt, nearerOf};
 use crate::reading::FIRSTS;
 use crate::reading::first_row;
 use crate::reading::next_row;
+use crate::reading::wide;
 use crate::storing::store;
 use state::Design;
 
@@ -36,14 +39,58 @@ fn nearer(levels: &[u16; 512], best: u16, s: usize) -> u16
     best
 }
 
-// For each row, the nearest of those of which constraint i demands rows with this one as the first, whatever stood there. One step for each row number.
-fn nearest_by_first(catalog: &[u16; 16449], levels: &[u16; 512], i: usize, best: &mut [u16; 512])
-    requires { ⌜ i < 16 ⌝ }
+// How many rows there are, with one more if its level isn't 0. Constant time, as is the next.
+fn counted(m: usize, l: u16) -> usize
+    requires { ⌜ m < 512 ⌝ }
+    ensures { λ n. ⌜ n ≡ cond (eqb l 0) m (m + 1) ⌝ }
+{
+    if l == 0 {
+        return m;
+    }
+    m + 1
+}
+
+// What stands at row f; 512 for 512.
+fn chosen(best: &[u16; 512], f: usize) -> u16
+    ensures { λ b. ⌜ b ≡ chosenAt (now (best .entry)) f ⌝ }
+{
+    if Design::ROWS <= f {
+        return 512;
+    }
+    best[f]
+}
+
+// The rows that have a level, rising, with 512 behind them, whatever stood there; how many there are. One step for each row number.
+fn reached_rows(levels: &[u16; 512], rows: &mut [u16; 513]) -> usize
+    ensures { λ m. ⌜ Rising (now (levels .entry)) m (now (rows .exit)) ⌝ }
+{
+    *rows = [512u16; 513];
+    let mut m: usize = 0;
+    for s in 0..Design::ROWS {
+        rows[m] = s as u16;
+        m = counted(m, levels[s]);
+    }
+    rows[m] = 512;
+    m
+}
+
+// For each row, the nearest of those of which constraint i demands rows with this one as the first, whatever stood there. One step for each of the m rows that
+// have a level.
+fn nearest_by_first(
+    catalog: &[u16; 16449],
+    levels: &[u16; 512],
+    rows: &[u16; 513],
+    m: usize,
+    i: usize,
+    best: &mut [u16; 512],
+)
+    requires { ⌜ (i < 16) × Rising (now levels) m (now rows) ⌝ }
     ensures { λ _. ⌜ ((S : Scheme) (D : Database) → Demands S D (now (catalog .entry)) → i < S .constraints
         → ByFirst S D (now (levels .entry)) i (now (best .exit))) ⌝ }
 {
     *best = [512u16; 512];
-    for s in 0..Design::ROWS {
+    for k in 0..m {
+        let s = wide(rows[k]);
         let f = first_row(catalog, i, s);
         if f < Design::ROWS {
             best[f] = nearer(levels, best[f], s);
@@ -71,30 +118,34 @@ fn spread(
     }
 }
 
-// Notes for each row the nearest of those of which constraint i, which ends at this place, demands it. Two steps for each row number.
+// Notes for each row the nearest of those of which constraint i, which ends at this place, demands it. Two steps for each of the m rows that have a level, and
+// one for each row that they demand.
 fn note_nearest(
     catalog: &[u16; 16449],
     levels: &[u16; 512],
+    rows: &[u16; 513],
+    m: usize,
     i: usize,
     place: usize,
     near: &mut [u16; 8192],
 )
-    requires { ⌜ (i < 16) × (place < 8) × ((D : Database) × Links D (now catalog)) ⌝ }
+    requires { ⌜ (i < 16) × (place < 8) × Rising (now levels) m (now rows) × ((D : Database) × Links D (now catalog)) ⌝ }
     ensures { λ _. ⌜ ((S : Scheme) (D : Database) → Demands S D (now (catalog .entry)) → i < S .constraints → S .constraint i .target .place ≡ place
         → Demanding S D (now (levels .entry)) i (now (near .entry)) → Demanding S D (now (levels .entry)) (i + 1) (now (near .exit))) ⌝ }
 {
     let mut best = [512u16; 512];
-    nearest_by_first(catalog, levels, i, &mut best);
-    for f in 0..Design::ROWS {
-        let b = best[f];
-        if b < 512 {
-            spread(catalog, place, f, b, 512 * i, near);
+    nearest_by_first(catalog, levels, rows, m, i, &mut best);
+    for k in 0..m {
+        let s = rows[k];
+        let f = first_row(catalog, i, wide(s));
+        if chosen(&best, f) == s {
+            spread(catalog, place, f, s, 512 * i, near);
         }
     }
 }
 
-// For each constraint and row the nearest, by levels, of the rows of which the constraint demands it; 512 if none of these has a level. Two steps for each
-// constraint and row number.
+// For each constraint and row the nearest, by levels, of the rows of which the constraint demands it; 512 if none of these has a level. One step for each row
+// number, and for each constraint two for each row that has a level and one for each row that it demands of them.
 pub fn demanding_rows(
     d: Design,
     catalog: &[u16; 16449],
@@ -106,9 +157,11 @@ pub fn demanding_rows(
         → Demanding (schemeOf d) D (now (levels .entry)) (d .constraints) (now (near .exit))) ⌝ }
 {
     *near = [512u16; 8192];
+    let mut rows = [0u16; 513];
+    let m = reached_rows(levels, &mut rows);
     for i in 0..d.constraints {
         let j = d.constraint[i];
-        note_nearest(catalog, levels, i, j.target.place as usize, near);
+        note_nearest(catalog, levels, &rows, m, i, j.target.place as usize, near);
     }
 }
 

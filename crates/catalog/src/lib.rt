@@ -17,7 +17,6 @@ mod storing;
 pub use demanding::demanding_rows;
 pub use demanding::turn_firsts;
 pub use finding::find;
-pub use firsts::make_firsts;
 pub use making::build;
 pub use reading::first_row;
 pub use reading::next_row;

@@ -1,14 +1,16 @@
 -- Looking for the last link of a row's chain: by one constraint, and from one constraint to the next. Assumes nothing.
 use Prim.Native.Nat.{ℕ, suc, _+_, _*_, _≤_, _<_}
+use native.Mathlib.Decide.{decLt}
 use native.Mathlib.Omega.{arith}
 use mathlib.Core.Path.{_≡_, refl, sym, ap, subst, _∙_}
-use mathlib.Core.Bool.{Bool, true, false, _&&_, and-eq-true-iff}
+use mathlib.Core.Bool.{Bool, true, false, cond, _&&_, and-eq-true-iff}
 use mathlib.Core.List.{List}
-use borrow.Author.Tests.{eqb-true, eq-eqb}
-use lib.Dec.{eqb}
+use borrow.Author.Tests.{eqb-true, eq-eqb, lt-ltb, le-ltb}
+use lib.Dec.{eqb, ltb}
 use lib.ListN.{getD}
-use Rattle.finite.specs.Finite.{any, first, firstFrom}
-use Rattle.finite.proofs.Bools.{both, clash, refute}
+use Rattle.finite.specs.Finite.{any, first, firstFrom, tab}
+use Rattle.finite.proofs.Bools.{both, clash, refute, cond-true, cond-false}
+use Rattle.finite.proofs.Tables.{tab-at}
 use Rattle.finite.proofs.Search.{any-true, any-none, any-more, any-refuted}
 use Rattle.finite.proofs.First.{First, first-from, first-is, first-none}
 use Rattle.model.specs.Scheme.{Constraint, Scheme}
@@ -19,23 +21,41 @@ use Rattle.state.specs.declared.design.Design.{Design}
 use Rattle.state.specs.Meaning.{schemeOf}
 use Rattle.catalog.specs.Catalog.{Demands}
 use Rattle.catalog.specs.Demanding.{Nearest, Demanding}
-use Rattle.reason.specs.Links.{Graded, Near, Traceable, sourceRow}
+use Rattle.reason.specs.Links.{Graded, Near, Below, Traceable, sourceRow}
+
+-- ---- the levels below m
+
+module _ (L : List ℕ) (m : ℕ) (K : List ℕ) (w : Below L m K) (s : ℕ) (h : s < 512) where
+  -- a row of such a level keeps it
+  pub below-kept : level L s < m → level K s ≡ level L s
+  below-kept l = w .at s h ∙ cond-true (ltb (level L s) m) (level L s) 0 (lt-ltb (level L s) m l)
+
+  -- and only such a row has one
+  pub below-only : 0 < level K s → level K s ≡ level L s
+  below-only o = go (decLt (level L s) m)
+    where
+      go : Dec (level L s < m) → level K s ≡ level L s
+      go (yes l) = below-kept l
+      go (no l) = absurd (omega (arith, w .at s h ∙ cond-false (ltb (level L s) m) (level L s) 0 (le-ltb (level L s) m (omega arith))))
 
 -- ---- the lowest row of level l of which a constraint demands row r, read off the nearest that does
 
-module _ (D : Database) (L : List ℕ) (l : ℕ) (j : Constraint) (r : ℕ) (o : 0 < l) (near : Near D L l j r) (b : ℕ) (x : Nearest L (λ s. leads D j s r) b) where
+module _ (D : Database) (L : List ℕ) (m : ℕ) (K : List ℕ) (w : Below L m K) (l : ℕ) (j : Constraint) (r : ℕ) (o : 0 < l) (g : l < m) (near : Near D L l j r) (b : ℕ)
+    (x : Nearest K (λ s. leads D j s r) b) where
   abbrev source : ℕ → Bool
   source t = eqb (level L t) l && leads D j t r
 
   -- a row of level l that demands it is no nearer
   reads : (t : ℕ) → t < 512 → source t ≡ true → (b < 512) × (level L b ≡ l) × (b ≤ t)
-  reads t m e =
+  reads t h e =
       let q = and-eq-true-iff (eqb (level L t) l) (leads D j t r) .0 e in
       let z = eqb-true (level L t) l (q .0) in
-      let y = x .least t m (q .1) (omega arith) in
-      let k = near .levels b (x .here (y .0)) (x .levelled (y .0)) in
-      let f : level L b ≡ level L t = omega (arith, y .1) in
-      (y .0, f ∙ z, y .2 f)
+      let k = below-kept L m K w t h (omega arith) in
+      let y = x .least t h (q .1) (omega arith) in
+      let u = below-only L m K w b (y .0) (x .levelled (y .0)) in
+      let v = near .levels b (x .here (y .0)) (omega (arith, u, x .levelled (y .0))) in
+      let f : level K b ≡ level K t = omega (arith, y .1) in
+      (y .0, sym u ∙ f ∙ k ∙ z, y .2 f)
 
   pub source-none : 512 ≤ b → 512 ≡ sourceRow D L l j r
   unfolding sourceRow
@@ -108,11 +128,15 @@ graded-near S D L n r i g e l = record { levels = λ s h p. omega (arith, g .nea
 
 -- what the links are read off, of a design
 pub traceable : (d : Design) (D : Database) (L near catalog : List ℕ) → Demands (schemeOf d) D catalog → Graded (schemeOf d) D L →
-    Demanding (schemeOf d) D L (d .constraints) near → Traceable (schemeOf d) D L near (d .constraints)
+    (m : ℕ) (K : List ℕ) → Below L m K → Demanding (schemeOf d) D K (d .constraints) near → Traceable (schemeOf d) D L near (d .constraints) m
 unfolding schemeOf
-traceable d D L near catalog x g y = record { count = refl; size-is = x .links .size-is; graded = g; demanding = y }
+traceable d D L near catalog x g m K w y = record { count = refl; size-is = x .links .size-is; graded = g; low = K; below = w; demanding = y }
 
 -- the nearest row that demands row r, as it is read
-pub nearest-read : (S : Scheme) (D : Database) (L near : List ℕ) (n i r s : ℕ) → Traceable S D L near n → i < n → r < 512 → s ≡ getD near (512 * i + r) 0 →
-    Nearest L (λ t. leads D (S .constraint i) t r) s
-nearest-read S D L near n i r s t a b e = subst (Nearest L (λ u. leads D (S .constraint i) u r)) (sym e) (t .demanding .row i r a b)
+pub nearest-read : (S : Scheme) (D : Database) (L near : List ℕ) (n m i r s : ℕ) → (t : Traceable S D L near n m) → i < n → r < 512 → s ≡ getD near (512 * i + r) 0 →
+    Nearest (t .low) (λ u. leads D (S .constraint i) u r) s
+nearest-read S D L near n m i r s t a b e = subst (Nearest (t .low) (λ u. leads D (S .constraint i) u r)) (sym e) (t .demanding .row i r a b)
+
+-- the levels below m, row by row
+pub below-made : (L : List ℕ) (m : ℕ) (K : List ℕ) → K ≡ tab 512 (λ s. cond (ltb (level L s) m) (level L s) 0) → Below L m K
+below-made L m K e = record { at = λ s h. ap (λ (xs : List ℕ). getD xs s 0) e ∙ tab-at 0 512 (λ s. cond (ltb (level L s) m) (level L s) 0) s h }

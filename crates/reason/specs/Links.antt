@@ -1,9 +1,9 @@
 -- What the search for a row's chain asks of the levels, and the chain's links in words, apart from what the chain ends with. Assumes nothing.
 use Prim.Native.Nat.{ℕ, zero, suc, _≤_, _<_}
 use mathlib.Core.Path.{_≡_}
-use mathlib.Core.Bool.{true, _&&_}
+use mathlib.Core.Bool.{true, cond, _&&_}
 use mathlib.Core.List.{List, [], _++_}
-use lib.Dec.{eqb}
+use lib.Dec.{eqb, ltb}
 use lib.ListN.{length}
 use Rattle.finite.specs.Finite.{any, firstFrom}
 use Rattle.model.specs.Scheme.{Constraint, Scheme}
@@ -29,12 +29,18 @@ sourceRow D L l j r = firstFrom 512 (λ t. eqb (level L t) l && leads D j t r) 0
 pub record Near (D : Database) (L : List ℕ) (l : ℕ) (j : Constraint) (r : ℕ) : Type 0 where
   pub levels : (s : ℕ) → leads D j s r ≡ true → 0 < level L s → l ≤ level L s
 
--- what the links of a chain are read off: the levels, and for each of the n constraints and each row the nearest row that demands it
-pub record Traceable (S : Scheme) (D : Database) (L near : List ℕ) (n : ℕ) : Type 0 where
+-- the levels below m, and 0 in place of the others
+pub record Below (L : List ℕ) (m : ℕ) (K : List ℕ) : Type 0 where
+  pub at : (s : ℕ) → s < 512 → level K s ≡ cond (ltb (level L s) m) (level L s) 0
+
+-- what the links of a chain are read off: the levels, and for each of the n constraints and each row the nearest row of a level below m that demands it
+pub record Traceable (S : Scheme) (D : Database) (L near : List ℕ) (n m : ℕ) : Type 0 where
   pub count : S .constraints ≡ n
   pub size-is : D .size ≡ 512
   pub graded : Graded S D L
-  pub demanding : Demanding S D L n near
+  pub low : List ℕ
+  pub below : Below L m low
+  pub demanding : Demanding S D low n near
 
 module _ (S : Scheme) (D : Database) (L : List ℕ) where
   -- the row with something held with which the chain of row r, n constraints away from it, ends

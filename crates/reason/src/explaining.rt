@@ -1,7 +1,7 @@
 // The sentence of a row, link by link back to a held value or range, and the answer.
 ghost use mathlib.Core.Bool.{true};
 ghost use mathlib.Core.Path.{_≡_};
-ghost use Prim.Native.Nat.{_+_, _*_, _≤_, _<_};
+ghost use Prim.Native.Nat.{ℕ, _+_, _*_, _≤_, _<_};
 ghost use lib.ListN.{length};
 ghost use lib.Seq.{sets};
 ghost use Rattle.finite.specs.Writing.{Wrote};
@@ -21,6 +21,7 @@ ghost use Rattle.catalog.specs.Catalog.{Catalogued, Demands};
 ghost use Rattle.reason.specs.Links.{Graded, Traceable, linksText, rootBy};
 use crate::linking::last_link;
 use crate::lowest::lowest_held;
+use crate::nearing::levels_below;
 use crate::wording::put_link;
 use crate::wording::put_origin;
 use catalog::demanding_rows;
@@ -49,9 +50,9 @@ fn put_links(
     at: usize,
 ) -> Traced
     requires { ⌜ (constraints ≤ 16) × (r < 512) × (n < 512) × (at + 30 * n + 47 ≤ length (now out)) ⌝ }
-    requires { ⌜ ((S : Scheme) × (D : Database) × Traceable S D (now levels) (now near) constraints × (level (now levels) r ≡ n + 2)) ⌝ }
-    ensures { λ t. ⌜ ((S : Scheme) (D : Database) → Traceable S D (now (levels .entry)) (now (near .entry)) constraints → level (now (levels .entry)) r ≡ n + 2
-        → (t .row ≡ rootBy S D (now (levels .entry)) n r) × (t .at ≤ at + 30 * n)
+    requires { ⌜ ((S : Scheme) × (D : Database) × (m : ℕ) × Traceable S D (now levels) (now near) constraints m × (level (now levels) r ≡ n + 2) × (n + 2 ≤ m)) ⌝ }
+    ensures { λ t. ⌜ ((S : Scheme) (D : Database) (m : ℕ) → Traceable S D (now (levels .entry)) (now (near .entry)) constraints m → level (now (levels .entry)) r ≡ n + 2
+        → n + 2 ≤ m → (t .row ≡ rootBy S D (now (levels .entry)) n r) × (t .at ≤ at + 30 * n)
         × Wrote (now (out .entry)) (now (out .exit)) at (t .at) (linksText S D (now (levels .entry)) n r)) ⌝ }
 {
     if n == 0 {
@@ -62,7 +63,8 @@ fn put_links(
     put_links(constraints, levels, near, k.row, n - 1, out, z)
 }
 
-// The same from the catalog. Constant time for a row that has something held, else two steps for each constraint and row number, and the links.
+// The same from the catalog. Constant time for a row that has something held, else a step for each row number, a few for each constraint and row that is nearer
+// to what is held, and the links.
 fn put_chain(
     d: Design,
     catalog: &[u16; 16449],
@@ -81,8 +83,10 @@ fn put_chain(
     if n == 0 {
         return Traced { row: r, at };
     }
+    let mut low = [0u16; 512];
+    levels_below(levels, n + 2, &mut low);
     let mut near = [0u16; 8192];
-    demanding_rows(d, catalog, levels, &mut near);
+    demanding_rows(d, catalog, &low, &mut near);
     put_links(d.constraints, levels, &near, r, n, out, at)
 }
 
@@ -118,8 +122,8 @@ fn put_reason(
 
 // Why row number `row` is cached, in words: the lent text is written from its first byte on, if it is long enough for the whole sentence. The sentence is
 // composed in memory of its own, so that cause 11 leaves the text as it was. Constant time for a number that names nothing and for a row that isn't
-// cached; else no more than a reload and the chain's own links: one reload, two steps for each constraint and row number, a look at each constraint for each
-// link, one look at each held value and range, and two steps for each byte of the sentence.
+// cached; else no more than a reload and the chain's own links: one reload, a few steps for each constraint and row that is nearer to what is held, a look at each
+// constraint for each link, one look at each held value and range, and two steps for each byte of the sentence.
 pub fn reason_lawful(
     design: Design,
     cells: &[u32],

@@ -5,6 +5,7 @@
 mod explaining;
 mod linking;
 mod lowest;
+mod nearing;
 mod wording;
 
 pub use explaining::reason_lawful;

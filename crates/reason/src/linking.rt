@@ -22,10 +22,10 @@ fn wide(x: u16) -> usize
 }
 
 // The lowest row of level l of which constraint i demands row r, where none of a lower level demands it; 512 if there is none. `near` has the nearest row
-// for each constraint and row. Constant time.
+// of a level below some m for each constraint and row. Constant time.
 fn source_row(levels: &[u16; 512], near: &[u16; 8192], i: usize, r: usize, l: u16) -> usize
     requires { ⌜ (i < 16) × (r < 512) × (0 < l) ⌝ }
-    ensures { λ s. ⌜ ((S : Scheme) (D : Database) (n : ℕ) → Traceable S D (now (levels .entry)) (now (near .entry)) n → i < n → Near D (now (levels .entry)) l (S .constraint i) r
+    ensures { λ s. ⌜ ((S : Scheme) (D : Database) (n m : ℕ) → Traceable S D (now (levels .entry)) (now (near .entry)) n m → i < n → l < m → Near D (now (levels .entry)) l (S .constraint i) r
         → s ≡ sourceRow D (now (levels .entry)) l (S .constraint i) r) ⌝ }
 {
     let s = wide(near[Design::ROWS * i + r]);
@@ -47,8 +47,8 @@ pub(crate) fn last_link(
     n: u16,
 ) -> Link
     requires { ⌜ (constraints ≤ 16) × (r < 512) × (n < 512) ⌝ }
-    ensures { λ k. ⌜ ((S : Scheme) (D : Database) → Traceable S D (now (levels .entry)) (now (near .entry)) constraints → level (now (levels .entry)) r ≡ n + 3
-        → (k .constraint ≡ lastConstraint S D (now (levels .entry)) n r) × (k .row ≡ lastRow S D (now (levels .entry)) n r)) ⌝ }
+    ensures { λ k. ⌜ ((S : Scheme) (D : Database) (m : ℕ) → Traceable S D (now (levels .entry)) (now (near .entry)) constraints m → level (now (levels .entry)) r ≡ n + 3
+        → n + 3 ≤ m → (k .constraint ≡ lastConstraint S D (now (levels .entry)) n r) × (k .row ≡ lastRow S D (now (levels .entry)) n r)) ⌝ }
 {
     for i in 0..constraints {
         let s = source_row(levels, near, i, r, n + 2);

@@ -1,11 +1,12 @@
 -- `catalog::demanding::nearest_by_first` meets its contract. Assumes nothing.
-use Prim.Native.Nat.{_+_}
-use Rattle.catalog.proofs.DemandingLaws.{Looked, looked-none, looked-skip, looked-more, looked-end}
+use Rattle.catalog.proofs.DemandingLaws.{Looked, looked-start, looked-past, looked-on, looked-done}
 use Rattle.catalog.specs.Catalog.{Demands}
 use Rattle.model.specs.Scheme.{Scheme}
 use Rattle.model.specs.Database.{Database}
+use lib.ListN.{getD}
 use mathlib.Core.Path.{sym, subst}
-use Prim.Native.Nat.{_≤_, _<_, _-_}
+use Prim.Native.Nat.{_+_, _≤_, _<_, _-_}
+use lib.ListN.{getD}
 use mathlib.Core.Logic.{⊎-elim}
 use mathlib.Core.Path.{sym, subst}
 use Prim.Native.Nat.{_≤_, _<_, _-_}
@@ -15,16 +16,25 @@ use Rattle.catalog.proofs.demanding.nearest_by_first.Statement.{stateme
 use Rattle.catalog.proofs.demanding.nearest_by_first.Tie as tie
 
 abbrev Inv-loop : tie.InvT-loop
-Inv-loop catalog levels i best₀ s₀ best s = (s ≤ 512) × ((S : Scheme) (D : Database) → Demands S D catalog → i < S .constraints → Looked S D levels i s best)
+Inv-loop catalog levels rows m i best₀ k₀ best k = (k ≤ m) × ((S : Scheme) (D : Database) → Demands S D catalog → i < S .constraints → Looked S D levels i (getD rows k 0) best)
 
 abbrev μ-loop : tie.MeasureT-loop
-μ-loop catalog levels i best₀ s₀ best s = 512 - s
+μ-loop catalog levels rows m i best₀ k₀ best k = m - k
 
 loop-holds : tie.Need-loop-holds Inv-loop μ-loop
-loop-holds c = (omega arith, λ S D x l. looked-none S D _ _)
+loop-holds c = (omega arith, λ S D x l. looked-start S D _ _ _ _ (c .before .pre .1))
+
+mul-wide : tie.Need-mul-wide Inv-loop μ-loop
+mul-wide c = omega (arith, c .loop-test .taken, c .before .before .before .pre .1 .few)
+
+element-copy-out-wide : tie.Need-element-copy-out-wide Inv-loop μ-loop
+element-copy-out-wide c = omega (arith, c .loop-test .taken, c .before .before .before .pre .1 .few)
+
+wide-requires : tie.Need-wide-requires Inv-loop μ-loop
+wide-requires c κs = search needs
 
 first-row-requires : tie.Need-first-row-requires Inv-loop μ-loop
-first-row-requires c κs = (c .before .before .before .pre, c .loop-test .taken)
+first-row-requires c κs = (c .before .before .before .before .before .pre .0, omega (arith, c .wide .ensures, c .before .before .before .before .before .pre .1 .below _ (c .before .before .loop-test .taken)))
 
 mul-nearer : tie.Need-mul-nearer Inv-loop μ-loop
 mul-nearer c = search needs
@@ -33,7 +43,7 @@ element-copy-out-nearer : tie.Need-element-copy-out-nearer Inv-loop μ-loop
 element-copy-out-nearer c = search needs
 
 nearer-requires : tie.Need-nearer-requires Inv-loop μ-loop
-nearer-requires c κs = c .before .before .before .loop-test .taken
+nearer-requires c κs = omega (arith, c .before .before .before .wide .ensures, c .before .before .before .before .before .before .before .before .pre .1 .below _ (c .before .before .before .before .before .loop-test .taken))
 
 mul-best : tie.Need-mul-best Inv-loop μ-loop
 mul-best c = search needs
@@ -41,8 +51,8 @@ mul-best c = search needs
 element-write-best : tie.Need-element-write-best Inv-loop μ-loop
 element-write-best c = omega arith
 
-add-s : tie.Need-add-s Inv-loop μ-loop
-add-s c = omega arith
+add-k : tie.Need-add-k Inv-loop μ-loop
+add-k c = omega arith
 
 loop-less : tie.Need-loop-less Inv-loop μ-loop
 loop-less c = omega arith
@@ -51,17 +61,22 @@ loop-again : tie.Need-loop-again Inv-loop μ-loop
 loop-again c = (
   omega arith,
   λ S D x l.
-      let v = c .before .before .before .loop .inv .1 S D x l in
+      let v = c .before .before .before .before .before .loop .inv .1 S D x l in
       let f = c .before .first-row .ensures S D x l in
-      let t = c .before .before .loop-test .taken in
-      let a = c .before .before .before .before .before .args in
-      ⊎-elim (λ w. subst (Looked S D (a .levels .now) (a .i) (c .before .before .before .loop .s + 1)) (sym (w .3)) (looked-more S D _ _ _ t _ v _ f (w .0 .taken) _ (w .2 .ensures)))
-      (λ w. subst (Looked S D (a .levels .now) (a .i) (c .before .before .before .loop .s + 1)) (sym (w .1)) (looked-skip S D _ _ _ t _ v _ f (w .0 .left)))
+      let t = c .before .before .before .before .loop-test .taken in
+      let a = c .before .before .before .before .before .before .before .args in
+      ⊎-elim
+      (λ w.
+      subst (Looked S D (a .levels .now) (a .i) (getD (a .rows .now) (c .before .before .before .before .before .loop .k + 1) 0)) (sym (w .3))
+      (looked-on S D _ _ _ _ (c .before .before .before .before .before .before .before .pre .1) _ t _ v _ (c .before .before .wide .ensures) _ f (w .0 .taken) _ (w .2 .ensures)))
+      (λ w.
+      subst (Looked S D (a .levels .now) (a .i) (getD (a .rows .now) (c .before .before .before .before .before .loop .k + 1) 0)) (sym (w .1))
+      (looked-past S D _ _ _ _ (c .before .before .before .before .before .before .before .pre .1) _ t _ v _ (c .before .before .wide .ensures) _ f (w .0 .left)))
       (c .if1 .came),
 )
 
 returns : tie.Need-returns Inv-loop μ-loop
-returns c = λ S D x l. looked-end S D _ _ _ _ (c .loop-test .left) (c .before .loop .inv .1 S D x l)
+returns c = λ S D x l. looked-done S D _ _ _ _ (c .before .before .before .pre .1) _ _ (c .before .loop .inv .0) (c .loop-test .left) (c .before .loop .inv .1 S D x l)
 
 pub nearest-by-first-spec : {M : Type 1} → statement M
 nearest-by-first-spec =
@@ -70,13 +85,16 @@ nearest-by-first-spec =
     Inv-loop
     μ-loop
     loop-holds
+    mul-wide
+    element-copy-out-wide
+    wide-requires
     first-row-requires
     mul-nearer
     element-copy-out-nearer
     nearer-requires
     mul-best
     element-write-best
-    add-s
+    add-k
     loop-less
     loop-again
     returns)

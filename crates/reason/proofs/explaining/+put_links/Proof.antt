@@ -36,7 +36,7 @@ put-links-returns : (t : ℕ) → put-links-lts.Need-returns (
   put-links-below t,
   put-links.Post,
 ) (put-links-at t) put-links.Post
-put-links-returns t c = λ S D x e. let o = c .if1 .taken in (root-none S D _ _ _ o, omega arith, links-none S D _ _ _ _ _ o)
+put-links-returns t c = λ S D m x e g. let o = c .if1 .taken in (root-none S D _ _ _ o, omega arith, links-none S D _ _ _ _ _ o)
 
 put-links-sub-last-link : (t : ℕ) → put-links-lts.Need-sub-last-link (
   last-link-reads.Asked,
@@ -70,9 +70,9 @@ put-links-put-link-requires t c κs =
     let p = c .before .before .before .before .pre .1 in
     let x = p .1 in
     let o = c .before .before .if1 .left in
-    let u = c .before .last-link .ensures (x .0) (x .1) (x .2) (omega (arith, x .3, o)) in (
-      omega (arith, constraint-below (x .0) (x .1) _ _ _ o _ _ (u .0) (u .1) (x .2 .graded) (x .3), x .2 .count, p .0 .0),
-      row-below (x .0) (x .1) _ _ _ o _ _ (u .0) (u .1) (x .2 .graded) (x .3) (x .2 .size-is),
+    let u = c .before .last-link .ensures (x .0) (x .1) (x .2) (x .3) (omega (arith, x .4, o)) (omega (arith, x .5, o)) in (
+      omega (arith, constraint-below (x .0) (x .1) _ _ _ o _ _ (u .0) (u .1) (x .3 .graded) (x .4), x .3 .count, p .0 .0),
+      row-below (x .0) (x .1) _ _ _ o _ _ (u .0) (u .1) (x .3 .graded) (x .4) (x .3 .size-is),
       omega (arith, p .0 .3),
     )
 
@@ -98,14 +98,14 @@ put-links-put-links-requires t c κs =
     let p = c .before .before .before .before .before .before .before .before .pre .1 in
     let x = p .1 in
     let o = c .before .before .before .before .before .before .if1 .left in
-    let u = c .before .before .before .before .before .last-link .ensures (x .0) (x .1) (x .2) (omega (arith, x .3, o)) in
-    let i = constraint-below (x .0) (x .1) _ _ _ o _ _ (u .0) (u .1) (x .2 .graded) (x .3) in
-    let s = row-below (x .0) (x .1) _ _ _ o _ _ (u .0) (u .1) (x .2 .graded) (x .3) (x .2 .size-is) in
-    let z = link-reach _ _ _ _ _ _ (omega (arith, i, x .2 .count, p .0 .0)) s (c .before .before .before .put-link .ensures) in (
+    let u = c .before .before .before .before .before .last-link .ensures (x .0) (x .1) (x .2) (x .3) (omega (arith, x .4, o)) (omega (arith, x .5, o)) in
+    let i = constraint-below (x .0) (x .1) _ _ _ o _ _ (u .0) (u .1) (x .3 .graded) (x .4) in
+    let s = row-below (x .0) (x .1) _ _ _ o _ _ (u .0) (u .1) (x .3 .graded) (x .4) (x .3 .size-is) in
+    let z = link-reach _ _ _ _ _ _ (omega (arith, i, x .3 .count, p .0 .0)) s (c .before .before .before .put-link .ensures) in (
       omega (arith, c .before .before .before .before .before .before .before .before .pre .0, o),
       (
         (p .0 .0, s, omega (arith, p .0 .2), omega (arith, z, p .0 .3, o)),
-        (x .0, x .1, x .2, row-nearer (x .0) (x .1) _ _ _ o _ _ (u .0) (u .1) (x .2 .graded) (x .3)),
+        (x .0, x .1, x .2, x .3, row-nearer (x .0) (x .1) _ _ _ o _ _ (u .0) (u .1) (x .3 .graded) (x .4), omega (arith, x .5)),
       ),
     )
 
@@ -127,14 +127,14 @@ put-links-returns-2 : (t : ℕ) → put-links-lts.Need-returns-2 (
   put-links-below t,
   put-links.Post,
 ) (put-links-at t) put-links.Post
-put-links-returns-2 t c = λ S D x e.
+put-links-returns-2 t c = λ S D m x e g.
     let p = c .before .before .before .before .before .before .before .before .before .before .before .pre .1 in
     let o = c .before .before .before .before .before .before .before .before .before .if1 .left in
-    let u = c .before .before .before .before .before .before .before .before .last-link .ensures S D x (omega (arith, e, o)) in
+    let u = c .before .before .before .before .before .before .before .before .last-link .ensures S D m x (omega (arith, e, o)) (omega (arith, g, o)) in
     let i = constraint-below S D _ _ _ o _ _ (u .0) (u .1) (x .graded) e in
     let s = row-below S D _ _ _ o _ _ (u .0) (u .1) (x .graded) e (x .size-is) in
     let z = link-reach _ _ _ _ _ _ (omega (arith, i, x .count, p .0 .0)) s (c .before .before .before .before .before .before .put-link .ensures) in
-    let v = c .before .before .put-links .ensures S D x (row-nearer S D _ _ _ o _ _ (u .0) (u .1) (x .graded) e) in
+    let v = c .before .before .put-links .ensures S D m x (row-nearer S D _ _ _ o _ _ (u .0) (u .1) (x .graded) e) (omega (arith, g)) in
     (root-more S D _ _ _ o _ _ (u .0) (u .1) _ (v .0), omega (arith, z, v .1, o), links-more S D _ _ _ o _ _ (u .0) (u .1) _ _ _ _ _ _ (c .before .before .before .before .before .before .put-link .ensures) (v .2))
 
 pub +put-links-spec : {M : Type 1} → statement M

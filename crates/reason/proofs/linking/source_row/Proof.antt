@@ -21,7 +21,7 @@ wide-requires : tie.Need-wide-requires
 wide-requires c κs = search needs
 
 returns : tie.Need-returns
-returns c = let p = c .before .before .before .pre in λ S D n t l h. source-none D _ _ _ _ (p .2) h _ (nearest-read S D _ _ n _ _ _ t l (p .1) (c .before .wide .ensures)) (c .if1 .taken)
+returns c = let p = c .before .before .before .pre in λ S D n m t l g h. source-none D _ m (t .low) (t .below) _ _ _ (p .2) g h _ (nearest-read S D _ _ n m _ _ _ t l (p .1) (c .before .wide .ensures)) (c .if1 .taken)
 
 mul-if2 : tie.Need-mul-if2
 mul-if2 c = search needs
@@ -30,10 +30,10 @@ element-copy-out-if2 : tie.Need-element-copy-out-if2
 element-copy-out-if2 c = search needs
 
 returns-2 : tie.Need-returns-2
-returns-2 c = let p = c .before .before .before .before .before .pre in λ S D n t l h. source-later D _ _ _ _ (p .2) h _ (nearest-read S D _ _ n _ _ _ t l (p .1) (c .before .before .before .wide .ensures)) (c .if2 .taken)
+returns-2 c = let p = c .before .before .before .before .before .pre in λ S D n m t l g h. source-later D _ m (t .low) (t .below) _ _ _ (p .2) g h _ (nearest-read S D _ _ n m _ _ _ t l (p .1) (c .before .before .before .wide .ensures)) (c .if2 .taken)
 
 returns-3 : tie.Need-returns-3
-returns-3 c = let p = c .before .before .before .before .before .pre in λ S D n t l h. source-here D _ _ _ _ (p .2) h _ (nearest-read S D _ _ n _ _ _ t l (p .1) (c .before .before .before .wide .ensures)) (c .before .before .if1 .left) (c .if2 .left)
+returns-3 c = let p = c .before .before .before .before .before .pre in λ S D n m t l g h. source-here D _ m (t .low) (t .below) _ _ _ (p .2) g h _ (nearest-read S D _ _ n m _ _ _ t l (p .1) (c .before .before .before .wide .ensures)) (c .before .before .if1 .left) (c .if2 .left)
 
 pub source-row-spec : {M : Type 1} → statement M
 source-row-spec =
