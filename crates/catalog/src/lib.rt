@@ -2,7 +2,7 @@
 // where a row comes or goes.
 // It is two arrays. `catalog` has four parts: for each cell the next row that has the same value in the same column, for each constraint and row the first
 // row that the constraint demands of it, and of the directory the first row of each value and where each column's values begin; `keys` has the keys of the
-// directory's values, falling in each column. They are read by `next_row`, `first_row`, `find`, `find_range` and `first_of` alone; the rest of what is public here is for `mend`.
+// directory's values, falling in each column. They are read by `next_row`, `first_row`, `find`, `find_range` and `first_of` alone; the rest of what is public here is for `mend` and `demanding`.
 mod columns;
 mod finding;
 mod firsts;
@@ -19,7 +19,6 @@ pub use finding::key_of;
 pub use finding::seat;
 pub use finding::stands;
 pub use firsts::demanded;
-pub use firsts::make_firsts;
 pub use listing::make_room;
 pub use making::build;
 pub use reading::FIRSTS;

@@ -1,4 +1,4 @@
-// What stands where in the catalog's array: nothing but this crate, and `mend`, which changes it, indexes it.
+// What stands where in the catalog's array: nothing but this crate, `mend`, which changes it, and `demanding`, which turns a copy of it round, indexes it.
 ghost use mathlib.Core.Path.{_≡_};
 ghost use Prim.Native.Nat.{_<_};
 ghost use lib.ListN.{getD};

@@ -4,22 +4,22 @@ use native.Mathlib.Nat.{not-suc-le-zero}
 use native.Mathlib.Omega.{arith}
 use mathlib.Core.Path.{_≡_, refl, sym, ap, subst, _∙_}
 use mathlib.Core.Logic.{_⊎_, inl, inr, ⊎-elim}
-use mathlib.Core.Bool.{Bool, true, false, cond, _||_}
+use mathlib.Core.Bool.{Bool, true, false, not, cond, _||_, and-eq-true-iff}
 use mathlib.Core.List.{List, [], _∷_, _++_, append-nil, List·Memᴰ, List·Memᴰ·head, List·Memᴰ·tail}
-use borrow.Author.Tests.{eqb-true, eq-eqb, ne-eqb}
+use borrow.Author.Tests.{eqb-true, eqb-false, eq-eqb, ne-eqb, not-true}
 use lib.Dec.{eqb}
 use lib.ListN.{length, getD}
 use Rattle.finite.specs.Finite.{collect}
 use Rattle.finite.specs.Sameness.{listed}
-use Rattle.finite.proofs.Bools.{dec, or-left, cond-true, cond-false}
+use Rattle.finite.proofs.Bools.{dec, both, or-left, cond-true, cond-false}
 use Rattle.finite.proofs.Collecting.{collect-has}
 use Rattle.model.specs.Scheme.{Scheme}
 use Rattle.model.specs.Even as Even
-use Rattle.model.specs.Even.{Reaches, isUneven}
+use Rattle.model.specs.Even.{Reaches}
 use Rattle.model.specs.Knot.{kept, StillUneven, Rising, none, more, SetOf}
-use Rattle.model.proofs.EvenLaws.{Few, uneven-says, uneven-if}
+use Rattle.model.proofs.EvenLaws.{Few}
 use Rattle.model.proofs.KnotOrder.{rising-at}
-use Rattle.even.specs.Walks.{sourceOf, targetOf, weightOf, far, cheapest, mostSteps, pairWeight, weightWith, weightFrom, knotWeight}
+use Rattle.even.specs.Walks.{sourceOf, targetOf, weightOf, far, cheapest, mostSteps, pairWeight, turnsOff, weightWith, weightFrom, knotWeight}
 use Rattle.even.proofs.Walks.{Set, Within, weight, cost, Walk, here, along, UnevenSet, walk-within, bounded}
 use Rattle.even.proofs.Cheapest.{lowest-le, lowest-found, cheapest-le, cheapest-found}
 
@@ -95,30 +95,37 @@ pair-has i j is =
     rw e (among-head i (j ∷ is), among-tail i (j ∷ is) j (among-head j is), λ x y. among-tail i (j ∷ is) x (among-tail j is x y)))
     (dec (eqb i j))
 
-walk-reaches : {S : Scheme} {K : Set} {u t : ℕ} {is : List ℕ} → Walk S K u t is → Reaches S u t
-walk-reaches (here e) = Even.here e
-walk-reaches (along i l k s p) = Even.along i l (sym s) (walk-reaches p)
-
 module _ (S : Scheme) where
-  pub with-uneven : (i j : ℕ) → isUneven S i j ≡ true → weightWith S i j ≡ pairWeight i j + cheapest S (sourceOf S i) mostSteps (targetOf S j)
+  pub with-turn : (i j : ℕ) → turnsOff (S .constraint i) (S .constraint j) ≡ true → weightWith S i j ≡ pairWeight i j + cheapest S (sourceOf S i) mostSteps (targetOf S j)
   unfolding weightWith
-  with-uneven i j e = cond-true (isUneven S i j) _ _ e
+  with-turn i j e = cond-true (turnsOff (S .constraint i) (S .constraint j)) _ _ e
 
-  pub with-even : (i j : ℕ) → isUneven S i j ≡ false → weightWith S i j ≡ far
+  with-none : (i j : ℕ) → turnsOff (S .constraint i) (S .constraint j) ≡ false → weightWith S i j ≡ far
   unfolding weightWith
-  with-even i j e = cond-false (isUneven S i j) _ _ e
+  with-none i j e = cond-false (turnsOff (S .constraint i) (S .constraint j)) _ _ e
+
+  turns-if : (i j : ℕ) → targetOf S i ≡ sourceOf S j → (S .constraint i .target .place ≡ S .constraint j .source .place → ⊥) →
+      turnsOff (S .constraint i) (S .constraint j) ≡ true
+  unfolding turnsOff
+  turns-if i j m n = both (eq-eqb _ _ m) (ap not (ne-eqb _ _ n))
+
+  turns-says : (i j : ℕ) → turnsOff (S .constraint i) (S .constraint j) ≡ true →
+      (targetOf S i ≡ sourceOf S j) × (S .constraint i .target .place ≡ S .constraint j .source .place → ⊥)
+  unfolding turnsOff
+  turns-says i j e =
+      let a = and-eq-true-iff (eqb (targetOf S i) (sourceOf S j)) _ .0 e in
+      (eqb-true _ _ (a .0), eqb-false _ _ (not-true _ (a .1)))
 
   -- no uneven set weighs less
   knot-least : Few S → (K : Set) → UnevenSet S K → knotWeight S ≤ weight weightOf (S .constraints) K
   unfolding knotWeight weightFrom
   knot-least few K U =
       let b = bounded K few U in
-      let t = uneven-if S few (U .i) (U .j)
-      (record { cyclic = record { first = U .i-there; second = U .j-there; meet = U .meet; back = walk-reaches (U .back) }; apart = U .apart }) in
+      let t = turns-if (U .i) (U .j) (U .meet) (U .apart) in
       omega (
         arith,
         cheapest-le S (sourceOf S (U .i)) mostSteps (targetOf S (U .j)) (b .steps) (b .walk) (b .few),
-        with-uneven (U .i) (U .j) t,
+        with-turn (U .i) (U .j) t,
         lowest-le (weightWith S (U .i)) (S .constraints) (U .j) (U .j-there),
         lowest-le (weightFrom S) (S .constraints) (U .i) (U .i-there),
         b .cheap,
@@ -136,14 +143,15 @@ module _ (S : Scheme) where
   knot-found l =
       let f = lowest-found (weightFrom S) (S .constraints) l in
       let g = lowest-found (weightWith S (f .0)) (S .constraints) (omega (arith, f .2)) in
-      subst Weighs (sym (f .2 ∙ g .2)) (go (f .0) (g .0) (f .1) (g .1) (omega (arith, f .2, g .2)) (dec (isUneven S (f .0) (g .0))))
+      subst Weighs (sym (f .2 ∙ g .2)) (go (f .0) (g .0) (f .1) (g .1) (omega (arith, f .2, g .2)) (dec (turnsOff (S .constraint (f .0)) (S .constraint (g .0)))))
     where
-      go : (i j : ℕ) → i < S .constraints → j < S .constraints → weightWith S i j < far → (isUneven S i j ≡ true) ⊎ (isUneven S i j ≡ false) → Weighs (weightWith S i j)
-      go i j a b l (inr t) = absurd (omega (arith, with-even i j t))
+      go : (i j : ℕ) → i < S .constraints → j < S .constraints → weightWith S i j < far →
+          (turnsOff (S .constraint i) (S .constraint j) ≡ true) ⊎ (turnsOff (S .constraint i) (S .constraint j) ≡ false) → Weighs (weightWith S i j)
+      go i j a b l (inr t) = absurd (omega (arith, with-none i j t))
       go i j a b l (inl t) =
-          let z = with-uneven i j t in
+          let z = with-turn i j t in
           let r = cheapest-found S (sourceOf S i) mostSteps (targetOf S j) (omega (arith, z)) in
-          let u = uneven-says S i j a b t in
+          let u = turns-says i j t in
           let h = pair-has i j (r .steps) in
           record {
             set = among (pairList i j (r .steps));
@@ -154,8 +162,8 @@ module _ (S : Scheme) where
               j-there = b;
               first = h .0;
               second = h .1;
-              meet = u .cyclic .meet;
-              apart = u .apart;
+              meet = u .0;
+              apart = u .1;
               steps = r .steps;
               back = walk-within (h .2) (walk-own (r .walk));
             };

@@ -1,39 +1,39 @@
 -- What the tests of two constraints say, test by test. Assumes nothing.
 use Prim.Native.Nat.{ℕ, _+_, _≤_, _<_}
 use native.Mathlib.Omega.{arith}
-use mathlib.Core.Path.{_≡_, refl, sym, ap, _∙_}
-use mathlib.Core.Bool.{Bool, true, false, not}
+use mathlib.Core.Path.{_≡_, sym, ap, ap₂, _∙_}
+use mathlib.Core.Bool.{Bool, true, not, _&&_}
 use mathlib.Core.List.{List}
-use borrow.Author.Tests.{eq-eqb, ne-eqb, lt-ltb, le-ltb}
-use lib.Dec.{ltb}
+use borrow.Author.Tests.{lt-ltb, le-ltb}
+use lib.Dec.{eqb, ltb}
+use lib.ListN.{getD}
 use Rattle.finite.specs.Finite.{firstFrom}
-use Rattle.finite.proofs.Bools.{and-go, and-stop}
 use Rattle.finite.proofs.First.{first-here, first-skip, first-past}
 use Rattle.model.specs.Even.{isUneven, reaches, square, unevenFrom, lowestUneven}
 use Rattle.model.specs.Answers.{even, uneven, orAnswer, evenAnswer}
 use Rattle.state.specs.declared.design.Design.{Design}
-use Rattle.state.specs.Design.{constraintAt}
+use Rattle.model.specs.Scheme.{Scheme}
+use Rattle.state.specs.declared.design.Constraint.{Constraint}
+use Rattle.state.specs.Design.{noConstraint}
 use Rattle.state.specs.Meaning.{schemeOf}
-use Rattle.even.specs.Reading.{at}
+use Rattle.even.specs.Reading.{at, Laid}
 use Rattle.even.proofs.Turns.{square-at}
 
-module _ (d : Design) (i j : ℕ) where
-  pub other-table : (constraintAt d i .target .table ≡ constraintAt d j .source .table → ⊥) → false ≡ isUneven (schemeOf d) i j
-  unfolding isUneven schemeOf
-  other-table n = and-stop _ _ (ne-eqb _ _ n)
+module _ (S : Scheme) (n : ℕ) (cs : List Constraint) (l : Laid S n cs) where
+  -- what the tests found, of an array of constraints
+  pub uneven-read : (i j : ℕ) (m : List (List Bool)) → m ≡ square (reaches S) → getD cs j noConstraint .target .table < 8 → getD cs i noConstraint .source .table < 8 → (b : Bool) →
+      b ≡ eqb (getD cs i noConstraint .target .table) (getD cs j noConstraint .source .table) &&
+      (not (eqb (getD cs i noConstraint .target .place) (getD cs j noConstraint .source .place)) &&
+      at m (getD cs j noConstraint .target .table) (getD cs i noConstraint .source .table)) → isUneven S i j ≡ b
+  unfolding isUneven
+  uneven-read i j m e p q b r =
+      ap₂ (λ x y. eqb (x .target .table) (y .source .table) && (not (eqb (x .target .place) (y .source .place)) && reaches S (y .target .table) (x .source .table))) (l .at i) (l .at j) ∙
+      sym (r ∙ ap (λ (y : Bool). eqb (getD cs i noConstraint .target .table) (getD cs j noConstraint .source .table) &&
+      (not (eqb (getD cs i noConstraint .target .place) (getD cs j noConstraint .source .place)) && y))
+      (ap (λ (x : List (List Bool)). at x (getD cs j noConstraint .target .table) (getD cs i noConstraint .source .table)) e ∙ square-at (reaches S) _ _ p q))
 
-  pub same-place : constraintAt d i .target .table ≡ constraintAt d j .source .table → constraintAt d i .target .place ≡ constraintAt d j .source .place →
-      false ≡ isUneven (schemeOf d) i j
-  unfolding isUneven schemeOf
-  same-place t p = and-go _ _ (eq-eqb _ _ t) (and-stop _ _ (ap not (eq-eqb _ _ p)))
-
-  pub reaching : constraintAt d j .target .table < 8 → constraintAt d i .source .table < 8 →
-      constraintAt d i .target .table ≡ constraintAt d j .source .table → (constraintAt d i .target .place ≡ constraintAt d j .source .place → ⊥) →
-      (m : List (List Bool)) → m ≡ square (reaches (schemeOf d)) → at m (constraintAt d j .target .table) (constraintAt d i .source .table) ≡ isUneven (schemeOf d) i j
-  unfolding isUneven schemeOf
-  reaching a b t p m e =
-      ap (λ (x : List (List Bool)). at x (constraintAt d j .target .table) (constraintAt d i .source .table)) e ∙
-      square-at (reaches (schemeOf d)) _ _ a b ∙ and-go _ _ (eq-eqb _ _ t) (and-go _ _ (ap not (ne-eqb _ _ p)) refl)
+  pub from-start : (i : ℕ) → unevenFrom S i ≡ firstFrom n (isUneven S i) 0
+  from-start i = ap (λ (k : ℕ). firstFrom k (isUneven S i) 0) (l .count)
 
 -- ---- the lowest pair, row by row: i is the constraint that is looked at, and j the lowest with it
 

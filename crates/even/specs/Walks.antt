@@ -1,10 +1,12 @@
 -- The least weight of an uneven set of constraints, as the code finds it: the cheapest walks in rounds over the tables, and the cheapest pair with its walk
 -- (02, Req 11). Assumes nothing.
-use Prim.Native.Nat.{ℕ, zero, suc, _+_, _-_, _%_, _^_, min}
-use mathlib.Core.Bool.{cond}
+use Prim.Native.Nat.{ℕ, zero, suc, _+_, _-_, _*_, _%_, _^_, _<_, min}
+use mathlib.Core.Path.{_≡_}
+use mathlib.Core.Bool.{Bool, not, cond, _&&_}
+use mathlib.Core.List.{List}
 use lib.Dec.{eqb}
-use Rattle.model.specs.Scheme.{Scheme}
-use Rattle.model.specs.Even.{isUneven}
+use lib.ListN.{length, getD}
+use Rattle.model.specs.Scheme.{Constraint, Scheme}
 
 abbrev pub sourceOf : Scheme → ℕ → ℕ
 sourceOf S i = S .constraint i .source .table
@@ -47,9 +49,13 @@ mostSteps = 7
 unfoldable pub pairWeight : ℕ → ℕ → ℕ
 pairWeight i j = cond (eqb i j) (weightOf i) (weightOf i + weightOf j)
 
--- the least weight of i, j and the walk back, where these make the design uneven
+-- constraint b turns off at a's end: it starts at the table where a ends, at another column
+unfoldable pub turnsOff : Constraint → Constraint → Bool
+turnsOff a b = eqb (a .target .table) (b .source .table) && not (eqb (a .target .place) (b .source .place))
+
+-- the least weight of i, j and the walk back, where j turns off at i's end
 unfoldable pub weightWith : Scheme → ℕ → ℕ → ℕ
-weightWith S i j = cond (isUneven S i j) (pairWeight i j + cheapest S (sourceOf S i) mostSteps (targetOf S j)) far
+weightWith S i j = cond (turnsOff (S .constraint i) (S .constraint j)) (pairWeight i j + cheapest S (sourceOf S i) mostSteps (targetOf S j)) far
 
 unfoldable pub weightFrom : Scheme → ℕ → ℕ
 weightFrom S i = lowest (S .constraints) (weightWith S i)
@@ -61,3 +67,16 @@ knotWeight S = lowest (S .constraints) (weightFrom S)
 -- the mask of a set, read off its weight
 abbrev pub maskIn : ℕ → ℕ
 maskIn w = (65536 - w % 65536) % 65536
+
+-- ---- the costs as an array, of walks from table t to table u at 8 * t + u
+
+-- of the cheapest walks of at most m steps
+pub record Cheap (S : Scheme) (m : ℕ) (costs : List ℕ) : Type 0 where
+  pub long : length costs ≡ 64
+  pub at : (t u : ℕ) → t < 8 → u < 8 → getD costs (8 * t + u) 0 ≡ cheapest S u m t
+
+-- `next` became next′: walks from table s to a table below k may begin with a step to table t, which weighs w
+pub record Stepped (costs next : List ℕ) (s t w k : ℕ) (next′ : List ℕ) : Type 0 where
+  pub long : length next′ ≡ length next
+  pub row : (u : ℕ) → u < k → getD next′ (8 * s + u) 0 ≡ min (getD next (8 * s + u) 0) (w + getD costs (8 * t + u) 0)
+  pub others : (x u : ℕ) → u < 8 → ((x ≡ s) × (u < k) → ⊥) → getD next′ (8 * x + u) 0 ≡ getD next (8 * x + u) 0

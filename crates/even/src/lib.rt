@@ -2,6 +2,8 @@
 mod knots;
 mod pairs;
 mod reaching;
+mod walking;
+mod weighing;
 
 pub use knots::smallest_knot;
 pub use pairs::evenness;

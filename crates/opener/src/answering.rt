@@ -4,9 +4,9 @@ ghost use mathlib.Core.Path.{_≡_};
 ghost use Rattle.model.specs.Runs as Runs;
 ghost use Rattle.state.specs.Cells.{cellsIn};
 ghost use Rattle.state.specs.HeldWords.{wordsHeld};
-ghost use Rattle.state.specs.Meaning.{answerOf, cellOf, columnOf, databaseOf};
+ghost use Rattle.state.specs.Meaning.{answerOf, cellOf, columnOf, databaseOf, schemeOf};
 ghost use Rattle.state.specs.Lent.{lent, sound, answerAt};
-ghost use Rattle.catalog.specs.Catalog.{Indexed};
+ghost use Rattle.catalog.specs.Catalog.{Catalogued};
 use crate::leading::leading_rows;
 use crate::reading::lowest_opener;
 use lawful::is_column;
@@ -17,8 +17,8 @@ use state::Column;
 use state::Design;
 use state::is_numberless;
 
-// Whether the probe has a ground, or else the lowest filling, number and issue whose reference would give it one. The probe's cost, and without a ground a
-// search of the directory for each constraint and row, one load, and one pass over the row numbers for each filling.
+// Whether the probe has a ground, or else the lowest filling, number and issue whose reference would give it one. The probe's cost, and without a ground
+// three steps for each constraint and row number, one load, and one pass over the row numbers for each filling.
 pub fn opener_lawful(
     design: Design,
     cells: &[u32],
@@ -32,7 +32,7 @@ pub fn opener_lawful(
     v: Cell,
 ) -> Answer
     requires { ⌜ sound (lent design (cellsIn (now cells) (now issues)) (now tables) (now marks) (wordsHeld (now held))) ≡ true ⌝ }
-    requires { ⌜ Indexed (databaseOf (cellsIn (now cells) (now issues)) (now tables)) (now catalog) (now keys) ⌝ }
+    requires { ⌜ Catalogued (schemeOf design) (databaseOf (cellsIn (now cells) (now issues)) (now tables)) (now catalog) (now keys) ⌝ }
     ensures { λ a. ⌜ answerOf a ≡ answerAt (lent design (cellsIn (now (cells .entry)) (now (issues .entry))) (now (tables .entry)) (now (marks .entry)) (wordsHeld (now (held .entry))))
         (Runs.ask (Runs.opener (columnOf k) (cellOf v))) ⌝ }
 {
@@ -47,16 +47,6 @@ pub fn opener_lawful(
         return Answer::Open;
     }
     let mut levels = [0u16; 512];
-    leading_rows(
-        design,
-        cells,
-        issues,
-        tables,
-        catalog,
-        keys,
-        k,
-        v,
-        &mut levels,
-    );
+    leading_rows(design, catalog, keys, k, v, &mut levels);
     lowest_opener(design, cells, issues, tables, &levels, k, v)
 }

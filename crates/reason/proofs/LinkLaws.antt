@@ -1,126 +1,80 @@
--- Looking for the last link of a row's chain: from one row that has a value to the next, and from one constraint to the next. Assumes nothing.
-use Prim.Native.Nat.{ℕ, suc, _+_, _≤_, _<_}
+-- Looking for the last link of a row's chain: by one constraint, and from one constraint to the next. Assumes nothing.
+use Prim.Native.Nat.{ℕ, suc, _+_, _*_, _≤_, _<_}
+use native.Mathlib.Decide.{decLt}
 use native.Mathlib.Omega.{arith}
-use mathlib.Core.Path.{_≡_, sym, ap, subst, _∙_}
-use mathlib.Core.Bool.{Bool, true, false, _&&_, and-eq-true-iff}
+use mathlib.Core.Path.{_≡_, refl, sym, ap, subst, _∙_}
+use mathlib.Core.Bool.{Bool, true, false, cond, _&&_, and-eq-true-iff}
 use mathlib.Core.List.{List}
-use borrow.Author.Tests.{eqb-true, eq-eqb, ne-eqb}
-use lib.Dec.{eqb}
-use Rattle.finite.specs.Finite.{any, first, firstFrom}
-use Rattle.finite.proofs.Bools.{and-left, and-right, bool-ext, both, clash}
+use borrow.Author.Tests.{eqb-true, eq-eqb, lt-ltb, le-ltb}
+use lib.Dec.{eqb, ltb}
+use lib.ListN.{getD}
+use Rattle.finite.specs.Finite.{any, first, firstFrom, tab}
+use Rattle.finite.proofs.Bools.{both, clash, refute, cond-true, cond-false}
+use Rattle.finite.proofs.Tables.{tab-at}
 use Rattle.finite.proofs.Search.{any-true, any-none, any-more, any-refuted}
-use Rattle.finite.proofs.First.{First, first-from, first-is, first-here, first-skip, first-past, first-within, first-none, first-same}
-use Rattle.model.specs.Cell.{Cell, equal}
-use Rattle.model.specs.Scheme.{Column, Constraint, Scheme}
-use Rattle.model.specs.Database.{Database, has}
+use Rattle.finite.proofs.First.{First, first-from, first-is, first-none}
+use Rattle.model.specs.Scheme.{Constraint, Scheme}
+use Rattle.model.specs.Database.{Database}
 use Rattle.model.specs.Rounds.{leads, level}
 use Rattle.model.specs.Reason.{isLink, lastConstraint, lastRow}
-use Rattle.model.proofs.CellLaws.{equal-same, equal-self}
-use Rattle.model.proofs.DatabaseLaws.{has-Has, Has-has, has-full}
-use Rattle.catalog.specs.Hits.{Hit}
-use Rattle.catalog.proofs.HitLaws.{first-hit}
-use Rattle.reason.specs.Links.{Graded, rowOfLevel, sourceRow}
-use Rattle.reason.specs.Walked.{Near}
+use Rattle.state.specs.declared.design.Design.{Design}
+use Rattle.state.specs.Meaning.{schemeOf}
+use Rattle.catalog.specs.Catalog.{Demands}
+use Rattle.demanding.specs.Demanding.{Nearest, Demanding}
+use Rattle.reason.specs.Links.{Graded, Near, Below, Traceable, sourceRow}
 
--- ---- among the rows that have the value v in column k, from one to the next, for the first of level l
+-- ---- the levels below m
 
--- the search stands at s, and has passed none
-pub record Looking (D : Database) (L : List ℕ) (l : ℕ) (k : Column) (v : Cell) (s : ℕ) : Type 0 where
-  pub stands : Hit (has D k v) s
-  pub rest : rowOfLevel D L l k v ≡ firstFrom 512 (λ t. eqb (level L t) l && has D k v t) s
+module _ (L : List ℕ) (m : ℕ) (K : List ℕ) (w : Below L m K) (s : ℕ) (h : s < 512) where
+  -- a row of such a level keeps it
+  pub below-kept : level L s < m → level K s ≡ level L s
+  below-kept l = w .at s h ∙ cond-true (ltb (level L s) m) (level L s) 0 (lt-ltb (level L s) m l)
 
-module _ (D : Database) (L : List ℕ) (l : ℕ) (k : Column) (v : Cell) where
-  abbrev f : ℕ → Bool
-  f t = eqb (level L t) l && has D k v t
-
-  only : (t : ℕ) → f t ≡ true → has D k v t ≡ true
-  only t e = and-eq-true-iff (eqb (level L t) l) (has D k v t) .0 e .1
-
-  pub look-start : (s : ℕ) → s ≡ firstFrom 512 (has D k v) 0 → Looking D L l k v s
-  unfolding rowOfLevel
-  look-start s e =
-      record { stands = first-hit (has D k v) 0 s e; rest = sym (ap (firstFrom 512 f) e ∙ first-within 512 f (has D k v) 0 (omega arith) only) }
-
-  module _ (s : ℕ) (u : Looking D L l k v s) where
-    pub look-next : s < 512 → (level L s ≡ l → ⊥) → (t : ℕ) → t ≡ firstFrom 512 (has D k v) (s + 1) → Looking D L l k v t
-    look-next b n t e =
-        record {
-          stands = first-hit (has D k v) (s + 1) t e;
-          rest = u .rest ∙ first-skip 512 f s (and-left (eqb (level L s) l) (has D k v s) (ne-eqb _ _ n)) ∙
-              sym (ap (firstFrom 512 f) e ∙ first-within 512 f (has D k v) (s + 1) (omega arith) only);
-        }
-
-    pub look-found : s < 512 → level L s ≡ l → s ≡ rowOfLevel D L l k v
-    look-found b h = sym (u .rest ∙ first-here 512 f s b (both (eq-eqb _ _ h) (u .stands .here b)))
-
-    pub look-end : 512 ≤ s → 512 ≡ rowOfLevel D L l k v
-    look-end b = sym (u .rest ∙ first-past 512 f s b)
-
--- ---- the rows of which a constraint demands row r: those that have r's value in the source column
-
-module _ (D : Database) (j : Constraint) (r : ℕ) where
-  pub leads-elsewhere : (D .table r ≡ j .target .table → ⊥) → (s : ℕ) → leads D j s r ≡ false
-  unfolding leads has
-  leads-elsewhere n s =
-      and-right (D .live s) _ (and-right (eqb (D .table s) (j .source .table)) _ (and-right (D .live r) _ (and-left (eqb (D .table r) (j .target .table)) _ (ne-eqb _ _ n))))
-
-  pub leads-has : D .live r ≡ true → D .table r ≡ j .target .table → (s : ℕ) → leads D j s r ≡ has D (j .source) (D .cell r (j .target .place)) s
-  unfolding leads
-  leads-has l t s = bool-ext _ _ there back
+  -- and only such a row has one
+  pub below-only : 0 < level K s → level K s ≡ level L s
+  below-only o = go (decLt (level L s) m)
     where
-      there : D .live s && (eqb (D .table s) (j .source .table) && has D (j .target) (D .cell s (j .source .place)) r) ≡ true →
-          has D (j .source) (D .cell r (j .target .place)) s ≡ true
-      there e =
-          let a = and-eq-true-iff (D .live s) _ .0 e in
-          let b = and-eq-true-iff (eqb (D .table s) (j .source .table)) _ .0 (a .1) in
-          let w = has-Has D (j .target) _ r (b .1) in
-          let same = equal-same _ _ (w .value) in
-          Has-has (record {
-            live = a .0;
-            table = eqb-true _ _ (b .0);
-            value = subst (λ (x : Cell). equal (D .cell s (j .source .place)) x ≡ true) (sym same) (equal-self _ (has-full w));
-          })
+      go : Dec (level L s < m) → level K s ≡ level L s
+      go (yes l) = below-kept l
+      go (no l) = absurd (omega (arith, w .at s h ∙ cond-false (ltb (level L s) m) (level L s) 0 (le-ltb (level L s) m (omega arith))))
 
-      back : has D (j .source) (D .cell r (j .target .place)) s ≡ true →
-          D .live s && (eqb (D .table s) (j .source .table) && has D (j .target) (D .cell s (j .source .place)) r) ≡ true
-      back e =
-          let w = has-Has D (j .source) _ s e in
-          let same = equal-same _ _ (w .value) in
-          both (w .live)
-          (both (eq-eqb _ _ (w .table))
-          (Has-has (record {
-            live = l;
-            table = t;
-            value = subst (λ (x : Cell). equal (D .cell r (j .target .place)) x ≡ true) (sym same) (equal-self _ (has-full w));
-          })))
+-- ---- the lowest row of level l of which a constraint demands row r, read off the nearest that does
 
--- ... of level l, the lowest of them
-module _ (D : Database) (L : List ℕ) (l : ℕ) (j : Constraint) (r : ℕ) where
+module _ (D : Database) (L : List ℕ) (m : ℕ) (K : List ℕ) (w : Below L m K) (l : ℕ) (j : Constraint) (r : ℕ) (o : 0 < l) (g : l < m) (near : Near D L l j r) (b : ℕ)
+    (x : Nearest K (λ s. leads D j s r) b) where
   abbrev source : ℕ → Bool
   source t = eqb (level L t) l && leads D j t r
 
-  -- row r is none of the target table
-  pub source-elsewhere : (D .table r ≡ j .target .table → ⊥) → 512 ≡ sourceRow D L l j r
+  -- a row of level l that demands it is no nearer
+  reads : (t : ℕ) → t < 512 → source t ≡ true → (b < 512) × (level L b ≡ l) × (b ≤ t)
+  reads t h e =
+      let q = and-eq-true-iff (eqb (level L t) l) (leads D j t r) .0 e in
+      let z = eqb-true (level L t) l (q .0) in
+      let k = below-kept L m K w t h (omega arith) in
+      let y = x .least t h (q .1) (omega arith) in
+      let u = below-only L m K w b (y .0) (x .levelled (y .0)) in
+      let v = near .levels b (x .here (y .0)) (omega (arith, u, x .levelled (y .0))) in
+      let f : level K b ≡ level K t = omega (arith, y .1) in
+      (y .0, sym u ∙ f ∙ k ∙ z, y .2 f)
+
+  pub source-none : 512 ≤ b → 512 ≡ sourceRow D L l j r
   unfolding sourceRow
-  source-elsewhere n = sym (first-none 512 source 0 (λ t _ _. and-right (eqb (level L t) l) _ (leads-elsewhere D j r n t)))
+  source-none h = sym (first-none 512 source 0 (λ t _ m. refute (source t) (λ e. omega (arith, reads t m e .0))))
 
-  -- it is one, and v its value in the target column
-  module _ (e : D .live r ≡ true) (t : D .table r ≡ j .target .table) (v : Cell) (c : D .cell r (j .target .place) ≡ v) where
-    leads-value : (s : ℕ) → leads D j s r ≡ has D (j .source) v s
-    leads-value s = leads-has D j r e t s ∙ ap (λ (x : Cell). has D (j .source) x s) c
+  pub source-later : (level L b ≡ l → ⊥) → 512 ≡ sourceRow D L l j r
+  unfolding sourceRow
+  source-later n = sym (first-none 512 source 0 (λ t _ m. refute (source t) (λ e. n (reads t m e .1))))
 
-    pub source-same : rowOfLevel D L l (j .source) v ≡ sourceRow D L l j r
-    unfolding rowOfLevel sourceRow
-    source-same = first-same 512 _ source 0 (λ s _ _. ap (λ (b : Bool). eqb (level L s) l && b) (sym (leads-value s)))
-
-    pub source-none : (from : ℕ) → from ≡ firstFrom 512 (has D (j .source) v) 0 → 512 ≤ from → 512 ≡ sourceRow D L l j r
-    unfolding sourceRow
-    source-none from f h =
-        let u = first-from 512 (has D (j .source) v) 0 (omega arith) in
-        sym (first-none 512 source 0 (λ s _ k. and-right (eqb (level L s) l) _ (leads-value s ∙ u .none s (omega arith) (omega arith))))
-
-    pub source-near : Near D L l j r → (s : ℕ) → has D (j .source) v s ≡ true → 0 < level L s → l ≤ level L s
-    source-near near s h p = near .levels s (leads-value s ∙ h) p
+  pub source-here : b < 512 → level L b ≡ l → b ≡ sourceRow D L l j r
+  unfolding sourceRow
+  source-here h e =
+      first-is 512 source 0 b
+      (record {
+        start = omega arith;
+        bound = x .bound;
+        none = λ t _ m. refute (source t) (λ q. omega (arith, reads t (omega arith) q .2));
+        here = λ _. both (eq-eqb _ _ e) (x .here h);
+      })
 
 -- ---- from one constraint to the next: the links of row r, which is n + 1 constraints away from what is held
 
@@ -171,3 +125,18 @@ module _ (S : Scheme) (D : Database) (z : D .size ≡ 512) (L : List ℕ) (n r :
 -- what row r, of level n + 3, is demanded of is of level n + 2 or later
 pub graded-near : (S : Scheme) (D : Database) (L : List ℕ) (n r i : ℕ) → Graded S D L → level L r ≡ n + 3 → i < S .constraints → Near D L (n + 2) (S .constraint i) r
 graded-near S D L n r i g e l = record { levels = λ s h p. omega (arith, g .near s r i l h p) }
+
+-- what the links are read off, of a design
+pub traceable : (d : Design) (D : Database) (L near catalog : List ℕ) → Demands (schemeOf d) D catalog → Graded (schemeOf d) D L →
+    (m : ℕ) (K : List ℕ) → Below L m K → Demanding (schemeOf d) D K (d .constraints) near → Traceable (schemeOf d) D L near (d .constraints) m
+unfolding schemeOf
+traceable d D L near catalog x g m K w y = record { count = refl; size-is = x .links .size-is; graded = g; low = K; below = w; demanding = y }
+
+-- the nearest row that demands row r, as it is read
+pub nearest-read : (S : Scheme) (D : Database) (L near : List ℕ) (n m i r s : ℕ) → (t : Traceable S D L near n m) → i < n → r < 512 → s ≡ getD near (512 * i + r) 0 →
+    Nearest (t .low) (λ u. leads D (S .constraint i) u r) s
+nearest-read S D L near n m i r s t a b e = subst (Nearest (t .low) (λ u. leads D (S .constraint i) u r)) (sym e) (t .demanding .row i r a b)
+
+-- the levels below m, row by row
+pub below-made : (L : List ℕ) (m : ℕ) (K : List ℕ) → K ≡ tab 512 (λ s. cond (ltb (level L s) m) (level L s) 0) → Below L m K
+below-made L m K e = record { at = λ s h. ap (λ (xs : List ℕ). getD xs s 0) e ∙ tab-at 0 512 (λ s. cond (ltb (level L s) m) (level L s) 0) s h }

@@ -1,10 +1,12 @@
 // The sentence of a row, link by link back to a held value or range, and the answer.
 ghost use mathlib.Core.Bool.{true};
 ghost use mathlib.Core.Path.{_≡_};
-ghost use Prim.Native.Nat.{_+_, _*_, _≤_, _<_};
+ghost use Prim.Native.Nat.{ℕ, _+_, _*_, _≤_, _<_};
 ghost use lib.ListN.{length};
 ghost use lib.Seq.{sets};
 ghost use Rattle.finite.specs.Writing.{Wrote};
+ghost use Rattle.model.specs.Database.{Database};
+ghost use Rattle.model.specs.Scheme.{Scheme};
 ghost use Rattle.model.specs.Rounds.{level};
 ghost use Rattle.model.specs.Runs as Runs;
 ghost use Rattle.model.specs.Runs.{cachedFor};
@@ -15,13 +17,14 @@ ghost use Rattle.state.specs.Held.{Bounded};
 ghost use Rattle.state.specs.HeldWords.{wordsHeld};
 ghost use Rattle.state.specs.Lent.{answerAt, lent, sound, textAt};
 ghost use Rattle.state.specs.Meaning.{answerOf, databaseOf, holdingOf, schemeOf};
-ghost use Rattle.catalog.specs.Catalog.{Catalogued, Indexed};
-ghost use Rattle.reason.specs.Links.{Graded, linksText, rootBy};
-ghost use Rattle.reason.specs.Walked.{Passed};
+ghost use Rattle.catalog.specs.Catalog.{Catalogued, Demands};
+ghost use Rattle.reason.specs.Links.{Graded, Traceable, linksText, rootBy};
 use crate::linking::last_link;
 use crate::lowest::lowest_held;
+use crate::nearing::levels_below;
 use crate::wording::put_link;
 use crate::wording::put_origin;
+use demanding::demanding_rows;
 use load::load_held;
 use state::Answer;
 use state::Design;
@@ -35,65 +38,56 @@ struct Traced {
     at: usize,
 }
 
-// Writes the links of row r, which is n constraints away from what is held, the last one first. Document 01 has this by recursion: the distance falls. A
-// search of the directory for each link and constraint. `walked` comes back from each call and goes into the next, so that no value of a source column is
-// walked twice: whatever the number of links, all walks together pass each of the 4,096 cells at the most once, as those of a reload do.
+// Writes the links of row r, which is n constraints away from what is held, the last one first. Document 01 has this by recursion: the distance falls. A look
+// at each constraint for each link: `near` has the rows that demand each.
 fn put_links(
-    d: Design,
-    cells: &[u32],
-    issues: &[u8],
-    tables: &[u8],
-    catalog: &[u16; 16449],
-    keys: &[u64; 4096],
+    constraints: usize,
     levels: &[u16; 512],
-    walked: &mut [bool; 4096],
+    near: &[u16; 8192],
     r: usize,
     n: u16,
     out: &mut [u8],
     at: usize,
 ) -> Traced
-    requires { ⌜ (r < 512) × (n < 512) × InRange d × Backed (cellsIn (now cells) (now issues)) (now tables)
-        × (at + 30 * n + 47 ≤ length (now out)) ⌝ }
-    requires { ⌜ Indexed (databaseOf (cellsIn (now cells) (now issues)) (now tables)) (now catalog) (now keys) ⌝ }
-    requires { ⌜ Graded (schemeOf d) (databaseOf (cellsIn (now cells) (now issues)) (now tables)) (now levels)
-        × (level (now levels) r ≡ n + 2)
-        × Passed (databaseOf (cellsIn (now cells) (now issues)) (now tables)) (now levels) (n + 2) (now walked) ⌝ }
-    ensures { λ t. ⌜ (t .row ≡ rootBy (schemeOf d) (databaseOf (cellsIn (now (cells .entry)) (now (issues .entry))) (now (tables .entry)))
-        (now (levels .entry)) n r)
-        × (t .at ≤ at + 30 * n)
-        × Wrote (now (out .entry)) (now (out .exit)) at (t .at) (linksText (schemeOf d) (databaseOf (cellsIn (now (cells .entry))
-        (now (issues .entry))) (now (tables .entry))) (now (levels .entry)) n r) ⌝ }
+    requires { ⌜ (constraints ≤ 16) × (r < 512) × (n < 512) × (at + 30 * n + 47 ≤ length (now out)) ⌝ }
+    requires { ⌜ ((S : Scheme) × (D : Database) × (m : ℕ) × Traceable S D (now levels) (now near) constraints m × (level (now levels) r ≡ n + 2) × (n + 2 ≤ m)) ⌝ }
+    ensures { λ t. ⌜ ((S : Scheme) (D : Database) (m : ℕ) → Traceable S D (now (levels .entry)) (now (near .entry)) constraints m → level (now (levels .entry)) r ≡ n + 2
+        → n + 2 ≤ m → (t .row ≡ rootBy S D (now (levels .entry)) n r) × (t .at ≤ at + 30 * n)
+        × Wrote (now (out .entry)) (now (out .exit)) at (t .at) (linksText S D (now (levels .entry)) n r)) ⌝ }
 {
     if n == 0 {
         return Traced { row: r, at };
     }
-    let k = last_link(
-        d,
-        cells,
-        issues,
-        tables,
-        catalog,
-        keys,
-        levels,
-        walked,
-        r,
-        n - 1,
-    );
+    let k = last_link(constraints, levels, near, r, n - 1);
     let z = put_link(out, at, k.constraint, k.row);
-    put_links(
-        d,
-        cells,
-        issues,
-        tables,
-        catalog,
-        keys,
-        levels,
-        walked,
-        k.row,
-        n - 1,
-        out,
-        z,
-    )
+    put_links(constraints, levels, near, k.row, n - 1, out, z)
+}
+
+// The same from the catalog. Constant time for a row that has something held, else a step for each row number, a few for each constraint and row that is nearer
+// to what is held, and the links.
+fn put_chain(
+    d: Design,
+    catalog: &[u16; 16449],
+    levels: &[u16; 512],
+    r: usize,
+    n: u16,
+    out: &mut [u8],
+    at: usize,
+) -> Traced
+    requires { ⌜ InRange d × (r < 512) × (n < 512) × (at + 30 * n + 47 ≤ length (now out)) ⌝ }
+    requires { ⌜ ((D : Database) × Demands (schemeOf d) D (now catalog) × Graded (schemeOf d) D (now levels) × (level (now levels) r ≡ n + 2)) ⌝ }
+    ensures { λ t. ⌜ ((D : Database) → Demands (schemeOf d) D (now (catalog .entry)) → Graded (schemeOf d) D (now (levels .entry))
+        → level (now (levels .entry)) r ≡ n + 2 → (t .row ≡ rootBy (schemeOf d) D (now (levels .entry)) n r) × (t .at ≤ at + 30 * n)
+        × Wrote (now (out .entry)) (now (out .exit)) at (t .at) (linksText (schemeOf d) D (now (levels .entry)) n r)) ⌝ }
+{
+    if n == 0 {
+        return Traced { row: r, at };
+    }
+    let mut low = [0u16; 512];
+    levels_below(levels, n + 2, &mut low);
+    let mut near = [0u16; 8192];
+    demanding_rows(d, catalog, &low, &mut near);
+    put_links(d.constraints, levels, &near, r, n, out, at)
 }
 
 // Writes the reason for row r, which is cached; how long it is. One reload, the search of the links, and one look at each held value and range.
@@ -120,30 +114,16 @@ fn put_reason(
     load_held(d, catalog, keys, held, Design::ROWS, &mut levels);
     let z = put_bytes(out, 0, b"row", 3);
     let y = put_spaced(out, z, r as u64);
-    let mut walked = [false; 4096];
     let n = levels[r] - 2;
-    let t = put_links(
-        d,
-        cells,
-        issues,
-        tables,
-        catalog,
-        keys,
-        &levels,
-        &mut walked,
-        r,
-        n,
-        out,
-        y,
-    );
+    let t = put_chain(d, catalog, &levels, r, n, out, y);
     let o = lowest_held(d, cells, issues, tables, held, t.row);
     put_origin(out, t.at, o)
 }
 
 // Why row number `row` is cached, in words: the lent text is written from its first byte on, if it is long enough for the whole sentence. The sentence is
 // composed in memory of its own, so that cause 11 leaves the text as it was. Constant time for a number that names nothing and for a row that isn't
-// cached; else no more than a reload and the chain's own links: one reload, walks that pass each cell at the most once, a search of the directory for each
-// link and constraint, one look at each held value and range, and two steps for each byte of the sentence.
+// cached; else no more than a reload and the chain's own links: one reload, a few steps for each constraint and row that is nearer to what is held, a look at each
+// constraint for each link, one look at each held value and range, and two steps for each byte of the sentence.
 pub fn reason_lawful(
     design: Design,
     cells: &[u32],

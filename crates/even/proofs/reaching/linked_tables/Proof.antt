@@ -1,11 +1,12 @@
 -- `even::reaching::linked_tables` meets its contract. Assumes nothing.
-use mathlib.Core.List.{[]}
-use Rattle.finite.specs.Finite.{tab}
-use Rattle.finite.proofs.Tables.{Upto, upto-start, upto-set, upto-end}
-use Rattle.model.specs.Even.{linked}
+use Rattle.even.proofs.LinkLaws.{laid, links-none, links-more, links-end}
+use Rattle.even.specs.Reading.{Laid, linkedBy}
 use Rattle.state.specs.Meaning.{schemeOf}
-use lib.ListN.{getD}
-use mathlib.Core.Path.{refl}
+use Rattle.model.specs.Even.{square}
+use Rattle.model.specs.Scheme.{Scheme}
+use mathlib.Core.Path.{_≡_, sym, _∙_}
+use Prim.Native.Nat.{_≤_, _-_}
+use mathlib.Core.Path.{_≡_, sym, _∙_}
 use Prim.Native.Nat.{_≤_, _-_}
 use borrow.Author.Needs.{needs}
 use native.Mathlib.Omega.{arith}
@@ -13,36 +14,60 @@ use Rattle.even.proofs.reaching.linked_tables.Statement.{statement}
 use Rattle.even.proofs.reaching.linked_tables.Tie as tie
 
 abbrev Inv-loop : tie.InvT-loop
-Inv-loop d m₀ t₀ m t = (t ≤ 8) × Upto [] 8 t (λ i. tab 8 (linked (schemeOf d) i)) (λ x. getD m₀ x []) m
+Inv-loop n constraint m₀ i₀ m i = (i ≤ n) × ((S : Scheme) → Laid S n constraint → m ≡ square (linkedBy S i))
 
 abbrev μ-loop : tie.MeasureT-loop
-μ-loop d m₀ t₀ m t = 8 - t
+μ-loop n constraint m₀ i₀ m i = n - i
+
+alone-requires : tie.Need-alone-requires Inv-loop μ-loop
+alone-requires c κs = search needs
 
 loop-holds : tie.Need-loop-holds Inv-loop μ-loop
-loop-holds c = (omega arith, upto-start [] 8 _ _ refl)
+loop-holds c = (omega arith, λ S l. c .alone .ensures ∙ links-none S)
 
-linked-row-requires : tie.Need-linked-row-requires Inv-loop μ-loop
-linked-row-requires c κs = c .before .before .pre
+mul-c : tie.Need-mul-c Inv-loop μ-loop
+mul-c c = search needs
 
-mul-m : tie.Need-mul-m Inv-loop μ-loop
-mul-m c = search needs
+array-copy-out-c : tie.Need-array-copy-out-c Inv-loop μ-loop
+array-copy-out-c c = let s = c .before .before .before .before in omega (arith, c .loop-test .taken, s .pre)
 
-array-set-from-m : tie.Need-array-set-from-m Inv-loop μ-loop
-array-set-from-m c = omega arith
+cast-with-link : tie.Need-cast-with-link Inv-loop μ-loop
+cast-with-link c = omega arith
 
-add-t : tie.Need-add-t Inv-loop μ-loop
-add-t c = omega arith
+cast-with-link-2 : tie.Need-cast-with-link-2 Inv-loop μ-loop
+cast-with-link-2 c = omega arith
+
+with-link-requires : tie.Need-with-link-requires Inv-loop μ-loop
+with-link-requires c κs = search needs
+
+add-i : tie.Need-add-i Inv-loop μ-loop
+add-i c = omega arith
 
 loop-less : tie.Need-loop-less Inv-loop μ-loop
 loop-less c = omega arith
 
 loop-again : tie.Need-loop-again Inv-loop μ-loop
-loop-again c = (omega arith, upto-set _ _ _ _ _ _ (c .before .before .loop .inv .1) (c .before .loop-test .taken) _ (c .linked-row .ensures))
+loop-again c = (omega arith, λ S l. links-more S _ _ l _ _ _ (c .before .before .before .before .before .loop .inv .1 S l) (c .with-link .ensures))
 
 returns : tie.Need-returns Inv-loop μ-loop
-returns c = upto-end _ _ _ _ _ _ (c .before .loop .inv .1) (c .before .loop .inv .0) (c .loop-test .left)
+returns c =
+    let d = c .before .before .before .before .args .d in
+    links-end (schemeOf d) _ _ _ (sym (laid d .count)) (c .before .loop .inv .0) (c .loop-test .left) (c .before .loop .inv .1 (schemeOf d) (laid d))
 
 pub linked-tables-spec : {M : Type 1} → statement M
 linked-tables-spec =
     tie.close
-    (tie.spec Inv-loop μ-loop loop-holds linked-row-requires mul-m array-set-from-m add-t loop-less loop-again returns)
+    (tie.spec
+    Inv-loop
+    μ-loop
+    alone-requires
+    loop-holds
+    mul-c
+    array-copy-out-c
+    cast-with-link
+    cast-with-link-2
+    with-link-requires
+    add-i
+    loop-less
+    loop-again
+    returns)

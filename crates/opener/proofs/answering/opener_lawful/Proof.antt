@@ -36,20 +36,20 @@ search-requires c κs =
         sound-table _ (s .pre .0) _ k,
         sound-column _ (s .pre .0) _ k,
       ),
-      (_, s .pre .1),
+      (_, s .pre .1 .index),
     )
 
 returns-3 : tie.Need-returns-3
 returns-3 c =
     let s = c .before .before .before .before .before .before .before .before .before .before .before in
     let k = sym (c .before .before .before .before .before .before .is-column .ensures) ∙ not-false _ (c .before .before .before .before .before .if1 .left) in
-    opener-open _ (s .pre .0) _ _ k (sym (c .before .before .before .before .is-numberless .ensures) ∙ c .before .before .before .if2 .left) _ (c .before .before .search .ensures _ (s .pre .1) .0) (c .if3 .taken)
+    opener-open _ (s .pre .0) _ _ k (sym (c .before .before .before .before .is-numberless .ensures) ∙ c .before .before .before .if2 .left) _ (c .before .before .search .ensures _ (s .pre .1 .index) .0) (c .if3 .taken)
 
 leading-rows-requires : tie.Need-leading-rows-requires
 leading-rows-requires c κs =
     let s = c .before .before .before .before .before .before .before .before .before .before .before .before in
     let k = sym (c .before .before .before .before .before .before .before .is-column .ensures) ∙ not-false _ (c .before .before .before .before .before .before .if1 .left) in
-    ((sound-range _ (s .pre .0) (sized (s .args .design) _ (s .good .0)), sound-table _ (s .pre .0) _ k, sound-column _ (s .pre .0) _ k, sound-backed _ (s .pre .0)), s .pre .1)
+    ((sound-range _ (s .pre .0) (sized (s .args .design) _ (s .good .0)), sound-table _ (s .pre .0) _ k, sound-column _ (s .pre .0) _ k), (_, s .pre .1))
 
 lowest-opener-requires : tie.Need-lowest-opener-requires
 lowest-opener-requires c κs = let s = c .before .before .before .before .before .before .before .before .before .before .before .before .before .before in (sound-range _ (s .pre .0) (sized (s .args .design) _ (s .good .0)), sound-backed _ (s .pre .0))
@@ -58,9 +58,9 @@ returns-4 : tie.Need-returns-4
 returns-4 c =
     let s = c .before .before .before .before .before .before .before .before .before .before .before .before .before .before .before in
     let k = sym (c .before .before .before .before .before .before .before .before .before .before .is-column .ensures) ∙ not-false _ (c .before .before .before .before .before .before .before .before .before .if1 .left) in
-    opener-read _ (s .pre .0) _ _ k (sym (c .before .before .before .before .before .before .before .before .is-numberless .ensures) ∙ c .before .before .before .before .before .before .before .if2 .left) _ (c .before .before .before .before .before .before .search .ensures _ (s .pre .1) .0) (c .before .before .before .before .if3 .left)
+    opener-read _ (s .pre .0) _ _ k (sym (c .before .before .before .before .before .before .before .before .is-numberless .ensures) ∙ c .before .before .before .before .before .before .before .if2 .left) _ (c .before .before .before .before .before .before .search .ensures _ (s .pre .1 .index) .0) (c .before .before .before .before .if3 .left)
     (record { number = λ i. omega (arith, c .before .before .before .before .before .before .before .before .before .before .before .before .before .before .shared-slice-known .given i); issue = λ i. omega (arith, c .before .before .before .before .before .before .before .before .before .before .before .before .before .shared-slice-known2 .given i) })
-    (cell-small (s .args .v) _ (s .good .1 .1 .1 .1 .1 .1 .1 .1 .1 .0)) _ (c .before .before .leading-rows .ensures) _ (c .lowest-opener .ensures)
+    (cell-small (s .args .v) _ (s .good .1 .1 .1 .1 .1 .1 .1 .1 .1 .0)) _ (c .before .before .leading-rows .ensures _ (s .pre .1)) _ (c .lowest-opener .ensures)
 
 pub opener-lawful-spec : {M : Type 1} → statement M
 opener-lawful-spec =

@@ -65,7 +65,7 @@ enum-known-op-7 : tie.Need-enum-known-op-7
 enum-known-op-7 c = search needs
 
 opener-lawful-requires : tie.Need-opener-lawful-requires
-opener-lawful-requires c κs = let b = c .before .before .before .before .before .before .before .before .before .before .before in (b .pre .0, b .pre .1 .index)
+opener-lawful-requires c κs = let b = c .before .before .before .before .before .before .before .before .before .before .before in (b .pre .0, b .pre .1)
 
 enum-known-op-8 : tie.Need-enum-known-op-8
 enum-known-op-8 c = search needs

@@ -1,10 +1,12 @@
 -- `reason::explaining::put_links` meets its contract: the last link, then the links of the row that it comes from, one nearer to what is held. Assumes nothing.
-use native.Mathlib.Omega.{arith}
-use borrow.Author.Needs.{needs}
-use Rattle.state.specs.Meaning.{schemeOf}
-use Rattle.reason.proofs.Composing.{root-none, links-none, root-more, links-more, constraint-below, row-below, row-nearer}
-use Rattle.reason.proofs.PassedLaws.{rows-numbered, passed-as}
 use Rattle.reason.proofs.WordingLaws.{link-reach}
+use Rattle.reason.proofs.Composing.{root-none, links-none, root-more, links-more, constraint-below, row-below, row-nearer}
+use lib.ListN.{getD, length}
+use mathlib.Core.Logic.{⊎-elim}
+use mathlib.Core.Path.{_≡_, refl, sym, ap, subst, _∙_}
+use Prim.Native.Nat.{ℕ, _≤_, _<_, _-_}
+use borrow.Author.Needs.{needs}
+use native.Mathlib.Omega.{arith}
 use Prim.Native.Nat.{ℕ, _<_}
 use borrow.Fn.Kinds.{In}
 use borrow.Fn.PlainCycle.{Measures, is, falls, and}
@@ -16,15 +18,15 @@ use Rattle.reason.proofs.wording.put_link.Reads as put-link-reads
 use Rattle.reason.proofs.explaining.+put_links.{statement}
 use Rattle.reason.proofs.explaining.+put_links.Tie.{close}
 
-abbrev μ-put-links : Measures 8 put-links-kinds.ps ℕ
-μ-put-links κs a = a .1 .1 .1 .1 .1 .1 .1 .1 .1 .0
+abbrev μ-put-links : Measures 3 put-links-kinds.ps ℕ
+μ-put-links κs a = a .1 .1 .1 .1 .0
 
-abbrev put-links-at : ℕ → In 8 put-links-kinds.ps
-put-links-at t = and 8 put-links-kinds.ps (is 8 put-links-kinds.ps μ-put-links t) put-links.Pre
+abbrev put-links-at : ℕ → In 3 put-links-kinds.ps
+put-links-at t = and 3 put-links-kinds.ps (is 3 put-links-kinds.ps μ-put-links t) put-links.Pre
 
-abbrev put-links-below : ℕ → In 8 put-links-kinds.ps
+abbrev put-links-below : ℕ → In 3 put-links-kinds.ps
 put-links-below t =
-    and 8 put-links-kinds.ps (falls 8 put-links-kinds.ps _<_ μ-put-links t) put-links.Pre
+    and 3 put-links-kinds.ps (falls 3 put-links-kinds.ps _<_ μ-put-links t) put-links.Pre
 
 put-links-returns : (t : ℕ) → put-links-lts.Need-returns (
   last-link-reads.Asked,
@@ -34,9 +36,7 @@ put-links-returns : (t : ℕ) → put-links-lts.Need-returns (
   put-links-below t,
   put-links.Post,
 ) (put-links-at t) put-links.Post
-put-links-returns t c =
-    let o = c .if1 .taken in
-    (root-none _ _ _ _ _ o, omega arith, links-none _ _ _ _ _ _ _ o)
+put-links-returns t c = λ S D m x e g. let o = c .if1 .taken in (root-none S D _ _ _ o, omega arith, links-none S D _ _ _ _ _ o)
 
 put-links-sub-last-link : (t : ℕ) → put-links-lts.Need-sub-last-link (
   last-link-reads.Asked,
@@ -46,8 +46,7 @@ put-links-sub-last-link : (t : ℕ) → put-links-lts.Need-sub-last-link (
   put-links-below t,
   put-links.Post,
 ) (put-links-at t) put-links.Post
-put-links-sub-last-link t c =
-    omega (arith, c .before .if1 .left)
+put-links-sub-last-link t c = omega (arith, c .if1 .left)
 
 put-links-last-link-requires : (t : ℕ) → put-links-lts.Need-last-link-requires (
   last-link-reads.Asked,
@@ -57,10 +56,7 @@ put-links-last-link-requires : (t : ℕ) → put-links-lts.Need-last-link-requir
   put-links-below t,
   put-links.Post,
 ) (put-links-at t) put-links.Post
-put-links-last-link-requires t c κs =
-    let p = c .before .before .before .before .before .before .pre .1 in
-    let o = c .before .if1 .left in
-    ((p .0 .0, omega arith, p .0 .2, p .0 .3), (p .1 .0, (p .1 .1 .0, omega (arith, p .1 .1 .1), passed-as _ _ _ _ _ (omega arith) (p .1 .1 .2))))
+put-links-last-link-requires t c κs = let p = c .before .before .pre .1 in (p .0 .0, p .0 .1, omega (arith, p .0 .2))
 
 put-links-put-link-requires : (t : ℕ) → put-links-lts.Need-put-link-requires (
   last-link-reads.Asked,
@@ -70,14 +66,14 @@ put-links-put-link-requires : (t : ℕ) → put-links-lts.Need-put-link-requires
   put-links-below t,
   put-links.Post,
 ) (put-links-at t) put-links.Post
-unfolding schemeOf
 put-links-put-link-requires t c κs =
-    let p = c .before .before .before .before .before .before .before .before .pre .1 in
-    let u = c .before .last-link .ensures in
-    let o = c .before .before .before .if1 .left in (
-      omega (arith, constraint-below _ _ _ _ _ o _ _ (u .0) (u .1) (p .1 .1 .0) (p .1 .1 .1), p .0 .2 .constraints),
-      row-below _ _ _ _ _ o _ _ (u .0) (u .1) (p .1 .1 .0) (p .1 .1 .1) (rows-numbered _ _),
-      omega arith,
+    let p = c .before .before .before .before .pre .1 in
+    let x = p .1 in
+    let o = c .before .before .if1 .left in
+    let u = c .before .last-link .ensures (x .0) (x .1) (x .2) (x .3) (omega (arith, x .4, o)) (omega (arith, x .5, o)) in (
+      omega (arith, constraint-below (x .0) (x .1) _ _ _ o _ _ (u .0) (u .1) (x .3 .graded) (x .4), x .3 .count, p .0 .0),
+      row-below (x .0) (x .1) _ _ _ o _ _ (u .0) (u .1) (x .3 .graded) (x .4) (x .3 .size-is),
+      omega (arith, p .0 .3),
     )
 
 put-links-sub-put-links : (t : ℕ) → put-links-lts.Need-sub-put-links (
@@ -88,8 +84,7 @@ put-links-sub-put-links : (t : ℕ) → put-links-lts.Need-sub-put-links (
   put-links-below t,
   put-links.Post,
 ) (put-links-at t) put-links.Post
-put-links-sub-put-links t c =
-    omega (arith, c .before .before .before .before .before .before .before .if1 .left)
+put-links-sub-put-links t c = omega (arith, c .before .before .before .before .before .if1 .left)
 
 put-links-put-links-requires : (t : ℕ) → put-links-lts.Need-put-links-requires (
   last-link-reads.Asked,
@@ -99,18 +94,18 @@ put-links-put-links-requires : (t : ℕ) → put-links-lts.Need-put-links-requir
   put-links-below t,
   put-links.Post,
 ) (put-links-at t) put-links.Post
-unfolding schemeOf
 put-links-put-links-requires t c κs =
-    let p = c .before .before .before .before .before .before .before .before .before .before .before .before .before .pre .1 in
-    let u = c .before .before .before .before .before .before .last-link .ensures in
-    let o = c .before .before .before .before .before .before .before .before .if1 .left in
-    let i = constraint-below _ _ _ _ _ o _ _ (u .0) (u .1) (p .1 .1 .0) (p .1 .1 .1) in
-    let s = row-below _ _ _ _ _ o _ _ (u .0) (u .1) (p .1 .1 .0) (p .1 .1 .1) (rows-numbered _ _) in
-    let z = link-reach _ _ _ _ _ _ (omega (arith, i, p .0 .2 .constraints)) s (c .before .before .before .before .put-link .ensures) in (
-      omega arith,
+    let p = c .before .before .before .before .before .before .before .before .pre .1 in
+    let x = p .1 in
+    let o = c .before .before .before .before .before .before .if1 .left in
+    let u = c .before .before .before .before .before .last-link .ensures (x .0) (x .1) (x .2) (x .3) (omega (arith, x .4, o)) (omega (arith, x .5, o)) in
+    let i = constraint-below (x .0) (x .1) _ _ _ o _ _ (u .0) (u .1) (x .3 .graded) (x .4) in
+    let s = row-below (x .0) (x .1) _ _ _ o _ _ (u .0) (u .1) (x .3 .graded) (x .4) (x .3 .size-is) in
+    let z = link-reach _ _ _ _ _ _ (omega (arith, i, x .3 .count, p .0 .0)) s (c .before .before .before .put-link .ensures) in (
+      omega (arith, c .before .before .before .before .before .before .before .before .pre .0, o),
       (
-        (s, omega arith, p .0 .2, p .0 .3, omega (arith, z)),
-        (p .1 .0, (p .1 .1 .0, row-nearer _ _ _ _ _ o _ _ (u .0) (u .1) (p .1 .1 .0) (p .1 .1 .1), u .2)),
+        (p .0 .0, s, omega (arith, p .0 .2), omega (arith, z, p .0 .3, o)),
+        (x .0, x .1, x .2, x .3, row-nearer (x .0) (x .1) _ _ _ o _ _ (u .0) (u .1) (x .3 .graded) (x .4), omega (arith, x .5)),
       ),
     )
 
@@ -122,8 +117,7 @@ put-links-same-length : (t : ℕ) → put-links-lts.Need-same-length (
   put-links-below t,
   put-links.Post,
 ) (put-links-at t) put-links.Post
-put-links-same-length t c =
-    search needs
+put-links-same-length t c = search needs
 
 put-links-returns-2 : (t : ℕ) → put-links-lts.Need-returns-2 (
   last-link-reads.Asked,
@@ -133,16 +127,15 @@ put-links-returns-2 : (t : ℕ) → put-links-lts.Need-returns-2 (
   put-links-below t,
   put-links.Post,
 ) (put-links-at t) put-links.Post
-unfolding schemeOf
-put-links-returns-2 t c =
-    let p = c .before .before .before .before .before .before .before .before .before .before .before .before .before .before .before .before .pre .1 in
-    let u = c .before .before .before .before .before .before .before .before .before .last-link .ensures in
-    let o = c .before .before .before .before .before .before .before .before .before .before .before .if1 .left in
-    let i = constraint-below _ _ _ _ _ o _ _ (u .0) (u .1) (p .1 .1 .0) (p .1 .1 .1) in
-    let s = row-below _ _ _ _ _ o _ _ (u .0) (u .1) (p .1 .1 .0) (p .1 .1 .1) (rows-numbered _ _) in
-    let z = link-reach _ _ _ _ _ _ (omega (arith, i, p .0 .2 .constraints)) s (c .before .before .before .before .before .before .before .put-link .ensures) in
-    let v = c .before .before .put-links .ensures in
-    (root-more _ _ _ _ _ o _ _ (u .0) (u .1) _ (v .0), omega (arith, z, v .1), links-more _ _ _ _ _ o _ _ (u .0) (u .1) _ _ _ _ _ _ (c .before .before .before .before .before .before .before .put-link .ensures) (v .2))
+put-links-returns-2 t c = λ S D m x e g.
+    let p = c .before .before .before .before .before .before .before .before .before .before .before .pre .1 in
+    let o = c .before .before .before .before .before .before .before .before .before .if1 .left in
+    let u = c .before .before .before .before .before .before .before .before .last-link .ensures S D m x (omega (arith, e, o)) (omega (arith, g, o)) in
+    let i = constraint-below S D _ _ _ o _ _ (u .0) (u .1) (x .graded) e in
+    let s = row-below S D _ _ _ o _ _ (u .0) (u .1) (x .graded) e (x .size-is) in
+    let z = link-reach _ _ _ _ _ _ (omega (arith, i, x .count, p .0 .0)) s (c .before .before .before .before .before .before .put-link .ensures) in
+    let v = c .before .before .put-links .ensures S D m x (row-nearer S D _ _ _ o _ _ (u .0) (u .1) (x .graded) e) (omega (arith, g)) in
+    (root-more S D _ _ _ o _ _ (u .0) (u .1) _ (v .0), omega (arith, z, v .1, o), links-more S D _ _ _ o _ _ (u .0) (u .1) _ _ _ _ _ _ (c .before .before .before .before .before .before .put-link .ensures) (v .2))
 
 pub +put-links-spec : {M : Type 1} → statement M
 +put-links-spec = close μ-put-links λ t. put-links-lts.spec (

@@ -1,88 +1,65 @@
--- `reason::linking::last_link` meets its contract: a search among the constraints. Assumes nothing.
-use Prim.Native.Nat.{suc, _≤_, _+_, _-_}
-use native.Mathlib.Omega.{arith}
-use mathlib.Core.Bool.{false, _&&_}
-use mathlib.Core.Path.{_≡_}
-use lib.Dec.{eqb}
-use lib.ListN.{getD}
-use Rattle.finite.specs.Finite.{any}
-use Rattle.finite.proofs.Search.{any-start}
-use Rattle.model.specs.Rounds.{leads, level}
-use Rattle.model.specs.Reason.{isLink}
-use Rattle.state.specs.Cells.{cellsIn}
-use Rattle.state.specs.Design.{noConstraint}
-use Rattle.state.specs.Meaning.{constraintOf, databaseOf, schemeOf}
-use Rattle.reason.specs.Walked.{Passed}
+-- `reason::linking::last_link` meets its contract. Assumes nothing.
+use Prim.Native.Nat.{ℕ}
+use Prim.Native.Nat.{_≤_, _<_, _+_, _-_}
 use Rattle.reason.proofs.LinkLaws.{link-none, link-constraint, link-row, link-some, graded-near}
-use Rattle.reason.proofs.PassedLaws.{rows-numbered, passed-as}
+use Rattle.reason.specs.Links.{Traceable}
+use Rattle.model.specs.Reason.{isLink}
+use Rattle.model.specs.Rounds.{level}
+use Rattle.model.specs.Database.{Database}
+use Rattle.model.specs.Scheme.{Scheme}
+use Rattle.finite.proofs.Search.{any-start}
+use Rattle.finite.specs.Finite.{any}
+use mathlib.Core.Path.{_≡_}
+use mathlib.Core.Bool.{false}
+use mathlib.Core.Path.{_≡_}
+use Prim.Native.Nat.{_≤_, _<_, _-_}
+use native.Mathlib.Omega.{arith}
 use Rattle.reason.proofs.linking.last_link.Statement.{statement}
 use Rattle.reason.proofs.linking.last_link.Tie as tie
 
 abbrev Inv-loop : tie.InvT-loop
-Inv-loop cells issues tables catalog keys levels walked₀ r n constraint i₀ i-end walked i =
-    (i ≤ i-end) ×
-    (any i (λ x. any (databaseOf (cellsIn cells issues) tables .size) (λ s. eqb (level levels s) (suc (suc n)) &&
-    leads (databaseOf (cellsIn cells issues) tables) (constraintOf (getD constraint x noConstraint)) s r)) ≡ false) ×
-    Passed (databaseOf (cellsIn cells issues) tables) levels (n + 2 + 1) walked
+Inv-loop constraints levels near r n i₀ i =
+    (i ≤ constraints) ×
+    ((S : Scheme) (D : Database) (m : ℕ) → Traceable S D levels near constraints m → level levels r ≡ n + 3 → n + 3 ≤ m → any i (λ x. any (D .size) (isLink S D levels n r x)) ≡ false)
 
 abbrev μ-loop : tie.MeasureT-loop
-μ-loop cells issues tables catalog keys levels walked₀ r n constraint i₀ i-end walked i = i-end - i
+μ-loop constraints levels near r n i₀ i = constraints - i
 
 loop-holds : tie.Need-loop-holds Inv-loop μ-loop
-loop-holds c = (omega arith, any-start _, passed-as _ _ _ _ _ (omega arith) (c .before .before .before .before .pre .1 .1 .2))
-
-mul-j : tie.Need-mul-j Inv-loop μ-loop
-mul-j c = omega (arith, c .before .before .before .before .before .before .pre .0 .2 .constraints, c .loop-test .taken)
-
-array-copy-out-j : tie.Need-array-copy-out-j Inv-loop μ-loop
-array-copy-out-j c = omega (arith, c .before .before .before .before .before .before .pre .0 .2 .constraints, c .loop-test .taken)
+loop-holds c = (omega arith, λ S D m t e g. any-start _)
 
 add-source-row : tie.Need-add-source-row Inv-loop μ-loop
-add-source-row c = omega (arith, c .before .before .before .before .before .before .before .before .pre .0 .1)
+add-source-row c = omega arith
 
 source-row-requires : tie.Need-source-row-requires Inv-loop μ-loop
-unfolding schemeOf
-source-row-requires c κs =
-    let p = c .before .before .before .before .before .before .before .before .pre in
-    let i = c .before .before .before .loop .i in
-    let g = p .1 .1 in (
-      (p .0 .0, omega arith, p .0 .3, p .0 .2 .source-table i, p .0 .2 .source i, p .0 .2 .target i),
-      (p .1 .0, (g .0 .rows _ (omega (arith, g .1)), graded-near _ _ _ _ _ _ (g .0) (g .1) (c .before .before .loop-test .taken), c .before .before .before .loop .inv .2)),
-    )
+source-row-requires c κs = let p = c .before .before .pre in (omega (arith, c .loop-test .taken, p .0), p .1, omega arith)
 
 returns : tie.Need-returns Inv-loop μ-loop
-unfolding schemeOf isLink
-returns c =
-    let u = c .before .source-row .ensures in
-    let w = c .before .before .before .before .before .loop .inv in
-    let S = schemeOf (c .before .before .before .before .before .before .before .before .before .before .args .d) in
-    let k = c .before .before .before .before .loop-test .taken in (
-      link-constraint S _ (rows-numbered _ _) _ _ _ _ _ (u .0) (w .1) k (c .if1 .taken),
-      link-row S _ (rows-numbered _ _) _ _ _ _ _ (u .0) (w .1) k (c .if1 .taken),
-      u .1 .passed,
-    )
+returns c = λ S D m t e g.
+    let k = c .before .before .loop-test .taken in
+    let l : c .before .before .before .loop .i < S .constraints = omega (arith, k, t .count) in
+    let u = c .before .source-row .ensures S D _ m t k (omega (arith, g)) (graded-near S D _ _ _ _ (t .graded) e l) in
+    let w = c .before .before .before .loop .inv .1 S D m t e g in
+    (link-constraint S D (t .size-is) _ _ _ _ _ u w l (c .if1 .taken), link-row S D (t .size-is) _ _ _ _ _ u w l (c .if1 .taken))
 
 add-i : tie.Need-add-i Inv-loop μ-loop
-add-i c = omega (arith, c .before .before .before .before .before .before .before .before .before .before .pre .0 .2 .constraints, c .before .before .before .before .loop-test .taken)
+add-i c = omega arith
 
 loop-less : tie.Need-loop-less Inv-loop μ-loop
-loop-less c = omega (arith, c .before .before .before .before .loop-test .taken)
+loop-less c = omega arith
 
 loop-again : tie.Need-loop-again Inv-loop μ-loop
-unfolding schemeOf isLink
-loop-again c =
-    let u = c .before .source-row .ensures in
-    let w = c .before .before .before .before .before .loop .inv in
-    let S = schemeOf (c .before .before .before .before .before .before .before .before .before .before .args .d) in
-    (omega (arith, c .before .before .before .before .loop-test .taken), link-none S _ (rows-numbered _ _) _ _ _ _ _ (u .0) (w .1) (c .if1 .left), u .1 .none (c .if1 .left))
+loop-again c = (
+  omega arith,
+  λ S D m t e g.
+      let k = c .before .before .loop-test .taken in
+      let l : c .before .before .before .loop .i < S .constraints = omega (arith, k, t .count) in
+      let u = c .before .source-row .ensures S D _ m t k (omega (arith, g)) (graded-near S D _ _ _ _ (t .graded) e l) in
+      link-none S D (t .size-is) _ _ _ _ _ u (c .before .before .before .loop .inv .1 S D m t e g) (c .if1 .left),
+)
 
 returns-2 : tie.Need-returns-2 Inv-loop μ-loop
-unfolding schemeOf isLink
-returns-2 c =
-    let s = c .before .before .before .before .before .before in
-    let p = s .pre .1 .1 in
-    let w = c .before .loop .inv in
-    absurd (link-some (schemeOf (s .args .d)) _ (rows-numbered _ _) _ _ _ (p .0) (p .1) _ (w .1) (c .loop-test .left) (w .0))
+returns-2 c = λ S D m t e g. absurd (link-some S D (t .size-is) _ _ _ (t .graded) e _ (c .before .loop .inv .1 S D m t e g) (omega (arith, c .loop-test .left, t .count)) (omega (arith, c .before .loop .inv .0, t .count)))
 
 pub last-link-spec : {M : Type 1} → statement M
 last-link-spec =
@@ -91,8 +68,6 @@ last-link-spec =
     Inv-loop
     μ-loop
     loop-holds
-    mul-j
-    array-copy-out-j
     add-source-row
     source-row-requires
     returns

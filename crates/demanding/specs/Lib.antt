@@ -1,0 +1,2 @@
+-- Demanding: the rows that demand a row.
+pub mod Demanding
