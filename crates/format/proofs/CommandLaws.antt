@@ -3,12 +3,12 @@ use Prim.Native.Nat.{ℕ, _≤_, _<_, _-_, _+_}
 use native.Mathlib.Omega.{arith}
 use mathlib.Core.Path.{_≡_, refl, sym, ap, ap₂, subst, _∙_}
 use mathlib.Core.Bool.{Bool, true, false, cond}
-use mathlib.Core.Logic.{⊎-elim}
+use mathlib.Core.Logic.{_⊎_, inl, inr, ⊎-elim}
 use mathlib.Core.List.{List}
-use borrow.Author.Tests.{ne-eqb, le-leb, lt-leb, lt-ltb, le-ltb, eq-eqb}
+use borrow.Author.Tests.{ne-eqb, le-leb, lt-leb, lt-ltb, le-ltb, eq-eqb, ltb-true, ltb-false}
 use lib.Dec.{eqb, ltb}
 use lib.ListN.{length, List·getD-eq-default}
-use Rattle.finite.proofs.Bools.{same-number}
+use Rattle.finite.proofs.Bools.{dec, same-number}
 use Rattle.state.specs.declared.cell.Cell.{Cell}
 use Rattle.state.specs.declared.design.Table as State-table
 use Rattle.state.specs.declared.design.Constraint as State-constraint
@@ -147,6 +147,20 @@ width-past s i l = ap widthOf (List·getD-eq-default s 0 l)
 
 -- ---- the operands of each command
 
+-- without an issue, or with one
+below : (b : ℕ) → (b < 32) ⊎ (32 ≤ b)
+below b = ⊎-elim (λ (e : ltb b 32 ≡ true). inl (ltb-true b 32 e)) (λ (e : ltb b 32 ≡ false). inr (ltb-false b 32 e)) (dec (ltb b 32))
+
+-- the byte p of the same operation without an issue
+pub plain-fits : (b i p n : ℕ) → (b < 32 → p ≡ b) → (32 ≤ b → p + 16 ≡ b) → (operationWidth b ≡ 0 → ⊥) → i + operationWidth b ≤ n →
+    (operationWidth p ≡ 0 → ⊥) × (p < 32) × (i + operationWidth p ≤ n)
+plain-fits b i p n old new w l =
+    ⊎-elim
+    (λ (z : b < 32). let e = old z in (λ (o : operationWidth p ≡ 0). w (ap operationWidth (sym e) ∙ o), omega arith, omega (arith, ap operationWidth e)))
+    (λ (z : 32 ≤ b). let h = issue-width b w z in let e : p ≡ b - 16 = omega (arith, new z) in
+    (λ (o : operationWidth p ≡ 0). omega (arith, ap operationWidth e, h .1), omega (arith, h .0), omega (arith, ap operationWidth e, h .2)))
+    (below b)
+
 module _ (b : ℕ) (s : List ℕ) (i : ℕ) where
   pub operands-design : b < 16 → designCommandAt b s i ≡ operandsAt b s i
   unfolding operandsAt
@@ -195,6 +209,13 @@ module _ (b : ℕ) (s : List ℕ) (i : ℕ) where
   pub operation-new : 32 ≤ b → issuedAt (b - 16) s (byteAt s (i + operationWidth b - 1)) i ≡ operationAt b s i
   unfolding operationAt
   operation-new l = sym (rw (le-ltb b 32 l))
+
+  -- the operation by the byte p of the same without an issue, and the issue v
+  pub plain-operation : (p v : ℕ) → (b < 32 → p ≡ b) × (32 ≤ b → p + 16 ≡ b) → (b < 32 → v ≡ 0) × (32 ≤ b → v ≡ byteAt s (i + operationWidth b - 1)) →
+      issuedAt p s v i ≡ operationAt b s i
+  plain-operation p v x y =
+      ⊎-elim (λ (z : b < 32). ap₂ (λ (q u : ℕ). issuedAt q s u i) (x .0 z) (y .0 z) ∙ operation-old z)
+      (λ (z : 32 ≤ b). let e : p ≡ b - 16 = omega (arith, x .1 z) in ap₂ (λ (q u : ℕ). issuedAt q s u i) e (y .1 z) ∙ operation-new z) (below b)
 
   module _ (w : ℕ) where
     at : (n : ℕ) → b ≡ n → issuedAt n s w i ≡ issuedAt b s w i

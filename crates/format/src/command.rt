@@ -1,7 +1,7 @@
 // A command of a script, and the command that stands at a place of the lent bytes: its byte is looked at first, then how many bytes are left. Bytes
 // below 0x10 are the design's, 0x1D and 0x1E change the rows, and the others are the operations'.
 ghost use mathlib.Core.Path.{_≡_};
-ghost use Prim.Native.Nat.{_+_, _≤_, _<_};
+ghost use Prim.Native.Nat.{_+_, _-_, _≤_, _<_};
 ghost use lib.ListN.{length};
 ghost use Rattle.format.specs.Bytes.{byteAt, u16At, u32At};
 ghost use Rattle.format.specs.Commands.{designWidth, operationWidth, widthOf, columnAt, valueAt, joinAt, heldValueAt, rangeAt, queryAt, totalAt, designCommandAt, issuedAt, operationAt, commandAt, rowCellAt, rowIssueAt, putRowAt};
@@ -309,16 +309,35 @@ fn issued_at(b: u8, script: &[u8], issue: u8, i: usize) -> Operation
     }
 }
 
-// The issue stands at the end of the operations from 0x20 on, each of which is one byte wider than the same without it.
+// The byte of the same operation without an issue: those from 0x20 on stand 0x10 above it.
+fn plain_byte(b: u8) -> u8
+    ensures { λ r. ⌜ (b < 0x20 → r ≡ b) × (0x20 ≤ b → r + 0x10 ≡ b) ⌝ }
+{
+    if b < 0x20 {
+        return b;
+    }
+    b - 0x10
+}
+
+// The issue stands at the end of the operations from 0x20 on, each of which is one byte wider than the same without it; the others have issue 0.
+fn issue_at(b: u8, script: &[u8], i: usize) -> u8
+    requires { ⌜ (operationWidth b ≡ 0 → ⊥) × (i + operationWidth b ≤ length (now script)) ⌝ }
+    ensures { λ r. ⌜ (b < 0x20 → r ≡ 0) × (0x20 ≤ b → r ≡ byteAt (now (script .entry)) (i + operationWidth b - 1)) ⌝ }
+{
+    if b < 0x20 {
+        return 0;
+    }
+    script[i + operation_width(b) - 1]
+}
+
+// The operation of a byte, with or without an issue. `issued_at` is called here alone, so that the compiler makes one function of the two and what is read
+// stays in registers.
 fn operation_at(b: u8, script: &[u8], i: usize) -> Operation
     requires { ⌜ (operationWidth b ≡ 0 → ⊥) × (i + operationWidth b ≤ length (now script)) ⌝ }
     ensures { λ r. ⌜ r ≡ operationAt b (now (script .entry)) i ⌝ }
 {
-    if b < 0x20 {
-        return issued_at(b, script, 0, i);
-    }
-    let issue = script[i + operation_width(b) - 1];
-    issued_at(b - 0x10, script, issue, i)
+    let issue = issue_at(b, script, i);
+    issued_at(plain_byte(b), script, issue, i)
 }
 
 // The command at a place.

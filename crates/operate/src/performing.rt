@@ -8,6 +8,7 @@ ghost use Rattle.state.specs.Meaning.{answerOf, databaseOf, operationOf, scheme
 ghost use Rattle.state.specs.Lent.{lent, sound, Performed};
 ghost use Rattle.catalog.specs.Catalog.{Catalogued};
 ghost use Rattle.operate.specs.Lending.{PerformedWords};
+use crate::inspecting::inspect_lawful;
 use crate::output::Output;
 use crate::querying::query_lawful;
 use cache::cause;
@@ -17,10 +18,6 @@ use cache::name_lawful;
 use cache::probe_lawful;
 use cache::refer_lawful;
 use cache::refer_range_lawful;
-use even::evenness;
-use even::smallest_knot;
-use opener::opener_lawful;
-use reason::reason_lawful;
 use state::Answer;
 use state::Design;
 use state::Operation;
@@ -74,7 +71,20 @@ pub fn perform_lawful(
             counts,
             places,
         ),
-        Operation::Evenness => { evenness(design) }
+        Operation::Evenness => {
+            inspect_lawful(
+                op,
+                design,
+                cells,
+                issues,
+                tables,
+                catalog,
+                keys,
+                marks,
+                held,
+                text,
+            )
+        }
         Operation::Total(t) => {
             let q = t.query;
             let output = Output::Total(t.position, t.column);
@@ -94,10 +104,9 @@ pub fn perform_lawful(
                 places,
             )
         }
-        Operation::SmallestKnot => { smallest_knot(design) }
-        Operation::Name(desk) => name_lawful(held, desk),
-        Operation::Opener(k, v) => {
-            opener_lawful(
+        Operation::SmallestKnot => {
+            inspect_lawful(
+                op,
                 design,
                 cells,
                 issues,
@@ -106,12 +115,13 @@ pub fn perform_lawful(
                 keys,
                 marks,
                 held,
-                k,
-                v,
+                text,
             )
         }
-        Operation::Reason(row) => {
-            reason_lawful(
+        Operation::Name(desk) => name_lawful(held, desk),
+        Operation::Opener(_, _) => {
+            inspect_lawful(
+                op,
                 design,
                 cells,
                 issues,
@@ -120,7 +130,20 @@ pub fn perform_lawful(
                 keys,
                 marks,
                 held,
-                row,
+                text,
+            )
+        }
+        Operation::Reason(_) => {
+            inspect_lawful(
+                op,
+                design,
+                cells,
+                issues,
+                tables,
+                catalog,
+                keys,
+                marks,
+                held,
                 text,
             )
         }

@@ -27,7 +27,6 @@ use state::Answer;
 use state::Design;
 use state::Operation;
 use state::first_words;
-use state::is_refusal;
 use state::store_words;
 
 // A refusal, with nothing changed. Constant time.
@@ -46,10 +45,10 @@ fn refusing(cause: u8, place: usize, after: usize, more: bool) -> Step
 fn place_of(answer: Answer, at: usize) -> usize
     ensures { λ p. ⌜ p ≡ placeOf (answerOf answer) at ⌝ }
 {
-    if is_refusal(answer) {
-        return at;
+    match answer {
+        Answer::Refused(_) => at,
+        _ => 0,
     }
-    0
 }
 
 // The answer of an operation that stood at place `at`, before place `after`. Constant time.
