@@ -7,7 +7,7 @@ mod common;
 
 use std::thread;
 
-use common::{all_examples, kept, opened};
+use common::{all_examples, kept, kept_and_used, opened};
 use wurzsige::{Answered, Cause, Column, Desk, Memory, Query, Refusal, Sizes, Totalled};
 
 /// A desk with values, ranges and a free number in use.
@@ -39,9 +39,9 @@ fn is_refused(memory: Box<Memory>) -> bool {
 #[test]
 fn a_desk_that_comes_back_goes_on() {
     let mut desk = desk();
-    let before = kept(&desk);
+    let before = kept_and_used(&desk);
     let mut again = Desk::from_memory(desk.clone().into_memory()).expect("a desk");
-    assert!(kept(&again) == before);
+    assert!(kept_and_used(&again) == before);
     assert_eq!(again.operations_at(), 0);
     let query = Query::new(Column::new(0, 1), 3).join(0, 0).join(1, 1);
     assert_eq!(again.query(&query), desk.query(&query));
