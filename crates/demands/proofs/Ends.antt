@@ -9,9 +9,9 @@ use lib.ListN.{length}
 use Rattle.finite.proofs.Bools.{dec}
 use Rattle.state.specs.Lent.{State}
 use Rattle.script.specs.Step.{Outputs, stepAt}
-use Rattle.script.specs.Runs.{leftFrom}
+use Rattle.run.specs.Runs.{leftFrom}
 use Rattle.script.proofs.StepLaws.{step-on}
-use Rattle.script.proofs.RunLaws.{left-fuel}
+use Rattle.run.proofs.RunLaws.{left-fuel}
 
 module _ (s : State) (out : Outputs) (script : List ℕ) (i : ℕ) where
   -- THEOREM: a step stops the reading, or moves on inside the script

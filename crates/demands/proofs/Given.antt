@@ -32,19 +32,20 @@ use Rattle.lawful.proofs.DesignLaws.{design-says}
 use Rattle.lawful.proofs.RowsLaws.{live-below, rows-say, rows-if}
 use Rattle.lawful.proofs.StoredLaws.{RowSized, free-sized, put-lawful, removed-lawful}
 use Rattle.lawful.proofs.SoundChange.{put-free, remove-cause, number-below, rows-changed, rows-unchanged}
-use Rattle.format.specs.declared.command.Command.{Command}
-use Rattle.format.specs.declared.command.Command.the-variants.{Table, Constraint, Filling, Row, End, Operate, Put, Remove, Unknown, Short}
-use Rattle.format.specs.Bytes.{byteAt}
-use Rattle.format.specs.Commands.{commandAt, widthOf, putRowAt}
+use Rattle.command.specs.declared.command.Command.{Command}
+use Rattle.command.specs.declared.command.Command.the-variants.{Table, Constraint, Filling, Row, End, Operate, Put, Remove, Unknown, Short}
+use Rattle.command.specs.Bytes.{byteAt}
+use Rattle.command.specs.Commands.{commandAt, widthOf, putRowAt}
 use Rattle.format.specs.Reading.{draft}
 use Rattle.format.specs.Writing.{designBytes, Dense}
 use Rattle.format.proofs.Small.{small-design}
 use Rattle.format.proofs.Reached.{Sizes}
-use Rattle.format.proofs.ReadBack.{Numbers}
-use Rattle.format.proofs.RoundTrip.{design-short, read-written, accepted-lawful}
-use Rattle.script.specs.Moments.{Action, change, Moment, momentAfter, momentFrom}
+use Rattle.writing.proofs.ReadBack.{Numbers}
+use Rattle.writing.proofs.RoundTrip.{design-short, read-written}
+use Rattle.format.proofs.Reached.{accepted-lawful}
+use Rattle.run.specs.Moments.{Action, change, Moment, momentAfter, momentFrom}
 use Rattle.script.specs.Step.{Rooms}
-use Rattle.script.specs.Runs.{actionThen, actionsFrom, beginning}
+use Rattle.run.specs.Runs.{actionThen, actionsFrom, beginning}
 use Rattle.script.proofs.Places.{put-sized}
 use Rattle.script.proofs.LongerRows.{RowsSized, sized-after}
 use Rattle.demands.specs.Given.{GivenBy}

@@ -15,10 +15,10 @@ use Rattle.state.specs.declared.design.Filling as State-filling
 use Rattle.state.specs.Design.{noFilling, fillingAt, emptyDesign}
 use Rattle.state.specs.Meaning.{schemeOf, databaseOf}
 use Rattle.state.specs.Lawful.{tableFits, constraintFits, fillingFits, rowFits, repeats}
-use Rattle.format.specs.declared.command.Command.{Command}
-use Rattle.format.specs.declared.command.Command.the-variants.{Table, Constraint, Filling, Row, End, Operate, Put, Remove, Unknown, Short}
-use Rattle.format.specs.Bytes.{byteAt}
-use Rattle.format.specs.Commands.{widthOf, designCommandAt, operandsAt, commandAt}
+use Rattle.command.specs.declared.command.Command.{Command}
+use Rattle.command.specs.declared.command.Command.the-variants.{Table, Constraint, Filling, Row, End, Operate, Put, Remove, Unknown, Short}
+use Rattle.command.specs.Bytes.{byteAt}
+use Rattle.command.specs.Commands.{widthOf, designCommandAt, operandsAt, commandAt}
 use Rattle.format.specs.Reading.{Draft, emptyDraft, withTable, withConstraint, withFilling, withRow, Advanced, on, complete, refused, refusedIf, afterTables, afterConstraints, afterFillings, redesigned, needless, rowAdvanced, advanced, readOn, readFrom, readDesign, mostBytes}
 use Rattle.format.specs.Reading.DesignRead.{accepted, refusedAt}
 use Rattle.demands.proofs.Operands.{either, u32-below}

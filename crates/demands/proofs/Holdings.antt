@@ -20,7 +20,7 @@ use Rattle.model.proofs.RangeLaws.{Before, before-on, says-before, Full, Rising
 use Rattle.model.proofs.RangesHeld.{list-own, list-other, list-count}
 use Rattle.model.proofs.RangesFit.{RangesFit}
 use Rattle.model.proofs.HoldingLaws.{ownedAt, own-end, ValuesFit, HoldingFits}
-use Rattle.script.specs.Moments.{Action, Moment, momentAfter, momentFrom}
+use Rattle.run.specs.Moments.{Action, Moment, momentAfter, momentFrom}
 use Rattle.demands.specs.Orders.{Order, naming, referring, holdingRange, orderAction, ordersActions}
 
 -- ---- lists of orders

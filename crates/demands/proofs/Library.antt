@@ -24,21 +24,23 @@ use Rattle.state.proofs.LentWords.{stored-record, zero-whole, zero-none}
 use Rattle.lawful.proofs.HeldLaws.{held-of-sized}
 use Rattle.lawful.proofs.RowsLaws.{Stored}
 use Rattle.lawful.proofs.StoredLaws.{free-sized, free-stored}
-use Rattle.format.specs.declared.command.Command.{Command}
-use Rattle.format.specs.declared.command.Command.the-variants.{Table, Constraint, Filling, Row, End, Operate, Put, Remove, Unknown, Short}
-use Rattle.format.specs.Commands.{commandAt, putRowAt}
+use Rattle.command.specs.declared.command.Command.{Command}
+use Rattle.command.specs.declared.command.Command.the-variants.{Table, Constraint, Filling, Row, End, Operate, Put, Remove, Unknown, Short}
+use Rattle.command.specs.Commands.{commandAt, putRowAt}
 use Rattle.format.specs.Reading.{Draft, DesignRead, readInto, mostBytes}
 use Rattle.format.specs.Reading.DesignRead.{accepted, refusedAt}
 use Rattle.format.proofs.Small.{Small}
-use Rattle.format.proofs.RoundTrip.{accepted-lawful}
-use Rattle.script.specs.Moments.{Action, Moment, momentAfter, momentFrom}
+use Rattle.format.proofs.Reached.{accepted-lawful}
+use Rattle.run.specs.Moments.{Action, Moment, momentFrom}
 use Rattle.script.specs.Step.{Outputs, roomsOf, operationIn, outputsAfter, Stepped, operated, changing, carried, stepAt}
-use Rattle.script.specs.Runs.{actionThen, leftFrom, Buffers, readingOf, justRead, beginning, momentWith}
+use Rattle.run.specs.Runs.{actionThen, leftFrom, beginning, momentWith}
+use Rattle.script.specs.JustRead.{Buffers, readingOf, justRead}
 use Rattle.script.proofs.StepLaws.{step-carried, step-overlong}
-use Rattle.script.proofs.RunLaws.{left-tracks}
+use Rattle.run.proofs.RunLaws.{left-tracks}
 use Rattle.script.proofs.Places.{put-sized, put-stored}
-use Rattle.script.proofs.JustRead.{into-parts, begun}
-use Rattle.script.proofs.Tracking.{Tracks, point, operated-tracks, changed-tracks}
+use Rattle.script.proofs.JustRead.{into-parts}
+use Rattle.run.proofs.Begun.{begun}
+use Rattle.run.proofs.Tracking.{Tracks, point, operated-tracks, changed-tracks}
 use Rattle.script.proofs.Theorems.{refused-unchanged}
 use Rattle.words.specs.Words.{designLength, designWords, wordsDesign}
 use Rattle.words.proofs.WordLaws.{design-stored}

@@ -19,13 +19,13 @@ use Rattle.state.specs.declared.operation.Operation.the-variants as O
 use Rattle.state.specs.Meaning.{cellOf, columnOf, schemeOf}
 use Rattle.state.specs.Lent.{State, textAt}
 use Rattle.lawful.proofs.RowsLaws.{Stored}
-use Rattle.format.specs.declared.command.Command.the-variants.{Operate}
-use Rattle.format.specs.Commands.{commandAt}
+use Rattle.command.specs.declared.command.Command.the-variants.{Operate}
+use Rattle.command.specs.Commands.{commandAt}
 use Rattle.format.specs.Reading.{Draft, mostBytes}
 use Rattle.format.specs.Reading.DesignRead.{accepted}
-use Rattle.script.specs.Moments.{operation, momentAfter}
+use Rattle.run.specs.Moments.{operation, momentAfter}
 use Rattle.script.specs.Step.{Outputs, roomsOf, operationIn, Stepped, stepAt}
-use Rattle.script.specs.Runs.{momentWith}
+use Rattle.run.specs.Runs.{momentWith}
 use Rattle.script.proofs.JustRead.{into-parts}
 use Rattle.wurzsige.specs.Told.{designWord, answerIn}
 use Rattle.wurzsige.specs.Calls.{Memory, stateIn, Arrays, stepIn, opening, OpenTaken}

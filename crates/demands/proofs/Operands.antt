@@ -15,10 +15,10 @@ use Rattle.state.specs.declared.operation.Operation.{Operation}
 use Rattle.state.specs.declared.operation.Operation.the-variants as O
 use Rattle.state.specs.Held.{noCell}
 use Rattle.state.specs.Meaning.{cellOf}
-use Rattle.format.specs.declared.command.Command.{Command}
-use Rattle.format.specs.declared.command.Command.the-variants.{Table, Constraint, Filling, Row, End, Operate, Put, Remove, Unknown, Short}
-use Rattle.format.specs.Bytes.{byteAt, u32At}
-use Rattle.format.specs.Commands.{operationWidth, widthOf, designCommandAt, issuedAt, operationAt, operandsAt, commandAt}
+use Rattle.command.specs.declared.command.Command.{Command}
+use Rattle.command.specs.declared.command.Command.the-variants.{Table, Constraint, Filling, Row, End, Operate, Put, Remove, Unknown, Short}
+use Rattle.command.specs.Bytes.{byteAt, u32At}
+use Rattle.command.specs.Commands.{operationWidth, widthOf, designCommandAt, issuedAt, operationAt, operandsAt, commandAt}
 
 -- the value that is probed
 probedIn : Operation → Cell

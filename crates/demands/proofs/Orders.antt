@@ -10,16 +10,16 @@ use Rattle.state.specs.declared.held.Range as State-range
 use Rattle.state.specs.declared.operation.Operation.{Operation}
 use Rattle.state.specs.declared.operation.Operation.the-variants as O
 use Rattle.state.specs.Meaning.{pairBack, rangeBack}
-use Rattle.format.specs.declared.command.Command.{Command}
-use Rattle.format.specs.declared.command.Command.the-variants.{Operate, Remove}
-use Rattle.format.specs.Bytes.{byteAt, u16At, u32At, u32Bytes}
-use Rattle.format.specs.Commands.{operationWidth, widthOf, operationAt, heldValueAt}
-use Rattle.format.proofs.CommandLaws.{width-remove, width-operation, operands-remove, operands-operation, operation-old, operation-new, operation-refer, operation-name, operation-refer-range, at-end, at-whole}
-use Rattle.format.proofs.Standing.{Reads, u32-stands}
-use Rattle.format.proofs.WritingLaws.{length-u32}
-use Rattle.script.specs.Moments.{Action}
+use Rattle.command.specs.declared.command.Command.{Command}
+use Rattle.command.specs.declared.command.Command.the-variants.{Operate, Remove}
+use Rattle.command.specs.Bytes.{byteAt, u16At, u32At, u32Bytes}
+use Rattle.command.specs.Commands.{operationWidth, widthOf, operationAt, heldValueAt}
+use Rattle.command.proofs.CommandLaws.{width-remove, width-operation, operands-remove, operands-operation, operation-old, operation-new, operation-refer, operation-name, operation-refer-range, at-end, at-whole}
+use Rattle.writing.proofs.Standing.{Reads, u32-stands}
+use Rattle.format.proofs.Lengths.{length-u32}
+use Rattle.run.specs.Moments.{Action}
 use Rattle.script.specs.Step.{Rooms}
-use Rattle.script.specs.Runs.{actionThen, actionsFrom}
+use Rattle.run.specs.Runs.{actionThen, actionsFrom}
 use Rattle.demands.specs.Orders.{Order, removing, naming, referring, holdingRange, orderBytes, orderAction, OrderFits, ordersBytes, ordersActions}
 
 -- ---- numbers below a bound

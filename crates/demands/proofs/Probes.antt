@@ -29,19 +29,20 @@ use Rattle.state.specs.declared.operation.Operation.the-variants as O
 use Rattle.state.specs.Meaning.{cellOf, columnOf, schemeOf}
 use Rattle.state.specs.Lent.{State, database, sound, answerAt}
 use Rattle.lawful.proofs.RowsLaws.{Stored}
-use Rattle.format.specs.declared.command.Command.the-variants.{Operate}
-use Rattle.format.specs.Commands.{commandAt}
+use Rattle.command.specs.declared.command.Command.the-variants.{Operate}
+use Rattle.command.specs.Commands.{commandAt}
 use Rattle.format.specs.Reading.{Draft, cellsAfter, mostBytes}
 use Rattle.format.specs.Reading.DesignRead.{accepted}
 use Rattle.format.proofs.Small.{Small}
-use Rattle.script.specs.Moments.{Action, Moment, tablesAt}
+use Rattle.run.specs.Moments.{Action, Moment, tablesAt}
 use Rattle.script.specs.Step.{Outputs, Stepped, operated, stepAt}
-use Rattle.script.specs.Runs.{leftFrom, Buffers, roomsIn, readingOf, justRead, momentWith, momentAt}
+use Rattle.run.specs.Runs.{leftFrom, roomsIn, momentWith, momentAt}
+use Rattle.script.specs.JustRead.{Buffers, readingOf, justRead}
 use Rattle.script.proofs.SameRows.{SameRows, same-back, has-same}
-use Rattle.script.proofs.Tracking.{Tracks, same, point}
-use Rattle.script.proofs.ExactProbes.{answer-is, answer-exact}
+use Rattle.run.proofs.Tracking.{Tracks, same, point}
+use Rattle.run.proofs.ExactProbes.{answer-is, answer-exact}
 use Rattle.script.proofs.JustRead.{into-parts}
-use Rattle.script.proofs.WholeRun.{accepted-short, part}
+use Rattle.run.proofs.WholeRun.{accepted-short, part}
 use Rattle.demands.proofs.Runs.{RowsGiven, called}
 use Rattle.demands.specs.Actions.{stateAfterAll}
 use Rattle.demands.specs.Queried.{cacheAt}

@@ -28,21 +28,22 @@ use Rattle.lawful.proofs.HeldLaws.{holding-back}
 use Rattle.lawful.proofs.RowsLaws.{Stored}
 use Rattle.lawful.proofs.SoundState.{words-at}
 use Rattle.state.specs.declared.operation.Operation.{Operation}
-use Rattle.format.specs.declared.command.Command.the-variants.{Operate}
-use Rattle.format.specs.Bytes.{byteAt}
-use Rattle.format.specs.Commands.{commandAt, widthOf}
+use Rattle.command.specs.declared.command.Command.the-variants.{Operate}
+use Rattle.command.specs.Bytes.{byteAt}
+use Rattle.command.specs.Commands.{commandAt, widthOf}
 use Rattle.format.specs.Reading.{Draft, cellsAfter, mostBytes}
 use Rattle.format.specs.Reading.DesignRead.{accepted}
 use Rattle.format.proofs.Small.{Small}
-use Rattle.script.specs.Moments.{Action, operation, Moment, tablesAt, momentAfter}
+use Rattle.run.specs.Moments.{Action, operation, Moment, tablesAt, momentAfter}
 use Rattle.script.specs.Step.{Outputs, roomsOf, operationIn, Stepped, operated, stepAt}
-use Rattle.script.specs.Runs.{leftFrom, Buffers, roomsIn, readingOf, justRead, momentWith, momentAt}
+use Rattle.run.specs.Runs.{leftFrom, roomsIn, momentWith, momentAt}
+use Rattle.script.specs.JustRead.{Buffers, readingOf, justRead}
 use Rattle.script.proofs.SameRows.{SameRows, same-back, same-on, lists-same, total-same}
 use Rattle.script.proofs.StepLaws.{after-cache}
-use Rattle.script.proofs.Tracking.{Tracks, same, point, operated-tracks}
+use Rattle.run.proofs.Tracking.{Tracks, same, point, operated-tracks}
 use Rattle.demands.proofs.Demand2.{queried-exactly}
 use Rattle.script.proofs.JustRead.{into-parts}
-use Rattle.script.proofs.WholeRun.{accepted-short, part}
+use Rattle.run.proofs.WholeRun.{accepted-short, part}
 use Rattle.demands.proofs.Runs.{RowsGiven, called}
 use Rattle.demands.specs.Actions.{stateAfterAll}
 use Rattle.demands.specs.Queried.{cacheAt, Queried}

@@ -32,17 +32,18 @@ use Rattle.lawful.proofs.DesignLaws.{design-says}
 use Rattle.lawful.proofs.HeldLaws.{holding-fits}
 use Rattle.lawful.proofs.RowsLaws.{Stored, lawful-database}
 use Rattle.lawful.proofs.SoundState.{parts, sound-fresh, answer-at, words-at, text-at}
-use Rattle.format.specs.declared.command.Command.the-variants.{Operate}
-use Rattle.format.specs.Commands.{commandAt}
+use Rattle.command.specs.declared.command.Command.the-variants.{Operate}
+use Rattle.command.specs.Commands.{commandAt}
 use Rattle.format.specs.Reading.{Draft, readDesign, cellsAfter, mostBytes}
 use Rattle.format.specs.Reading.DesignRead.{accepted}
 use Rattle.format.proofs.Small.{Small}
 use Rattle.state.specs.declared.design.Design.{Design}
-use Rattle.script.specs.Moments.{Action, Moment}
-use Rattle.script.specs.Runs.{leftFrom, Buffers, readingOf, justRead}
+use Rattle.run.specs.Moments.{Action, Moment}
+use Rattle.run.specs.Runs.{leftFrom}
+use Rattle.script.specs.JustRead.{Buffers, readingOf, justRead}
 use Rattle.script.proofs.JustRead.{into-parts}
-use Rattle.script.proofs.Tracking.{Tracks}
-use Rattle.script.proofs.WholeRun.{accepted-short, part}
+use Rattle.run.proofs.Tracking.{Tracks}
+use Rattle.run.proofs.WholeRun.{accepted-short, part}
 use Rattle.demands.proofs.Runs.{RowsGiven, called}
 use Rattle.script.specs.Step.{Outputs, Stepped, operated, stepAt}
 use Rattle.demands.specs.Actions.{stateAfterAll}

@@ -15,10 +15,10 @@ use Rattle.state.specs.Changes.{Change, changeAnswerAt, stateChanged}
 use Rattle.lawful.proofs.SoundState.{cause-none, cause-state, cause-words, cause-text}
 use Rattle.format.specs.Reading.{DesignRead, readInto, cellsAfter, tablesAfter, marksAfter}
 use Rattle.format.specs.Reading.DesignRead.{refusedAt}
-use Rattle.script.specs.declared.outcome.Written.{Written}
-use Rattle.script.specs.declared.outcome.Written.the-variants.{Refused}
+use Rattle.writing.specs.declared.outcome.Written.{Written}
+use Rattle.writing.specs.declared.outcome.Written.the-variants.{Refused}
 use Rattle.script.specs.Step.{Outputs, outputs, outputsAfter}
-use Rattle.script.specs.Writing.{bytesOf, writtenAt, storedWith}
+use Rattle.writing.specs.Writing.{bytesOf, writtenAt, storedWith}
 use Rattle.script.proofs.Refusals.{refused-state, refused-outputs, refused-change}
 
 -- THEOREM: `operate::perform`, whichever the operation is, with `out` lent for its answers. What is held has its places, as its type says.
@@ -33,7 +33,7 @@ operation-refused s places n o h out =
 pub change-refused : (s : State) (n : ℕ) (x : Change) → changeAnswerAt s x ≡ refused n → stateChanged s x ≡ s
 change-refused = refused-change
 
--- THEOREM: `script::write`, with o as its buffer
+-- THEOREM: `writing::write`, with o as its buffer
 pub write-refused : (s : State) (n room : ℕ) (o : List ℕ) → writtenAt s room ≡ Refused n → sets o 0 (storedWith (writtenAt s room) (bytesOf s)) ≡ o
 unfolding storedWith
 write-refused s n room o h = ap (λ (w : Written). sets o 0 (storedWith w (bytesOf s))) h

@@ -1,5 +1,5 @@
 -- Writing a lent design out and reading it back, and reading a script and writing its design out, with whatever lies past the sizes of the buffers:
--- what the contracts of `script::write` and `format::read_design` say together. Assumes nothing.
+-- what the contracts of `writing::write` and `format::read_design` say together. Assumes nothing.
 use Prim.Native.Nat.{ℕ, zero, suc, _+_, _*_, _≤_, _<_}
 use native.Mathlib.Omega.{arith}
 use mathlib.Core.Path.{_≡_, refl, sym, ap, subst, _∙_}
@@ -27,29 +27,31 @@ use Rattle.state.proofs.Arrays.{Sized}
 use Rattle.lawful.specs.LawfulState.{LawfulRows}
 use Rattle.lawful.proofs.RowsLaws.{Stored, rows-say, rows-if}
 use Rattle.lawful.proofs.SoundState.{parts}
-use Rattle.format.specs.declared.command.Command.{Command}
-use Rattle.format.specs.declared.command.Command.the-variants.{Unknown, Short}
-use Rattle.format.specs.Bytes.{byteAt}
-use Rattle.format.specs.Commands.{commandAt, widthOf}
+use Rattle.command.specs.declared.command.Command.{Command}
+use Rattle.command.specs.declared.command.Command.the-variants.{Unknown, Short}
+use Rattle.command.specs.Bytes.{byteAt}
+use Rattle.command.specs.Commands.{commandAt, widthOf}
 use Rattle.format.specs.Reading.{Draft, draft, emptyDraft, Advanced, on, complete, refused, advanced, DesignRead, readOn, readFrom, readDesign, readInto, cellsAfter, mostBytes}
 use Rattle.format.specs.Reading.DesignRead.{accepted, refusedAt}
 use Rattle.format.specs.Writing.{rowBytes, designBytes, Dense, compact}
 use Rattle.format.proofs.RowText.{text-same, row-text}
-use Rattle.format.proofs.ReadBack.{Numbers}
+use Rattle.writing.proofs.ReadBack.{Numbers}
 use Rattle.format.proofs.ReadingLaws.{Whole}
 use Rattle.format.proofs.Small.{Small}
-use Rattle.format.proofs.Compact.{compact-written}
-use Rattle.format.proofs.RoundTrip.{design-short, read-written-alone, written-read, accepted-lawful, read-left}
-use Rattle.script.specs.declared.outcome.Written.{Written}
-use Rattle.script.specs.declared.outcome.Written.the-variants.{Bytes, Refused}
-use Rattle.script.specs.Runs.{Buffers, readingOf, justRead, firstCells, pastCells}
-use Rattle.script.specs.Writing.{bytesOf, writtenAt, storedWith, Writes}
+use Rattle.writing.proofs.Compact.{compact-written}
+use Rattle.writing.proofs.RoundTrip.{design-short, read-written-alone, read-left}
+use Rattle.format.proofs.Reached.{written-read, accepted-lawful}
+use Rattle.writing.specs.declared.outcome.Written.{Written}
+use Rattle.writing.specs.declared.outcome.Written.the-variants.{Bytes, Refused}
+use Rattle.script.specs.JustRead.{Buffers, readingOf, justRead, firstCells, pastCells}
+use Rattle.writing.specs.Writing.{bytesOf, writtenAt, storedWith, Writes}
 use Rattle.script.proofs.SameRows.{SameRows, same-back, lawful-same}
 use Rattle.script.proofs.LongerRows.{RowsSized, extended, longer-cell, longer-table, longer-same}
 use Rattle.script.proofs.Places.{command-kinds}
-use Rattle.script.proofs.Causes.{uncaused}
-use Rattle.script.proofs.Tracking.{beyond}
-use Rattle.script.proofs.JustRead.{stored-first, into-parts, draft-sized, begun}
+use Rattle.cache.proofs.Causes.{uncaused}
+use Rattle.run.proofs.Tracking.{beyond}
+use Rattle.script.proofs.JustRead.{stored-first, into-parts, draft-sized}
+use Rattle.run.proofs.Begun.{begun}
 
 -- ---- what is written depends on 4,096 cells and 512 row tables
 
@@ -112,7 +114,7 @@ module _ (s : State) (e : sound s ≡ true) (n : Numbers (s .design) (s .cells))
       w : LawfulRows (s .design) (s .cells) (s .tables)
       w = rows-say (s .design) (s .cells) (s .tables) stored (parts s e .rows)
 
--- ---- what `script::write` answers on a sound state, and leaves in its buffer
+-- ---- what `writing::write` answers on a sound state, and leaves in its buffer
 
 module _ (s : State) (e : sound s ≡ true) (before : List ℕ) (w : Written) (after : List ℕ) (x : Writes s w before after) where
   abbrev room-is : Bool
@@ -200,9 +202,9 @@ module _ (s : State) (e : sound s ≡ true) (z : Sized (s .design)) (n : Numbers
       (record { low = n .low; high = n .high; cell = front-stored s e n .number; issue = front-stored s e n .issue }) ∙
       ap (λ (xs : List ℕ). accepted (draft (s .design) k (F .cells) (F .tables)) (length xs)) (sym f)
 
-  -- ---- through `script::write`
+  -- ---- through `writing::write`
 
-  -- THEOREM. A design written out reads back as the same: where `script::write` answers with k bytes, the first k bytes of its buffer are read as the design with the rows
+  -- THEOREM. A design written out reads back as the same: where `writing::write` answers with k bytes, the first k bytes of its buffer are read as the design with the rows
   -- left
   pub write-then-read : (w : Written) (before after : List ℕ) → Writes s w before after → (k : ℕ) → w ≡ Bytes k → readingOf (take k after) b ≡ accepted left k
   write-then-read w before after x k h =
@@ -246,7 +248,7 @@ module _ (script : List ℕ) (small : Small script) (b : Buffers) (p : Draft) (i
       let r = into-parts script b p i e .1 in
       bytes-front (rowsIn (p .cells) (p .tables)) (beyond b) (draft-sized p (accepted-lawful script small p i r .2)) (p .design) ∙ written-read script small p i r
 
-  -- THEOREM: by `script::write`: on the state just read, with room for i bytes, it answers with i bytes, and neither 7 nor 12, and they are the script's first i; what lies
+  -- THEOREM: by `writing::write`: on the state just read, with room for i bytes, it answers with i bytes, and neither 7 nor 12, and they are the script's first i; what lies
   -- past them in the buffer is untouched. With less room it refuses with 7. The cells are u32 numbers with u8 issues, as their types say
   module _ (stored : Stored (cellsAfter (accepted p i) (b .cells))) (w : Written) (before after : List ℕ) (x : Writes (justRead (accepted p i) b) w before after) where
     just-sound : sound (justRead (accepted p i) b) ≡ true

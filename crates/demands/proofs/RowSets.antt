@@ -24,8 +24,9 @@ use Rattle.lawful.proofs.RowsLaws.{Stored}
 use Rattle.format.specs.Reading.{Draft, cellsAfter}
 use Rattle.format.specs.Reading.DesignRead.{accepted}
 use Rattle.format.proofs.Small.{Small}
-use Rattle.script.specs.Moments.{Action, Moment, tablesAt}
-use Rattle.script.specs.Runs.{leftFrom, Buffers, roomsIn, readingOf, justRead, momentWith, momentAt}
+use Rattle.run.specs.Moments.{Action, Moment, tablesAt}
+use Rattle.run.specs.Runs.{leftFrom, roomsIn, momentWith, momentAt}
+use Rattle.script.specs.JustRead.{Buffers, readingOf, justRead}
 use Rattle.demands.specs.Actions.{stateAfterAll}
 use Rattle.demands.specs.RowSets.{MeetsAll, SmallestOfAll, AlikeOfAll, Demand3OfAll}
 use Rattle.demands.specs.Settled.{Settled}

@@ -10,11 +10,12 @@ use Rattle.lawful.proofs.RowsLaws.{Stored}
 use Rattle.format.specs.Reading.{Draft, cellsAfter}
 use Rattle.format.specs.Reading.DesignRead.{accepted}
 use Rattle.format.proofs.Small.{Small}
-use Rattle.script.specs.Moments.{Action, operation, change, Moment, momentFrom}
-use Rattle.script.specs.Runs.{leftFrom, Buffers, roomsIn, readingOf, justRead, beginning, momentWith, momentAt}
-use Rattle.script.proofs.Tracking.{Tracks, point, RowGiven, operated-tracks, changed-tracks}
-use Rattle.script.proofs.JustRead.{begun}
-use Rattle.script.proofs.WholeRun.{part}
+use Rattle.run.specs.Moments.{Action, operation, change, Moment, momentFrom}
+use Rattle.run.specs.Runs.{leftFrom, roomsIn, beginning, momentWith, momentAt}
+use Rattle.script.specs.JustRead.{Buffers, readingOf, justRead}
+use Rattle.run.proofs.Tracking.{Tracks, point, RowGiven, operated-tracks, changed-tracks}
+use Rattle.run.proofs.Begun.{begun}
+use Rattle.run.proofs.WholeRun.{part}
 use Rattle.demands.specs.Actions.{stateBehind, stateAfterAll, Called, Points}
 
 -- the rows that a list of actions puts in are rows

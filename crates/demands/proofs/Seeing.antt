@@ -27,12 +27,12 @@ use Rattle.cache.proofs.Answering.{probe-full}
 use Rattle.format.specs.Reading.{Draft, cellsAfter}
 use Rattle.format.specs.Reading.DesignRead.{accepted}
 use Rattle.format.proofs.Small.{Small}
-use Rattle.script.specs.Moments.{Action, Moment, tablesAt}
-use Rattle.script.specs.Runs.{Buffers, readingOf}
+use Rattle.run.specs.Moments.{Action, Moment, tablesAt}
+use Rattle.script.specs.JustRead.{Buffers, readingOf}
 use Rattle.demands.specs.Seeing.{LowGround, SeenAnswered, CallsSeen, PointsSeen}
 use Rattle.script.proofs.SameRows.{has-same}
-use Rattle.script.proofs.Tracking.{Tracks, same}
-use Rattle.script.proofs.WholeRun.{part}
+use Rattle.run.proofs.Tracking.{Tracks, same}
+use Rattle.run.proofs.WholeRun.{part}
 use Rattle.demands.proofs.Runs.{RowsGiven, called}
 
 -- ---- a row that has a value in a column

@@ -11,10 +11,10 @@ use Rattle.model.specs.Answers.{Answer, refused}
 use Rattle.state.specs.declared.operation.Operation.{Operation}
 use Rattle.state.specs.Meaning.{operationOf}
 use Rattle.state.specs.Lent.{State, sound, answerAt}
-use Rattle.format.specs.declared.command.Command.{Command}
-use Rattle.format.specs.declared.command.Command.the-variants.{Operate}
-use Rattle.format.specs.Bytes.{byteAt}
-use Rattle.format.specs.Commands.{commandAt, widthOf}
+use Rattle.command.specs.declared.command.Command.{Command}
+use Rattle.command.specs.declared.command.Command.the-variants.{Operate}
+use Rattle.command.specs.Bytes.{byteAt}
+use Rattle.command.specs.Commands.{commandAt, widthOf}
 use Rattle.format.specs.Reading.{mostBytes}
 use Rattle.sizes.specs.Sizes.{ample, wordsTaken, textTaken}
 use Rattle.sizes.proofs.Sizes.{sizes-enough, sizes-needed}

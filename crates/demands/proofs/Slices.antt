@@ -15,7 +15,6 @@ use Rattle.model.specs.Mirror.{fromSlice}
 use Rattle.model.specs.Missing as Model
 use Rattle.model.specs.Mirror.{EnoughFor}
 use Rattle.model.specs.Runs.{Operation, Cache, cacheAfter, reloaded}
-use Rattle.model.specs.Holding.{Holding}
 use Rattle.model.proofs.Fresh.{step-fresh}
 use Rattle.model.proofs.RunLaws.{reload-sound}
 use Rattle.model.proofs.MirrorLaws.{mirror-step}
@@ -24,8 +23,8 @@ use Rattle.state.specs.Lent.{State, scheme, database, cache, sound, stateAfter}
 use Rattle.lawful.proofs.DesignLaws.{fillings-apart}
 use Rattle.lawful.proofs.RowsLaws.{Stored}
 use Rattle.lawful.proofs.SoundState.{parts, sound-smallest, sound-after}
-use Rattle.format.specs.declared.command.Command.the-variants.{Operate}
-use Rattle.format.specs.Commands.{commandAt}
+use Rattle.command.specs.declared.command.Command.the-variants.{Operate}
+use Rattle.command.specs.Commands.{commandAt}
 use Rattle.format.specs.Reading.{mostBytes}
 use Rattle.script.specs.Step.{Outputs, roomsOf, operationIn}
 use Rattle.script.proofs.StepLaws.{after-cache}

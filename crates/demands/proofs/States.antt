@@ -28,16 +28,17 @@ use Rattle.lawful.proofs.RowsLaws.{Stored}
 use Rattle.lawful.proofs.SoundState.{parts, sound-fresh}
 use Rattle.format.specs.Reading.{draft, readInto, cellsAfter}
 use Rattle.format.specs.Reading.DesignRead.{accepted}
-use Rattle.script.specs.Moments.{Moment}
+use Rattle.run.specs.Moments.{Moment}
 use Rattle.script.specs.Step as Step
-use Rattle.script.specs.Runs.{leftFrom, Buffers, buffers, roomsIn, readingOf, justRead, longer, pastCells}
-use Rattle.script.proofs.WholeRun.{part}
+use Rattle.run.specs.Runs.{leftFrom, roomsIn}
+use Rattle.script.specs.JustRead.{Buffers, buffers, readingOf, justRead, longer, pastCells}
+use Rattle.run.proofs.WholeRun.{part}
 use Rattle.demands.specs.Orders.{Order, naming, referring, holdingRange, OrderFits}
 use Rattle.demands.specs.Given.{GivenBy, TypedState, LeftBySome}
 use Rattle.demands.proofs.Runs.{points-hold}
 use Rattle.demands.proofs.Rewriting.{front, front-sized, whole, front-stored, front-lawful}
 use Rattle.demands.proofs.Orders.{within-append, AllFit, fit-first, fit-rest, fit-more}
-use Rattle.demands.proofs.Holdings.{behind, valueOrders, rangeOrders, holdingOrders, holding-reached}
+use Rattle.demands.proofs.Holdings.{valueOrders, rangeOrders, holdingOrders, holding-reached}
 use Rattle.demands.proofs.Given.{none-fit, some-script}
 
 -- ---- the commands for what is held have operands of their widths, and are few

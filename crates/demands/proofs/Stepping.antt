@@ -14,17 +14,17 @@ use Rattle.state.specs.Changes.{put, remove}
 use Rattle.lawful.proofs.SoundState.{sound-after}
 use Rattle.lawful.proofs.SoundChange.{sound-changed}
 use Rattle.lawful.proofs.StoredLaws.{free-sized}
-use Rattle.format.specs.declared.command.Command.{Command}
-use Rattle.format.specs.declared.command.Command.the-variants.{Table, Constraint, Filling, Row, End, Operate, Put, Remove, Unknown, Short}
-use Rattle.format.specs.Bytes.{byteAt}
-use Rattle.format.specs.Commands.{commandAt, widthOf, putRowAt}
+use Rattle.command.specs.declared.command.Command.{Command}
+use Rattle.command.specs.declared.command.Command.the-variants.{Table, Constraint, Filling, Row, End, Operate, Put, Remove, Unknown, Short}
+use Rattle.command.specs.Bytes.{byteAt}
+use Rattle.command.specs.Commands.{commandAt, widthOf, putRowAt}
 use Rattle.format.specs.Reading.{mostBytes}
-use Rattle.format.proofs.CommandLaws.{at-end}
+use Rattle.command.proofs.CommandLaws.{at-end}
 use Rattle.script.specs.Step.{Outputs, Rooms, roomsOf, operationIn, Stepped, operated, changing, carried, stepAt}
-use Rattle.script.specs.Runs.{actionThen, actionsFrom, Left, leaving, leftFrom}
+use Rattle.run.specs.Runs.{actionThen, actionsFrom, Left, leaving, leftFrom}
 use Rattle.script.proofs.Places.{put-sized}
 use Rattle.script.proofs.StepLaws.{step-carried, step-overlong}
-use Rattle.script.proofs.RunLaws.{leftThen, left-past, left-step, rooms-after}
+use Rattle.run.proofs.RunLaws.{leftThen, left-past, left-step, rooms-after}
 use Rattle.demands.specs.Actions.{stateBehind, stateAfterAll, actionsOfStep, actionsOfRun}
 
 -- behind one command

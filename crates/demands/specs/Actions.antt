@@ -7,12 +7,13 @@ use lib.Dec.{ltb}
 use lib.ListN.{length}
 use Rattle.state.specs.Lent.{State, stateAfter}
 use Rattle.state.specs.Changes.{stateChanged}
-use Rattle.format.specs.Commands.{commandAt}
+use Rattle.command.specs.Commands.{commandAt}
 use Rattle.format.specs.Reading.{Draft, mostBytes}
 use Rattle.format.specs.Reading.DesignRead.{accepted}
-use Rattle.script.specs.Moments.{Action, operation, change}
+use Rattle.run.specs.Moments.{Action, operation, change}
 use Rattle.script.specs.Step.{Rooms}
-use Rattle.script.specs.Runs.{actionThen, actionsAt, leftFrom, Buffers, roomsIn, justRead, momentWith, momentAt, Point}
+use Rattle.run.specs.Runs.{actionThen, actionsAt, leftFrom, roomsIn, momentWith, momentAt, Point}
+use Rattle.script.specs.JustRead.{Buffers, justRead}
 
 -- the state behind an action, and behind a list of them, each called on the state that the one before left, a refused one too
 unfoldable pub stateBehind : State → Action → State

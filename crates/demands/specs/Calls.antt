@@ -5,10 +5,11 @@ use mathlib.Core.Path.{_≡_}
 use mathlib.Core.List.{List, [], _∷_, _++_}
 use lib.ListN.{length, getD}
 use Rattle.model.specs.Answers.{refusedWord}
-use Rattle.script.specs.Moments.{Action}
+use Rattle.run.specs.Moments.{Action}
 use Rattle.script.specs.Step as Step
 use Rattle.script.specs.Step.{Outputs, roomsOf}
-use Rattle.script.specs.Runs.{leftFrom, Buffers, buffers}
+use Rattle.run.specs.Runs.{leftFrom}
+use Rattle.script.specs.JustRead.{Buffers, buffers}
 use Rattle.wurzsige.specs.Calls.{Memory, stateIn, Arrays, Trusts, PlainStep, TrustedStep, opening, OpenTaken, RunMade}
 use Rattle.demands.specs.Actions.{actionsOfStep, actionsOfRun}
 

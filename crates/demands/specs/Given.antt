@@ -15,9 +15,10 @@ use Rattle.state.proofs.Arrays.{Sized, HeldSized}
 use Rattle.lawful.proofs.RowsLaws.{Stored}
 use Rattle.format.specs.Reading.{Draft, readDesign, cellsAfter}
 use Rattle.format.specs.Reading.DesignRead.{accepted}
-use Rattle.format.proofs.ReadBack.{Numbers}
+use Rattle.writing.proofs.ReadBack.{Numbers}
 use Rattle.script.specs.Step.{Rooms}
-use Rattle.script.specs.Runs.{leftFrom, Buffers, readingOf, justRead, momentAt}
+use Rattle.run.specs.Runs.{leftFrom, momentAt}
+use Rattle.script.specs.JustRead.{Buffers, readingOf, justRead}
 
 -- the script's design is d, and behind all that it has after END, whatever is lent for answers, the rows are these and this is held
 pub record GivenBy (d : Design) (cells : Cells) (tables : List ℕ) (h : Holding) (script : List ℕ) : Type 0 where

@@ -6,8 +6,8 @@ use Rattle.model.specs.Ranges.{Range}
 use Rattle.model.specs.Holding.{Pair}
 use Rattle.model.specs.Runs as Runs
 use Rattle.state.specs.Changes as Changes
-use Rattle.format.specs.Bytes.{u32Bytes}
-use Rattle.script.specs.Moments.{Action, operation, change}
+use Rattle.command.specs.Bytes.{u32Bytes}
+use Rattle.run.specs.Moments.{Action, operation, change}
 
 pub data Order : Type 0 where
   removing : ℕ → Order

@@ -12,7 +12,7 @@ use Rattle.model.specs.Demand.{Groundless, Unreferred, fullWords}
 use Rattle.state.specs.Meaning.{schemeOf}
 use Rattle.state.specs.Lent.{State}
 use Rattle.format.specs.Reading.{Draft}
-use Rattle.script.specs.Moments.{Moment, tablesAt}
+use Rattle.run.specs.Moments.{Moment, tablesAt}
 
 -- what is held at the moment, and the marks of the state then
 abbrev pub cacheAt : Moment → State → Cache

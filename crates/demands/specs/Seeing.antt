@@ -16,8 +16,9 @@ use Rattle.state.specs.Meaning.{schemeOf}
 use Rattle.state.specs.Lent.{State, answerAt}
 use Rattle.format.specs.Reading.{Draft}
 use Rattle.format.specs.Reading.DesignRead.{accepted}
-use Rattle.script.specs.Moments.{Action, tablesAt}
-use Rattle.script.specs.Runs.{leftFrom, Buffers, roomsIn, justRead, momentWith, momentAt}
+use Rattle.run.specs.Moments.{Action, tablesAt}
+use Rattle.run.specs.Runs.{leftFrom, roomsIn, momentWith, momentAt}
+use Rattle.script.specs.JustRead.{Buffers, justRead}
 use Rattle.demands.specs.Actions.{stateAfterAll}
 
 -- on the state e, a probe of v in column k answers ground 1 or 2, with a number of rows

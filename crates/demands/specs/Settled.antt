@@ -13,8 +13,8 @@ use Rattle.model.specs.Demand.{Groundless, Unrefused}
 use Rattle.state.specs.Meaning.{schemeOf}
 use Rattle.state.specs.Lent.{State}
 use Rattle.format.specs.Reading.{Draft}
-use Rattle.script.specs.Moments.{Moment, tablesAt}
-use Rattle.script.specs.Runs.{CompleteInAll}
+use Rattle.run.specs.Moments.{Moment, tablesAt}
+use Rattle.run.specs.Runs.{CompleteInAll}
 use Rattle.demands.specs.Queried.{cacheAt}
 
 -- x is the answer to a probe of column k for the value v, on the state e at the moment m of a run on the design p

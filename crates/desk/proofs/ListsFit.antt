@@ -1,7 +1,7 @@
 -- The lists that a step answers with have as many words as its QUERY has positions, each, and together no more than are lent. Assumes nothing.
 use Prim.Native.Nat.{ℕ, suc, _+_, _-_, _*_, _^_, _≤_, min}
 use native.Mathlib.Omega.{arith}
-use mathlib.Core.Path.{_≡_, refl, sym, ap, subst, _∙_}
+use mathlib.Core.Path.{_≡_, refl, ap, subst, _∙_}
 use mathlib.Core.Bool.{Bool, true, false, not, cond, and-eq-true-iff}
 use mathlib.Core.List.{List}
 use borrow.Author.Tests.{leb-true, not-false}
@@ -30,10 +30,9 @@ use Rattle.state.specs.declared.operation.Operation.{Operation}
 use Rattle.state.specs.declared.operation.Operation.the-variants as O
 use Rattle.state.specs.Lent.{State, scheme, database, cache, longEnough, lawful, guarded, answerAt}
 use Rattle.state.specs.Changes.{Change, put, remove, changeCause, changedAnswer, changeAnswer, rows, changeAnswerAt}
-use Rattle.format.specs.declared.command.Command.{Command}
-use Rattle.format.specs.declared.command.Command.the-variants.{Table, Constraint, Filling, Row, End, Operate, Put, Remove, Unknown, Short}
-use Rattle.format.specs.Bytes.{byteAt, u16At}
-use Rattle.format.specs.Commands.{columnAt, valueAt, heldValueAt, rangeAt, queryAt, totalAt, operationWidth, issuedAt, operationAt, designCommandAt, operandsAt, commandAt, widthOf, putRowAt}
+use Rattle.command.specs.declared.command.Command.the-variants.{Table, Constraint, Filling, Row, End, Operate, Put, Remove, Unknown, Short}
+use Rattle.command.specs.Bytes.{byteAt, u16At}
+use Rattle.command.specs.Commands.{columnAt, valueAt, heldValueAt, rangeAt, queryAt, totalAt, operationWidth, issuedAt, operationAt, designCommandAt, operandsAt, commandAt, widthOf, putRowAt}
 use Rattle.script.specs.Step.{Outputs, roomsOf, operationIn, Stepped, operated, changing, carried, stepAt}
 use Rattle.script.proofs.StepLaws.{step-by}
 use Rattle.desk.specs.Printed.{listsIn, positionsAt}

@@ -29,7 +29,7 @@ use Rattle.format.proofs.Small.{Small}
 use Rattle.report.specs.Report.{designLine, refusalLine}
 use Rattle.report.proofs.Lengths.{design-line-reach, refusal-line-reach}
 use Rattle.script.specs.Step.{Outputs}
-use Rattle.script.specs.Runs.{Buffers, buffers, justRead}
+use Rattle.script.specs.JustRead.{Buffers, buffers, justRead}
 use Rattle.desk.specs.declared.reporting.Progress.{Progress}
 use Rattle.desk.specs.declared.Handed.{Handed}
 use Rattle.desk.specs.Printed.{textAt, restOf, reportOf, Printed}

@@ -14,9 +14,9 @@ use Rattle.model.proofs.ReasonCases.{Replies, reason-given}
 use Rattle.state.specs.declared.operation.Operation.the-variants.{Reason}
 use Rattle.state.specs.Lent.{State, scheme, database, cache, sound, answerAt, textAt}
 use Rattle.lawful.proofs.SoundState.{answer-at, text-at}
-use Rattle.format.specs.declared.command.Command.the-variants.{Operate}
-use Rattle.format.specs.Bytes.{byteAt}
-use Rattle.format.specs.Commands.{commandAt, widthOf}
+use Rattle.command.specs.declared.command.Command.the-variants.{Operate}
+use Rattle.command.specs.Bytes.{byteAt}
+use Rattle.command.specs.Commands.{commandAt, widthOf}
 use Rattle.format.specs.Reading.{mostBytes}
 use Rattle.report.specs.Report.{newline, answerText, commandLine}
 use Rattle.script.specs.Step.{Outputs, outputsAfter, placeOf, operated, carried, stepAt}

@@ -14,8 +14,8 @@ use Rattle.format.specs.declared.verdict.DesignReading.{DesignReading}
 use Rattle.format.specs.Reading.{readInto, Leaves}
 use Rattle.format.proofs.Small.{Small}
 use Rattle.script.specs.Step.{outputs}
-use Rattle.script.specs.Runs.{buffers}
-use Rattle.script.proofs.RanLaws.{start-sound}
+use Rattle.script.specs.JustRead.{buffers}
+use Rattle.script.proofs.JustRead.{start-sound}
 
 pub started : (script : List ℕ) (cs₀ : Cells) (ts₀ ms₀ : List ℕ) (r : DesignReading) (cs : Cells) (ts ms : List ℕ) → Leaves (readInto script cs₀ ts₀ ms₀) r cs₀ cs ts₀ ts ms₀ ms →
     Small script → Stored cs → (j : ℕ) → r .verdict ≡ Accepted j → sound (lent (r .design) cs ts ms noneHeld) ≡ true

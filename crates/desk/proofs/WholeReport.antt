@@ -1,7 +1,7 @@
 -- The parts of a report, one behind the other, are the report: it begins with the design's line and what is then still to be printed, each part is
 -- what was to be printed before what is left (`Printed .whole`), and where no command follows nothing is left. Assumes nothing.
 use Prim.Native.Nat.{ℕ}
-use mathlib.Core.Path.{_≡_, refl, sym, ap, _∙_}
+use mathlib.Core.Path.{_≡_, sym, ap, _∙_}
 use mathlib.Core.Bool.{Bool, true, false, cond}
 use mathlib.Core.List.{List, [], _++_}
 use mathlib.Core.Logic.{⊎-elim}
@@ -14,7 +14,7 @@ use Rattle.format.specs.Reading.{Draft}
 use Rattle.format.specs.Reading.DesignRead.{accepted}
 use Rattle.report.specs.Report.{designLine}
 use Rattle.script.specs.Step.{Outputs}
-use Rattle.script.specs.Runs.{Buffers, justRead}
+use Rattle.script.specs.JustRead.{Buffers, justRead}
 use Rattle.desk.specs.declared.reporting.Progress.{Progress}
 use Rattle.desk.specs.Printed.{textAt, restOf, reportOf}
 use Rattle.desk.proofs.TextLaws.{text-past}

@@ -14,7 +14,7 @@ use Rattle.format.specs.declared.verdict.Verdict.{Verdict}
 use Rattle.format.specs.declared.verdict.Verdict.the-variants.{Accepted, Refused}
 use Rattle.report.specs.Report.{designLine, refusalLine}
 use Rattle.script.specs.Step.{Outputs, outputs}
-use Rattle.script.specs.Runs.{Buffers, buffers, readingOf}
+use Rattle.script.specs.JustRead.{Buffers, buffers, readingOf}
 use Rattle.desk.specs.declared.reporting.Progress.{Progress}
 use Rattle.desk.specs.declared.Handed.{Handed}
 use Rattle.desk.specs.Printed.{reportOf, restOf}

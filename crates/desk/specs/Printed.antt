@@ -8,12 +8,12 @@ use lib.ListN.{length, getD}
 use Rattle.finite.specs.Writing.{Wrote}
 use Rattle.model.specs.Answers.{Answer, shown, hasLists}
 use Rattle.state.specs.Lent.{State, sound}
-use Rattle.format.specs.Bytes.{byteAt}
+use Rattle.command.specs.Bytes.{byteAt}
 use Rattle.format.specs.Reading.{DesignRead}
 use Rattle.format.specs.Reading.DesignRead.{accepted, refusedAt}
 use Rattle.report.specs.Report.{commandLine, designLine, refusalLine, listLines}
 use Rattle.script.specs.Step.{Outputs, Stepped, stepAt}
-use Rattle.script.specs.Runs.{Buffers, justRead}
+use Rattle.script.specs.JustRead.{Buffers, justRead}
 use Rattle.desk.specs.declared.reporting.Progress.{Progress}
 
 -- how many lists an answer has: the first number behind its word

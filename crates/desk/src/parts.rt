@@ -10,7 +10,7 @@ ghost use Rattle.state.specs.Meaning.{databaseOf, schemeOf};
 ghost use Rattle.state.specs.Lent.{lent};
 ghost use Rattle.catalog.specs.Catalog.{Catalogued};
 ghost use Rattle.script.specs.Step.{Outputs, outputs};
-ghost use Rattle.script.specs.Runs.{buffers};
+ghost use Rattle.script.specs.JustRead.{buffers};
 ghost use Rattle.desk.specs.Parts.{First, NextReady, Begins, Continues};
 use crate::reporting::Progress;
 use crate::reporting::fill;

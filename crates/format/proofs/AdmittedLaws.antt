@@ -7,9 +7,9 @@ use borrow.Author.Tests.{leb-false}
 use lib.Dec.{leb}
 use Rattle.state.specs.Meaning.{schemeOf, databaseOf}
 use Rattle.state.specs.Lawful.{rowFits}
-use Rattle.format.specs.declared.command.Command.{Command}
-use Rattle.format.specs.declared.command.Command.the-variants.{Table, Constraint, Filling, Row, End, Operate, Put, Remove, Unknown, Short}
-use Rattle.format.specs.Commands.{commandAt}
+use Rattle.command.specs.declared.command.Command.{Command}
+use Rattle.command.specs.declared.command.Command.the-variants.{Table, Constraint, Filling, Row, End, Operate, Put, Remove, Unknown, Short}
+use Rattle.command.specs.Commands.{commandAt}
 use Rattle.format.specs.Reading.{Draft, Advanced, refusedIf, needless, advanced, rowAdvanced, withRow}
 use Rattle.format.specs.Reading.Advanced.{on, refused}
 use Rattle.format.specs.Admitting.{admitted, again}

@@ -13,8 +13,8 @@ use Rattle.state.specs.declared.design.Constraint as State-constraint
 use Rattle.state.specs.declared.design.Filling as State-filling
 use Rattle.state.specs.Meaning.{schemeOf, databaseOf}
 use Rattle.state.specs.Lawful.{tableFits, constraintFits, fillingFits, rowFits, repeats}
-use Rattle.format.specs.declared.command.Command.{Command}
-use Rattle.format.specs.declared.command.Command.the-variants.{Table, Constraint, Filling, Row, End, Operate, Put, Remove, Unknown, Short}
+use Rattle.command.specs.declared.command.Command.{Command}
+use Rattle.command.specs.declared.command.Command.the-variants.{Table, Constraint, Filling, Row, End, Operate, Put, Remove, Unknown, Short}
 use Rattle.format.specs.Reading.{Draft, Advanced, refusedIf, advanced, rowAdvanced, redesigned, withTable, withConstraint, withFilling, withRow, needless, afterTables, afterConstraints, afterFillings}
 use Rattle.format.specs.Reading.Advanced.{on, complete, refused}
 use Rattle.format.proofs.LawfulLaws.{rowTest}

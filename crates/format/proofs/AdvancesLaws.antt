@@ -17,9 +17,9 @@ use Rattle.state.specs.declared.design.Constraint as State-constraint
 use Rattle.state.specs.declared.design.Filling as State-filling
 use Rattle.state.specs.Meaning.{cellIn, schemeOf, databaseOf}
 use Rattle.state.specs.Lawful.{tableFits, constraintFits, fillingFits, rowFits}
-use Rattle.format.specs.declared.command.Command.{Command}
-use Rattle.format.specs.declared.command.Command.the-variants.{Table, Constraint, Filling, Row, End, Operate, Put, Remove, Unknown, Short}
-use Rattle.format.specs.Commands.{rowCellAt, rowIssueAt}
+use Rattle.command.specs.declared.command.Command.{Command}
+use Rattle.command.specs.declared.command.Command.the-variants.{Table, Constraint, Filling, Row, End, Operate, Put, Remove, Unknown, Short}
+use Rattle.command.specs.Commands.{rowCellAt, rowIssueAt}
 use Rattle.format.specs.declared.reading.Outcome.the-variants.{On, Complete, Cause}
 use Rattle.format.specs.declared.reading.Advance.{Advance}
 use Rattle.format.specs.Reading.{Draft, draft, Advanced, refusedIf, advanced, needless, redesigned, withTable, withConstraint, withFilling, withRow}

@@ -22,24 +22,24 @@ use Rattle.state.specs.Design.{emptyDesign}
 use Rattle.state.specs.Meaning.{schemeOf, databaseOf}
 use Rattle.state.specs.Lawful.{repeats}
 use Rattle.lawful.proofs.DesignLaws.{in-range}
-use Rattle.format.specs.declared.command.Command.{Command}
-use Rattle.format.specs.declared.command.Command.the-variants.{Row}
+use Rattle.command.specs.declared.command.Command.{Command}
+use Rattle.command.specs.declared.command.Command.the-variants.{Row}
 use Rattle.format.specs.declared.verdict.Verdict.{Verdict}
 use Rattle.format.specs.declared.verdict.Verdict.the-variants.{Accepted, Refused}
 use Rattle.format.specs.declared.reading.Outcome.{Outcome}
 use Rattle.format.specs.declared.reading.Outcome.the-variants.{On, Complete, Cause}
 use Rattle.format.specs.declared.reading.Advance.{Advance}
-use Rattle.format.specs.Bytes.{byteAt}
-use Rattle.format.specs.Commands.{widthOf, commandAt}
+use Rattle.command.specs.Bytes.{byteAt}
+use Rattle.command.specs.Commands.{widthOf, commandAt}
 use Rattle.format.specs.Reading.{Draft, draft, Advanced, advanced, withTable, withConstraint, withFilling, withRow, needless, DesignRead, readFrom}
 use Rattle.format.specs.Reading.Advanced.{on, complete, refused}
 use Rattle.format.specs.Reading.DesignRead.{accepted, refusedAt}
 use Rattle.format.specs.Admitting.{admitted, outcomeOf, causeOf, Kept, Advances, again, None, Earliest, readAs, Stopped}
 use Rattle.format.specs.Writing.{isIssued, placeAfter, rowPlace}
 use Rattle.format.proofs.reading.Outcome.{the-type}
-use Rattle.format.proofs.CommandLaws.{RowByte}
+use Rattle.command.proofs.CommandLaws.{RowByte}
 use Rattle.format.proofs.RowText.{rowWidth, width-tells}
-use Rattle.format.proofs.WritingLaws.{place-first, place-more}
+use Rattle.format.proofs.Lengths.{place-first, place-more}
 use Rattle.format.proofs.Items.{new-issued}
 use Rattle.format.proofs.LawfulLaws.{whole, SameRow, same-row, live-same, repeats-same}
 use Rattle.format.proofs.Seen.{Seen, seen-table, seen-constraint, seen-filling, seen-row, seen-end, seen-refused, seen}

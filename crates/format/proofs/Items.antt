@@ -19,15 +19,16 @@ use Rattle.state.specs.declared.design.Filling.{Filling}
 use Rattle.state.specs.declared.design.Design.{Design}
 use Rattle.state.specs.Design.{noTable, noConstraint, noFilling, tableAt, constraintAt, fillingAt}
 use Rattle.state.specs.Meaning.{cellAt}
-use Rattle.format.specs.Bytes.{byteAt, u32At, u32Bytes}
-use Rattle.format.specs.Commands.{columnAt, rowCellAt, rowIssueAt}
+use Rattle.command.specs.Bytes.{byteAt, u32At, u32Bytes}
+use Rattle.command.specs.Commands.{columnAt, rowCellAt, rowIssueAt}
 use Rattle.format.specs.Reading.{Draft, withTable, withConstraint, withFilling, withRow, needless}
 use Rattle.format.specs.Writing.{tableBytes, constraintBytes, fillingBytes, isIssued, rowBytes, designBytes, Dense}
-use Rattle.format.proofs.CommandLaws.{RowByte, plain, issued}
-use Rattle.format.proofs.BytesLaws.{part-add, part-tab, u32-part, parts-collected}
+use Rattle.command.proofs.CommandLaws.{RowByte, plain, issued}
+use Rattle.command.proofs.BytesLaws.{part-add, part-tab, u32-part, parts-collected}
 use Rattle.format.proofs.CellsLaws.{putRow, put-below, put-at}
-use Rattle.format.proofs.WritingLaws.{bytes-dense}
-use Rattle.format.proofs.RowText.{anyIssue, numbersText, rowText, text-issued, text-plain, text-same, row-text, row-issued, issue-read, none-plain, some-issued}
+use Rattle.format.proofs.Lengths.{bytes-dense}
+use Rattle.format.proofs.RowText.{anyIssue, numbersText, rowText, text-issued, text-plain, text-same, row-text, row-issued, none-plain, some-issued}
+use Rattle.command.proofs.CommandLaws.{issue-read}
 
 abbrev pub tablesBytes : Design → List ℕ
 tablesBytes d = collect (d .tables) (λ _. true) (λ i. tableBytes (tableAt d i))

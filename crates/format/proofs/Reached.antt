@@ -26,15 +26,16 @@ use Rattle.state.specs.Meaning.{cellOf, cellIn, freeTable, databaseOf}
 use Rattle.state.specs.Lawful.{tableFits, zeroTable, zeroColumn, constraintFits, zeroConstraint, fillingFits, zeroFilling, blankRow, lawfulDesign, lawfulRows}
 use Rattle.state.proofs.Places.{unused-is}
 use Rattle.state.proofs.RowLaws.{cell-at}
-use Rattle.format.specs.declared.command.Command.the-variants.{Table, Constraint, Filling}
-use Rattle.format.specs.Bytes.{byteAt}
-use Rattle.format.specs.Commands.{widthOf, commandAt, rowCellAt, rowIssueAt}
+use Rattle.command.specs.declared.command.Command.the-variants.{Table, Constraint, Filling}
+use Rattle.command.specs.Bytes.{byteAt}
+use Rattle.command.specs.Commands.{widthOf, commandAt, rowCellAt, rowIssueAt}
 use Rattle.format.specs.Reading.{Draft, draft, emptyDraft, Advanced, advanced, redesigned, withTable, withConstraint, withFilling, withRow, DesignRead, readOn, readFrom, readDesign, mostBytes}
 use Rattle.format.specs.Reading.Advanced.{on, complete, refused}
 use Rattle.format.specs.Reading.DesignRead.{accepted, refusedAt}
 use Rattle.format.specs.Writing.{tableBytes, constraintBytes, fillingBytes, designBytes, Dense}
 use Rattle.format.proofs.RowText.{rowText}
 use Rattle.format.proofs.LawfulLaws.{Parts, RowParts, noRow, whole, dense-rows, whole-rows}
+use Rattle.format.proofs.Small.{Small}
 use Rattle.format.proofs.Growing.{grow-table, grow-constraint, grow-filling, grow-row, no-rows}
 use Rattle.format.proofs.Items.{itemsBytes, design-items, more-table, more-constraint, more-filling, more-row, table-part, constraint-part, filling-part, row-part}
 use Rattle.format.proofs.Seen.{Seen, seen-table, seen-constraint, seen-filling, seen-row, seen-end, seen-refused, seen}
@@ -267,3 +268,12 @@ module _ (s : List ℕ) (small : (j : ℕ) → byteAt s j < 256) where
       go : (b : Bool) → cond b (refusedAt 4 0) (readFrom (suc (length s)) s emptyDraft 0) ≡ accepted p i → Accepted s p i
       go true h = absurd (let z : _≡_ {A = ℕ} 0 1 = cc in omega arith)
       go false h = reads (suc (length s)) emptyDraft 0 p i (reached-start s) h
+
+-- ---- an accepted script
+
+module _ (s : List ℕ) (small : Small s) (p : Draft) (i : ℕ) (e : readDesign s ≡ accepted p i) where
+  pub written-read : designBytes (p .design) (p .cells) (p .tables) ≡ take i s
+  written-read = reads-lawful s (small .at) p i e .bytes
+
+  pub accepted-lawful : (lawfulDesign (p .design) ≡ true) × (lawfulRows (p .design) (p .cells) (p .tables) ≡ true) × Sizes p × Dense (p .rows) (p .cells) (p .tables)
+  accepted-lawful = let a = reads-lawful s (small .at) p i e in (a .design, a .rows, a .sizes, a .dense)

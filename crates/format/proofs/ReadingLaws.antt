@@ -4,14 +4,14 @@ use native.Mathlib.Omega.{arith}
 use mathlib.Core.Path.{_≡_, refl, sym, ap, _∙_}
 use mathlib.Core.List.{List}
 use lib.ListN.{length}
-use Rattle.format.specs.declared.command.Command.{Command}
-use Rattle.format.specs.declared.command.Command.the-variants.{Row, End}
-use Rattle.format.specs.Bytes.{byteAt}
-use Rattle.format.specs.Commands.{widthOf, commandAt}
+use Rattle.command.specs.declared.command.Command.{Command}
+use Rattle.command.specs.declared.command.Command.the-variants.{Row, End}
+use Rattle.command.specs.Bytes.{byteAt}
+use Rattle.command.specs.Commands.{widthOf, commandAt}
 use Rattle.format.specs.Reading.{Draft, Advanced, advanced, DesignRead, readOn, readFrom}
 use Rattle.format.specs.Reading.Advanced.{on, complete, refused}
 use Rattle.format.specs.Reading.DesignRead.{accepted, refusedAt}
-use Rattle.format.proofs.CommandLaws.{row-width, at-end}
+use Rattle.command.proofs.CommandLaws.{row-width, at-end}
 use Rattle.format.proofs.Seen.{Seen, seen-table, seen-constraint, seen-filling, seen-row, seen-end, seen-refused, seen}
 use Rattle.format.proofs.AdvancedLaws.{not-on, not-complete, only-end}
 

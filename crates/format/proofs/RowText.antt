@@ -14,11 +14,11 @@ use Rattle.finite.proofs.Tables.{length-tab, tab-same}
 use Rattle.finite.proofs.Collecting.{collect-same, length-pieces}
 use Rattle.state.specs.Cells.{Cells}
 use Rattle.state.specs.Meaning.{cellAt}
-use Rattle.format.specs.Bytes.{byteAt, u32Bytes}
-use Rattle.format.specs.Commands.{rowIssueAt}
+use Rattle.command.specs.Bytes.{byteAt, u32Bytes}
+use Rattle.command.specs.Commands.{rowIssueAt}
 use Rattle.format.specs.Reading.{needless}
 use Rattle.format.specs.Writing.{cellsBytes, issuesBytes, isIssued, rowBytes}
-use Rattle.format.proofs.CommandLaws.{RowByte, plain, issued}
+use Rattle.command.proofs.CommandLaws.{RowByte, plain, issued, issue-plain}
 
 -- one of eight issues isn't 0
 abbrev pub anyIssue : (ℕ → ℕ) → Bool
@@ -91,17 +91,8 @@ any-not-all (suc n) p = ap (λ (b : Bool). b || not (p n)) (any-not-all n p) ∙
     go false b = refl
 
 module _ (s : List ℕ) (i : ℕ) where
-  -- a plain ROW has no issues
-  pub issue-plain : (byteAt s i ≡ 7 → ⊥) → (c : ℕ) → rowIssueAt s i c ≡ 0
-  unfolding rowIssueAt
-  issue-plain n c = cond-false (eqb (byteAt s i) 7) _ 0 (ne-eqb (byteAt s i) 7 n)
-
-  pub issue-read : byteAt s i ≡ 7 → (c : ℕ) → rowIssueAt s i c ≡ byteAt s (i + 34 + c)
-  unfolding rowIssueAt
-  issue-read e c = cond-true (eqb (byteAt s i) 7) _ 0 (eq-eqb (byteAt s i) 7 e)
-
   pub none-plain : (byteAt s i ≡ 7 → ⊥) → anyIssue (rowIssueAt s i) ≡ false
-  none-plain n = any-refuted 8 _ (λ c l. ap (λ (x : ℕ). not (eqb x 0)) (issue-plain n c))
+  none-plain n = any-refuted 8 _ (λ c l. ap (λ (x : ℕ). not (eqb x 0)) (issue-plain s i n c))
 
   pub some-issued : byteAt s i ≡ 7 → needless s i ≡ false → anyIssue (rowIssueAt s i) ≡ true
   unfolding needless

@@ -13,13 +13,13 @@ use Rattle.state.specs.declared.design.Table as State-table
 use Rattle.state.specs.declared.design.Constraint as State-constraint
 use Rattle.state.specs.declared.design.Filling as State-filling
 use Rattle.state.specs.declared.operation.Operation.{Operation}
-use Rattle.format.specs.declared.command.Command.{Command}
-use Rattle.format.specs.declared.command.Command.the-variants.{Table, Constraint, Filling, Row, End, Operate, Put, Remove, Unknown, Short}
-use Rattle.format.specs.Bytes.{byteAt, u16At, u32At}
-use Rattle.format.specs.Commands.{designWidth, widthOf, columnAt, designCommandAt, operationAt, operandsAt, commandAt}
+use Rattle.command.specs.declared.command.Command.{Command}
+use Rattle.command.specs.declared.command.Command.the-variants.{Table, Constraint, Filling, Row, End, Operate, Put, Remove, Unknown, Short}
+use Rattle.command.specs.Bytes.{byteAt, u16At, u32At}
+use Rattle.command.specs.Commands.{designWidth, widthOf, columnAt, designCommandAt, operationAt, operandsAt, commandAt}
 use Rattle.format.specs.Reading.{Draft, advanced}
 use Rattle.format.specs.Reading.Advanced.{refused}
-use Rattle.format.proofs.CommandLaws.{RowByte, plain, issued, at-end, at-unknown, at-short, at-whole, width-design, is-row, operands-design, operands-put, operands-remove, operands-operation, command-table, command-constraint, command-filling, command-row, command-end}
+use Rattle.command.proofs.CommandLaws.{RowByte, plain, issued, at-end, at-unknown, at-short, at-whole, width-design, is-row, operands-design, operands-put, operands-remove, operands-operation, command-table, command-constraint, command-filling, command-row, command-end}
 
 -- what the command c of width w, at place i, is
 pub data Seen (s : List ℕ) (i : ℕ) (c : Command) (w : ℕ) : Type 0 where

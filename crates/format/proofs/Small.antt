@@ -18,7 +18,7 @@ use Rattle.state.specs.Design.{tableAt, constraintAt, fillingAt}
 use Rattle.state.specs.Meaning.{columnOf, schemeOf, databaseOf}
 use Rattle.state.specs.Lawful.{tableFits, zeroTable, sameConstraint, constraintFits, zeroConstraint, fillingFits, zeroFilling, rowFits, repeats, blankRow, lawfulDesign, lawfulRows}
 use Rattle.state.proofs.Places.{used-is, where-used}
-use Rattle.format.specs.Bytes.{u32Bytes}
+use Rattle.command.specs.Bytes.{u32Bytes}
 use Rattle.format.specs.Writing.{tableBytes, constraintBytes, fillingBytes, rowBytes, designBytes}
 use Rattle.format.proofs.RowText.{anyIssue, numbersText, rowText, row-text}
 use Rattle.format.proofs.LawfulLaws.{Parts, parts, rowTest}

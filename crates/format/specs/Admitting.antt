@@ -12,8 +12,8 @@ use Rattle.state.specs.Design.{InRange}
 use Rattle.state.specs.Meaning.{cellIn, schemeOf, databaseOf}
 use Rattle.state.specs.Lawful.{rowFits, repeats}
 use Rattle.catalog.specs.Catalog.{Catalogued}
-use Rattle.format.specs.declared.command.Command.{Command}
-use Rattle.format.specs.declared.command.Command.the-variants.{Table, Constraint, Filling, Row, End, Operate, Put, Remove, Unknown, Short}
+use Rattle.command.specs.declared.command.Command.{Command}
+use Rattle.command.specs.declared.command.Command.the-variants.{Table, Constraint, Filling, Row, End, Operate, Put, Remove, Unknown, Short}
 use Rattle.format.specs.declared.verdict.Verdict.{Verdict}
 use Rattle.format.specs.declared.verdict.Verdict.the-variants.{Accepted, Refused}
 use Rattle.format.specs.declared.verdict.DesignReading.{DesignReading}

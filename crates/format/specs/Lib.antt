@@ -1,7 +1,5 @@
--- Bytes: numbers in a script. Commands: a command with its byte, operands and widths. Reading: what a byte string reads as. Kinds: the kinds of a
--- design's commands. Admitting: how the code reads a design, cause 6 last. Writing: what a design with its rows is written as.
-pub mod Bytes
-pub mod Commands
+-- Reading: what a byte string reads as. Kinds: the kinds of a design's commands. Writing: what a design with its rows is written as. Admitting: how the code reads a
+-- design, cause 6 last.
 pub mod Reading
 pub mod Kinds
 pub mod Writing

@@ -18,13 +18,13 @@ use Rattle.state.specs.Held.{noneHeld}
 use Rattle.state.specs.Lent.{lent, longEnough}
 use Rattle.state.specs.Meaning.{freeTable, schemeOf, databaseOf}
 use Rattle.state.specs.Lawful.{tableFits, constraintFits, fillingFits, rowFits, repeats}
-use Rattle.format.specs.declared.command.Command.{Command}
-use Rattle.format.specs.declared.command.Command.the-variants.{Table, Constraint, Filling, Row, End, Operate, Put, Remove, Unknown, Short}
+use Rattle.command.specs.declared.command.Command.{Command}
+use Rattle.command.specs.declared.command.Command.the-variants.{Table, Constraint, Filling, Row, End, Operate, Put, Remove, Unknown, Short}
 use Rattle.format.specs.declared.verdict.Verdict.{Verdict}
 use Rattle.format.specs.declared.verdict.Verdict.the-variants.{Accepted, Refused}
 use Rattle.format.specs.declared.verdict.DesignReading.{DesignReading}
-use Rattle.format.specs.Bytes.{byteAt}
-use Rattle.format.specs.Commands.{commandAt, widthOf, rowCellAt, rowIssueAt}
+use Rattle.command.specs.Bytes.{byteAt}
+use Rattle.command.specs.Commands.{commandAt, widthOf, rowCellAt, rowIssueAt}
 
 -- a design with its rows, as far as it has been read: how many rows, and 4,096 cells with their issues and 512 row tables. Where no row has been read,
 -- "a free number has row table 255 and all else 0, after reading a design too" (02, Req 12)

@@ -15,7 +15,7 @@ use Rattle.state.specs.declared.design.Filling.{Filling}
 use Rattle.state.specs.declared.design.Design.{Design}
 use Rattle.state.specs.Design.{tableAt, constraintAt, fillingAt}
 use Rattle.state.specs.Meaning.{freeTable, cellAt, databaseOf}
-use Rattle.format.specs.Bytes.{u32Bytes}
+use Rattle.command.specs.Bytes.{u32Bytes}
 use Rattle.format.specs.Reading.{Draft, draft}
 use Rattle.format.specs.Kinds.{countOf}
 

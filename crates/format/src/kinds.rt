@@ -5,7 +5,7 @@ ghost use Rattle.format.specs.Reading.{afterTables, afterConstraints};
 ghost use Rattle.format.specs.Kinds.{countOf, mostOf, isLate, orderCause};
 use state::Design;
 
-pub(crate) fn count_of(d: Design, rows: usize, b: u8) -> usize
+pub fn count_of(d: Design, rows: usize, b: u8) -> usize
     ensures { λ r. ⌜ r ≡ countOf d rows b ⌝ }
 {
     match b {

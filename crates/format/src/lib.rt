@@ -1,23 +1,16 @@
-// Scripts as bytes: the command at a place, reading a design with its rows, writing it, and (in proofs/) that the two undo each other.
-mod bytes;
-mod command;
+// Reading a design with its rows from a script. What it is written as is in specs/Writing.antt: an accepted script is that, up to its END.
 mod kinds;
 mod opening;
-mod reader;
+mod places;
 mod reading;
 mod repeating;
 mod verdict;
-mod writing;
 
-pub use command::Command;
-pub use command::row_at;
-pub use command::width_of;
+pub use kinds::count_of;
 pub use opening::MOST_BYTES;
 pub use opening::read_catalogued;
 pub use opening::read_design;
-pub use reader::ScriptReader;
-pub use reader::command_at;
+pub use places::is_issued;
+pub use places::place_after;
 pub use verdict::DesignReading;
 pub use verdict::Verdict;
-pub use writing::design_length;
-pub use writing::write_design;

@@ -9,11 +9,11 @@ ghost use Rattle.state.specs.Design.{emptyDesign};
 ghost use Rattle.format.specs.declared.verdict.Verdict.the-variants as Answer;
 ghost use Rattle.format.specs.Reading.{emptyDraft, draft, Read, Leaves, readFrom, readInto};
 ghost use Rattle.format.specs.Admitting.{Opens, Keeps};
+use crate::places::row_place;
 use crate::reading::read_commands;
 use crate::repeating::first_repeat;
 use crate::verdict::DesignReading;
 use crate::verdict::Verdict;
-use crate::writing::row_place;
 use state::Design;
 use state::copy_bytes;
 

@@ -1,14 +1,13 @@
 -- The state with which a run begins is sound: an accepted design with its rows is lawful, nothing is held, and no row is cached. Assumes nothing.
 use Prim.Native.Nat.{ℕ, _+_, _*_, _^_, _<_}
 use native.Mathlib.Omega.{arith}
-use mathlib.Core.Path.{_≡_, refl, sym, subst, _∙_}
+use mathlib.Core.Path.{_≡_, refl, sym, ap, subst, _∙_}
 use mathlib.Core.Bool.{Bool, true, false}
 use mathlib.Core.List.{List, [], _++_}
 use mathlib.Core.Logic.{⊎-elim}
 use borrow.Author.Tests.{ltb-true, ltb-false}
 use lib.Dec.{ltb, lit<}
-use lib.ListN.{length, getD, drop as past, length-append, List·getD-append, List·getD-eq-default}
-use lib.Seq.{drop-at}
+use lib.ListN.{length, replicate, getD, drop as past, length-append, List·getD-append, List·getD-eq-default}
 use Rattle.finite.specs.Finite.{tab}
 use Rattle.finite.proofs.Bools.{dec, cond-true, cond-false}
 use Rattle.finite.proofs.Tables.{length-tab, tab-at}
@@ -29,24 +28,27 @@ use Rattle.state.specs.declared.design.Design.{Design}
 use Rattle.state.specs.declared.held.Held.{Held}
 use Rattle.state.specs.Design.{emptyDesign}
 use Rattle.state.specs.Held.{noneHeld}
+use Rattle.state.specs.HeldWords.{wordsHeld}
+use Rattle.state.proofs.LentWords.{zero-none}
 use Rattle.state.specs.Meaning.{schemeOf, databaseOf, valuesOf, listOf, listBack, listsOf, holdingOf, heldOf}
 use Rattle.state.specs.Lawful.{lawfulDesign, lawfulRows, lawfulHeld}
-use Rattle.state.specs.Lent.{State, lent, scheme, longEnough}
+use Rattle.state.specs.Lent.{State, lent, scheme, longEnough, sound}
 use Rattle.state.specs.Changes.{Rows, rowsIn, tablesOf}
 use Rattle.lawful.specs.LawfulState.{LawfulRows}
 use Rattle.lawful.proofs.HeldLaws.{fit-held}
 use Rattle.lawful.proofs.RowsLaws.{Stored, rows-say, rows-if}
 use Rattle.lawful.proofs.SoundState.{Lengths, long-parts, from-parts, fresh-lawful}
-use Rattle.format.specs.Reading.{Draft, readDesign, readInto, cellsAfter}
+use Rattle.format.specs.declared.verdict.DesignReading.{DesignReading}
+use Rattle.format.specs.declared.verdict.Verdict.the-variants.{Accepted}
+use Rattle.format.specs.Reading.{Draft, DesignRead, readDesign, readInto, verdictOf, cellsAfter, Leaves}
 use Rattle.format.specs.Reading.DesignRead.{accepted, refusedAt}
 use Rattle.format.specs.Writing.{Dense}
 use Rattle.format.proofs.Reached.{Sizes}
 use Rattle.format.proofs.Small.{Small}
-use Rattle.format.proofs.RoundTrip.{accepted-lawful}
-use Rattle.script.specs.Runs.{Buffers, readingOf, justRead, beginning, longer, pastCells}
+use Rattle.format.proofs.Reached.{accepted-lawful}
+use Rattle.script.specs.JustRead.{Buffers, readingOf, justRead, longer, pastCells}
 use Rattle.script.proofs.SameRows.{SameRows, lawful-same}
 use Rattle.script.proofs.LongerRows.{RowsSized, extended, longer-cell, longer-same}
-use Rattle.script.proofs.Tracking.{Standing, beyond, Tracks}
 
 -- the record that holds nothing
 pub none-held : noneHeld ≡ heldOf nothingHeld
@@ -145,36 +147,22 @@ into-parts s b p i e =
 pub draft-sized : (p : Draft) → Sizes p → RowsSized (rowsIn (p .cells) (p .tables))
 draft-sized p z = record { numbers = z .cells; issues = z .issues; tables = z .tables }
 
--- the moment with which a run begins
-pub begins : (script : List ℕ) → Small script → (b : Buffers) (p : Draft) (i : ℕ) → readingOf script b ≡ accepted p i → Standing (schemeOf (p .design)) (beginning p)
-begins script small b p i e =
-    record { sized = draft-sized p (accepted-lawful script small p i (into-parts script b p i e .1) .2); fits = none-fit (schemeOf (p .design)) }
-
 module _ (s : List ℕ) (small : Small s) (b : Buffers) (p : Draft) (i : ℕ) (e : readingOf s b ≡ accepted p i)
     (u : Stored (cellsAfter (accepted p i) (b .cells))) where
-  -- the state with which it begins is the one at that moment
-  pub begun : Tracks p b (beginning p) (justRead (accepted p i) b)
-  begun =
-      record {
-        design = refl;
-        held = none-held;
-        standing = begins s small b p i e;
-        cells = refl;
-        tables = refl;
-        past = drop-at (tab 512 (λ _. 0)) (past 512 (b .marks)) 512 (length-tab {A = ℕ} 512 (λ _. 0));
-        sound =
-            from-parts start
-            (record {
-              long = begun-long;
-              design = w .0;
-              rows = longer-lawful (p .design) (rowsIn (p .cells) (p .tables)) (beyond b) (draft-sized p z) (stored-first (p .cells) (pastCells 4096 (b .cells)) u) (w .1);
-              held = none-lawful (p .design);
-              marks =
-                  fresh-lawful (p .design) (start .cells) (start .tables) noneHeld (tab 512 (λ _. 0)) (past 512 (b .marks))
-                  (read-fresh (start .cells) (start .tables) (scheme start));
-            });
-        stored = u;
-      }
+  pub read-sound : sound (justRead (accepted p i) b) ≡ true
+  read-sound =
+      from-parts start
+      (record {
+        long = begun-long;
+        design = w .0;
+        rows =
+            longer-lawful (p .design) (rowsIn (p .cells) (p .tables)) (rowsIn (pastCells 4096 (b .cells)) (past 512 (b .tables))) (draft-sized p z)
+            (stored-first (p .cells) (pastCells 4096 (b .cells)) u) (w .1);
+        held = none-lawful (p .design);
+        marks =
+            fresh-lawful (p .design) (start .cells) (start .tables) noneHeld (tab 512 (λ _. 0)) (past 512 (b .marks))
+            (read-fresh (start .cells) (start .tables) (scheme start));
+      })
     where
       w : (lawfulDesign (p .design) ≡ true) × (lawfulRows (p .design) (p .cells) (p .tables) ≡ true) × Sizes p × Dense (p .rows) (p .cells) (p .tables)
       w = accepted-lawful s small p i (into-parts s b p i e .1)
@@ -193,3 +181,23 @@ module _ (s : List ℕ) (small : Small s) (b : Buffers) (p : Draft) (i : ℕ) (e
             tables = omega (arith, length-append (p .tables) (past 512 (b .tables)), z .tables);
             marks = omega (arith, length-append (tab 512 (λ _. 0)) (past 512 (b .marks)), length-tab {A = ℕ} 512 (λ _. 0));
           }
+
+-- ---- what reading leaves, with nothing held
+
+module _ (script : List ℕ) (b : Buffers) (r : DesignReading) (cs : Cells) (ts ms : List ℕ)
+    (read : Leaves (readingOf script b) r (b .cells) cs (b .tables) ts (b .marks) ms) where
+  module _ (small : Small script) (stored : Stored cs) (j : ℕ) (v : r .verdict ≡ Accepted j) where
+    -- the state behind the reading is the one just read
+    pub start-is : (p : Draft) (i : ℕ) → readingOf script b ≡ accepted p i → lent (r .design) cs ts ms (wordsHeld (replicate 358 0)) ≡ justRead (accepted p i) b
+    start-is p i e = (λ x. lent (read .design x) (read .cells x) (read .tables x) (read .marks x) (zero-none x)) ∙ ap (λ (R : DesignRead). justRead R b) e
+
+    pub stored-at : (p : Draft) (i : ℕ) → readingOf script b ≡ accepted p i → Stored (cellsAfter (accepted p i) (b .cells))
+    stored-at p i e = subst Stored (read .cells ∙ ap (λ (R : DesignRead). cellsAfter R (b .cells)) e) stored
+
+    -- and it is sound
+    pub start-sound : sound (lent (r .design) cs ts ms (wordsHeld (replicate 358 0))) ≡ true
+    start-sound = go (readingOf script b) refl
+      where
+        go : (R : DesignRead) → readingOf script b ≡ R → sound (lent (r .design) cs ts ms (wordsHeld (replicate 358 0))) ≡ true
+        go (accepted p i) e = ap sound (start-is p i e) ∙ read-sound script small b p i e (stored-at p i e)
+        go (refusedAt n i) e = absurd (let z : _≡_ {A = ℕ} 0 1 = cc (read .verdict ∙ ap verdictOf e) in omega arith)

@@ -21,7 +21,7 @@ use Rattle.state.specs.Lawful.{fitsTable}
 use Rattle.state.specs.Changes.{Change, put, remove, Rows, rowsIn, tablesOf, rowCell, numberOf, rowOf, stored, isFree, stands, changeCause, rowsAfter}
 use Rattle.lawful.proofs.StoredLaws.{RowSized}
 use Rattle.lawful.proofs.SoundChange.{number-below, rows-changed, rows-unchanged}
-use Rattle.script.specs.Runs.{longer}
+use Rattle.script.specs.JustRead.{longer}
 use Rattle.script.proofs.SameRows.{SameRows, and-same, has-test}
 
 -- rows that have the sizes of a design just read

@@ -12,11 +12,11 @@ use Rattle.finite.specs.Finite.{tab}
 use Rattle.finite.proofs.Bools.{dec, clash, same-number}
 use Rattle.finite.proofs.Tables.{length-tab, tab-at, tab-past}
 use Rattle.lawful.proofs.StoredLaws.{RowSized, RowStored}
-use Rattle.format.specs.declared.command.Command.{Command}
-use Rattle.format.specs.declared.command.Command.the-variants.{Table, Constraint, Filling, Row, End, Operate, Put, Remove, Unknown, Short}
-use Rattle.format.specs.Bytes.{byteAt, u16At, u32At}
-use Rattle.format.specs.Commands.{widthOf, putRowAt, designCommandAt, operationAt, operandsAt, commandAt}
-use Rattle.format.proofs.CommandLaws.{width-put, at-end, at-unknown, at-short, at-whole}
+use Rattle.command.specs.declared.command.Command.{Command}
+use Rattle.command.specs.declared.command.Command.the-variants.{Table, Constraint, Filling, Row, End, Operate, Put, Remove, Unknown, Short}
+use Rattle.command.specs.Bytes.{byteAt, u16At, u32At}
+use Rattle.command.specs.Commands.{widthOf, putRowAt, designCommandAt, operationAt, operandsAt, commandAt}
+use Rattle.command.proofs.CommandLaws.{width-put, at-end, at-unknown, at-short, at-whole}
 use Rattle.format.proofs.ReadingLaws.{Whole}
 use Rattle.format.proofs.Small.{Small}
 

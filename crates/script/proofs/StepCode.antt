@@ -17,9 +17,9 @@ use Rattle.state.specs.declared.design.Design.{Design}
 use Rattle.state.specs.HeldWords.{firstWords, wordsHeld, Whole}
 use Rattle.state.specs.Lent.{State, lent, sound, causeAt, causeOf, Performed}
 use Rattle.state.specs.Changes.{Change, put, Changed}
-use Rattle.format.specs.declared.command.Command.{Command}
-use Rattle.format.specs.Bytes.{byteAt}
-use Rattle.format.specs.Commands.{widthOf, commandAt}
+use Rattle.command.specs.declared.command.Command.{Command}
+use Rattle.command.specs.Bytes.{byteAt}
+use Rattle.command.specs.Commands.{widthOf, commandAt}
 use Rattle.format.specs.Reading.{mostBytes}
 use Rattle.script.specs.declared.outcome.Step.{Step}
 use Rattle.script.specs.Step.{Outputs, outputs, roomsOf, operationIn, Stepped, placeOf, refusing, operated, changing, carried, stepAt, Does, DoesWords}

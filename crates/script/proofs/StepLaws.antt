@@ -21,14 +21,14 @@ use Rattle.lawful.proofs.HeldLaws.{holding-back}
 use Rattle.lawful.proofs.SoundState.{sound-fresh, fresh-long, after, after-fit, held-after, marks-after, sound-after}
 use Rattle.lawful.proofs.StoredLaws.{RowSized, free-sized}
 use Rattle.lawful.proofs.SoundChange.{sound-changed}
-use Rattle.format.specs.declared.command.Command.{Command}
-use Rattle.format.specs.declared.command.Command.the-variants.{Table, Constraint, Filling, Row, End, Operate, Put, Remove, Unknown, Short}
-use Rattle.format.specs.Bytes.{byteAt}
-use Rattle.format.specs.Commands.{commandAt, widthOf, putRowAt}
+use Rattle.command.specs.declared.command.Command.{Command}
+use Rattle.command.specs.declared.command.Command.the-variants.{Table, Constraint, Filling, Row, End, Operate, Put, Remove, Unknown, Short}
+use Rattle.command.specs.Bytes.{byteAt}
+use Rattle.command.specs.Commands.{commandAt, widthOf, putRowAt}
 use Rattle.format.specs.Reading.{mostBytes}
 use Rattle.format.proofs.ReadingLaws.{Whole}
 use Rattle.script.specs.Step.{Outputs, roomsOf, operationIn, Stepped, refusing, operated, changing, carried, stepAt}
-use Rattle.script.proofs.Causes.{caused, uncaused}
+use Rattle.cache.proofs.Causes.{caused, uncaused}
 use Rattle.script.proofs.Places.{command-kinds, put-sized}
 
 -- ---- an operation

@@ -4,13 +4,12 @@ use mathlib.Core.Path.{_≡_, refl, sym, ap, subst, _∙_}
 use mathlib.Core.Bool.{false, true}
 use mathlib.Core.List.{List}
 use mathlib.Core.Logic.{⊎-elim}
-use lib.ListN.{length}
 use lib.Seq.{sets}
 use Rattle.finite.proofs.Bools.{dec}
 use Rattle.model.specs.Answers.{refused}
 use Rattle.state.specs.Lent.{State}
 use Rattle.state.proofs.Arrays.{HeldSized}
-use Rattle.format.specs.Commands.{commandAt}
+use Rattle.command.specs.Commands.{commandAt}
 use Rattle.state.specs.Meaning.{answerOf}
 use Rattle.state.specs.declared.held.Held.{Held}
 use Rattle.state.specs.HeldWords.{heldWords, wordsHeld, recordIn}

@@ -14,10 +14,10 @@ use Rattle.state.specs.Meaning.{answerOf, operationOf}
 use Rattle.state.specs.HeldWords.{recordIn, heldWords}
 use Rattle.state.specs.Lent.{State, longEnough, lawful, causeOf, answerAt, stateAfter, wordsAt, textAt}
 use Rattle.state.specs.Changes.{Change, put, remove, changeAnswerAt, stateChanged}
-use Rattle.format.specs.declared.command.Command.{Command}
-use Rattle.format.specs.declared.command.Command.the-variants.{Table, Constraint, Filling, Row, End, Operate, Put, Remove, Unknown, Short}
-use Rattle.format.specs.Bytes.{byteAt}
-use Rattle.format.specs.Commands.{commandAt, widthOf, putRowAt}
+use Rattle.command.specs.declared.command.Command.{Command}
+use Rattle.command.specs.declared.command.Command.the-variants.{Table, Constraint, Filling, Row, End, Operate, Put, Remove, Unknown, Short}
+use Rattle.command.specs.Bytes.{byteAt}
+use Rattle.command.specs.Commands.{commandAt, widthOf, putRowAt}
 use Rattle.format.specs.Reading.{mostBytes}
 use Rattle.script.specs.declared.outcome.Step.{Step}
 

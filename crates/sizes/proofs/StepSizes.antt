@@ -10,11 +10,11 @@ use lib.ListN.{length}
 use Rattle.finite.proofs.Bools.{cond-true, cond-false}
 use Rattle.state.specs.declared.operation.Operation.{Operation}
 use Rattle.state.specs.Lent.{State}
-use Rattle.format.specs.declared.command.Command.{Command}
-use Rattle.format.specs.declared.command.Command.the-variants.{Table, Constraint, Filling, Row, End, Operate, Put, Remove, Unknown, Short}
-use Rattle.format.specs.Commands.{commandAt}
+use Rattle.command.specs.declared.command.Command.{Command}
+use Rattle.command.specs.declared.command.Command.the-variants.{Table, Constraint, Filling, Row, End, Operate, Put, Remove, Unknown, Short}
+use Rattle.command.specs.Commands.{commandAt}
 use Rattle.format.specs.Reading.{mostBytes}
-use Rattle.format.proofs.command.Command.{the-type}
+use Rattle.command.proofs.command.Command.{the-type}
 use Rattle.script.specs.Step.{Outputs, changing, carried}
 use Rattle.sizes.specs.StepSizes.{ofOperation, ofStep}
 

@@ -7,9 +7,9 @@ use lib.Dec.{ltb}
 use lib.ListN.{length}
 use Rattle.state.specs.declared.operation.Operation.{Operation}
 use Rattle.state.specs.Lent.{State}
-use Rattle.format.specs.declared.command.Command.{Command}
-use Rattle.format.specs.declared.command.Command.the-variants.{Table, Constraint, Filling, Row, End, Operate, Put, Remove, Unknown, Short}
-use Rattle.format.specs.Commands.{commandAt}
+use Rattle.command.specs.declared.command.Command.{Command}
+use Rattle.command.specs.declared.command.Command.the-variants.{Table, Constraint, Filling, Row, End, Operate, Put, Remove, Unknown, Short}
+use Rattle.command.specs.Commands.{commandAt}
 use Rattle.format.specs.Reading.{mostBytes}
 use Rattle.sizes.specs.Sizes.{wordsTaken, textTaken}
 

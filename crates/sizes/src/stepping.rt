@@ -9,9 +9,9 @@ ghost use Rattle.catalog.specs.Catalog.{Catalogued};
 ghost use Rattle.sizes.specs.StepSizes.{textTakenAt, wordsTakenAt};
 use crate::sizing::Sizes;
 use crate::sizing::sizes_lawful;
-use format::Command;
+use command::Command;
+use command::command_at;
 use format::MOST_BYTES;
-use format::command_at;
 use state::Design;
 
 // What the step at place `at` takes, on a state known sound, with the catalog of its rows; nothing changes. The last two arrays are working memory,

@@ -15,7 +15,7 @@ use Rattle.state.specs.HeldWords.{heldLength, longHeld, wordsHeld, narrowHeld, 
 use Rattle.state.specs.Lent.{lent, longEnough, lawful, sound, causeOf}
 use Rattle.state.proofs.LentWords.{first-means, first-whole}
 use Rattle.script.specs.Step.{Outputs, refusing, stepAt}
-use Rattle.script.specs.Writing.{bytesOf}
+use Rattle.writing.specs.Writing.{bytesOf}
 use Rattle.words.specs.Words.{designLength, wordsDesign, narrowDesign}
 use Rattle.wurzsige.specs.Calls.{Memory, memory, stateIn, longWords, longMemory, lawfulMemory, soundMemory, memoryCause, Arrays, CatalogIn, stepIn, writeCause}
 

@@ -2,7 +2,7 @@
 use Prim.Native.Nat.{ℕ, _≤_, _<_}
 use native.Mathlib.Omega.{arith}
 use mathlib.Core.Path.{_≡_, refl, sym, ap, subst, _∙_}
-use mathlib.Core.Bool.{Bool, true, false}
+use mathlib.Core.Bool.{true, false}
 use mathlib.Core.List.{List, []}
 use lib.ListN.{length, replicate}
 use lib.Seq.{sets, length-sets}
@@ -22,14 +22,16 @@ use Rattle.format.specs.declared.verdict.DesignReading.{DesignReading}
 use Rattle.format.specs.Reading.{Draft, DesignRead, readInto, verdictOf, designOf, rowsRead, cellsAfter, tablesAfter, marksAfter, Leaves}
 use Rattle.format.specs.Reading.DesignRead.{accepted, refusedAt}
 use Rattle.format.proofs.Small.{Small}
-use Rattle.format.proofs.RoundTrip.{accepted-lawful}
+use Rattle.format.proofs.Reached.{accepted-lawful}
 use Rattle.script.specs.Step.{outputs}
-use Rattle.script.specs.Runs.{Buffers, buffers, justRead, beginning}
-use Rattle.script.proofs.JustRead.{into-parts, begun}
-use Rattle.script.proofs.Tracking.{Tracks}
+use Rattle.script.specs.JustRead.{Buffers, buffers, justRead}
+use Rattle.run.specs.Runs.{beginning}
+use Rattle.script.proofs.JustRead.{into-parts}
+use Rattle.run.proofs.Begun.{begun}
+use Rattle.run.proofs.Tracking.{Tracks}
 use Rattle.words.specs.Words.{designLength, designWords, wordsDesign, narrowDesign}
 use Rattle.wurzsige.specs.Told.{OpenTold}
-use Rattle.wurzsige.specs.Calls.{Memory, memory, longWords, Arrays, CatalogIn, Ready, opening, memoryOpened, Opened, OpenTaken}
+use Rattle.wurzsige.specs.Calls.{Memory, memory, longWords, Arrays, CatalogIn, Ready, opening, Opened, OpenTaken}
 use Rattle.words.proofs.WordLaws.{design-stored}
 use Rattle.words.proofs.Narrow.{narrow-design}
 use Rattle.words.proofs.NarrowWords.{design-narrow}

@@ -12,7 +12,7 @@ use lib.ListN.{length, getD}
 use lib.Seq.{sets, length-sets}
 use Rattle.finite.proofs.Bools.{dec, clash, same-number, cond-true, cond-false}
 use Rattle.finite.proofs.Tables.{length-tab}
-use Rattle.model.specs.Answers.{Answer, refused, Shown, shown, isRefusal}
+use Rattle.model.specs.Answers.{Answer, refused, shown, isRefusal}
 use Rattle.state.specs.Cells.{Cells}
 use Rattle.state.specs.declared.design.Design.{Design}
 use Rattle.state.specs.Meaning.{answerOf}
@@ -21,9 +21,9 @@ use Rattle.state.proofs.HeldWords.{length-held, words-sized, stored-whole, whol
 use Rattle.state.proofs.LentWords.{means-same, narrow-same, first-means, first-narrow}
 use Rattle.script.specs.declared.outcome.Step.{Step}
 use Rattle.script.specs.Step.{Outputs, Stepped, refusing, stepAt, Does}
-use Rattle.script.specs.Runs.{Left, leaving, leftFrom}
+use Rattle.run.specs.Runs.{Left, leaving, leftFrom}
 use Rattle.script.proofs.StepLaws.{step-sound}
-use Rattle.script.proofs.RunLaws.{left-sound}
+use Rattle.run.proofs.RunLaws.{left-sound}
 use Rattle.script.proofs.Theorems.{Unchanged, refused-unchanged}
 use Rattle.state.specs.HeldWords.{heldLength, wordAt, heldWords, wordsHeld, narrowHeld, firstWords, Whole}
 use Rattle.words.specs.Words.{wordsDesign}

@@ -3,7 +3,7 @@
 use Prim.Native.Nat.{ℕ, _≤_, _<_}
 use native.Mathlib.Omega.{arith}
 use mathlib.Core.Path.{_≡_, sym, ap, subst, _∙_}
-use mathlib.Core.Bool.{true, false, cond}
+use mathlib.Core.Bool.{true, false}
 use mathlib.Core.List.{List, [], _∷_}
 use borrow.Author.Tests.{le-leb, lt-leb, eq-eqb, ne-eqb}
 use lib.Dec.{eqb, leb}
@@ -18,7 +18,7 @@ use Rattle.state.proofs.Arrays.{Sized}
 use Rattle.lawful.proofs.Asked.{sound-range, sound-backed}
 use Rattle.format.specs.Writing.{designBytes}
 use Rattle.sizes.specs.StepSizes.{wordsTakenAt, textTakenAt}
-use Rattle.script.specs.Writing.{bytesOf}
+use Rattle.writing.specs.Writing.{bytesOf}
 use Rattle.words.specs.Words.{wordsDesign}
 use Rattle.wurzsige.specs.Calls.{Memory, memory, stateIn, soundMemory, memoryCause, writeCause, DesignWritten, sizesIn, SizesTold}
 use Rattle.wurzsige.proofs.Memories.{memory-parts, write-caused, write-uncaused}

@@ -16,9 +16,9 @@ use Rattle.format.specs.declared.verdict.DesignReading.{DesignReading}
 use Rattle.format.specs.Reading.{DesignRead, readInto, verdictOf, designOf, rowsRead, cellsAfter, tablesAfter, marksAfter}
 use Rattle.format.specs.Reading.DesignRead.{accepted, refusedAt}
 use Rattle.script.specs.Step.{Outputs, Stepped, refusing, stepAt}
-use Rattle.script.specs.Runs.{Left}
+use Rattle.run.specs.Runs.{Left}
 use Rattle.sizes.specs.StepSizes.{wordsTakenAt, textTakenAt}
-use Rattle.script.specs.Writing.{bytesOf}
+use Rattle.writing.specs.Writing.{bytesOf}
 use Rattle.state.specs.HeldWords.{heldLength, longHeld, heldWords, wordsHeld, narrowHeld}
 use Rattle.state.specs.Meaning.{schemeOf, databaseOf}
 use Rattle.words.specs.Words.{designLength, designWords, wordsDesign, narrowDesign}

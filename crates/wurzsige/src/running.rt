@@ -2,9 +2,9 @@
 ghost use lib.ListN.{length};
 ghost use Rattle.state.specs.Cells.{cellsIn};
 ghost use Rattle.script.specs.Step.{outputs};
-ghost use Rattle.script.specs.Runs.{leftFrom};
+ghost use Rattle.run.specs.Runs.{leftFrom};
 ghost use Rattle.wurzsige.specs.Calls.{memory, arrays, stateIn, Trusts, RunMade};
-use script::run_lawful;
+use run::run_lawful;
 use words::design_from;
 
 // The steps from place `at` on, until the script ends or cause 1, 2 or 4 stops it; no answer is told, the answer words are the last query's, and the text is

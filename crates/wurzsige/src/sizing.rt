@@ -2,7 +2,7 @@
 ghost use Rattle.state.specs.Cells.{cellsIn};
 ghost use Rattle.wurzsige.specs.Calls.{memory, SizesTold};
 use crate::causes::memory_cause;
-use format::design_length;
+use writing::design_length;
 use sizes::step_sizes_lawful;
 use state::first_words;
 use words::design_from;

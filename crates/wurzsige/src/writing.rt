@@ -2,8 +2,8 @@
 ghost use Rattle.state.specs.Cells.{cellsIn};
 ghost use Rattle.wurzsige.specs.Calls.{memory, DesignWritten};
 use crate::causes::memory_cause;
-use format::design_length;
-use format::write_design;
+use writing::design_length;
+use writing::write_design;
 use words::design_from;
 
 // Writes the design with its rows from the first byte of `out` on, and how many bytes it has: 0, or cause 7 or 12 of the memory, or cause 7 for `out`, which

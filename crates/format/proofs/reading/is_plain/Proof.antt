@@ -7,7 +7,7 @@ use borrow.Author.Tests.{eq-eqb, ne-eqb}
 use lib.Dec.{eqb}
 use Rattle.finite.specs.Finite.{all}
 use Rattle.finite.proofs.Search.{all-end, all-more, all-start, all-stop}
-use Rattle.format.specs.Commands.{rowIssueAt}
+use Rattle.command.specs.Commands.{rowIssueAt}
 use Rattle.format.proofs.reading.is_plain.Statement.{statement}
 use Rattle.format.proofs.reading.is_plain.Tie as tie
 

@@ -3,7 +3,7 @@ use Prim.Native.Nat.{_-_, _*_, _≤_}
 use native.Mathlib.Omega.{arith}
 use borrow.Author.Needs.{needs}
 use Rattle.finite.proofs.Stores.{Tabled, tabled-start, tabled-more, tabled-end}
-use Rattle.format.specs.Commands.{rowCellAt}
+use Rattle.command.specs.Commands.{rowCellAt}
 use Rattle.format.proofs.reading.store_cells.Statement.{statement}
 use Rattle.format.proofs.reading.store_cells.Tie as tie
 

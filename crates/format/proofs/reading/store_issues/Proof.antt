@@ -3,7 +3,7 @@ use Prim.Native.Nat.{_-_, _*_, _≤_}
 use native.Mathlib.Omega.{arith}
 use borrow.Author.Needs.{needs}
 use Rattle.finite.proofs.Stores.{Tabled, tabled-start, tabled-more, tabled-end}
-use Rattle.format.specs.Commands.{rowIssueAt}
+use Rattle.command.specs.Commands.{rowIssueAt}
 use Rattle.format.proofs.reading.store_issues.Statement.{statement}
 use Rattle.format.proofs.reading.store_issues.Tie as tie
 

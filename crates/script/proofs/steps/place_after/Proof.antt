@@ -2,8 +2,8 @@
 use native.Mathlib.Omega.{arith}
 use borrow.Author.Needs.{needs}
 use denote.Ref.{now}
-use Rattle.format.specs.Bytes.{byteAt}
-use Rattle.format.proofs.CommandLaws.{width-most, width-past}
+use Rattle.command.specs.Bytes.{byteAt}
+use Rattle.command.proofs.CommandLaws.{width-most, width-past}
 use Rattle.script.proofs.steps.place_after.Statement.{statement}
 use Rattle.script.proofs.steps.place_after.Tie as tie
 

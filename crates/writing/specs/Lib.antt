@@ -1,0 +1,2 @@
+-- Writing: a lent design written out.
+pub mod Writing
