@@ -10,9 +10,10 @@ use Rattle.model.specs.Scheme.{Column, Scheme, isColumn, candidate}
 use Rattle.model.specs.Database.{Database}
 use Rattle.model.specs.Rounds.{reached, addedRows, laterRounds}
 use Rattle.model.specs.Holding.{Pair, holds, hasRoom, withPair, withoutPair, heldIn}
-use Rattle.model.specs.Runs.{Operation, refer, drop, ask, probe, taken, marks, marked, Cache, referLevels, reloadLevels, reloaded, cacheAfter}
+use Rattle.model.specs.Runs.{Operation, refer, drop, ask, probe, taken, marks, marked, Cache, referLevels, reloadLevels, reloaded}
 use Rattle.model.specs.Probe as Probe
-use Rattle.model.specs.Answers.{Answer, loaded, held, noCandidate, dropped, refused, unless, orAnswer, groundOf, questionAnswer, answer}
+use Rattle.model.specs.Answers.{Answer, loaded, held, noCandidate, dropped, refused, unless, orAnswer, groundOf}
+use Rattle.model.specs.Effects.{effect, cacheAfter, reply, answer}
 
 -- ---- along the order of causes
 
@@ -39,17 +40,17 @@ pub record Kept (S : Scheme) (D : Database) (c : Cache) (o : Operation) (a : Ans
 
 module _ (S : Scheme) (D : Database) (c : Cache) (p : Pair) where
   untaken : taken S (c .held) p ≡ false → cacheAfter S D c (refer p) ≡ c
-  unfolding cacheAfter
+  unfolding effect
   untaken e = cond-false (taken S (c .held) p) _ c e
 
   pub refer-nowhere : ltb (p .filling) (S .fillings) ≡ false → Kept S D c (refer p) (refused 5)
-  unfolding answer taken
+  unfolding effect taken
   refer-nowhere h = record { answers = stop _ 5 _ (ap not h); cache = untaken (and-left _ _ h) }
 
   module _ (f : ltb (p .filling) (S .fillings) ≡ true) where
     -- a value without a number, which is no candidate
     pub refer-numberless : numberless (p .value) ≡ true → candidate (S .filling (p .filling)) (p .value) ≡ false → Kept S D c (refer p) (refused 9)
-    unfolding answer taken
+    unfolding effect taken
     refer-numberless b n = record {
       answers = go _ 5 _ (ap not f) (stop _ 9 _ b);
       cache = untaken (and-right (ltb (p .filling) (S .fillings)) _ (and-left
@@ -58,7 +59,7 @@ module _ (S : Scheme) (D : Database) (c : Cache) (p : Pair) where
 
     module _ (b : numberless (p .value) ≡ false) where
       pub refer-none : candidate (S .filling (p .filling)) (p .value) ≡ false → Kept S D c (refer p) noCandidate
-      unfolding answer taken
+      unfolding effect taken
       refer-none n = record {
         answers = go _ 5 _ (ap not f) (go _ 9 _ b (first _ _ _ (ap not n)));
         cache = untaken (and-right (ltb (p .filling)
@@ -67,7 +68,7 @@ module _ (S : Scheme) (D : Database) (c : Cache) (p : Pair) where
 
       module _ (k : candidate (S .filling (p .filling)) (p .value) ≡ true) where
         pub refer-held : holds (c .held) p ≡ true → Kept S D c (refer p) held
-        unfolding answer taken
+        unfolding effect taken
         refer-held l =
             record {
               answers = go _ 5 _ (ap not f) (go _ 9 _ b (second _ _ _ (ap not k) (first _ _ _ l)));
@@ -77,7 +78,7 @@ module _ (S : Scheme) (D : Database) (c : Cache) (p : Pair) where
 
         module _ (l : holds (c .held) p ≡ false) where
           pub refer-full : hasRoom (c .held) ≡ false → Kept S D c (refer p) (refused 8)
-          unfolding answer taken
+          unfolding effect taken
           refer-full r =
               record {
                 answers = go _ 5 _ (ap not f) (go _ 9 _ b (second _ _ _ (ap not k) (second _ _ _ l (stop _ 8 _ (ap not r)))));
@@ -87,7 +88,7 @@ module _ (S : Scheme) (D : Database) (c : Cache) (p : Pair) where
 
           module _ (r : hasRoom (c .held) ≡ true) where
             pub refer-loads : let L = referLevels S D (marked (c .marks)) p in loaded (addedRows D L) (laterRounds D L) ≡ answer S D c (refer p)
-            unfolding answer
+            unfolding effect
             refer-loads = go _ 5 _ (ap not f) (go _ 9 _ b (second _ _ _ (ap not k) (second _ _ _ l (go _ 8 _ (ap not r) refl))))
 
             pub refer-leaves : cacheAfter S D c (refer p) ≡ record {
@@ -95,55 +96,55 @@ module _ (S : Scheme) (D : Database) (c : Cache) (p : Pair) where
               marks = marks D (reached (referLevels S D (marked
                   (c .marks)) p));
             }
-            unfolding cacheAfter taken
+            unfolding effect taken
             refer-leaves = cond-true _ _ _ (both f (both k (both (ap not l) r)))
 
 -- ---- DROP
 
 module _ (S : Scheme) (D : Database) (c : Cache) (p : Pair) where
   unlisted : holds (c .held) p ≡ false → cacheAfter S D c (drop p) ≡ c
-  unfolding cacheAfter
+  unfolding effect
   unlisted e = cond-false (holds (c .held) p) _ c e
 
   -- no filling, and so not held
   pub drop-nowhere : ltb (p .filling) (S .fillings) ≡ false → holds (c .held) p ≡ false → Kept S D c (drop p) (refused 5)
-  unfolding answer
+  unfolding effect
   drop-nowhere h n = record { answers = stop _ 5 _ (ap not h); cache = unlisted n }
 
   module _ (f : ltb (p .filling) (S .fillings) ≡ true) where
     -- a value without a number, which is not held
     pub drop-numberless : numberless (p .value) ≡ true → holds (c .held) p ≡ false → Kept S D c (drop p) (refused 9)
-    unfolding answer
+    unfolding effect
     drop-numberless b n = record { answers = go _ 5 _ (ap not f) (stop _ 9 _ b); cache = unlisted n }
 
     module _ (b : numberless (p .value) ≡ false) where
       pub drop-none : holds (c .held) p ≡ false → Kept S D c (drop p) (refused 10)
-      unfolding answer
+      unfolding effect
       drop-none n = record { answers = go _ 5 _ (ap not f) (go _ 9 _ b (stop _ 10 _ (ap not n))); cache = unlisted n }
 
       module _ (l : holds (c .held) p ≡ true) where
         pub drop-drops : let L = reloadLevels S D (withoutPair (c .held) p) in dropped (count (D .size) (λ r. marked (c .marks) r && not
             (reached L r))) ≡ answer S D c (drop p)
-        unfolding answer
+        unfolding effect
         drop-drops = go _ 5 _ (ap not f) (go _ 9 _ b (go _ 10 _ (ap not l) refl))
 
         pub drop-leaves : cacheAfter S D c (drop p) ≡ reloaded S D (withoutPair (c .held) p)
-        unfolding cacheAfter
+        unfolding effect
         drop-leaves = cond-true (holds (c .held) p) _ _ l
 
 -- ---- PROBE
 
 module _ (S : Scheme) (D : Database) (c : Cache) (k : Column) (v : Cell) where
   pub probe-nowhere : isColumn S k ≡ false → refused 5 ≡ answer S D c (ask (probe k v))
-  unfolding answer questionAnswer
+  unfolding effect reply
   probe-nowhere h = stop _ 5 _ (ap not h)
 
   module _ (f : isColumn S k ≡ true) where
     pub probe-numberless : numberless v ≡ true → refused 9 ≡ answer S D c (ask (probe k v))
-    unfolding answer questionAnswer
+    unfolding effect reply
     probe-numberless b = go _ 5 _ (ap not f) (stop _ 9 _ b)
 
     pub probe-full : numberless v ≡ false → groundOf (Probe.probe S D (heldIn S (c .held)) (marked (c .marks)) k v) (Probe.cachedRows D (marked (c .marks)) k v) ≡
         answer S D c (ask (probe k v))
-    unfolding answer questionAnswer
+    unfolding effect reply
     probe-full b = go _ 5 _ (ap not f) (go _ 9 _ b refl)

@@ -8,8 +8,9 @@ use lib.Dec.{ltb}
 use lib.ListN.{drop as past, take-append-drop}
 use Rattle.finite.proofs.Bools.{cond-true, cond-false}
 use Rattle.model.specs.Holding.{desks}
-use Rattle.model.specs.Runs.{name, Cache, atDesk, cacheAfter}
-use Rattle.model.specs.Answers.{named, refused, unless, answer}
+use Rattle.model.specs.Runs.{name, Cache, atDesk}
+use Rattle.model.specs.Answers.{named, refused, unless}
+use Rattle.model.specs.Effects.{effect, cacheAfter, answer}
 use Rattle.state.specs.declared.held.Held.{Held}
 use Rattle.state.specs.Meaning.{heldOf}
 use Rattle.state.specs.Lent.{State, lent, cache, sound, Answered}
@@ -23,7 +24,7 @@ renamed h d = record { desk = d; count = h .count; values = h .values; ranges = 
 
 module _ (s : State) (e : sound s ≡ true) (l : HeldSized (s .held)) (d : ℕ) where
   pub name-5 : desks ≤ d → Answered s (name d) (refused 5) s
-  unfolding cacheAfter answer
+  unfolding effect
   name-5 h =
       record {
         answer = sym (ap (λ (b : Bool). unless (not b) 5 (named d)) (le-ltb d desks h)) ∙ sym (answer-at s e (name d));
@@ -31,7 +32,7 @@ module _ (s : State) (e : sound s ≡ true) (l : HeldSized (s .held)) (d : ℕ) 
       }
 
   left : d < desks → after s (name d) ≡ atDesk (cache s) d
-  unfolding cacheAfter
+  unfolding effect
   left h = cond-true (ltb d desks) (atDesk (cache s) d) (cache s) (lt-ltb d desks h)
 
   held : heldOf (atDesk (cache s) d .held) ≡ renamed (s .held) d
@@ -39,7 +40,7 @@ module _ (s : State) (e : sound s ≡ true) (l : HeldSized (s .held)) (d : ℕ) 
   held = ap (λ (g : Held). renamed g d) (held-back (s .design) (s .held) (parts s e .held) l)
 
   pub name-desk : d < desks → Answered s (name d) (named d) (lent (s .design) (s .cells) (s .tables) (s .marks) (renamed (s .held) d))
-  unfolding answer
+  unfolding effect
   name-desk h =
       record {
         answer = sym (ap (λ (b : Bool). unless (not b) 5 (named d)) (lt-ltb d desks h)) ∙ sym (answer-at s e (name d));

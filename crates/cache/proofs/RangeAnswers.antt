@@ -8,30 +8,31 @@ use Rattle.model.specs.Database.{Database}
 use Rattle.model.specs.Rounds.{reached, addedRows, laterRounds}
 use Rattle.model.specs.Ranges.{Range, isRange, onlyCandidates}
 use Rattle.model.specs.Holding.{holdsRange, coversRange, hasRangeRoom, withoutRange}
-use Rattle.model.specs.Runs.{referRange, dropRange, rangeTaken, marked, Cache, rangeLevels, reloadLevels, referredRange, reloaded, cacheAfter}
-use Rattle.model.specs.Answers.{loaded, held, noCandidate, dropped, refused, answer}
+use Rattle.model.specs.Runs.{referRange, dropRange, rangeTaken, marked, Cache, rangeLevels, reloadLevels, referredRange, reloaded}
+use Rattle.model.specs.Answers.{loaded, held, noCandidate, dropped, refused}
+use Rattle.model.specs.Effects.{effect, cacheAfter, answer}
 use Rattle.cache.proofs.Answering.{stop, go, first, second, Kept}
 
 -- ---- a load
 
 module _ (S : Scheme) (D : Database) (c : Cache) (r : Range) where
   untaken : rangeTaken S (c .held) r ≡ false → cacheAfter S D c (referRange r) ≡ c
-  unfolding cacheAfter
+  unfolding effect
   untaken e = cond-false (rangeTaken S (c .held) r) _ c e
 
   pub range-nowhere : isRange S r ≡ false → Kept S D c (referRange r) (refused 5)
-  unfolding answer rangeTaken
+  unfolding effect rangeTaken
   range-nowhere h = record { answers = stop _ 5 _ (ap not h); cache = untaken (and-left _ _ h) }
 
   module _ (f : isRange S r ≡ true) where
     pub range-none : onlyCandidates S r ≡ false → Kept S D c (referRange r) noCandidate
-    unfolding answer rangeTaken
+    unfolding effect rangeTaken
     range-none n =
         record { answers = go _ 5 _ (ap not f) (first _ _ _ (ap not n)); cache = untaken (and-right (isRange S r) _ (and-left (onlyCandidates S r) _ n)) }
 
     module _ (k : onlyCandidates S r ≡ true) where
       pub range-held : coversRange (c .held) r ≡ true → Kept S D c (referRange r) held
-      unfolding answer rangeTaken
+      unfolding effect rangeTaken
       range-held l =
           record {
             answers = go _ 5 _ (ap not f) (second _ _ _ (ap not k) (first _ _ _ l));
@@ -40,7 +41,7 @@ module _ (S : Scheme) (D : Database) (c : Cache) (r : Range) where
 
       module _ (l : coversRange (c .held) r ≡ false) where
         pub range-full : hasRangeRoom (c .held) r ≡ false → Kept S D c (referRange r) (refused 8)
-        unfolding answer rangeTaken
+        unfolding effect rangeTaken
         range-full m =
             record {
               answers = go _ 5 _ (ap not f) (second _ _ _ (ap not k) (second _ _ _ l (stop _ 8 _ (ap not m))));
@@ -49,36 +50,36 @@ module _ (S : Scheme) (D : Database) (c : Cache) (r : Range) where
 
         module _ (m : hasRangeRoom (c .held) r ≡ true) where
           pub range-loads : let L = rangeLevels S D (marked (c .marks)) r in loaded (addedRows D L) (laterRounds D L) ≡ answer S D c (referRange r)
-          unfolding answer
+          unfolding effect
           range-loads = go _ 5 _ (ap not f) (second _ _ _ (ap not k) (second _ _ _ l (go _ 8 _ (ap not m) refl)))
 
           pub range-leaves : cacheAfter S D c (referRange r) ≡ referredRange S D c r
-          unfolding cacheAfter rangeTaken
+          unfolding effect rangeTaken
           range-leaves = cond-true _ _ _ (both f (both k (both (ap not l) m)))
 
 -- ---- a drop
 
 module _ (S : Scheme) (D : Database) (c : Cache) (r : Range) where
   unlisted : holdsRange (c .held) r ≡ false → cacheAfter S D c (dropRange r) ≡ c
-  unfolding cacheAfter
+  unfolding effect
   unlisted e = cond-false (holdsRange (c .held) r) _ c e
 
   -- operands that are wrong, and so no held range
   pub drop-range-nowhere : isRange S r ≡ false → holdsRange (c .held) r ≡ false → Kept S D c (dropRange r) (refused 5)
-  unfolding answer
+  unfolding effect
   drop-range-nowhere h n = record { answers = stop _ 5 _ (ap not h); cache = unlisted n }
 
   module _ (f : isRange S r ≡ true) where
     pub drop-range-none : holdsRange (c .held) r ≡ false → Kept S D c (dropRange r) (refused 10)
-    unfolding answer
+    unfolding effect
     drop-range-none n = record { answers = go _ 5 _ (ap not f) (stop _ 10 _ (ap not n)); cache = unlisted n }
 
     module _ (l : holdsRange (c .held) r ≡ true) where
       pub drop-range-drops : let L = reloadLevels S D (withoutRange (c .held) r) in
           dropped (count (D .size) (λ s. marked (c .marks) s && not (reached L s))) ≡ answer S D c (dropRange r)
-      unfolding answer
+      unfolding effect
       drop-range-drops = go _ 5 _ (ap not f) (go _ 10 _ (ap not l) refl)
 
       pub drop-range-leaves : cacheAfter S D c (dropRange r) ≡ reloaded S D (withoutRange (c .held) r)
-      unfolding cacheAfter
+      unfolding effect
       drop-range-leaves = cond-true (holdsRange (c .held) r) _ _ l

@@ -16,7 +16,8 @@ use Rattle.model.specs.Rounds.{reached, addedRows, laterRounds}
 use Rattle.model.specs.Holding.{Holding, holds, hasRoom, withPair, withoutPair, wanted}
 use Rattle.model.specs.Runs.{Operation, refer, drop, marks, marked, Cache, referLevels, reloadLevels, reloaded}
 use Rattle.model.specs.Answers as Answers
-use Rattle.model.specs.Answers.{Answer, answer, loaded, dropped, refused}
+use Rattle.model.specs.Answers.{Answer, loaded, dropped, refused}
+use Rattle.model.specs.Effects.{answer}
 use Rattle.model.proofs.HoldingLaws.{HoldingFits, room-few, fit-fewer, listed-fits, listed-candidate}
 use Rattle.model.proofs.RoundsLaws.{load-same}
 use Rattle.state.specs.declared.held.HeldValue.{HeldValue}

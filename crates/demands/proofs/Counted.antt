@@ -20,7 +20,8 @@ use Rattle.model.specs.Holding.{heldIn}
 use Rattle.model.specs.Query.{Query, operandsFit, extend, fitting, wordsOf, fullLists, joinsOf, positionFits, totalOver, fullTotal}
 use Rattle.model.specs.Opener.{isOpen}
 use Rattle.model.specs.Runs.{ask, probe, asLists, query, outputFits, withinLimit, taken, pairFor, marked, Cache, Output, asTotal}
-use Rattle.model.specs.Answers.{Answer, sent, ground, lists, unless, orAnswer, shown, Yes, queryGround, isAnswered, fullAnswer, queryAnswer, hasLists, writtenWith, queryWords, written, answer, total}
+use Rattle.model.specs.Answers.{Answer, sent, ground, lists, unless, orAnswer, shown, Yes, queryGround, isAnswered, fullAnswer, queryAnswer, hasLists, writtenWith, queryWords, total}
+use Rattle.model.specs.Effects.{effect, written, answer}
 use Rattle.model.specs.Demand.{Groundless, Unrefused}
 use Rattle.model.proofs.CountedRows.{fitting-alone, lists-alone}
 use Rattle.state.specs.Lent.{State, scheme, database, cache, sound, answerAt, stateAfter, wordsAt}
@@ -96,7 +97,7 @@ module _ (s : State) (e : sound s ≡ true) (u : Stored (s .cells)) (q : Query) 
   -- same state, and writes n words
   pub probe-counts : (g n : ℕ) → answerAt s (ask (probe (q .column) (q .value))) ≡ ground g n → operandsFit S q ≡ true → (room : ℕ) → n ≤ room →
       (answerAt s (query q (asLists room)) ≡ lists n) × (length (wordsAt s (query q (asLists room))) ≡ n)
-  unfolding answer queryAnswer isAnswered outputFits withinLimit fullAnswer queryGround written queryWords writtenWith hasLists shown
+  unfolding effect queryAnswer isAnswered outputFits withinLimit fullAnswer queryGround queryWords writtenWith hasLists shown
   probe-counts g n h f room l =
       let x = carries S D c (q .column) (q .value) g n (sym (answer-at s e (ask (probe (q .column) (q .value)))) ∙ h) in
       let count : length (fullLists S D q) ≡ n =
@@ -155,7 +156,7 @@ module _ (s : State) (e : sound s ≡ true) (u : Stored (s .cells)) (q : Query) 
   -- value without joins, whose operands fit, is answered on the same state, and adds up n lists
   pub probe-totals : (g n : ℕ) → answerAt s (ask (probe (q .column) (q .value))) ≡ ground g n → (i j : ℕ) → outputFits S q (asTotal i j) ≡ true →
       (answerAt s (query q (asTotal i j)) ≡ total (fullTotal S D q i j)) × (length (fullLists S D q) ≡ n)
-  unfolding answer queryAnswer isAnswered outputFits withinLimit fullAnswer queryGround
+  unfolding effect queryAnswer isAnswered outputFits withinLimit fullAnswer queryGround
   probe-totals g n h i j f =
       let x = carries S D c (q .column) (q .value) g n (sym (answer-at s e (ask (probe (q .column) (q .value)))) ∙ h) in
       let w = and-eq-true-iff (operandsFit S q) (positionFits S q i j) .0 f in
@@ -170,7 +171,7 @@ module _ (s : State) (e : sound s ≡ true) (u : Stored (s .cells)) (q : Query) 
   -- THEOREM: and where such a total is answered, referred first or not, a PROBE of the value, asked afterwards, is a yes that carries as many rows as the lists that it adds up
   pub total-counts : (i j : ℕ) → Unrefused (answerAt s (query q (asTotal i j))) → answerAt s (query q (asTotal i j)) ≢ sent →
       (g : ℕ) × (answerAt (stateAfter s (query q (asTotal i j))) (ask (probe (q .column) (q .value))) ≡ ground g (length (fullLists S D q)))
-  unfolding answer
+  unfolding effect
   total-counts i j r f =
       let o = query q (asTotal i j) in
       let d = queried-exactly s e u q (asTotal i j) r in

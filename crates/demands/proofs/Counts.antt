@@ -19,8 +19,9 @@ use Rattle.model.specs.Cache.{RowSet, Inside}
 use Rattle.model.specs.Rounds.{level, reached, load, addedRows, laterRounds}
 use Rattle.model.specs.Ranges.{Range, isRange, onlyCandidates, hasRange}
 use Rattle.model.specs.Holding.{Pair, Holding, holds, hasRoom, withoutPair, coversRange, hasRangeRoom, holdsRange, withoutRange}
-use Rattle.model.specs.Runs.{Operation, refer, drop, referRange, dropRange, taken, rangeTaken, referLevels, rangeLevels, reloadLevels, cachedFor, marks, marked, Cache, cacheAfter}
-use Rattle.model.specs.Answers.{held, noCandidate, loaded, dropped, changed, unless, orAnswer, answer}
+use Rattle.model.specs.Runs.{Operation, refer, drop, referRange, dropRange, taken, rangeTaken, referLevels, rangeLevels, reloadLevels, cachedFor, marks, marked, Cache}
+use Rattle.model.specs.Answers.{held, noCandidate, loaded, dropped, changed, unless, orAnswer}
+use Rattle.model.specs.Effects.{effect, cacheAfter, answer}
 use Rattle.model.proofs.DatabaseLaws.{has-Has}
 use Rattle.model.proofs.Closed.{Closed, constraints-closed}
 use Rattle.model.proofs.RoundsLaws.{Distances, load-distances, load-closed}
@@ -85,7 +86,7 @@ module _ (s : State) (e : sound s ≡ true) where
 
   -- THEOREM. 01: "DROP: the cached rows become the smallest set for the values left. The answer is the number of rows that went."
   pub drop-counts : (p : Pair) (n : ℕ) → answerAt s (drop p) ≡ dropped n → n ≡ went s (stateAfter s (drop p))
-  unfolding answer cacheAfter
+  unfolding effect
   drop-counts p n h = go (ltb (p .filling) (S .fillings)) (numberless (p .value)) (holds (c .held) p) refl (sym (answer-at s e (drop p)) ∙ h)
     where
       go : (a b y : Bool) → holds (c .held) p ≡ y →
@@ -100,7 +101,7 @@ module _ (s : State) (e : sound s ≡ true) where
 
   -- THEOREM. 02, Req 10: "They print as REFER and DROP do"
   pub drop-range-counts : (r : Range) (n : ℕ) → answerAt s (dropRange r) ≡ dropped n → n ≡ went s (stateAfter s (dropRange r))
-  unfolding answer cacheAfter
+  unfolding effect
   drop-range-counts p n h = go (isRange S p) (holdsRange (c .held) p) refl (sym (answer-at s e (dropRange p)) ∙ h)
     where
       go : (a y : Bool) → holdsRange (c .held) p ≡ y →
@@ -142,7 +143,7 @@ module _ (s : State) (e : sound s ≡ true) where
 
   -- THEOREM. 01: "REFER: .. The answer gives the rows added and the number of later rounds that added a row." (The rounds are the definition's: `laterRounds`.)
   pub refer-counts : (p : Pair) (n k : ℕ) → answerAt s (refer p) ≡ loaded n k → n ≡ came s (stateAfter s (refer p))
-  unfolding answer cacheAfter taken referLevels
+  unfolding effect taken referLevels
   refer-counts p n k h =
       go (ltb (p .filling) (S .fillings)) (numberless (p .value)) (candidate (S .filling (p .filling)) (p .value)) (holds (c .held) p) (hasRoom (c .held)) refl refl refl refl
       (sym (answer-at s e (refer p)) ∙ h)
@@ -167,7 +168,7 @@ module _ (s : State) (e : sound s ≡ true) where
 
   -- THEOREM: the same of a range, "its values all joining round 0"
   pub range-counts : (q : Range) (n k : ℕ) → answerAt s (referRange q) ≡ loaded n k → n ≡ came s (stateAfter s (referRange q))
-  unfolding answer cacheAfter rangeTaken rangeLevels hasRange
+  unfolding effect rangeTaken rangeLevels hasRange
   range-counts q n k h =
       go (isRange S q) (onlyCandidates S q) (coversRange (c .held) q) (hasRangeRoom (c .held) q) refl refl refl refl (sym (answer-at s e (referRange q)) ∙ h)
     where

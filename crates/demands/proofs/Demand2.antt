@@ -15,7 +15,8 @@ use Rattle.model.specs.Probe.{cachedRows}
 use Rattle.model.specs.Holding.{heldIn}
 use Rattle.model.specs.Runs.{ask, probe, Output, asLists, query, marked, Cache}
 use Rattle.model.specs.Query.{Query}
-use Rattle.model.specs.Answers.{Answer, sent, ground, lists, unless, orAnswer, questionAnswer, queryAnswer, answer}
+use Rattle.model.specs.Answers.{Answer, sent, ground, lists, unless, orAnswer, queryAnswer}
+use Rattle.model.specs.Effects.{effect, reply, answer}
 use Rattle.model.specs.Demand.{Groundless, Unrefused, FillingsApart, Demand2}
 use Rattle.model.proofs.Demand2.{probe-sent-exactly, demand2}
 use Rattle.model.proofs.CountedRows.{alone-lists}
@@ -29,19 +30,19 @@ module _ (s : State) (e : sound s ≡ true) where
   -- THEOREM: `operate::perform` of a PROBE, and a PROBE of a script
   pub probed-exactly : (k : Column) (v : Cell) → Unrefused (answerAt s (ask (probe k v))) →
       (answerAt s (ask (probe k v)) ≡ sent) ↔ Groundless (scheme s) (database s) (cache s) k v
-  unfolding answer
+  unfolding effect
   probed-exactly k v u =
       subst (λ (a : Answer). (a ≡ sent) ↔ Groundless (scheme s) (database s) (cache s) k v) (sym at)
       (probe-sent-exactly (scheme s) (database s) (cache s) k v (subst Unrefused at u))
     where
-      at : answerAt s (ask (probe k v)) ≡ questionAnswer (scheme s) (database s) (cache s) (probe k v)
+      at : answerAt s (ask (probe k v)) ≡ reply (scheme s) (database s .answer) (cache s) (probe k v)
       at = answer-at s e (ask (probe k v))
 
   -- THEOREM: `operate::perform` of a QUERY or a total, and one of a script: what is answered is the model's answer, and demand 2 holds of it. The cells are u32
   -- numbers.
   pub queried-exactly : Stored (s .cells) → (q : Query) (out : Output) → Unrefused (answerAt s (query q out)) →
       (answerAt s (query q out) ≡ queryAnswer (scheme s) (database s) (cache s) q out) × Demand2 (scheme s) (database s) (cache s) q out
-  unfolding answer
+  unfolding effect
   queried-exactly u q out n = (at, demand2 lawful apart (cache s) (sound-smallest s e) q out (subst Unrefused at n))
     where
       at : answerAt s (query q out) ≡ queryAnswer (scheme s) (database s) (cache s) q out
@@ -63,8 +64,8 @@ pub record Carries (S : Scheme) (D : Database) (c : Cache) (k : Column) (v : Cel
   pub ground : Probe.probe S D (heldIn S (c .held)) (marked (c .marks)) k v ≢ 0
   pub rows : cachedRows D (marked (c .marks)) k v ≡ n
 
-pub carries : (S : Scheme) (D : Database) (c : Cache) (k : Column) (v : Cell) (g n : ℕ) → questionAnswer S D c (probe k v) ≡ ground g n → Carries S D c k v n
-unfolding questionAnswer
+pub carries : (S : Scheme) (D : Database) (c : Cache) (k : Column) (v : Cell) (g n : ℕ) → reply S D c (probe k v) .answer ≡ ground g n → Carries S D c k v n
+unfolding reply
 carries S D c k v g n e = go (isColumn S k) (numberless v) (ltb 0 found) refl refl refl e
   where
     found : ℕ
@@ -81,7 +82,7 @@ carries S D c k v g n e = go (isColumn S k) (numberless v) (ltb 0 found) refl re
 pub counted-exactly : (s : State) (e : sound s ≡ true) → Stored (s .cells) → (q : Query) (room : ℕ) → q .joins ≡ 0 → Unrefused (answerAt s (query q (asLists room))) →
     answerAt s (query q (asLists room)) ≢ sent → (g n : ℕ) → answerAt (stateAfter s (query q (asLists room))) (ask (probe (q .column) (q .value))) ≡ ground g n →
     answerAt s (query q (asLists room)) ≡ lists n
-unfolding answer
+unfolding effect
 counted-exactly s e u q room z r f g n h =
     let o = query q (asLists room) in
     let x = queried-exactly s e u q (asLists room) r in

@@ -12,7 +12,8 @@ use Rattle.model.specs.Knot.{kept, Knot}
 use Rattle.model.specs.Holding.{Pair}
 use Rattle.model.specs.Ranges.{Range}
 use Rattle.model.specs.Runs.{ask, evenness, smallestKnot, refer, referRange}
-use Rattle.model.specs.Answers.{loaded, even, uneven, knot, evenAnswer, knotAnswer, questionAnswer, answer}
+use Rattle.model.specs.Answers.{loaded, even, uneven, knot, evenAnswer, knotAnswer}
+use Rattle.model.specs.Effects.{effect, reply, answer}
 use Rattle.model.proofs.EvenLaws.{Few, even-answer, uneven-answer}
 use Rattle.model.proofs.KnotLaws.{knot-even, knot-answer, knot-less}
 use Rattle.state.specs.declared.design.Design.{Design}
@@ -30,11 +31,11 @@ module _ (s : State) (e : sound s ≡ true) where
   few i l = let w = design-says (s .design) (parts s e .design) in omega (arith, w .constraint i l .target .table, w .tables)
 
   even-at : answerAt s (ask evenness) ≡ evenAnswer (scheme s)
-  unfolding answer questionAnswer
+  unfolding effect reply
   even-at = answer-at s e (ask evenness)
 
   knot-at : answerAt s (ask smallestKnot) ≡ knotAnswer (scheme s)
-  unfolding answer questionAnswer
+  unfolding effect reply
   knot-at = answer-at s e (ask smallestKnot)
 
   -- THEOREM. 02, Req 01: "A design is uneven if constraints i and j (perhaps the same one) exist where i ends and j starts at one table but at different columns, and j's

@@ -12,10 +12,11 @@ use Rattle.model.specs.Scheme.{Column, candidate, Scheme, isColumn}
 use Rattle.model.specs.Database.{Database}
 use Rattle.model.specs.Probe as Probe
 use Rattle.model.specs.Holding.{desks, Pair, holds, hasRoom, mine, heldIn}
-use Rattle.model.specs.Runs.{ask, probe, opener, refer, name, taken, marked, Cache, referred, atDesk, cacheAfter, referLevels}
+use Rattle.model.specs.Runs.{ask, probe, opener, refer, name, taken, marked, Cache, referred, atDesk, referLevels}
 use Rattle.model.specs.Rounds.{addedRows, laterRounds}
 use Rattle.model.specs.Opener.{isOpen, opens, opensAt}
-use Rattle.model.specs.Answers.{Answer, refused, sent, ground, held, loaded, opened, openedBy, noOpener, unless, orAnswer, groundOf, Yes, openerAnswer, questionAnswer, answer}
+use Rattle.model.specs.Answers.{Answer, refused, sent, ground, held, loaded, opened, openedBy, noOpener, unless, orAnswer, groundOf, Yes, openerAnswer}
+use Rattle.model.specs.Effects.{effect, cacheAfter, reply, answer}
 use Rattle.model.proofs.OpenerLaws.{open-answer, opened-says, none-says, lowest-says}
 use Rattle.model.proofs.OpenerDesks.{desk-opens-alike, held-opens-nothing, pair-held}
 use Rattle.state.specs.Meaning.{schemeOf}
@@ -58,9 +59,9 @@ module _ (t : State) (e : sound t ≡ true) (k : Column) (v : Cell) (col : isCol
 
 -- ---- the answer to the question
 
-asked : (S : Scheme) (D : Database) (c : Cache) (k : Column) (v : Cell) (a : Answer) → questionAnswer S D c (opener k v) ≡ a → ((n : ℕ) → a ≡ refused n → ⊥) →
+asked : (S : Scheme) (D : Database) (c : Cache) (k : Column) (v : Cell) (a : Answer) → reply S D c (opener k v) .answer ≡ a → ((n : ℕ) → a ≡ refused n → ⊥) →
     (isColumn S k ≡ true) × (numberless v ≡ false) × (openerAnswer S D c k v ≡ a)
-unfolding questionAnswer
+unfolding reply
 asked S D c k v a e n = go (isColumn S k) (numberless v) refl refl e
   where
     go : (x y : Bool) → isColumn S k ≡ x → numberless v ≡ y → unless (not x) 5 (unless y 9 (openerAnswer S D c k v)) ≡ a →
@@ -86,17 +87,17 @@ module _ (s : State) (e : sound s ≡ true) (k : Column) (v : Cell) where
   c = cache s
 
   parts-of : (a : Answer) → answerAt s (ask (opener k v)) ≡ a → ((n : ℕ) → a ≡ refused n → ⊥) → (isColumn S k ≡ true) × (numberless v ≡ false) × (openerAnswer S D c k v ≡ a)
-  unfolding answer
+  unfolding effect
   parts-of a h n = asked S D c k v a (sym (answer-at s e (ask (opener k v))) ∙ h) n
 
   module _ (col : isColumn S k ≡ true) (full : numberless v ≡ false) (shut : isOpen S D k v c ≡ false) where
     -- a pair that is taken is referred
     taken-after : (p : Pair) → taken S (c .held) p ≡ true → cache (stateAfter s (refer p)) ≡ referred S D c p
-    unfolding cacheAfter
+    unfolding effect
     taken-after p t = after-cache s e (refer p) ∙ cond-true (taken S (c .held) p) (referred S D c p) c t
 
     untaken-after : (p : Pair) → taken S (c .held) p ≡ false → cache (stateAfter s (refer p)) ≡ c
-    unfolding cacheAfter
+    unfolding effect
     untaken-after p t = after-cache s e (refer p) ∙ cond-false (taken S (c .held) p) (referred S D c p) c t
 
     -- one that does not open leaves the probe sent
@@ -145,7 +146,7 @@ module _ (s : State) (e : sound s ≡ true) (k : Column) (v : Cell) where
       numbered = low-full (s .design) (parts s e .design) f l (issued n i) cand
 
       refer-loads : (rows : ℕ) × (rounds : ℕ) × (answerAt s (refer p) ≡ loaded rows rounds)
-      unfolding answer
+      unfolding effect
       refer-loads =
           let L = referLevels S D (marked (c .marks)) p in (
             addedRows D L,
@@ -166,7 +167,7 @@ module _ (s : State) (e : sound s ≡ true) (k : Column) (v : Cell) where
 
   -- THEOREM: and it is answered wherever the probe has one
   pub open-exactly : (answerAt s (ask (opener k v)) ≡ opened) ↔ Yes (answerAt s (ask (probe k v)))
-  unfolding answer questionAnswer isOpen
+  unfolding effect reply isOpen
   open-exactly = (
     open-says,
     λ y. let x = carries S D c k v (y .0) (y .1) (sym (answer-at s e (ask (probe k v))) ∙ y .2) in
@@ -206,7 +207,7 @@ module _ (s : State) (e : sound s ≡ true) (k : Column) (v : Cell) where
 
   -- "Desk limits are disregarded": whichever desk is named, the answer is the same; so the value that is answered opens the query at any desk with room
   pub opener-anywhere : (d : ℕ) → d < desks → answerAt (stateAfter s (name d)) (ask (opener k v)) ≡ answerAt s (ask (opener k v))
-  unfolding answer questionAnswer cacheAfter
+  unfolding effect reply
   opener-anywhere d l =
       answer-at (stateAfter s (name d)) (sound-after s e (name d)) (ask (opener k v)) ∙
       ap (λ (a : Cache). unless (not (isColumn S k)) 5 (unless (numberless v) 9 (openerAnswer S D a k v)))

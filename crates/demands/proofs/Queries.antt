@@ -17,8 +17,9 @@ use Rattle.model.specs.Probe.{lowest}
 use Rattle.model.specs.Holding.{heldIn}
 use Rattle.model.specs.Query.{Query, joinsOf, operandsFit, positionFits, fitting, wordsOf, fullLists, totalOver, fullTotal}
 use Rattle.model.specs.Runs as Runs
-use Rattle.model.specs.Runs.{Output, asLists, asTotal, query, outputFits, withinLimit, marked, Cache, cacheAfter}
-use Rattle.model.specs.Answers.{Answer, sent, lists, total, unless, orAnswer, shown, hasLists, fullAnswer, limitCause, isAnswered, queryAnswer, writtenWith, queryWords, written}
+use Rattle.model.specs.Runs.{Output, asLists, asTotal, query, outputFits, withinLimit, marked, Cache}
+use Rattle.model.specs.Answers.{Answer, sent, lists, total, unless, orAnswer, shown, hasLists, fullAnswer, limitCause, isAnswered, queryAnswer, writtenWith, queryWords}
+use Rattle.model.specs.Effects.{effect, cacheAfter, written}
 use Rattle.model.specs.Demand.{Groundless, Unrefused, fullWords, Demand2}
 use Rattle.model.proofs.QueryLaws.{operands-joins, fitting-reads, probe-reads}
 use Rattle.model.proofs.Demand2.{fits-operands}
@@ -184,7 +185,7 @@ module _ (p : Draft) (b : Buffers) (m : Moment) (e : State) (t : Tracks p b m e)
   goes n y = n (is ∙ y)
 
   words-are : wordsAt e (query q o) ≡ queryWords Z D c q o
-  unfolding written
+  unfolding effect
   words-are = words-at e (t .sound) (query q o) ∙ (λ i. queryWords (ap schemeOf (t .design) i) D (cache-is p b m e t i) q o)
 
   lists-cached : x ≢ sent → fullLists Z T q ≡ fitting Z T (marked (take 512 (e′ .marks))) (q .column) (q .value) (joinsOf q)

@@ -15,7 +15,8 @@ use Rattle.model.specs.Cache.{RowSet}
 use Rattle.model.specs.Runs.{ask, reason, marked, Cache, cachedFor}
 use Rattle.model.specs.Reason.{isHeld, byValue, byRange, hasOrigin, Chain, byHeld, byConstraint, Explains, reasonFor}
 use Rattle.model.specs.Sentence.{reasonText}
-use Rattle.model.specs.Answers.{Answer, absent, explained, unless, orAnswer, shown, hasText, textWith, reasonAnswer, questionAnswer, questionText, answer, written, textOf}
+use Rattle.model.specs.Answers.{Answer, absent, explained, unless, orAnswer, shown, hasText, textWith, reasonAnswer}
+use Rattle.model.specs.Effects.{effect, reply, answer, written, textOf}
 use Rattle.model.proofs.Marks.{marked-marks-is}
 use Rattle.model.proofs.RunLaws.{held-smallest}
 use Rattle.model.specs.Cell.{Fits}
@@ -96,14 +97,14 @@ module _ (s : State) (e : sound s ≡ true) (u : Stored (s .cells)) (highs : (f 
 
   module _ (r room n : ℕ) (a : answerAt s (ask (reason r room)) ≡ explained n) where
     replied : reasonAnswer S D (cache s) r room ≡ explained n
-    unfolding answer questionAnswer
+    unfolding effect reply
     replied = sym (answer-at s e (ask (reason r room))) ∙ a
 
     has : Given S D (cache s) r room n
     has = given S D (cache s) r room n replied
 
     text-is : textAt s (ask (reason r room)) ≡ reasonText S D (holdingOf (s .held)) r
-    unfolding textOf questionText textWith hasText shown
+    unfolding effect reply textWith hasText shown
     text-is =
         text-at s e (ask (reason r room)) ∙ ap (λ (x : Answer). textWith x (reasonText S D (holdingOf (s .held)) r)) replied
 
@@ -137,7 +138,7 @@ module _ (s : State) (e : sound s ≡ true) (u : Stored (s .cells)) (highs : (f 
       stepAt s out script j .answer ≡ explained n →
       (c : Chain) × (t : List ℕ) × Explained s r n t c × (n ≤ length (out .text)) × (stepAt s out script j .outputs .text ≡ sets (out .text) 0 t) ×
       (stepAt s out script j .outputs .words ≡ out .words)
-  unfolding operated written
+  unfolding operated effect
   reason-step out script j r n l at a =
       let done = operate-step s out script j (O.Reason r) e l at in
       let o = ask (reason r (length (out .text))) in

@@ -9,12 +9,12 @@ use borrow.Author.Tests.{eq-eqb}
 use lib.Dec.{eqb, leb}
 use lib.ListN.{length, getD}
 use Rattle.finite.proofs.Bools.{clash}
-use Rattle.model.specs.Answers.{answer}
 use Rattle.model.specs.Database.{Database}
 use Rattle.model.specs.Mirror.{fromSlice}
 use Rattle.model.specs.Missing as Model
 use Rattle.model.specs.Mirror.{EnoughFor}
-use Rattle.model.specs.Runs.{Operation, Cache, cacheAfter, reloaded}
+use Rattle.model.specs.Runs.{Operation, Cache, reloaded}
+use Rattle.model.specs.Effects.{answer, cacheAfter}
 use Rattle.model.proofs.Fresh.{step-fresh}
 use Rattle.model.proofs.RunLaws.{reload-sound}
 use Rattle.model.proofs.MirrorLaws.{mirror-step}

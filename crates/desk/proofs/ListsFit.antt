@@ -21,7 +21,8 @@ use Rattle.model.specs.Sentence.{reasonText}
 use Rattle.model.specs.Runs.{Question, probe, evenness, smallestKnot, opener, reason, asLists, asTotal, refer, drop, name, referRange, dropRange, outputFits, withinLimit, marked, Cache}
 use Rattle.model.specs.Query as Q
 use Rattle.model.specs.Query.{joinsOf, operandsFit, wordsOf, fullLists, fullTotal, mostJoins}
-use Rattle.model.specs.Answers.{Answer, held, noCandidate, ground, sent, lists, even, uneven, knot, named, opened, openedBy, noOpener, absent, evenAnswer, knotAnswer, openerAnswer, reasonAnswer, shown, hasLists, unless, orAnswer, questionAnswer, isAnswered, fullAnswer, queryAnswer, answer}
+use Rattle.model.specs.Answers.{Answer, held, noCandidate, ground, sent, lists, even, uneven, knot, named, opened, openedBy, noOpener, absent, evenAnswer, knotAnswer, openerAnswer, reasonAnswer, shown, hasLists, unless, orAnswer, isAnswered, fullAnswer, queryAnswer}
+use Rattle.model.specs.Effects.{effect, reply, answer}
 use Rattle.model.proofs.ListLaws.{fitting-words}
 use Rattle.state.specs.declared.design.Table as State-table
 use Rattle.state.specs.declared.design.Constraint as State-constraint
@@ -62,7 +63,7 @@ module _ (p room : ℕ) where
 
   module _ (S : Scheme) (D : Database) (c : Cache) where
     refer-within : (x : Pair) → Within (answer S D c (refer x))
-    unfolding answer hasLists shown
+    unfolding effect hasLists shown
     refer-within x =
         unless-within (not (ltb (x .filling) (S .fillings))) 5 _ (λ _. unless-within (numberless (x .value)) 9 _ (λ _.
         or-within (not (candidate (S .filling (x .filling)) (x .value))) noCandidate _ (λ h. clash h refl)
@@ -70,13 +71,13 @@ module _ (p room : ℕ) where
         (unless-within (not (hasRoom (c .held))) 8 _ (λ _ h. clash h refl)))))
 
     drop-within : (x : Pair) → Within (answer S D c (drop x))
-    unfolding answer hasLists shown
+    unfolding effect hasLists shown
     drop-within x =
         unless-within (not (ltb (x .filling) (S .fillings))) 5 _ (λ _. unless-within (numberless (x .value)) 9 _ (λ _.
         unless-within (not (holds (c .held) x)) 10 _ (λ _ h. clash h refl)))
 
-    question-within : (q : Question) → Within (questionAnswer S D c q)
-    unfolding questionAnswer evenAnswer knotAnswer openerAnswer reasonAnswer hasLists shown
+    question-within : (q : Question) → Within (reply S D c q .answer)
+    unfolding reply evenAnswer knotAnswer openerAnswer reasonAnswer hasLists shown
     question-within (probe k v) =
         let g = Probe.probe S D (heldIn S (c .held)) (marked (c .marks)) k v in
         unless-within (not (isColumn S k)) 5 _ (λ _. unless-within (numberless v) 9 _ (λ _. or-within (ltb 0 g) (ground g (Probe.cachedRows D (marked (c .marks)) k v)) sent (λ h. clash h refl) (λ h. clash h refl)))
@@ -91,18 +92,18 @@ module _ (p room : ℕ) where
         (or-within (ltb (lowestFilling S D k v c) (S .fillings)) (openedBy _ _ _) noOpener (λ h. clash h refl) (λ h. clash h refl))))
 
     name-within : (d : ℕ) → Within (answer S D c (name d))
-    unfolding answer hasLists shown
+    unfolding effect hasLists shown
     name-within d = unless-within (not (ltb d desks)) 5 (named d) (λ _ h. clash h refl)
 
     load-within : (x : Range) → Within (answer S D c (referRange x))
-    unfolding answer hasLists shown
+    unfolding effect hasLists shown
     load-within x =
         unless-within (not (isRange S x)) 5 _ (λ _. or-within (not (onlyCandidates S x)) noCandidate _ (λ h. clash h refl)
         (or-within (coversRange (c .held) x) held _ (λ h. clash h refl)
         (unless-within (not (hasRangeRoom (c .held) x)) 8 _ (λ _ h. clash h refl))))
 
     unload-within : (x : Range) → Within (answer S D c (dropRange x))
-    unfolding answer hasLists shown
+    unfolding effect hasLists shown
     unload-within x =
         unless-within (not (isRange S x)) 5 _ (λ _. unless-within (not (holdsRange (c .held) x)) 10 _ (λ _ h. clash h refl))
 
@@ -157,7 +158,7 @@ module _ (s : State) (out : Outputs) (script : List ℕ) (i : ℕ) where
 
   -- the operation at place i of the byte b, whose value has the issue w
   issued-within : (b w : ℕ) → Here (answerAt s (operationIn (issuedAt b script w i) (roomsOf out)))
-  unfolding answerAt answer issuedAt
+  unfolding answerAt effect issuedAt
   issued-within b w = go (eqb b 0x10) (eqb b 0x11) (eqb b 0x12) (eqb b 0x14) (eqb b 0x15) (eqb b 0x17) (eqb b 0x18) (eqb b 0x19) (eqb b 0x1A) (eqb b 0x1B) (eqb b 0x1C)
     where
       op : Bool → Bool → Bool → Bool → Bool → Bool → Bool → Bool → Bool → Bool → Bool → Operation

@@ -9,7 +9,8 @@ use lib.Seq.{sets, sets-eq, take-at}
 use Rattle.finite.specs.Decimal.{space, decimal}
 use Rattle.model.specs.Runs.{Operation, ask, reason, marked}
 use Rattle.model.specs.Sentence.{reasonText}
-use Rattle.model.specs.Answers.{Answer, explained, shown, hasLists, hasText, answer, textOf}
+use Rattle.model.specs.Answers.{Answer, explained, shown, hasLists, hasText}
+use Rattle.model.specs.Effects.{effect, answer, textOf}
 use Rattle.model.proofs.ReasonCases.{Replies, reason-given}
 use Rattle.state.specs.declared.operation.Operation.the-variants.{Reason}
 use Rattle.state.specs.Lent.{State, scheme, database, cache, sound, answerAt, textAt}
@@ -42,11 +43,11 @@ module _ (s : State) (e : sound s ≡ true) (outs : Outputs) (script : List ℕ)
     given = reason-given (scheme s) (database s) (cache s) r (length (outs .text)) live cached room
 
     answered : answerAt s asked ≡ explained (length sentence)
-    unfolding answer
+    unfolding effect
     answered = answer-at s e asked ∙ given .answer
 
     stored : take (length sentence) (sets (outs .text) 0 (textAt s asked)) ≡ sentence
-    unfolding textOf
+    unfolding effect
     stored = ap (λ (w : List ℕ). take (length sentence) (sets (outs .text) 0 w)) (text-at s e asked ∙ given .text) ∙ front (outs .text) sentence room
 
     -- THEOREM: the step's lines are the number, a space and the sentence, on one line

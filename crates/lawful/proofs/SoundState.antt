@@ -11,8 +11,9 @@ use lib.Seq.{getD-take, length-take-le}
 use Rattle.finite.proofs.Bools.{both, and-left, and-right, cond-true, cond-false}
 use Rattle.finite.proofs.Search.{all-at, all-true}
 use Rattle.finite.proofs.Tables.{tab-at, tab-of}
-use Rattle.model.specs.Answers.{Answer, refused, unless, answer, written, textOf}
-use Rattle.model.specs.Runs.{Operation, marks, Cache, cacheAfter}
+use Rattle.model.specs.Answers.{Answer, refused, unless}
+use Rattle.model.specs.Runs.{Operation, marks, Cache}
+use Rattle.model.specs.Effects.{answer, written, textOf, cacheAfter}
 use Rattle.model.proofs.Marks.{length-marks}
 use Rattle.model.proofs.HoldingLaws.{HoldingFits, step-fit}
 use Rattle.model.proofs.RunLaws.{Sound, step-held}

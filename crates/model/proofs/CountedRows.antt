@@ -14,7 +14,8 @@ use Rattle.model.specs.Scheme.{Column, Scheme}
 use Rattle.model.specs.Database.{Database, Lawful, has}
 use Rattle.model.specs.Cache.{RowSet}
 use Rattle.model.specs.Probe.{cachedRows, rowsBehind}
-use Rattle.model.specs.Runs.{asLists, query, marked, Cache, cacheAfter}
+use Rattle.model.specs.Runs.{asLists, query, marked, Cache}
+use Rattle.model.specs.Effects.{cacheAfter}
 use Rattle.model.specs.Query.{Query, joinsOf, operandsFit, extend, fitting, fullLists}
 use Rattle.model.specs.Answers.{sent, lists, queryGround, fullAnswer, queryAnswer}
 use Rattle.model.specs.Demand.{Demand2}

@@ -14,9 +14,10 @@ use Rattle.model.specs.Scheme.{Column, Scheme, isColumn}
 use Rattle.model.specs.Database.{Database, Lawful}
 use Rattle.model.specs.Probe as Probe
 use Rattle.model.specs.Holding.{heldIn}
-use Rattle.model.specs.Runs.{probe, Output, asLists, asTotal, query, taken, pairFor, outputFits, withinLimit, answerable, marked, Cache, cacheAfter}
+use Rattle.model.specs.Runs.{probe, Output, asLists, asTotal, query, taken, pairFor, outputFits, withinLimit, answerable, marked, Cache}
 use Rattle.model.specs.Query.{Query, joinsOf, operandsFit, positionFits, fitting, wordsOf, fullLists}
-use Rattle.model.specs.Answers.{Answer, sent, ground, unless, orAnswer, groundOf, questionAnswer, queryGround, isAnswered, fullAnswer, limitCause, queryAnswer, queryWords, hasLists, shown, writtenWith}
+use Rattle.model.specs.Answers.{Answer, sent, ground, unless, orAnswer, groundOf, queryGround, isAnswered, fullAnswer, limitCause, queryAnswer, queryWords, hasLists, shown, writtenWith}
+use Rattle.model.specs.Effects.{cacheAfter, reply}
 use Rattle.model.specs.Demand.{Groundless, Unrefused, FillingsApart, Unreferred, fullWords, Demand2}
 use Rattle.model.proofs.ProbeLaws.{probe-sent}
 use Rattle.model.proofs.QueryLaws.{query-lists}
@@ -47,8 +48,8 @@ module _ (S : Scheme) (D : Database) (c : Cache) (k : Column) (v : Cell) where
   found-none g = rw (g .held, g .demanded, g .seen)
 
   -- THEOREM: a probe that isn't refused is sent exactly if no ground applies
-  pub probe-sent-exactly : Unrefused (questionAnswer S D c (probe k v)) → (questionAnswer S D c (probe k v) ≡ sent) ↔ Groundless S D c k v
-  unfolding questionAnswer
+  pub probe-sent-exactly : Unrefused (reply S D c (probe k v) .answer) → (reply S D c (probe k v) .answer ≡ sent) ↔ Groundless S D c k v
+  unfolding reply
   probe-sent-exactly = go (isColumn S k) (numberless v) found (Probe.cachedRows D (marked (c .marks)) k v) none-found found-none
     where
       go : (a b : Bool) (n m : ℕ) → (n ≡ 0 → Groundless S D c k v) → (Groundless S D c k v → n ≡ 0) →

@@ -5,7 +5,8 @@ use Rattle.model.specs.Scheme.{Scheme}
 use Rattle.model.specs.Database.{Database, Lawful}
 use Rattle.model.specs.Cache.{Smallest}
 use Rattle.model.specs.Holding.{nothingHeld, heldIn}
-use Rattle.model.specs.Runs.{Operation, heldFrom, marked, Cache, emptyCache, cacheFrom}
+use Rattle.model.specs.Runs.{Operation, heldFrom, marked, Cache, emptyCache}
+use Rattle.model.specs.Effects.{cacheFrom}
 use Rattle.model.specs.Demand.{Demand3}
 use Rattle.model.proofs.CellLaws.{numbered-full}
 use Rattle.model.proofs.Exact.{exact}

@@ -15,7 +15,8 @@ use Rattle.model.specs.Database.{Database}
 use Rattle.model.specs.Ranges.{Range, isRange, onlyCandidates, joined, contains}
 use Rattle.model.specs.Holding.{places, mostRanges, Pair, samePair, Holding, holds, hasRoom, coversRange, hasRangeRoom}
 use Rattle.model.specs.Runs.{refer, referRange, taken, rangeTaken, Cache}
-use Rattle.model.specs.Answers.{Answer, loaded, held, noCandidate, refused, unless, orAnswer, answer}
+use Rattle.model.specs.Answers.{Answer, loaded, held, noCandidate, refused, unless, orAnswer}
+use Rattle.model.specs.Effects.{effect, answer}
 use Rattle.model.specs.Desks.{SameDesk, SameButRows, same, loads}
 use Rattle.model.proofs.HoldingLaws.{own-listed}
 
@@ -56,7 +57,7 @@ behind false false false false false w x y z = loads w x y z
 module _ (S : Scheme) (D E : Database) (c e : Cache) (d : SameDesk (c .held) (e .held)) (p : Pair) where
   -- THEOREM: two caches with one desk named and the same pairs of its own answer a REFER alike but for rows and rounds, whatever their rows
   pub desk-alone : SameButRows (answer S D c (refer p)) (answer S E e (refer p))
-  unfolding answer
+  unfolding effect
   desk-alone =
       rw (holds-alone d p, room-alone d)
       (behind (not (ltb (p .filling) (S .fillings))) (numberless (p .value)) (not (candidate (S .filling (p .filling)) (p .value))) (holds (e .held) p)
@@ -65,7 +66,7 @@ module _ (S : Scheme) (D E : Database) (c e : Cache) (d : SameDesk (c .held) (e 
 -- THEOREM: and so a load of a range
 pub desk-alone-range : (S : Scheme) (D E : Database) (c e : Cache) → SameDesk (c .held) (e .held) → (r : Range) →
     SameButRows (answer S D c (referRange r)) (answer S E e (referRange r))
-unfolding answer
+unfolding effect
 desk-alone-range S D E c e d r =
     rw (covers-alone d r, range-room-alone d r)
     (behind (not (isRange S r)) false (not (onlyCandidates S r)) (coversRange (e .held) r) (not (hasRangeRoom (e .held) r)) _ _ _ _)

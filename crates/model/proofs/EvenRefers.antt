@@ -16,7 +16,8 @@ use Rattle.model.specs.Even.{Even}
 use Rattle.model.specs.Ranges.{Range, isRange, onlyCandidates}
 use Rattle.model.specs.Holding.{Pair, holds, hasRoom, coversRange, hasRangeRoom}
 use Rattle.model.specs.Runs.{refer, referRange, marked, Cache, referLevels, rangeLevels}
-use Rattle.model.specs.Answers.{Answer, loaded, held, noCandidate, refused, shown, unless, orAnswer, answer}
+use Rattle.model.specs.Answers.{Answer, loaded, held, noCandidate, refused, shown, unless, orAnswer}
+use Rattle.model.specs.Effects.{effect, answer}
 use Rattle.model.proofs.Closed.{constraints-closed}
 use Rattle.model.proofs.Loads.{one-wants}
 use Rattle.model.proofs.RangesHeld.{range-wants}
@@ -47,7 +48,7 @@ module _ {S : Scheme} {D : Database} (lawful : Lawful S D) (even : Even S) (c : 
 
   -- THE BOUND, of the answer itself
   pub refer-bound : (rows rounds : ℕ) → answer S D c (refer p) ≡ loaded rows rounds → rounds ≤ 2 * S .tables - 1
-  unfolding answer
+  unfolding effect
   refer-bound rows rounds e =
       let r : laterRounds D (referLevels S D (marked (c .marks)) p) ≡ rounds =
       behind (not (ltb (p .filling) (S .fillings))) (numberless (p .value)) (not (candidate (S .filling (p .filling)) (p .value))) (holds (c .held) p)
@@ -62,7 +63,7 @@ module _ {S : Scheme} {D : Database} (lawful : Lawful S D) (even : Even S) (c : 
 
   -- THE BOUND, of a load of a range
   pub range-bound : (rows rounds : ℕ) → answer S D c (referRange r) ≡ loaded rows rounds → rounds ≤ 2 * S .tables - 1
-  unfolding answer
+  unfolding effect
   range-bound rows rounds e =
       let n : laterRounds D (rangeLevels S D (marked (c .marks)) r) ≡ rounds =
       behind (not (isRange S r)) false (not (onlyCandidates S r)) (coversRange (c .held) r) (not (hasRangeRoom (c .held) r)) _ _ e in

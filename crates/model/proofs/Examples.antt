@@ -16,9 +16,10 @@ use Rattle.model.specs.Rounds.{leads, demands, start, reachedFrom, next,
 use Rattle.finite.specs.Sameness.{listed, remove}
 use Rattle.model.specs.Ranges.{someRange}
 use Rattle.model.specs.Holding.{samePair, sameOwned, ownAmong, allRanges, one, pairsHold, pairsWant}
-use Rattle.model.specs.Runs.{probe, asLists, Operation, refer, drop, ask, query, taken, marks, marked, Cache, emptyCache, referLevels, reloadLevels, fillingFor, outputFits, withinLimit, answerable, refers, cacheAfter, cacheFrom}
+use Rattle.model.specs.Runs.{probe, asLists, Operation, refer, drop, ask, query, taken, marks, marked, Cache, emptyCache, referLevels, reloadLevels, fillingFor, outputFits, withinLimit, answerable, refers}
 use Rattle.model.specs.Query.{Join, Query, joinsFit, unused, operandsFit, joinValue, extend, fitting, wordsOf, fullLists}
-use Rattle.model.specs.Answers.{Answer, loaded, dropped, ground, sent, lists, questionAnswer, queryGround, isAnswered, fullAnswer, queryAnswer, shown, hasLists, writtenWith, queryWords, answer, written}
+use Rattle.model.specs.Answers.{Answer, loaded, dropped, ground, sent, lists, queryGround, isAnswered, fullAnswer, queryAnswer, shown, hasLists, writtenWith, queryWords}
+use Rattle.model.specs.Effects.{effect, reply, answer, written, cacheAfter, cacheFrom}
 
 -- ---- what a case is, and when it passes
 
@@ -187,7 +188,7 @@ cases = a1 ∷ a2 ∷ a3 ∷ a4 ∷ a5 ∷ a6 ∷ a7 ∷ b1 ∷ b2 ∷ b3 ∷ b4
 -- every case passes
 pub all-pass : AllPass cases
 unfolding gives cases a1 a2 a3 a4 a5 a6 a7 b1 b2 b3 b4 b5
-    answer written questionAnswer cacheFrom cacheAfter emptyCache taken candidate listed samePair sameOwned ownAmong remove referLevels reloadLevels marks marked pairsHold one pairsWant someRange allRanges
+    effect reply cacheFrom emptyCache taken candidate listed samePair sameOwned ownAmong remove referLevels reloadLevels marks marked pairsHold one pairsWant someRange allRanges
     load start levels next reachedFrom demands leads reached addedRows laterRounds
     Probe.probe Probe.cachedRows Probe.demanded Probe.uniquelySeen Probe.seen has sameColumn isColumn isBlank numberless equal
     queryAnswer queryWords queryGround isAnswered fullAnswer fillingFor outputFits withinLimit answerable refers fullLists writtenWith hasLists shown operandsFit joinsFit unused fitting extend joinValue wordsOf

@@ -9,7 +9,8 @@ use Rattle.model.specs.Database.{Database}
 use Rattle.model.specs.Rounds.{reached}
 use Rattle.model.specs.Ranges.{Range}
 use Rattle.model.specs.Holding.{desks, Pair, holds, withPair, holdsRange, withRange}
-use Rattle.model.specs.Runs.{Operation, refer, drop, ask, query, name, referRange, dropRange, taken, rangeTaken, pairFor, refers, marks, marked, Cache, reloadLevels, referred, referredRange, atDesk, cacheAfter}
+use Rattle.model.specs.Runs.{Operation, refer, drop, ask, query, name, referRange, dropRange, taken, rangeTaken, pairFor, refers, marks, marked, Cache, reloadLevels, referred, referredRange, atDesk}
+use Rattle.model.specs.Effects.{effect, cacheAfter}
 use Rattle.model.proofs.Loads.{one-smallest}
 use Rattle.model.proofs.Marks.{marks-same}
 use Rattle.model.proofs.RunLaws.{Sound, refer-smallest, range-smallest, held-smallest, reload-sound}
@@ -37,7 +38,7 @@ range-fresh S D c r f =
 
 -- an operation leaves one
 pub step-fresh : (S : Scheme) (D : Database) (c : Cache) (o : Operation) → Fresh S D c → Fresh S D (cacheAfter S D c o)
-unfolding cacheAfter reloadLevels
+unfolding effect reloadLevels
 step-fresh S D c (refer p) f = cond-fresh (taken S (c .held) p) _ c (refer-fresh S D c p f) f
 step-fresh S D c (drop p) f = cond-fresh (holds (c .held) p) _ c (record { reloaded = refl }) f
 step-fresh S D c (ask q) f = f

@@ -20,8 +20,9 @@ use Rattle.model.specs.Cache.{RowSet, Inside, Smallest}
 use Rattle.model.specs.Probe as Probe
 use Rattle.model.specs.Holding.{desks, Holding, withDesk, holds, withPair, withoutPair, holdsRange, withRange, withoutRange, heldIn}
 use Rattle.model.specs.Query.{Join, Query, joinsOf, joinsFit, operandsFit, positionFits, joinValue, extend, fitting, wordsOf, fullLists, totalOver, fullTotal}
-use Rattle.model.specs.Runs.{probe, Output, asLists, asTotal, Operation, refer, drop, ask, query, name, referRange, dropRange, taken, rangeTaken, pairFor, outputFits, withinLimit, answerable, refers, marks, marked, Cache, emptyCache, reloaded, cacheAfter, cacheFrom}
-use Rattle.model.specs.Answers.{Answer, sent, unless, orAnswer, groundOf, questionAnswer, queryGround, isAnswered, fullAnswer, limitCause, queryAnswer, queryWords, shown, hasLists, writtenWith}
+use Rattle.model.specs.Runs.{probe, Output, asLists, asTotal, Operation, refer, drop, ask, query, name, referRange, dropRange, taken, rangeTaken, pairFor, outputFits, withinLimit, answerable, refers, marks, marked, Cache, emptyCache, reloaded}
+use Rattle.model.specs.Answers.{Answer, sent, unless, orAnswer, groundOf, queryGround, isAnswered, fullAnswer, limitCause, queryAnswer, queryWords, shown, hasLists, writtenWith}
+use Rattle.model.specs.Effects.{effect, cacheAfter, cacheFrom, reply}
 use Rattle.model.specs.Demand.{FillingsApart, Unrefused, Demand2}
 use Rattle.model.specs.Slice.{Slice, InOrder, inFull}
 use Rattle.model.specs.Mirror.{Mirrors, EnoughFor, EnoughAlong}
@@ -161,8 +162,8 @@ module _ {at : ℕ → ℕ} {D B : Database} (P : Slice at D B) {S : Scheme} {c 
       ap₂ (λ (h : Holding) (X : RowSet). Probe.probe S B (heldIn S h) X k v) (M .held) (rows-same M) ∙ slice-ground P (s .meets .rows) S (heldIn S (c .held)) k v
 
   -- THEOREM: a probe answers the same
-  pub mirror-probe : (k : Column) (v : Cell) → questionAnswer S B b (probe k v) ≡ questionAnswer S D c (probe k v)
-  unfolding questionAnswer
+  pub mirror-probe : (k : Column) (v : Cell) → reply S B b (probe k v) .answer ≡ reply S D c (probe k v) .answer
+  unfolding reply
   mirror-probe k v =
       ap₂ (λ (g n : ℕ). unless (not (isColumn S k)) 5 (unless (numberless v) 9 (groundOf g n))) (probe-same k v)
       (ap (λ (X : RowSet). Probe.cachedRows B X k v) (rows-same M) ∙ slice-rows P (s .meets .rows) k v)
@@ -280,7 +281,7 @@ module _ {at : ℕ → ℕ} {D B : Database} (P : Slice at D B) {S : Scheme} (w 
   -- what an operation leaves held is the same
   held-there : {c b : Cache} → Sound S D c → Mirrors at D c b → (o : Operation) → EnoughFor S at D B (cacheAfter S D c o) →
       cacheAfter S B b o .held ≡ cacheAfter S D c o .held
-  unfolding cacheAfter
+  unfolding effect
   held-there {c} {b} s M (refer p) n =
       held-cond (taken S (b .held) p) _ b ∙ ap (λ (h : Holding). cond (taken S h p) (withPair h p) h) (M .held) ∙ sym (held-cond (taken S (c .held) p) _ c)
   held-there {c} {b} s M (drop p) n =

@@ -20,8 +20,9 @@ use Rattle.model.specs.Cache.{RowSet, Inside, Held, Smallest}
 use Rattle.model.specs.Rounds.{level, reached, load, addedRows, laterRounds}
 use Rattle.model.specs.Ranges.{Range, hasRange, isRange, onlyCandidates}
 use Rattle.model.specs.Holding.{Pair, Holding, holds, hasRoom, withoutPair, holdsRange, coversRange, hasRangeRoom, withoutRange, heldIn}
-use Rattle.model.specs.Runs.{probe, evenness, smallestKnot, opener, reason, Operation, refer, drop, ask, query, name, referRange, dropRange, taken, rangeTaken, marks, marked, Cache, referred, referredRange, reloaded, cacheAfter, referLevels, rangeLevels, reloadLevels}
-use Rattle.model.specs.Answers.{Answer, loaded, held, noCandidate, dropped, unless, orAnswer, questionAnswer, answer}
+use Rattle.model.specs.Runs.{probe, evenness, smallestKnot, opener, reason, Operation, refer, drop, ask, query, name, referRange, dropRange, taken, rangeTaken, marks, marked, Cache, referred, referredRange, reloaded, referLevels, rangeLevels, reloadLevels}
+use Rattle.model.specs.Answers.{Answer, loaded, held, noCandidate, dropped, unless, orAnswer}
+use Rattle.model.specs.Effects.{effect, cacheAfter, reply, answer}
 use Rattle.model.specs.Demand.{FillingsApart}
 use Rattle.model.specs.Slice.{Slice, inFull, Enough}
 use Rattle.model.specs.Mirror.{Mirrors, EnoughFor, fromSlice}
@@ -247,7 +248,7 @@ module _ {at : ℕ → ℕ} {D B : Database} (P : Slice at D B) {S : Scheme} {c 
 
   -- THEOREM: REFER answers the same
   pub mirror-refer : (p : Pair) → EnoughFor S at D B (cacheAfter S D c (refer p)) → answer S B b (refer p) ≡ answer S D c (refer p)
-  unfolding answer cacheAfter taken referLevels
+  unfolding effect taken referLevels
   mirror-refer p n =
       ap₂ (λ (h : Holding) (Y : RowSet). byRefer h B Y) (M .held) (fun-ext (M .rows)) ∙
       load-answer (ltb (p .filling) (S .fillings)) (numberless (p .value)) (candidate (S .filling (p .filling)) (p .value)) (holds (c .held) p) (hasRoom (c .held))
@@ -272,7 +273,7 @@ module _ {at : ℕ → ℕ} {D B : Database} (P : Slice at D B) {S : Scheme} {c 
 
   -- THEOREM: a load of a range answers the same
   pub mirror-range : (q : Range) → EnoughFor S at D B (cacheAfter S D c (referRange q)) → answer S B b (referRange q) ≡ answer S D c (referRange q)
-  unfolding answer cacheAfter rangeTaken rangeLevels
+  unfolding effect rangeTaken rangeLevels
   mirror-range q n =
       ap₂ (λ (h : Holding) (Y : RowSet). byRange h B Y) (M .held) (fun-ext (M .rows)) ∙
       range-answer (isRange S q) (onlyCandidates S q) (coversRange (c .held) q) (hasRangeRoom (c .held) q)
@@ -322,7 +323,7 @@ module _ {at : ℕ → ℕ} {D B : Database} (P : Slice at D B) {S : Scheme} {c 
 
   -- THEOREM: DROP answers the same, of a value and of a range
   pub mirror-drop : (p : Pair) → EnoughFor S at D B (cacheAfter S D c (drop p)) → answer S B b (drop p) ≡ answer S D c (drop p)
-  unfolding answer cacheAfter
+  unfolding effect
   mirror-drop p n =
       ap₂ (λ (h : Holding) (Y : RowSet). byDrop h B Y) (M .held) (fun-ext (M .rows)) ∙
       drop-answer (ltb (p .filling) (S .fillings)) (numberless (p .value)) (holds (c .held) p) (λ h.
@@ -337,7 +338,7 @@ module _ {at : ℕ → ℕ} {D B : Database} (P : Slice at D B) {S : Scheme} {c 
           (let L = reloadLevels S E (withoutPair h p) in dropped (count (E .size) (λ r. Y r && not (reached L r))))))
 
   pub mirror-drop-range : (q : Range) → EnoughFor S at D B (cacheAfter S D c (dropRange q)) → answer S B b (dropRange q) ≡ answer S D c (dropRange q)
-  unfolding answer cacheAfter
+  unfolding effect
   mirror-drop-range q n =
       ap₂ (λ (h : Holding) (Y : RowSet). byDrop h B Y) (M .held) (fun-ext (M .rows)) ∙
       drop-answer (isRange S q) false (holdsRange (c .held) q) (λ h.
@@ -353,12 +354,12 @@ module _ {at : ℕ → ℕ} {D B : Database} (P : Slice at D B) {S : Scheme} {c 
 -- THEOREM: every operation that can be answered from a slice answers the same
 pub mirror-answer : {at : ℕ → ℕ} {D B : Database} → Slice at D B → {S : Scheme} → Lawful S B → FillingsApart S → {c b : Cache} → Sound S D c → Sound S B b →
     Mirrors at D c b → (o : Operation) → fromSlice o ≡ true → EnoughFor S at D B (cacheAfter S D c o) → answer S B b o ≡ answer S D c o
-unfolding answer fromSlice
+unfolding effect fromSlice
 mirror-answer P w apart s t M (refer p) e n = mirror-refer P s t M p n
 mirror-answer P w apart s t M (drop p) e n = mirror-drop P s t M p n
 mirror-answer P w apart s t M (ask (probe k v)) e n = mirror-probe P s M k v
-mirror-answer P w apart s t M (ask evenness) e n = unfold questionAnswer in refl
-mirror-answer P w apart s t M (ask smallestKnot) e n = unfold questionAnswer in refl
+mirror-answer P w apart s t M (ask evenness) e n = unfold reply in refl
+mirror-answer P w apart s t M (ask smallestKnot) e n = unfold reply in refl
 mirror-answer P w apart s t M (ask (opener k v)) e n = clash refl (sym e)
 mirror-answer P w apart s t M (ask (reason r room)) e n = clash refl (sym e)
 mirror-answer P w apart s t M (query q out) e n = mirror-query P s M w apart q out n

@@ -10,17 +10,18 @@ use Rattle.model.specs.Scheme.{Scheme}
 use Rattle.model.specs.Database.{Database}
 use Rattle.model.specs.Sentence.{reasonText}
 use Rattle.model.specs.Runs.{Question, reason, marked, Cache}
-use Rattle.model.specs.Answers.{Answer, refused, absent, explained, shown, hasText, reasonAnswer, questionAnswer, textWith, questionText}
+use Rattle.model.specs.Answers.{Answer, refused, absent, explained, shown, hasText, reasonAnswer, textWith}
+use Rattle.model.specs.Effects.{reply}
 
 -- the question is answered with a, and writes t
 pub record Replies (S : Scheme) (D : Database) (c : Cache) (q : Question) (a : Answer) (t : List ℕ) : Type 0 where
-  pub answer : questionAnswer S D c q ≡ a
-  pub text : questionText S D c q ≡ t
+  pub answer : reply S D c q .answer ≡ a
+  pub text : reply S D c q .text ≡ t
 
 module _ (S : Scheme) (D : Database) (c : Cache) (r room : ℕ) where
   -- from the answer to the text
   replies : (a : Answer) (t : List ℕ) → reasonAnswer S D c r room ≡ a → textWith a (reasonText S D (c .held) r) ≡ t → Replies S D c (reason r room) a t
-  unfolding questionAnswer questionText
+  unfolding reply
   replies a t e f = record { answer = e; text = ap (λ (x : Answer). textWith x (reasonText S D (c .held) r)) e ∙ f }
 
   -- "a row number that names nothing"

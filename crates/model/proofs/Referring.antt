@@ -18,7 +18,8 @@ use Rattle.model.specs.Cache.{Held}
 use Rattle.model.specs.Probe as Probe
 use Rattle.model.specs.Holding.{Pair, samePair, Owned, sameOwned, Holding, mine, holds, hasRoom, withPair, one, pairsHold, heldIn}
 use Rattle.model.specs.Query.{Query}
-use Rattle.model.specs.Runs.{Output, asLists, asTotal, query, taken, fillingFor, pairFor, outputFits, withinLimit, answerable, refers, marked, Cache, referred, cacheAfter}
+use Rattle.model.specs.Runs.{Output, asLists, asTotal, query, taken, fillingFor, pairFor, outputFits, withinLimit, answerable, refers, marked, Cache, referred}
+use Rattle.model.specs.Effects.{effect, cacheAfter}
 use Rattle.model.specs.Answers.{Answer, sent, refused, unless, orAnswer, queryGround, isAnswered, fullAnswer, limitCause, queryAnswer}
 use Rattle.model.specs.Demand.{FillingAt, FillingsApart, Unreferred, noFilling, noCandidate, full}
 use Rattle.model.proofs.CellLaws.{numbered-full, equal-self}
@@ -114,7 +115,7 @@ module _ (S : Scheme) (D : Database) (c : Cache) (q : Query) (out : Output) wher
   refersHere = refers S D (c .held) (marked (c .marks)) q out
 
   kept : refersHere ≡ false → cacheAfter S D c (query q out) ≡ c
-  unfolding cacheAfter
+  unfolding effect
   kept e = cond-false refersHere _ c e
 
   -- one that is refused leaves the cache as it was
@@ -136,7 +137,7 @@ module _ (S : Scheme) (D : Database) (c : Cache) (q : Query) (out : Output) wher
   -- any other refers its pair
   pub refers-pair : answerable S D q out ≡ true → queryGround S D c q ≡ 0 → taken S (c .held) (pairFor S q) ≡ true →
       cacheAfter S D c (query q out) ≡ referred S D c (pairFor S q)
-  unfolding cacheAfter refers queryGround
+  unfolding effect refers queryGround
   refers-pair a g t = cond-true refersHere _ c (both a (both (eq-eqb (queryGround S D c q) 0 g) t))
 
 -- the pair that was referred is ground 1

@@ -12,7 +12,8 @@ use Rattle.model.specs.Cache.{RowSet, Smallest}
 use Rattle.model.specs.Rounds.{reached}
 use Rattle.model.specs.Ranges.{Range, someRange}
 use Rattle.model.specs.Holding.{desks, Pair, Owned, Holding, mine, holds, withPair, withoutPair, holdsRange, withRange, withoutRange, allRanges, one, pairsHold, pairsWant, rangesHold, heldIn, wanted}
-use Rattle.model.specs.Runs.{Operation, refer, drop, ask, query, name, referRange, dropRange, taken, rangeTaken, pairFor, refers, heldAfter, heldFrom, marked, Cache, emptyCache, referLevels, rangeLevels, reloadLevels, atDesk, reloaded, cacheAfter, cacheFrom}
+use Rattle.model.specs.Runs.{Operation, refer, drop, ask, query, name, referRange, dropRange, taken, rangeTaken, pairFor, refers, heldAfter, heldFrom, marked, Cache, emptyCache, referLevels, rangeLevels, reloadLevels, atDesk, reloaded}
+use Rattle.model.specs.Effects.{effect, cacheAfter, cacheFrom}
 use Rattle.model.proofs.Loads.{one-smallest, Wants, load-smallest, reload-smallest, none-smallest, none-wants, one-wants, both-want}
 use Rattle.model.proofs.Marks.{marks-smallest}
 use Rattle.model.proofs.RangesHeld.{range-more, range-wants, ranges-want}
@@ -79,7 +80,7 @@ cond-sound false d c m n = n
 
 -- an operation leaves a sound cache sound
 pub step-sound : {S : Scheme} {D : Database} (c : Cache) (o : Operation) → Sound S D c → Sound S D (cacheAfter S D c o)
-unfolding cacheAfter
+unfolding effect
 step-sound {S} c (refer p) m = cond-sound (taken S (c .held) p) _ c (marks-smallest (refer-smallest c p m)) m
 step-sound {S} {D} c (drop p) m = cond-sound (holds (c .held) p) _ c (marks-smallest (held-smallest S D (withoutPair (c .held) p))) m
 step-sound c (ask q) m = m
@@ -113,7 +114,7 @@ held-cond false c d = refl
 
 -- what an operation leaves held is found from the rows, the operands and the words lent alone
 pub step-held : {S : Scheme} {D : Database} (c : Cache) (o : Operation) → Sound S D c → cacheAfter S D c o .held ≡ heldAfter S D (c .held) o
-unfolding cacheAfter heldAfter
+unfolding effect heldAfter
 step-held {S} c (refer p) m = held-cond (taken S (c .held) p) _ c
 step-held c (drop p) m = held-cond (holds (c .held) p) _ c
 step-held c (ask q) m = refl

@@ -17,9 +17,10 @@ use Rattle.model.specs.Rounds.{leads, demands, start, reachedFrom, next,
 use Rattle.model.specs.Even.{linked, reachedBy, reaches}
 use Rattle.model.specs.Ranges.{someRange}
 use Rattle.model.specs.Holding.{samePair, sameOwned, ownAmong, allRanges, one, pairsHold, pairsWant}
-use Rattle.model.specs.Runs.{probe, asLists, Operation, refer, query, taken, marks, marked, Cache, emptyCache, referLevels, reloadLevels, fillingFor, outputFits, withinLimit, answerable, refers, cacheAfter, cacheFrom}
+use Rattle.model.specs.Runs.{probe, asLists, Operation, refer, query, taken, marks, marked, Cache, emptyCache, referLevels, reloadLevels, fillingFor, outputFits, withinLimit, answerable, refers}
 use Rattle.model.specs.Query.{Join, joinsFit, unused, operandsFit, joinValue, extend, fitting, wordsOf, fullLists}
-use Rattle.model.specs.Answers.{lists, questionAnswer, queryGround, isAnswered, fullAnswer, queryAnswer, shown, hasLists, writtenWith, queryWords, answer, written}
+use Rattle.model.specs.Answers.{lists, queryGround, isAnswered, fullAnswer, queryAnswer, shown, hasLists, writtenWith, queryWords}
+use Rattle.model.specs.Effects.{effect, reply, answer, written, cacheAfter, cacheFrom}
 use Rattle.model.specs.Missing.{Fetch, value, span, covers, spans, someFetch, known, Lack, nothing, lacks, isOpen, lackOf, lackIn, lackBelow, pairLack, firstOpen, gapEnd, gapLack, rangeLack, linkLack, rowLack, missing}
 use Rattle.model.specs.Verdict.{fetches, canCache, linksTo, onceLinked, onceUnique, onceHere, never, elsewhereOr, isOneColumn}
 
@@ -117,7 +118,7 @@ pub record Fetching : Type 0 where
 
 pub case-a : Fetching
 unfolding missing lackIn lackBelow lackOf pairLack rangeLack linkLack rowLack known isOpen someFetch covers
-    answer written questionAnswer cacheFrom cacheAfter emptyCache taken candidate listed samePair sameOwned ownAmong remove referLevels reloadLevels marks marked pairsHold one pairsWant someRange allRanges
+    effect reply cacheFrom emptyCache taken candidate listed samePair sameOwned ownAmong remove referLevels reloadLevels marks marked pairsHold one pairsWant someRange allRanges
     load start levels next reachedFrom demands leads reached addedRows laterRounds
     Probe.probe Probe.cachedRows Probe.demanded Probe.uniquelySeen Probe.seen has sameColumn isColumn isBlank numberless equal
     queryAnswer queryWords queryGround isAnswered fullAnswer fillingFor outputFits withinLimit answerable refers fullLists writtenWith hasLists shown operandsFit joinsFit unused fitting extend joinValue wordsOf

@@ -20,7 +20,8 @@ use Rattle.model.specs.Cache.{RowSet, Complete, Holds, Meets, Smallest}
 use Rattle.model.specs.Even.{Reaches, here, along, reaches}
 use Rattle.model.specs.Probe as Probe
 use Rattle.model.specs.Holding.{desks, ownAmong, Holding, nothingHeld, withPair, one, pairsHold, heldIn}
-use Rattle.model.specs.Runs.{Operation, refer, taken, heldAfter, heldFrom, marked, Cache, emptyCache, cacheFrom}
+use Rattle.model.specs.Runs.{Operation, refer, taken, heldAfter, heldFrom, marked, Cache, emptyCache}
+use Rattle.model.specs.Effects.{cacheFrom}
 use Rattle.model.specs.Seeing.{OneColumn, SeeingEnough}
 use Rattle.model.specs.Verdict.{Proper, fetches, canCache, linksTo, onceLinked, onceUnique, onceHere, never, elsewhereOr, isOneColumn}
 use Rattle.model.proofs.CellLaws.{blank-fits, equal-self}

@@ -2,23 +2,20 @@
 -- and "Causes of refusal"), and 13 (02, Req 03). Assumes nothing.
 use Prim.Native.Nat.{ℕ}
 use mathlib.Core.Path.{_≡_}
-use mathlib.Core.Bool.{Bool, true, false, not, cond, _&&_, _||_}
+use mathlib.Core.Bool.{Bool, true, false, not, cond, _||_}
 use mathlib.Core.List.{List, [], _∷_}
-use lib.Dec.{eqb, leb, ltb}
+use lib.Dec.{eqb, ltb}
 use lib.ListN.{length}
-use Rattle.finite.specs.Finite.{count}
 use Rattle.model.specs.Cell.{Cell, numberless}
-use Rattle.model.specs.Scheme.{Column, candidate, Scheme, isColumn}
+use Rattle.model.specs.Scheme.{Column, Scheme}
 use Rattle.model.specs.Database.{Database}
 use Rattle.model.specs.Probe
-use Rattle.model.specs.Rounds.{addedRows, laterRounds, reached}
 use Rattle.model.specs.Even.{unevenFrom, lowestUneven}
 use Rattle.model.specs.Knot.{isUnevenScheme, knotOf}
-use Rattle.model.specs.Ranges.{isRange, onlyCandidates}
-use Rattle.model.specs.Holding.{desks, holds, hasRoom, withoutPair, holdsRange, coversRange, hasRangeRoom, withoutRange, heldIn}
+use Rattle.model.specs.Holding.{heldIn}
 use Rattle.model.specs.Opener.{isOpen, lowestFilling, lowestNumber, lowestIssue}
 use Rattle.model.specs.Sentence.{reasonText}
-use Rattle.model.specs.Runs.{Question, probe, evenness, smallestKnot, opener, reason, Output, asLists, asTotal, Operation, refer, drop, ask, query, name, referRange, dropRange, taken, pairFor, outputFits, withinLimit, marked, Cache, referLevels, rangeLevels, reloadLevels}
+use Rattle.model.specs.Runs.{probe, Output, asLists, asTotal, taken, pairFor, outputFits, withinLimit, marked, Cache}
 use Rattle.model.specs.Query.{Query, wordsOf, fullLists, fullTotal}
 
 -- `loaded` rows rounds, `held`, `no candidate`, `dropped` rows, `ground` g rows, `sent`, `answer` lists, `refused` number; `even`, `uneven` i j (02, Req 01);
@@ -132,28 +129,9 @@ reasonAnswer S D c r room =
     (unless (ltb room n) 11
     (explained n)))
 
--- what a question answers
-unfoldable pub questionAnswer : Scheme → Database → Cache → Question → Answer
-questionAnswer S D c (probe k v) =
-    unless (not (isColumn S k)) 5
-    (unless (numberless v) 9
-    (groundOf (Probe.probe S D (heldIn S (c .held)) (marked (c .marks)) k v) (Probe.cachedRows D (marked (c .marks)) k v)))
-questionAnswer S D c evenness = evenAnswer S
-questionAnswer S D c smallestKnot = knotAnswer S
-questionAnswer S D c (opener k v) = unless (not (isColumn S k)) 5 (unless (numberless v) 9 (openerAnswer S D c k v))
-questionAnswer S D c (reason r room) = reasonAnswer S D c r room
-
 -- the text that is written with an answer: t with a reason, and none with any other
 unfoldable pub textWith : Answer → List ℕ → List ℕ
 textWith a t = cond (hasText a) t []
-
--- the text that a question writes
-unfoldable pub questionText : Scheme → Database → Cache → Question → List ℕ
-questionText S D c (probe k v) = []
-questionText S D c evenness = []
-questionText S D c smallestKnot = []
-questionText S D c (opener k v) = []
-questionText S D c (reason r room) = textWith (reasonAnswer S D c r room) (reasonText S D (c .held) r)
 
 -- ---- queries
 
@@ -189,54 +167,3 @@ writtenWith a ws = cond (hasLists a) ws []
 
 unfoldable pub queryWords : Scheme → Database → Cache → Query → Output → List ℕ
 queryWords S D c q out = writtenWith (queryAnswer S D c q out) (wordsOf (fullLists S D q))
-
--- ---- all of them
-
-unfoldable pub answer : Scheme → Database → Cache → Operation → Answer
-answer S D c (refer p) =
-    unless (not (ltb (p .filling) (S .fillings))) 5
-    (unless (numberless (p .value)) 9
-    (orAnswer (not (candidate (S .filling (p .filling)) (p .value))) noCandidate
-    (orAnswer (holds (c .held) p) held
-    (unless (not (hasRoom (c .held))) 8
-    (let L = referLevels S D (marked (c .marks)) p in loaded (addedRows D L) (laterRounds D L))))))
-answer S D c (drop p) =
-    unless (not (ltb (p .filling) (S .fillings))) 5
-    (unless (numberless (p .value)) 9
-    (unless (not (holds (c .held) p)) 10
-    (let L = reloadLevels S D (withoutPair (c .held) p) in dropped (count (D .size) (λ r. marked (c .marks) r && not (reached L r))))))
-answer S D c (ask q) = questionAnswer S D c q
-answer S D c (query q out) = queryAnswer S D c q out
--- "It refuses a desk above 3 with 5"
-answer S D c (name d) = unless (not (ltb d desks)) 5 (named d)
--- "They print as REFER and DROP do"; "not wholly of candidates answers "no candidate"; one inside a held range answers "held", both before 8"
-answer S D c (referRange r) =
-    unless (not (isRange S r)) 5
-    (orAnswer (not (onlyCandidates S r)) noCandidate
-    (orAnswer (coversRange (c .held) r) held
-    (unless (not (hasRangeRoom (c .held) r)) 8
-    (let L = rangeLevels S D (marked (c .marks)) r in loaded (addedRows D L) (laterRounds D L)))))
-answer S D c (dropRange r) =
-    unless (not (isRange S r)) 5
-    (unless (not (holdsRange (c .held) r)) 10
-    (let L = reloadLevels S D (withoutRange (c .held) r) in dropped (count (D .size) (λ s. marked (c .marks) s && not (reached L s)))))
-
--- the words that an operation writes
-unfoldable pub written : Scheme → Database → Cache → Operation → List ℕ
-written S D c (refer p) = []
-written S D c (drop p) = []
-written S D c (ask q) = []
-written S D c (query q out) = queryWords S D c q out
-written S D c (name d) = []
-written S D c (referRange r) = []
-written S D c (dropRange r) = []
-
--- the text that an operation writes
-unfoldable pub textOf : Scheme → Database → Cache → Operation → List ℕ
-textOf S D c (refer p) = []
-textOf S D c (drop p) = []
-textOf S D c (ask q) = questionText S D c q
-textOf S D c (query q out) = []
-textOf S D c (name d) = []
-textOf S D c (referRange r) = []
-textOf S D c (dropRange r) = []

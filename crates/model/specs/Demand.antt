@@ -10,7 +10,8 @@ use Rattle.model.specs.Database.{Database}
 use Rattle.model.specs.Cache.{RowSet, Complete, Smallest, Alike}
 use Rattle.model.specs.Probe.{demanded, uniquelySeen, probe}
 use Rattle.model.specs.Holding.{Holding, hasRoom, heldIn}
-use Rattle.model.specs.Runs.{Output, asLists, asTotal, query, marked, Cache, cacheAfter}
+use Rattle.model.specs.Runs.{Output, asLists, asTotal, query, marked, Cache}
+use Rattle.model.specs.Effects.{cacheAfter}
 use Rattle.model.specs.Query.{Query, joinsOf, fitting, wordsOf, fullLists}
 use Rattle.model.specs.Answers.{Answer, sent, refused, fullAnswer, queryAnswer, queryWords}
 

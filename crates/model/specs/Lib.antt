@@ -16,6 +16,7 @@ pub mod Turned
 pub mod Reason
 pub mod Sentence
 pub mod Answers
+pub mod Effects
 pub mod Desks
 pub mod Demand
 pub mod Seeing

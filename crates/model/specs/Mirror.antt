@@ -6,7 +6,8 @@ use mathlib.Core.List.{List, [], _∷_}
 use Rattle.model.specs.Scheme.{Scheme}
 use Rattle.model.specs.Database.{Database}
 use Rattle.model.specs.Holding.{heldIn}
-use Rattle.model.specs.Runs.{Question, probe, evenness, smallestKnot, opener, reason, Operation, refer, drop, ask, query, name, referRange, dropRange, marked, Cache, cacheAfter}
+use Rattle.model.specs.Runs.{Question, probe, evenness, smallestKnot, opener, reason, Operation, refer, drop, ask, query, name, referRange, dropRange, marked, Cache}
+use Rattle.model.specs.Effects.{cacheAfter}
 use Rattle.model.specs.Slice.{inFull, Enough}
 
 -- c, over the slice D, and b, over the database, hold the same and have the same rows cached

@@ -144,16 +144,3 @@ atDesk c d = record { held = withDesk (c .held) d; marks = c .marks }
 -- the smallest set for what is held, loaded from nothing
 abbrev pub reloaded : Scheme → Database → Holding → Cache
 reloaded S D h = record { held = h; marks = marks D (cachedFor S D h) }
-
-unfoldable pub cacheAfter : Scheme → Database → Cache → Operation → Cache
-cacheAfter S D c (refer p) = cond (taken S (c .held) p) (referred S D c p) c
-cacheAfter S D c (drop p) = cond (holds (c .held) p) (reloaded S D (withoutPair (c .held) p)) c
-cacheAfter S D c (ask q) = c
-cacheAfter S D c (query q out) = cond (refers S D (c .held) (marked (c .marks)) q out) (referred S D c (pairFor S q)) c
-cacheAfter S D c (name d) = cond (ltb d desks) (atDesk c d) c
-cacheAfter S D c (referRange r) = cond (rangeTaken S (c .held) r) (referredRange S D c r) c
-cacheAfter S D c (dropRange r) = cond (holdsRange (c .held) r) (reloaded S D (withoutRange (c .held) r)) c
-
-unfoldable pub cacheFrom : Scheme → Database → Cache → List Operation → Cache
-cacheFrom S D c [] = c
-cacheFrom S D c (o ∷ os) = cacheFrom S D (cacheAfter S D c o) os

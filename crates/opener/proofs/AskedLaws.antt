@@ -17,7 +17,8 @@ use Rattle.model.specs.Runs.{marked, ask, opener}
 use Rattle.model.specs.Probe as Probe
 use Rattle.model.specs.Opener.{isOpen}
 use Rattle.model.specs.Turned.{turned, gives, leadsOn}
-use Rattle.model.specs.Answers.{Answer, opened, refused, unless, questionAnswer, answer, openerAnswer}
+use Rattle.model.specs.Answers.{Answer, opened, refused, unless, openerAnswer}
+use Rattle.model.specs.Effects.{effect, reply, answer}
 use Rattle.model.proofs.OpenerLaws.{open-answer}
 use Rattle.state.specs.declared.cell.Cell as State
 use Rattle.state.proofs.cell.Cell.{the-type}
@@ -35,13 +36,13 @@ cell-small a vs g = record { number = omega (arith, g); issue = omega (arith, g)
 
 module _ (s : Lent) (e : sound s ≡ true) (k : Column) (v : Cell) where
   pub opener-5 : isColumn (scheme s) k ≡ false → refused 5 ≡ answerAt s (ask (opener k v))
-  unfolding answer questionAnswer
+  unfolding effect reply
   opener-5 h =
       sym (ap (λ (b : Bool). unless (not b) 5 (unless (numberless v) 9 (openerAnswer (scheme s) (database s) (cache s) k v))) h) ∙ sym (answer-at s e _)
 
   module _ (f : isColumn (scheme s) k ≡ true) where
     past-5 : unless (numberless v) 9 (openerAnswer (scheme s) (database s) (cache s) k v) ≡ answerAt s (ask (opener k v))
-    unfolding answer questionAnswer
+    unfolding effect reply
     past-5 =
         sym (ap (λ (b : Bool). unless (not b) 5 (unless (numberless v) 9 (openerAnswer (scheme s) (database s) (cache s) k v))) f) ∙ sym (answer-at s e _)
 

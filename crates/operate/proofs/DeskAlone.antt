@@ -8,7 +8,8 @@ use Rattle.model.specs.Scheme.{Scheme}
 use Rattle.model.specs.Ranges.{Range}
 use Rattle.model.specs.Holding.{Pair}
 use Rattle.model.specs.Runs.{refer, referRange}
-use Rattle.model.specs.Answers.{refused, answer}
+use Rattle.model.specs.Answers.{refused}
+use Rattle.model.specs.Effects.{answer}
 use Rattle.model.specs.Desks.{SameDesk, SameButRows}
 use Rattle.model.proofs.DeskAlone.{desk-alone, desk-alone-range, refused-alike}
 use Rattle.state.specs.Meaning.{schemeOf, holdingOf}

@@ -10,8 +10,9 @@ use Rattle.finite.proofs.Bools.{clash}
 use Rattle.model.specs.Ranges.{Range}
 use Rattle.model.specs.Holding.{Pair}
 use Rattle.model.specs.Query.{Query}
-use Rattle.model.specs.Runs.{Question, evenness, smallestKnot, Output, Operation, refer, drop, ask, query, name, referRange, dropRange, cacheAfter}
-use Rattle.model.specs.Answers.{Answer, refused, evenAnswer, knotAnswer, questionAnswer, questionText, answer, written, textOf}
+use Rattle.model.specs.Runs.{Question, evenness, smallestKnot, Output, Operation, refer, drop, ask, query, name, referRange, dropRange}
+use Rattle.model.specs.Answers.{Answer, refused, evenAnswer, knotAnswer}
+use Rattle.model.specs.Effects.{effect, cacheAfter, reply, answer, written, textOf}
 use Rattle.state.specs.declared.operation.Operation as State-operation
 use Rattle.state.specs.Meaning.{operationOf}
 use Rattle.state.specs.Cells.{Cells}
@@ -37,28 +38,28 @@ module _ (s : State) (e : sound s ≡ true) (w t : List ℕ) where
   wordless o h = sym (ap (sets w 0) (words-at s e o ∙ h))
 
   pub refer-performs : (p : Pair) (a : Answer) (s′ : State) → Answered s (refer p) a s′ → Performed s w t (refer p) a s′ w t
-  unfolding written textOf
+  unfolding effect
   refer-performs p a s′ h = record { answered = h; words = wordless (refer p) refl; text = textless s e t (refer p) refl }
 
   pub drop-performs : (p : Pair) (a : Answer) (s′ : State) → Answered s (drop p) a s′ → Performed s w t (drop p) a s′ w t
-  unfolding written textOf
+  unfolding effect
   drop-performs p a s′ h = record { answered = h; words = wordless (drop p) refl; text = textless s e t (drop p) refl }
 
   pub name-performs : (d : ℕ) (a : Answer) (s′ : State) → Answered s (name d) a s′ → Performed s w t (name d) a s′ w t
-  unfolding written textOf
+  unfolding effect
   name-performs d a s′ h = record { answered = h; words = wordless (name d) refl; text = textless s e t (name d) refl }
 
   pub range-performs : (r : Range) (a : Answer) (s′ : State) → Answered s (referRange r) a s′ → Performed s w t (referRange r) a s′ w t
-  unfolding written textOf
+  unfolding effect
   range-performs r a s′ h = record { answered = h; words = wordless (referRange r) refl; text = textless s e t (referRange r) refl }
 
   pub drop-range-performs : (r : Range) (a : Answer) (s′ : State) → Answered s (dropRange r) a s′ → Performed s w t (dropRange r) a s′ w t
-  unfolding written textOf
+  unfolding effect
   drop-range-performs r a s′ h = record { answered = h; words = wordless (dropRange r) refl; text = textless s e t (dropRange r) refl }
 
   pub query-performs : (q : Query) (out : Output) (a : Answer) (s′ : State) (w′ : List ℕ) → Worded s w (query q out) a s′ w′ →
       Performed s w t (query q out) a s′ w′ t
-  unfolding textOf
+  unfolding effect
   query-performs q out a s′ w′ h = record { answered = h .answered; words = h .words; text = textless s e t (query q out) refl }
 
   -- a held record has as many places as its type says
@@ -69,22 +70,22 @@ module _ (s : State) (e : sound s ≡ true) (w t : List ℕ) where
 
     -- a question, once its answer is given and its text written
     pub ask-writes : (q : Question) (a : Answer) (t′ : List ℕ) → (a ≡ answerAt s (ask q)) × (t′ ≡ sets t 0 (textAt s (ask q))) → Performed s w t (ask q) a s w t′
-    unfolding cacheAfter written
+    unfolding effect
     ask-writes q a t′ h = record { answered = asked (ask q) refl a (h .0); words = wordless (ask q) refl; text = h .1 }
 
     -- a question that writes none
-    pub ask-performs : (q : Question) → questionText (scheme s) (database s) (cache s) q ≡ [] → (a : Answer) → a ≡ answerAt s (ask q) → Performed s w t (ask q) a s w t
-    unfolding textOf
+    pub ask-performs : (q : Question) → reply (scheme s) (database s .text) (cache s) q ≡ [] → (a : Answer) → a ≡ answerAt s (ask q) → Performed s w t (ask q) a s w t
+    unfolding effect
     ask-performs q n a h = ask-writes q a t (h, textless s e t (ask q) n)
 
 -- whether a design is even depends on the design alone
 pub even-answers : (s : State) → sound s ≡ true → (a : Answer) → a ≡ evenAnswer (scheme s) → a ≡ answerAt s (ask evenness)
-unfolding answer questionAnswer
+unfolding effect reply
 even-answers s e a h = h ∙ sym (answer-at s e (ask evenness))
 
 -- and so does its smallest knot
 pub knot-answers : (s : State) → sound s ≡ true → (a : Answer) → a ≡ knotAnswer (scheme s) → a ≡ answerAt s (ask smallestKnot)
-unfolding answer questionAnswer
+unfolding effect reply
 knot-answers s e a h = h ∙ sym (answer-at s e (ask smallestKnot))
 
 -- ---- whatever is lent

@@ -13,8 +13,9 @@ use Rattle.model.specs.Cell.{numberless}
 use Rattle.model.specs.Scheme.{Scheme}
 use Rattle.model.specs.Database.{Database}
 use Rattle.model.specs.Query.{Query, wordsOf, fullLists, fullTotal, totalOver}
-use Rattle.model.specs.Runs.{Output, asLists, asTotal, Operation, query, taken, pairFor, outputFits, withinLimit, answerable, Cache, referred, cacheAfter}
-use Rattle.model.specs.Answers.{Answer, refused, sent, unless, queryGround, isAnswered, fullAnswer, limitCause, queryAnswer, queryWords, hasLists, isRefusal, shown, writtenWith, answer, written}
+use Rattle.model.specs.Runs.{Output, asLists, asTotal, Operation, query, taken, pairFor, outputFits, withinLimit, answerable, Cache, referred}
+use Rattle.model.specs.Answers.{Answer, refused, sent, unless, queryGround, isAnswered, fullAnswer, limitCause, queryAnswer, queryWords, hasLists, isRefusal, shown, writtenWith}
+use Rattle.model.specs.Effects.{effect, cacheAfter, answer, written}
 use Rattle.model.proofs.Referring.{refused-keeps, ground-keeps, untaken-keeps, refers-pair}
 use Rattle.state.specs.declared.held.Held.{Held}
 use Rattle.state.specs.Meaning.{heldOf}
@@ -60,11 +61,11 @@ module _ (s : State) (e : sound s ≡ true) (places : HeldSized (s .held)) (w : 
   -- the model's answer, with the words that go with it
   module _ (a : Answer) (h : answers a) (w′ : List ℕ) (k : w′ ≡ sets w 0 (writtenWith a listWords)) where
     answered : a ≡ answerAt s op
-    unfolding answer
+    unfolding effect
     answered = h ∙ sym (answer-at s e op)
 
     worded : w′ ≡ sets w 0 (wordsAt s op)
-    unfolding written queryWords
+    unfolding effect queryWords
     worded = k ∙ ap (λ (x : Answer). sets w 0 (writtenWith x listWords)) h ∙ ap (sets w 0) (sym (words-at s e op))
 
     -- where the cache stays as it was

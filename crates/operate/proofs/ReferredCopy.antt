@@ -14,7 +14,8 @@ use Rattle.model.specs.Cell.{numberless}
 use Rattle.model.specs.Database.{Lawful}
 use Rattle.model.specs.Holding.{Pair}
 use Rattle.model.specs.Query.{Query, joinsOf, operandsFit, fitting, fullLists}
-use Rattle.model.specs.Runs.{refer, taken, pairFor, marked, Cache, referred, cacheAfter}
+use Rattle.model.specs.Runs.{refer, taken, pairFor, marked, Cache, referred}
+use Rattle.model.specs.Effects.{effect, cacheAfter}
 use Rattle.model.specs.Answers.{Answer, queryGround}
 use Rattle.model.proofs.QueryLaws.{query-lists}
 use Rattle.model.proofs.Referring.{pair-ground}
@@ -60,7 +61,7 @@ module _ (s : State) (e : sound s ≡ true) where
     then = referred (scheme s) (database s) (cache s) p
 
     after-then : after copied (refer p) ≡ then
-    unfolding cacheAfter
+    unfolding effect
     after-then =
         ap (λ (c : Cache). cacheAfter (scheme s) (database s) c (refer p)) copy-cache ∙ cond-true (taken (scheme s) (cache s .held) p) then (cache s) t
 
@@ -76,7 +77,7 @@ module _ (s : State) (e : sound s ≡ true) where
           append-nil (after copied (refer p) .marks) ∙ ap (λ (c : Cache). c .marks) after-then
 
     then-sound : Stored (s .cells) → Sound (scheme s) (database s) then
-    unfolding cacheAfter
+    unfolding effect
     then-sound u =
         subst (Sound (scheme s) (database s)) (cond-true (taken (scheme s) (cache s .held) p) then (cache s) t)
         (step-sound (cache s) (refer p) (lawful-says s u (and-eq-true-iff (longEnough s) (lawful s) .0 e .1) .smallest))

@@ -9,7 +9,8 @@ use lib.ListN.{length, getD, take}
 use lib.Seq.{sets, getD-take}
 use Rattle.finite.specs.Writing.{Wrote}
 use Rattle.finite.proofs.Bools.{and-left}
-use Rattle.model.specs.Answers.{Answer, refused, absent, explained, answer, textOf}
+use Rattle.model.specs.Answers.{Answer, refused, absent, explained}
+use Rattle.model.specs.Effects.{effect, answer, textOf}
 use Rattle.model.specs.Rounds.{reached}
 use Rattle.model.specs.Runs.{Question, ask, reason, cachedFor, marked, reloadLevels}
 use Rattle.model.specs.Sentence.{reasonText}
@@ -29,7 +30,7 @@ Replied s q w a w′ = (a ≡ answerAt s (ask q)) × (w′ ≡ sets w 0 (textAt 
 
 replied : (s : State) → sound s ≡ true → (q : Question) (w : List ℕ) (a : Answer) (t w′ : List ℕ) → Replies (scheme s) (database s) (cache s) q a t → w′ ≡ sets w 0 t →
     Replied s q w a w′
-unfolding answer textOf
+unfolding effect
 replied s e q w a t w′ h f =
     (sym (h .answer) ∙ sym (answer-at s e (ask q)), f ∙ ap (sets w 0) (sym (text-at s e (ask q) ∙ h .text)))
 

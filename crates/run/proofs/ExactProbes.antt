@@ -15,7 +15,8 @@ use Rattle.model.specs.Cache.{RowSet, Held}
 use Rattle.model.specs.Probe as Probe
 use Rattle.model.specs.Holding.{Holding, heldIn}
 use Rattle.model.specs.Runs.{ask, probe, marked}
-use Rattle.model.specs.Answers.{Answer, ground, sent, orAnswer, groundOf, Yes, answer}
+use Rattle.model.specs.Answers.{Answer, ground, sent, orAnswer, groundOf, Yes}
+use Rattle.model.specs.Effects.{answer}
 use Rattle.model.proofs.QueryLaws.{probe-reads}
 use Rattle.state.specs.declared.design.Design.{Design}
 use Rattle.state.specs.Meaning.{schemeOf, holdingOf}

@@ -13,8 +13,9 @@ use Rattle.model.specs.Scheme.{candidate}
 use Rattle.model.specs.Ranges.{Range, isRange, onlyCandidates}
 use Rattle.model.specs.Holding.{Pair, desks, holds, hasRoom, holdsRange, coversRange, hasRangeRoom}
 use Rattle.model.specs.Query.{wordsOf, fullLists}
-use Rattle.model.specs.Runs.{Question, probe, evenness, smallestKnot, opener, reason, Operation, refer, drop, ask, query, name, referRange, dropRange, taken, rangeTaken, atDesk, cacheAfter}
-use Rattle.model.specs.Answers.{Answer, refused, named, unless, shown, hasLists, hasText, questionAnswer, questionText, textWith, textOf, answer, writtenWith, queryWords, written}
+use Rattle.model.specs.Runs.{Question, probe, evenness, smallestKnot, opener, reason, Operation, refer, drop, ask, query, name, referRange, dropRange, taken, rangeTaken, atDesk}
+use Rattle.model.specs.Answers.{Answer, refused, named, unless, shown, hasLists, hasText, textWith, writtenWith, queryWords}
+use Rattle.model.specs.Effects.{effect, cacheAfter, reply, textOf, answer, written}
 use Rattle.model.specs.Sentence.{reasonText}
 use Rattle.model.proofs.HoldingLaws.{listed-fits, listed-candidate}
 use Rattle.model.proofs.RangeLaws.{fits-range}
@@ -36,7 +37,7 @@ module _ (s : State) (e : sound s ≡ true) (n : ℕ) where
   -- a REFER that is taken loads, and is not refused: a candidate is not blank
   refer-keeps : (p : Pair) → answer (scheme s) (database s) (cache s) (refer p) ≡ refused n →
       cacheAfter (scheme s) (database s) (cache s) (refer p) ≡ cache s
-  unfolding cacheAfter taken schemeOf
+  unfolding effect taken schemeOf
   refer-keeps p h =
       let S = scheme s in
       let held = holdingOf (s .held) in
@@ -53,7 +54,7 @@ module _ (s : State) (e : sound s ≡ true) (n : ℕ) where
   -- a DROP of a listed pair drops: it has a filling and a number
   drop-keeps : (p : Pair) → answer (scheme s) (database s) (cache s) (drop p) ≡ refused n →
       cacheAfter (scheme s) (database s) (cache s) (drop p) ≡ cache s
-  unfolding cacheAfter schemeOf
+  unfolding effect schemeOf
   drop-keeps p h =
       let S = scheme s in
       let held = holdingOf (s .held) in
@@ -68,7 +69,7 @@ module _ (s : State) (e : sound s ≡ true) (n : ℕ) where
   -- a range that is taken loads, and a drop of a held one drops: it has a filling and is not empty
   refer-range-keeps : (r : Range) → answer (scheme s) (database s) (cache s) (referRange r) ≡ refused n →
       cacheAfter (scheme s) (database s) (cache s) (referRange r) ≡ cache s
-  unfolding cacheAfter rangeTaken
+  unfolding effect rangeTaken
   refer-range-keeps r h =
       let S = scheme s in
       let held = holdingOf (s .held) in
@@ -83,7 +84,7 @@ module _ (s : State) (e : sound s ≡ true) (n : ℕ) where
 
   drop-range-keeps : (r : Range) → answer (scheme s) (database s) (cache s) (dropRange r) ≡ refused n →
       cacheAfter (scheme s) (database s) (cache s) (dropRange r) ≡ cache s
-  unfolding cacheAfter
+  unfolding effect
   drop-range-keeps r h =
       let S = scheme s in
       let held = holdingOf (s .held) in
@@ -102,7 +103,7 @@ module _ (s : State) (e : sound s ≡ true) (n : ℕ) where
 
   refused-keeps : (o : Operation) → answer (scheme s) (database s) (cache s) o ≡ refused n →
       cacheAfter (scheme s) (database s) (cache s) o ≡ cache s
-  unfolding cacheAfter answer
+  unfolding effect
   refused-keeps (refer p) h = refer-keeps p h
   refused-keeps (drop p) h = drop-keeps p h
   refused-keeps (ask q) h = refl
@@ -113,7 +114,7 @@ module _ (s : State) (e : sound s ≡ true) (n : ℕ) where
 
   -- no words go with a refusal
   refused-wordless : (o : Operation) → answer (scheme s) (database s) (cache s) o ≡ refused n → written (scheme s) (database s) (cache s) o ≡ []
-  unfolding answer written queryWords writtenWith hasLists shown
+  unfolding effect queryWords writtenWith hasLists shown
   refused-wordless (refer p) h = refl
   refused-wordless (drop p) h = refl
   refused-wordless (ask q) h = refl
@@ -123,8 +124,8 @@ module _ (s : State) (e : sound s ≡ true) (n : ℕ) where
   refused-wordless (query q out) h = ap (λ (a : Answer). writtenWith a (wordsOf (fullLists (scheme s) (database s) q))) h
 
   -- neither does text: a question for a reason alone writes any
-  question-textless : (q : Question) → questionAnswer (scheme s) (database s) (cache s) q ≡ refused n → questionText (scheme s) (database s) (cache s) q ≡ []
-  unfolding questionAnswer questionText textWith hasText shown
+  question-textless : (q : Question) → reply (scheme s) (database s .answer) (cache s) q ≡ refused n → reply (scheme s) (database s .text) (cache s) q ≡ []
+  unfolding reply textWith hasText shown
   question-textless (probe k v) h = refl
   question-textless evenness h = refl
   question-textless smallestKnot h = refl
@@ -132,7 +133,7 @@ module _ (s : State) (e : sound s ≡ true) (n : ℕ) where
   question-textless (reason r room) h = ap (λ (a : Answer). textWith a (reasonText (scheme s) (database s) (cache s .held) r)) h
 
   refused-textless : (o : Operation) → answer (scheme s) (database s) (cache s) o ≡ refused n → textOf (scheme s) (database s) (cache s) o ≡ []
-  unfolding answer textOf
+  unfolding effect
   refused-textless (refer p) h = refl
   refused-textless (drop p) h = refl
   refused-textless (ask q) h = question-textless q h

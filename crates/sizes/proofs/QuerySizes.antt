@@ -14,7 +14,8 @@ use Rattle.model.specs.Database.{Database}
 use Rattle.model.specs.Cache.{RowSet}
 use Rattle.model.specs.Query.{joinsOf, operandsFit, fitting, fullLists, wordsOf}
 use Rattle.model.specs.Runs.{asLists, query, taken, pairFor, outputFits, withinLimit}
-use Rattle.model.specs.Answers.{Answer, refused, sent, lists, shown, hasLists, queryGround, isAnswered, fullAnswer, queryAnswer, queryWords, writtenWith, answer, written}
+use Rattle.model.specs.Answers.{Answer, refused, sent, lists, shown, hasLists, queryGround, isAnswered, fullAnswer, queryAnswer, queryWords, writtenWith}
+use Rattle.model.specs.Effects.{effect, answer, written}
 use Rattle.model.proofs.ListLaws.{fitting-words}
 use Rattle.state.specs.declared.design.Design.{Design}
 use Rattle.state.specs.declared.operation.Query.{Query}
@@ -67,7 +68,7 @@ module _ (s : State) (e : sound s ≡ true) (q : Query) where
   -- the model's answer a, with the words that go with it
   given : (room : ℕ) (a : Answer) (ws : List ℕ) → queryAnswer (scheme s) (database s) (cache s) (queryOf q) (asLists room) ≡ a → writtenWith a allWords ≡ ws →
       (answers room ≡ a) × (wordsFor room ≡ ws)
-  unfolding answer written queryWords
+  unfolding effect queryWords
   given room a ws h k = (
     answer-at s e (query (queryOf q) (asLists room)) ∙ h,
     words-at s e (query (queryOf q) (asLists room)) ∙ ap (λ (x : Answer). writtenWith x allWords) h ∙ k,

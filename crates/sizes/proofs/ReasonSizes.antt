@@ -13,7 +13,8 @@ use lib.Seq.{getD-take}
 use Rattle.finite.proofs.Bools.{dec, cond-true, cond-false}
 use Rattle.finite.proofs.Tables.{tab-at}
 use Rattle.model.specs.Runs.{ask, reason, marked, cachedFor}
-use Rattle.model.specs.Answers.{Answer, refused, absent, explained, unless, orAnswer, shown, hasText, reasonAnswer, questionAnswer, questionText, textWith, answer, textOf}
+use Rattle.model.specs.Answers.{Answer, refused, absent, explained, unless, orAnswer, shown, hasText, reasonAnswer, textWith}
+use Rattle.model.specs.Effects.{effect, reply, answer, textOf}
 use Rattle.model.specs.Sentence.{reasonText}
 use Rattle.model.proofs.ReasonCases.{Replies, reason-unnamed, reason-absent, reason-long, reason-given}
 use Rattle.state.specs.declared.answer.Shown.{Shown}
@@ -63,7 +64,7 @@ module _ (s : State) (e : sound s ≡ true) (r : ℕ) where
   allText = reasonText (scheme s) (database s) (holdingOf (s .held)) r
 
   given : (room : ℕ) (a : Answer) (t : List ℕ) → Replies (scheme s) (database s) (cache s) (reason r room) a t → (answers room ≡ a) × (textFor room ≡ t)
-  unfolding answer textOf
+  unfolding effect
   given room a t h = (answer-at s e (ask (reason r room)) ∙ h .answer, text-at s e (ask (reason r room)) ∙ h .text)
 
   -- a row that is marked
@@ -99,7 +100,7 @@ module _ (s : State) (e : sound s ≡ true) (r : ℕ) where
       (dec (database s .live r))
 
   told-at : (room : ℕ) → bytesIn (answers room) ≡ length (textFor room)
-  unfolding answer textOf questionAnswer questionText reasonAnswer
+  unfolding effect reply reasonAnswer
   told-at room =
       ap bytesIn (answer-at s e (ask (reason r room))) ∙
       told allText (not (database s .live r)) (not (marked (cache s .marks) r)) (ltb room (length allText)) ∙

@@ -15,7 +15,8 @@ use Rattle.model.specs.Database.{Database}
 use Rattle.model.specs.Query as Model
 use Rattle.model.specs.Runs as Runs
 use Rattle.model.specs.Runs.{Cache, asLists, asTotal, outputFits, withinLimit}
-use Rattle.model.specs.Answers.{refused, sent, total, unless, orAnswer, shown, hasLists, isAnswered, fullAnswer, queryAnswer, queryWords, writtenWith, questionText, written, textOf}
+use Rattle.model.specs.Answers.{refused, sent, total, unless, orAnswer, shown, hasLists, isAnswered, fullAnswer, queryAnswer, queryWords, writtenWith}
+use Rattle.model.specs.Effects.{effect, reply, written, textOf}
 use Rattle.state.specs.declared.operation.Query.{Query}
 use Rattle.state.specs.declared.operation.Operation.{Operation}
 use Rattle.state.specs.declared.operation.Operation.the-variants as O
@@ -65,7 +66,7 @@ module _ (s : State) (e : sound s ≡ true) where
   silent op h w t = plain (record { same = h; words = words-at s e (operationOf op ample ample) ∙ w; text = text-at s e (operationOf op ample ample) ∙ t })
 
   kind : (op : Operation) → Kind s op
-  unfolding written textOf questionText
+  unfolding effect reply
   kind (O.Query q) = lists q refl
   kind (O.Reason r) = sentence r refl
   kind (O.Total t) = silent (O.Total t) (λ room bytes. refl) (total-words (scheme s) (database s) (cache s) (queryOf (t .query)) (t .position) (t .column)) refl
@@ -81,11 +82,11 @@ module _ (s : State) (e : sound s ≡ true) where
 
   -- a query writes no text, and a question no words
   query-text : (q : Query) (out : Runs.Output) → textAt s (Runs.query (queryOf q) out) ≡ []
-  unfolding textOf
+  unfolding effect
   query-text q out = text-at s e (Runs.query (queryOf q) out)
 
   ask-words : (q : Runs.Question) → wordsAt s (Runs.ask q) ≡ []
-  unfolding written
+  unfolding effect
   ask-words q = words-at s e (Runs.ask q)
 
   -- ---- what the code finds of each kind

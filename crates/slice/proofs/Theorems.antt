@@ -11,7 +11,7 @@ use lib.Dec.{eqb, leb}
 use lib.ListN.{length, take, drop as past}
 use lib.Seq.{take-at}
 use Rattle.finite.proofs.Bools.{clash, dec}
-use Rattle.model.specs.Answers.{answer, written}
+use Rattle.model.specs.Effects.{effect, answer, written}
 use Rattle.model.specs.Database.{Database}
 use Rattle.model.specs.Mirror.{Mirrors, EnoughFor, fromSlice}
 use Rattle.model.specs.Missing as Model
@@ -87,7 +87,7 @@ module _ (s : State) (e : sound s ≡ true) (at : ℕ → ℕ) (B : Database) (f
   -- THEOREM: and a query writes the same words, under the database's numbers, where the slice has its rows in the database's order
   pub slice-words : InOrder at (database s) → (q : Query) (out : Output) → NothingLacks s fs (query q out) →
       written (scheme s) B (fullCache s B) (query q out) ≡ map at (wordsAt s (query q out))
-  unfolding written
+  unfolding effect
   slice-words up q out w =
       mirror-words (f .slice) (sound-smallest s e) (slice-cached s e at B fs f (w .before)) (f .lawful) apart q out (enough-after (query q out) (w .behind)) up ∙
       ap (map at) (sym (words-at s e (query q out)))

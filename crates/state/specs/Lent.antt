@@ -9,8 +9,9 @@ use lib.ListN.{length, drop}
 use lib.Seq.{sets}
 use Rattle.model.specs.Scheme.{Scheme}
 use Rattle.model.specs.Database.{Database}
-use Rattle.model.specs.Runs.{Operation, Cache, cacheAfter}
-use Rattle.model.specs.Answers.{Answer, unless, answer, written, textOf}
+use Rattle.model.specs.Runs.{Operation, Cache}
+use Rattle.model.specs.Answers.{Answer, unless}
+use Rattle.model.specs.Effects.{cacheAfter, answer, written, textOf}
 use Rattle.state.specs.declared.design.Design.{Design}
 use Rattle.state.specs.declared.held.Held.{Held}
 use Rattle.state.specs.Cells.{Cells}

@@ -2,7 +2,7 @@
 use mathlib.Core.Path.{refl}
 use denote.Ref.{now}
 use borrow.Author.Needs.{needs}
-use Rattle.model.specs.Answers.{questionText}
+use Rattle.model.specs.Effects.{reply}
 use Rattle.state.proofs.Arrays.{sized}
 use Rattle.state.proofs.HeldWords.{words-sized}
 use Rattle.lawful.proofs.Asked.{sound-range}
@@ -36,17 +36,17 @@ reason-lawful-requires : tie.Need-reason-lawful-requires
 reason-lawful-requires c κs = let b = c .before .before .before .before .before .before .before .before .before in (b .pre .0, b .pre .1)
 
 returns : tie.Need-returns
-unfolding questionText
+unfolding reply
 returns c = λ w i. let b = c .before .before .before .before .before .before .before .before in in-case _ _ _ _ _ _ _ _ _ _ _ (c .before .enum-told .given .1)
     (ask-performs _ (b .pre .0) _ _ (words-sized (now (b .args .held))) _ refl _ (even-answers _ (b .pre .0) _ (c .evenness .ensures)))
 
 returns-2 : tie.Need-returns-2
-unfolding questionText
+unfolding reply
 returns-2 c = λ w i. let b = c .before .before .before .before .before .before .before .before in in-case _ _ _ _ _ _ _ _ _ _ _ (c .before .enum-told2 .given .1)
     (ask-performs _ (b .pre .0) _ _ (words-sized (now (b .args .held))) _ refl _ (knot-answers _ (b .pre .0) _ (c .smallest-knot .ensures)))
 
 returns-3 : tie.Need-returns-3
-unfolding questionText
+unfolding reply
 returns-3 c = λ w i. let b = c .before .before .before .before .before .before .before .before .before in in-case _ _ _ _ _ _ _ _ _ _ _ (c .before .before .op .given .1)
     (ask-performs _ (b .pre .0) _ _ (words-sized (now (b .args .held))) _ refl _ (c .opener-lawful .ensures))
 

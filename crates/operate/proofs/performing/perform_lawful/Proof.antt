@@ -2,7 +2,7 @@
 use mathlib.Core.Path.{refl}
 use denote.Ref.{now}
 use borrow.Author.Needs.{needs}
-use Rattle.model.specs.Answers.{questionText}
+use Rattle.model.specs.Effects.{reply}
 use Rattle.state.proofs.HeldWords.{words-sized}
 use Rattle.operate.proofs.ReadyLaws.{ready}
 use Rattle.operate.proofs.Inspected.{is-inspecting}
@@ -100,7 +100,7 @@ same-length-3 : tie.Need-same-length-3
 same-length-3 c = search needs
 
 returns-3 : tie.Need-returns-3
-unfolding questionText
+unfolding reply
 returns-3 c = let b = c .before .before .before .before .before .before .before .before .before .before .before .before in
     (in-case _ _ _ _ _ _ _ _ _ _ _ (c .before .before .before .before .op3 .given .1) (ask-performs _ (b .pre .0) _ _ (words-sized (now (b .args .held))) _ refl _ (c .probe-lawful .ensures _ _ (b .pre .0) (b .pre .1 .index))), b .pre .2)
 
