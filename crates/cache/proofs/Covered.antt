@@ -7,7 +7,7 @@ use mathlib.Core.Bool.{Bool, true, false, cond, _||_, or-true}
 use mathlib.Core.List.{List, [], _∷_}
 use lib.ListN.{take}
 use Rattle.finite.specs.Sameness.{remove}
-use Rattle.finite.proofs.Bools.{or-cases, or-left}
+use Rattle.finite.proofs.Bools.{or-cases, or-left, or-second}
 use Rattle.model.specs.Scheme.{Scheme}
 use Rattle.model.specs.Database.{Database, has}
 use Rattle.model.specs.Cache.{RowSet, Inside, Complete, Meets}
@@ -16,7 +16,6 @@ use Rattle.model.specs.Holding.{Pair, Owned, sameOwned, Holding, mine, withoutP
 use Rattle.model.specs.Runs.{marked}
 use Rattle.model.proofs.Closed.{Closed, demands-Demand, constraints-closed}
 use Rattle.model.proofs.Fresh.{fresh-sound}
-use Rattle.model.proofs.RangeLaws.{or-second}
 use Rattle.model.proofs.RangesHeld.{fewer-all, some-fewer}
 use Rattle.model.proofs.RunLaws.{held-wants}
 use Rattle.state.specs.Cells.{Cells}

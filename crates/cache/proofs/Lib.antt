@@ -10,8 +10,6 @@ pub mod Covered
 pub mod CauseWords
 pub mod Causes
 pub mod DistinctLaws
-pub mod Answering
-pub mod RangeAnswers
 pub mod Steps
 pub mod RangeSteps
 pub mod ProbeSteps

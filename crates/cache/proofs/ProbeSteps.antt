@@ -16,7 +16,7 @@ use Rattle.state.specs.Meaning.{holdingOf}
 use Rattle.state.specs.Lent.{State, scheme, database, cache, sound, answerAt}
 use Rattle.model.proofs.CountedRows.{rows-behind-yes}
 use Rattle.lawful.proofs.SoundState.{answer-at}
-use Rattle.cache.proofs.Answering.{probe-nowhere, probe-numberless, probe-full}
+use Rattle.model.proofs.Answering.{probe-nowhere, probe-numberless, probe-full}
 
 module _ (s : State) (e : sound s ≡ true) (k : Column) (v : Cell) where
   pub probe-5 : isColumn (scheme s) k ≡ false → refused 5 ≡ answerAt s (ask (probe k v))

@@ -35,7 +35,7 @@ use Rattle.lawful.proofs.SoundState.{parts, after}
 use Rattle.probe.proofs.GroundLaws.{marked-front}
 use Rattle.load.specs.Ended.{Covers}
 use Rattle.cache.specs.Loads.{spanLevels, heldLevels, settled, goneRows}
-use Rattle.cache.proofs.RangeAnswers.{range-nowhere, range-none, range-held, range-full, range-loads, range-leaves, drop-range-nowhere, drop-range-none, drop-range-drops, drop-range-leaves}
+use Rattle.model.proofs.RangeAnswers.{range-nowhere, range-none, range-held, range-full, range-loads, range-leaves, drop-range-nowhere, drop-range-none, drop-range-drops, drop-range-leaves}
 use Rattle.cache.proofs.RangeRecord.{own-list, own-put}
 use Rattle.cache.proofs.Covered.{sound-covers-range}
 use Rattle.cache.proofs.Steps.{steps, stays, held-fits, gone-same, left-of-bounded, left-of-holding, reload-of}

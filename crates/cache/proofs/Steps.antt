@@ -34,7 +34,7 @@ use Rattle.lawful.proofs.SoundState.{parts, after, answer-at, held-after, marks
 use Rattle.probe.proofs.GroundLaws.{marked-front}
 use Rattle.load.specs.Ended.{Covers}
 use Rattle.cache.specs.Loads.{valueLevels, heldLevels, settled, goneRows}
-use Rattle.cache.proofs.Answering.{Kept, refer-nowhere, refer-numberless, refer-none, refer-held, refer-full, refer-loads, refer-leaves, drop-nowhere, drop-numberless, drop-none, drop-drops, drop-leaves}
+use Rattle.model.proofs.Answering.{Kept, refer-nowhere, refer-numberless, refer-none, refer-held, refer-full, refer-loads, refer-leaves, drop-nowhere, drop-numberless, drop-none, drop-drops, drop-leaves}
 use Rattle.cache.proofs.Covered.{sound-covers}
 
 module _ (s : State) (e : sound s ≡ true) where

@@ -16,7 +16,6 @@ pub mod ColumnLaws
 pub mod LinkLaws
 pub mod DemandLaws
 pub mod Entries
-pub mod Walks
 pub mod CatalogLaws
 pub mod SpanLaws
 pub mod MakingLaws

@@ -16,14 +16,14 @@ use Rattle.model.specs.Runs.{ask, probe, opener, refer, name, taken, marked, Ca
 use Rattle.model.specs.Rounds.{addedRows, laterRounds}
 use Rattle.model.specs.Opener.{isOpen, opens, opensAt}
 use Rattle.model.specs.Answers.{Answer, refused, sent, ground, held, loaded, opened, openedBy, noOpener, unless, orAnswer, groundOf, Yes, openerAnswer}
-use Rattle.model.specs.Effects.{effect, cacheAfter, reply, answer}
+use Rattle.model.specs.Effects.{effect, reply, answer}
 use Rattle.model.proofs.OpenerLaws.{open-answer, opened-says, none-says, lowest-says}
 use Rattle.model.proofs.OpenerDesks.{desk-opens-alike, held-opens-nothing, pair-held}
 use Rattle.state.specs.Meaning.{schemeOf}
 use Rattle.state.specs.Lent.{State, scheme, database, cache, sound, answerAt, stateAfter}
 use Rattle.lawful.proofs.DesignLaws.{low-full}
 use Rattle.lawful.proofs.SoundState.{parts, sound-smallest, answer-at, sound-after}
-use Rattle.cache.proofs.Answering.{probe-full}
+use Rattle.model.proofs.Answering.{probe-full}
 use Rattle.script.proofs.StepLaws.{after-cache}
 use Rattle.demands.proofs.Demand2.{carries}
 use Rattle.demands.specs.Opening.{pairAt, probedBehind, ComesBefore, OpenedBy, NothingOpens}

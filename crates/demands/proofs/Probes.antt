@@ -38,7 +38,7 @@ use Rattle.run.specs.Moments.{Action, Moment, tablesAt}
 use Rattle.script.specs.Step.{Outputs, Stepped, operated, stepAt}
 use Rattle.run.specs.Runs.{leftFrom, roomsIn, momentWith, momentAt}
 use Rattle.script.specs.JustRead.{Buffers, readingOf, justRead}
-use Rattle.script.proofs.SameRows.{SameRows, same-back, has-same}
+use Rattle.model.proofs.SameRows.{SameRows, same-back, has-same}
 use Rattle.run.proofs.Tracking.{Tracks, same, point}
 use Rattle.run.proofs.ExactProbes.{answer-is, answer-exact}
 use Rattle.script.proofs.JustRead.{into-parts}

@@ -19,7 +19,7 @@ use Rattle.model.specs.Query.{Query, joinsOf, operandsFit, positionFits, fittin
 use Rattle.model.specs.Runs as Runs
 use Rattle.model.specs.Runs.{Output, asLists, asTotal, query, outputFits, withinLimit, marked, Cache}
 use Rattle.model.specs.Answers.{Answer, sent, lists, total, unless, orAnswer, shown, hasLists, fullAnswer, limitCause, isAnswered, queryAnswer, writtenWith, queryWords}
-use Rattle.model.specs.Effects.{effect, cacheAfter, written}
+use Rattle.model.specs.Effects.{effect, cacheAfter}
 use Rattle.model.specs.Demand.{Groundless, Unrefused, fullWords, Demand2}
 use Rattle.model.proofs.QueryLaws.{operands-joins, fitting-reads, probe-reads}
 use Rattle.model.proofs.Demand2.{fits-operands}
@@ -39,7 +39,7 @@ use Rattle.run.specs.Moments.{Action, operation, Moment, tablesAt, momentAfter}
 use Rattle.script.specs.Step.{Outputs, roomsOf, operationIn, Stepped, operated, stepAt}
 use Rattle.run.specs.Runs.{leftFrom, roomsIn, momentWith, momentAt}
 use Rattle.script.specs.JustRead.{Buffers, readingOf, justRead}
-use Rattle.script.proofs.SameRows.{SameRows, same-back, same-on, lists-same, total-same}
+use Rattle.model.proofs.SameRows.{SameRows, same-back, same-on, lists-same, total-same}
 use Rattle.script.proofs.StepLaws.{after-cache}
 use Rattle.run.proofs.Tracking.{Tracks, same, point, operated-tracks}
 use Rattle.demands.proofs.Demand2.{queried-exactly}

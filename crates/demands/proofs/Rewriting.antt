@@ -45,7 +45,7 @@ use Rattle.writing.specs.declared.outcome.Written.{Written}
 use Rattle.writing.specs.declared.outcome.Written.the-variants.{Bytes, Refused}
 use Rattle.script.specs.JustRead.{Buffers, readingOf, justRead, firstCells, pastCells}
 use Rattle.writing.specs.Writing.{bytesOf, writtenAt, storedWith, Writes}
-use Rattle.script.proofs.SameRows.{SameRows, same-back, lawful-same}
+use Rattle.model.proofs.SameRows.{SameRows, same-back, lawful-same}
 use Rattle.script.proofs.LongerRows.{RowsSized, extended, longer-cell, longer-table, longer-same}
 use Rattle.script.proofs.Places.{command-kinds}
 use Rattle.cache.proofs.Causes.{uncaused}

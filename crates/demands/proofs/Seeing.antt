@@ -23,14 +23,14 @@ use Rattle.lawful.proofs.DesignLaws.{column-if}
 use Rattle.lawful.proofs.HeldLaws.{holding-fits}
 use Rattle.lawful.proofs.RowsLaws.{Stored, lawful-database}
 use Rattle.lawful.proofs.SoundState.{parts, sound-smallest, answer-at}
-use Rattle.cache.proofs.Answering.{probe-full}
+use Rattle.model.proofs.Answering.{probe-full}
 use Rattle.format.specs.Reading.{Draft, cellsAfter}
 use Rattle.format.specs.Reading.DesignRead.{accepted}
 use Rattle.format.proofs.Small.{Small}
 use Rattle.run.specs.Moments.{Action, Moment, tablesAt}
 use Rattle.script.specs.JustRead.{Buffers, readingOf}
 use Rattle.demands.specs.Seeing.{LowGround, SeenAnswered, CallsSeen, PointsSeen}
-use Rattle.script.proofs.SameRows.{has-same}
+use Rattle.model.proofs.SameRows.{has-same}
 use Rattle.run.proofs.Tracking.{Tracks, same}
 use Rattle.run.proofs.WholeRun.{part}
 use Rattle.demands.proofs.Runs.{RowsGiven, called}

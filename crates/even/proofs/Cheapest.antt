@@ -1,27 +1,21 @@
 -- The cheapest walks, found in rounds: no walk of so many steps costs less, and some walk costs as much. Assumes nothing.
 use Prim.Native.Nat.{ℕ, zero, suc, _+_, _≤_, _<_, min}
-use native.Mathlib.Nat.{not-suc-le-zero, min-eq-left, min-eq-right, le-of-lt, le-of-suc-le-suc}
+use native.Mathlib.Nat.{not-suc-le-zero, le-of-suc-le-suc}
 use native.Mathlib.Omega.{arith}
 use mathlib.Core.Path.{_≡_, refl, sym, _∙_}
 use mathlib.Core.Logic.{_⊎_, inl, inr, ⊎-elim}
 use mathlib.Core.Bool.{true, false, cond}
 use mathlib.Core.List.{List, [], _∷_}
-use borrow.Author.Tests.{leb-true, leb-false, eqb-true, eq-eqb, eqb-false, ne-eqb}
-use lib.Dec.{eqb, leb}
+use borrow.Author.Tests.{eqb-true, eq-eqb, eqb-false, ne-eqb}
+use lib.Dec.{eqb}
 use lib.ListN.{length}
-use Rattle.finite.proofs.Bools.{dec, cond-true, cond-false}
+use Rattle.finite.proofs.Bools.{dec, cond-true, cond-false, min-cases}
 use Rattle.finite.proofs.Search.{below-suc}
 use Rattle.model.specs.Scheme.{Scheme}
 use Rattle.even.specs.Walks.{sourceOf, targetOf, weightOf, far, lowest, onward, cheapest}
 use Rattle.even.proofs.Walks.{Walk, here, along, cost}
 
 -- ---- the lower of two, and the lowest of some
-
-pub min-cases : (a b : ℕ) → ((min a b ≡ a) × (a ≤ b)) ⊎ ((min a b ≡ b) × (b ≤ a))
-min-cases a b =
-    ⊎-elim (λ (e : leb a b ≡ true). let h = leb-true a b e in inl (min-eq-left h, h))
-    (λ (e : leb a b ≡ false). let h : b ≤ a = le-of-lt (leb-false a b e) in inr (min-eq-right h, h))
-    (dec (leb a b))
 
 pub record Least (a b m : ℕ) : Type 0 where
   pub left : m ≤ a

@@ -11,7 +11,7 @@ use lib.Dec.{eqb}
 use lib.ListN.{length, getD}
 use Rattle.finite.specs.Finite.{collect}
 use Rattle.finite.specs.Sameness.{listed}
-use Rattle.finite.proofs.Bools.{dec, both, or-left, cond-true, cond-false}
+use Rattle.finite.proofs.Bools.{dec, both, or-left, cond-true, cond-false, or-second}
 use Rattle.finite.proofs.Collecting.{collect-has}
 use Rattle.model.specs.Scheme.{Scheme}
 use Rattle.model.specs.Even as Even
@@ -27,10 +27,6 @@ use Rattle.even.proofs.Cheapest.{lowest-le, lowest-found, cheapest-le, 
 
 abbrev pub among : List ℕ → Set
 among is e = listed eqb e is
-
-or-second : (a b : Bool) → b ≡ true → a || b ≡ true
-or-second true b e = refl
-or-second false b e = e
 
 unchanged : (w : ℕ → ℕ) (i : ℕ) (K : Set) (m : ℕ) → m ≤ i → weight w m (λ e. eqb i e || K e) ≤ weight w m K
 unfolding weight

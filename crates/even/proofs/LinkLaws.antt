@@ -10,7 +10,7 @@ use lib.Dec.{eqb, ltb}
 use lib.ListN.{getD, set, length-set, replicate}
 use lib.Seq.{getD-set-same, getD-set-other}
 use Rattle.finite.specs.Finite.{any, tab}
-use Rattle.finite.proofs.Bools.{dec, both, clash, refute, same-number, and-left, and-right, cond-true, cond-false}
+use Rattle.finite.proofs.Bools.{dec, both, clash, refute, same-number, and-left, and-right, cond-true, cond-false, or-none, or-second}
 use Rattle.finite.proofs.Search.{any-start, any-suc}
 use Rattle.finite.proofs.Tables.{length-tab, tab-at, tab-of, tab-same, replicate-tab}
 use Rattle.model.specs.Scheme.{Scheme}
@@ -20,14 +20,6 @@ use Rattle.state.specs.declared.design.Design.{Design}
 use Rattle.state.specs.Design.{noConstraint}
 use Rattle.state.specs.Meaning.{schemeOf}
 use Rattle.even.specs.Reading.{withLink, linkedBy, Laid}
-
-or-none : (a b : Bool) → b ≡ false → a || b ≡ a
-or-none true b e = refl
-or-none false b e = e
-
-or-second : (a b : Bool) → b ≡ true → a || b ≡ true
-or-second true b e = refl
-or-second false b e = e
 
 or-assoc : (a b c : Bool) → a || (b || c) ≡ (a || b) || c
 or-assoc true b c = refl

@@ -1,11 +1,11 @@
 -- Tests as Booleans, and what a test that passes or fails says. Assumes nothing.
-use Prim.Native.Nat.{ℕ, _<_}
-use native.Mathlib.Nat.{eq-or-lt-of-le}
+use Prim.Native.Nat.{ℕ, _≤_, _<_, min, max}
+use native.Mathlib.Nat.{eq-or-lt-of-le, le-of-lt, min-eq-left, min-eq-right, max-eq-left, max-eq-right}
 use mathlib.Core.Path.{_≡_, refl, sym, ap, _∙_}
 use mathlib.Core.Logic.{_⊎_, inl, inr, ⊎-elim, ⊎-map}
 use mathlib.Core.Bool.{Bool, true, false, not, cond, _&&_, _||_, true≢false}
-use borrow.Author.Tests.{eq-eqb, ne-eqb, eqb-true, eqb-false, ltb-true, ltb-false}
-use lib.Dec.{eqb, ltb}
+use borrow.Author.Tests.{eq-eqb, ne-eqb, eqb-true, eqb-false, leb-true, leb-false, ltb-true, ltb-false}
+use lib.Dec.{eqb, leb, ltb}
 
 pub dec : (b : Bool) → (b ≡ true) ⊎ (b ≡ false)
 dec true = inl refl
@@ -86,3 +86,29 @@ cond-false b x y h = ap (λ (c : Bool). cond c x y) h
 pub cond-case : {A : Type 0} (P : A → Type 0) (b : Bool) (x y : A) → (b ≡ true → P x) → (b ≡ false → P y) → P (cond b x y)
 cond-case P true x y f g = f refl
 cond-case P false x y f g = g refl
+
+-- ---- a disjunction
+
+pub or-none : (a b : Bool) → b ≡ false → a || b ≡ a
+or-none true b e = refl
+or-none false b e = e
+
+pub or-second : (a b : Bool) → b ≡ true → a || b ≡ true
+or-second true b e = refl
+or-second false b e = e
+
+pub or-and : (a b c : Bool) → a && (b || c) ≡ (a && b) || (a && c)
+or-and true b c = refl
+or-and false b c = refl
+
+-- ---- the lower and the higher of two numbers
+
+pub min-cases : (a b : ℕ) → ((min a b ≡ a) × (a ≤ b)) ⊎ ((min a b ≡ b) × (b ≤ a))
+min-cases a b =
+    ⊎-elim (λ (e : leb a b ≡ true). let h = leb-true a b e in inl (min-eq-left h, h))
+    (λ (e : leb a b ≡ false). let h : b ≤ a = le-of-lt (leb-false a b e) in inr (min-eq-right h, h)) (dec (leb a b))
+
+pub max-cases : (a b : ℕ) → ((max a b ≡ b) × (a ≤ b)) ⊎ ((max a b ≡ a) × (b ≤ a))
+max-cases a b =
+    ⊎-elim (λ (e : leb a b ≡ true). let h = leb-true a b e in inl (max-eq-right h, h))
+    (λ (e : leb a b ≡ false). let h : b ≤ a = le-of-lt (leb-false a b e) in inr (max-eq-left h, h)) (dec (leb a b))

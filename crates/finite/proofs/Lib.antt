@@ -19,3 +19,5 @@ pub mod Order
 pub mod Lowest
 pub mod Decimals
 pub mod Reading
+pub mod Walks
+pub mod WordsWritten

@@ -12,7 +12,7 @@ use Rattle.finite.proofs.Search.{none-before, not-before}
 use Rattle.model.specs.Cell.{Cell, numberless}
 use Rattle.model.specs.Scheme as Model
 use Rattle.model.specs.Scheme.{ColumnOf, Scheme, isColumn, sameColumn, candidate}
-use Rattle.model.specs.Demand.{FillingAt, FillingsApart}
+use Rattle.model.specs.Demand.{FillingsApart}
 use Rattle.model.proofs.DatabaseLaws.{same-column, same-column-self}
 use Rattle.state.specs.declared.design.Table.{Table}
 use Rattle.state.specs.declared.design.Column.{Column}
@@ -48,7 +48,7 @@ different-columns j k e p = clash (ap (λ (m : Column). sameColumn (columnOf j) 
 pub columns-differ : (j k : Column) → (j ≡ k → ⊥) → sameColumn (columnOf j) (columnOf k) ≡ false
 columns-differ j k h = refute _ (λ e. h (columns-same j k (same-column (columnOf j) (columnOf k) e)))
 
-zero-column : (k : Column) → zeroColumn k ≡ true → k ≡ noColumn
+pub zero-column : (k : Column) → zeroColumn k ≡ true → k ≡ noColumn
 unfolding zeroColumn
 zero-column k e = let h = and-eq-true-iff _ _ .0 e in λ i. record { table = eqb-true (k .table) 0 (h .0) i; place = eqb-true (k .place) 0 (h .1) i }
 
@@ -69,7 +69,7 @@ pub table-if : {t : Table} → LawfulTable t → tableFits t ≡ true
 unfolding tableFits
 table-if l = both (le-leb _ _ (l .some)) (both (le-leb _ _ (l .most)) (lt-ltb _ _ (l .bits)))
 
-zero-table : (t : Table) → zeroTable t ≡ true → t ≡ noTable
+pub zero-table : (t : Table) → zeroTable t ≡ true → t ≡ noTable
 unfolding zeroTable
 zero-table t e = let h = and-eq-true-iff _ _ .0 e in λ i. record { columns = eqb-true (t .columns) 0 (h .0) i; unique = eqb-true (t .unique) 0 (h .1) i }
 
@@ -109,7 +109,7 @@ module _ (d : Design) (n : ℕ) (c : Constraint) where
       both (column-if (l .source))
       (both (column-if (l .target)) (not-before n _ (λ i b. refute _ (λ e. h i b (same-constraint _ _ e)))))
 
-zero-constraint : (c : Constraint) → zeroConstraint c ≡ true → c ≡ noConstraint
+pub zero-constraint : (c : Constraint) → zeroConstraint c ≡ true → c ≡ noConstraint
 unfolding zeroConstraint
 zero-constraint c e = let h = and-eq-true-iff _ _ .0 e in λ i. record { source = zero-column (c .source) (h .0) i; target = zero-column (c .target) (h .1) i }
 
@@ -137,7 +137,7 @@ module _ (d : Design) (n : ℕ) (f : Filling) where
       (both (le-leb _ _ (l .low))
       (both (le-leb _ _ (l .high)) (not-before n _ (λ i b. columns-differ _ _ (h i b)))))
 
-zero-filling : (f : Filling) → zeroFilling f ≡ true → f ≡ noFilling
+pub zero-filling : (f : Filling) → zeroFilling f ≡ true → f ≡ noFilling
 unfolding zeroFilling
 zero-filling f e =
     let h = and-eq-true-iff _ _ .0 e in

@@ -10,12 +10,12 @@ use borrow.Author.Tests.{leb-true, le-leb, ltb-true, ltb-false, eqb-true, eq-eqb
 use lib.Dec.{eqb, leb, ltb}
 use lib.ListN.{length, getD, List·getD-eq-default}
 use Rattle.finite.specs.Finite.{all, tab}
-use Rattle.finite.proofs.Bools.{dec, both, or-left}
+use Rattle.finite.proofs.Bools.{dec, both, or-left, or-second}
 use Rattle.finite.proofs.Tables.{length-tab, tab-at, tab-past, tab-of}
 use Rattle.model.specs.Ranges as Model
 use Rattle.model.specs.Ranges.{isRange, onlyCandidates, standsBefore}
 use Rattle.model.specs.Holding.{mostRanges}
-use Rattle.model.proofs.RangeLaws.{Before, before-says, says-before, or-second, RangeFits, range-fits, fits-range, fits-candidates}
+use Rattle.model.proofs.RangeLaws.{Before, before-says, says-before, RangeFits, range-fits, fits-range, fits-candidates}
 use Rattle.model.proofs.RangesFit.{every-at, every-if, rising-at, rising-if, RangesFit}
 use Rattle.state.specs.declared.design.Design.{Design}
 use Rattle.state.specs.declared.held.Range.{Range}

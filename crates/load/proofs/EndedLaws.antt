@@ -23,8 +23,8 @@ use Rattle.model.specs.Rounds.{level, orElse, start, demands, reachedFrom, next
 use Rattle.model.proofs.RoundsLaws.{reached-level, level-reached, zero-unreached, levels-length}
 use Rattle.load.specs.Queue.{added}
 use Rattle.load.specs.Ended.{Enough, Ended, Covers, Within, Reaches}
-use Rattle.load.proofs.RaisedLaws.{orElse-kept}
-use Rattle.load.proofs.RoundsEnd.{next-at, next-past}
+use Rattle.model.proofs.RoundsLaws.{orElse-kept}
+use Rattle.model.proofs.RoundsLaws.{next-at, next-past}
 use Rattle.load.proofs.StartLaws.{load-is}
 
 -- ---- a round

@@ -10,6 +10,5 @@ pub mod WalkedLaws
 pub mod PlaceLaws
 pub mod FrontLaws
 pub mod StartLaws
-pub mod RoundsEnd
 pub mod EndedLaws
 pub mod SeedLaws

@@ -13,17 +13,10 @@ use Rattle.finite.proofs.Bools.{dec, same-number}
 use Rattle.finite.proofs.Tables.{tab-at, tab-of, tab-same}
 use Rattle.model.specs.Cache.{RowSet}
 use Rattle.model.specs.Rounds.{level, orElse}
+use Rattle.model.proofs.RoundsLaws.{orElse-zero, orElse-kept}
 use Rattle.load.specs.Raised.{raised}
 
 -- ---- one row
-
-pub orElse-zero : (l : ℕ) → orElse l 0 ≡ l
-orElse-zero zero = refl
-orElse-zero (suc l) = refl
-
-pub orElse-kept : (l m : ℕ) → 0 < l → orElse l m ≡ l
-orElse-kept zero m h = absurd (omega arith)
-orElse-kept (suc l) m h = refl
 
 twice : (l : ℕ) (a b : Bool) (n : ℕ) → 0 < n → orElse (orElse l (cond a n 0)) (cond b n 0) ≡ orElse l (cond (a || b) n 0)
 twice zero true b n h = orElse-kept n (cond b n 0) h

@@ -15,7 +15,8 @@ use Rattle.model.specs.Rounds.{level, orElse}
 use Rattle.load.specs.Queue.{added, Listed, Grown}
 use Rattle.load.specs.Walked.{Walked, alike, along}
 use Rattle.load.proofs.AlongLaws.{along-alike, along-none}
-use Rattle.load.proofs.RaisedLaws.{raised-at, orElse-kept}
+use Rattle.load.proofs.RaisedLaws.{raised-at}
+use Rattle.model.proofs.RoundsLaws.{orElse-kept}
 use Rattle.load.proofs.QueueLaws.{grown-idle, grown-level, grown-none}
 
 -- ---- a row that is demanded has a level after the step

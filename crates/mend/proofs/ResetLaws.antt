@@ -10,8 +10,8 @@ use borrow.Author.Tests.{lt-ltb, le-ltb, eq-eqb, eqb-true}
 use lib.Dec.{eqb, ltb}
 use lib.ListN.{length, getD, set, length-set}
 use lib.Seq.{getD-set-same, getD-set-other}
-use Rattle.finite.specs.Finite.{tab, firstFrom}
-use Rattle.finite.proofs.Bools.{dec, clash, refute, both, same-number, and-left, and-right, cond-true, cond-false}
+use Rattle.finite.specs.Finite.{firstFrom}
+use Rattle.finite.proofs.Bools.{dec, clash, refute, same-number, and-left, and-right, cond-true, cond-false}
 use Rattle.finite.proofs.First.{first-none, first-same}
 use Rattle.finite.proofs.Tables.{tab-at, tab-of, Upto, upto-set}
 use Rattle.model.specs.Cell.{Cell}
@@ -25,7 +25,7 @@ use Rattle.state.specs.Cells.{Cells}
 use Rattle.state.specs.declared.cell.Cell as State
 use Rattle.state.specs.Meaning.{cellOf, cellAt, databaseOf}
 use Rattle.state.proofs.RowLaws.{cell-at}
-use Rattle.catalog.specs.Catalog.{demandedFirst, firsts, part, nextIn, firstIn, headsIn, startsIn, Directory, Links, Demands, Indexed}
+use Rattle.catalog.specs.Catalog.{demandedFirst, firsts, part, firstIn, Links, Indexed}
 use Rattle.mend.specs.Changing.{Without}
 use Rattle.mend.specs.Resetting.{Only, Firsts, Reset, Leads, Redemanded}
 use Rattle.mend.proofs.BesideLaws.{has-beside, has-free}
@@ -33,7 +33,7 @@ use Rattle.catalog.proofs.CatalogLaws.{has-table, has-cell}
 use Rattle.catalog.proofs.PartLaws.{part-long, part-at}
 use Rattle.mend.proofs.RelinkLaws.{part-kept, directory-kept}
 use Rattle.catalog.proofs.Rows.{table-at, elsewhere-at}
-use Rattle.catalog.proofs.Walks.{walk-upto}
+use Rattle.finite.proofs.Walks.{walk-upto}
 
 -- ---- stores
 

@@ -51,3 +51,8 @@ pub mod MirrorLoads
 pub mod VerdictLaws
 pub mod SliceExamples
 pub mod Examples
+pub mod Answering
+pub mod RangeAnswers
+pub mod RoundsEnd
+pub mod SameRows
+pub mod OperandLaws

@@ -9,7 +9,7 @@ use mathlib.Core.List.{List, [], _∷_}
 use borrow.Author.Tests.{eqb-true, eq-eqb, ne-eqb, le-leb}
 use lib.Dec.{eqb, leb}
 use Rattle.finite.specs.Finite.{any}
-use Rattle.finite.proofs.Bools.{both, clash, dec, or-cases, or-left}
+use Rattle.finite.proofs.Bools.{both, clash, dec, or-cases, or-left, or-second}
 use Rattle.finite.proofs.Search.{any-true}
 use Rattle.model.specs.Cell.{Cell, Fits, blank, isBlank, equal}
 use Rattle.model.specs.Scheme.{Column, sameColumn, Scheme, ColumnOf}
@@ -20,7 +20,6 @@ use Rattle.model.specs.Slice.{Slice, inFull, Here, Fetched, Enough}
 use Rattle.model.specs.Missing.{Fetch, value, span, fetchColumn, fetchFirst, Fulfilled, AllFulfilled, covers, someFetch, isFetched, known, Needed, byHeld, byRow, Lack, nothing, lacks, missing}
 use Rattle.model.proofs.CellLaws.{blank-fits, blank-is, equal-same, equal-full, equal-self}
 use Rattle.model.proofs.DatabaseLaws.{same-column-self, Has-has, has-full}
-use Rattle.model.proofs.RangeLaws.{or-second}
 use Rattle.model.proofs.SliceLaws.{smallest-enough}
 use Rattle.model.proofs.MissingLaws.{neither, Open, Lacking, nothing-enough, missing-needed}
 

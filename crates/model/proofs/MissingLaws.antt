@@ -11,7 +11,7 @@ use mathlib.Core.List.{List, [], _∷_}
 use borrow.Author.Tests.{eqb-true, eq-eqb, ne-eqb, leb-true, leb-false, le-leb, not-true, not-false}
 use lib.Dec.{eqb, leb}
 use Rattle.finite.specs.Finite.{firstFrom}
-use Rattle.finite.proofs.Bools.{both, clash, or-cases, or-left}
+use Rattle.finite.proofs.Bools.{both, clash, or-cases, or-left, or-second}
 use Rattle.finite.proofs.First.{First, first-from, first-past}
 use Rattle.finite.proofs.Search.{any-found, below-suc}
 use Rattle.model.specs.Cell.{Cell, numbered, isBlank, equal}
@@ -24,7 +24,7 @@ use Rattle.model.specs.Slice.{Slice, Fetched, Enough}
 use Rattle.model.specs.Missing.{Fetch, value, span, fetchColumn, fetchFirst, Fulfilled, AllFulfilled, covers, spans, someFetch, isFetched, isSpanned, known, Needed, byHeld, byRow, Lack, nothing, lacks, orLack, isOpen, lackOf, lackIn, lackBelow, pairLack, firstOpen, gapEnd, gapLack, rangeLack, linkLack, rowLack, missing}
 use Rattle.model.proofs.CellLaws.{equal-same, equal-self}
 use Rattle.model.proofs.DatabaseLaws.{same-column, same-column-self, has-Has, has-full}
-use Rattle.model.proofs.RangeLaws.{in-says, says-in, or-second}
+use Rattle.model.proofs.RangeLaws.{in-says, says-in}
 use Rattle.model.proofs.SliceLaws.{has-there}
 
 -- ---- the first that lacks

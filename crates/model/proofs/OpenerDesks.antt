@@ -7,7 +7,7 @@ use mathlib.Core.Bool.{Bool, true, false, not, _&&_, and-eq-true-iff}
 use lib.Dec.{eqb, ltb}
 use Rattle.finite.specs.Finite.{any, first}
 use Rattle.finite.specs.Sameness.{listed}
-use Rattle.finite.proofs.Bools.{both, clash, or-left, refute}
+use Rattle.finite.proofs.Bools.{both, clash, or-left, refute, or-second}
 use Rattle.finite.proofs.Search.{any-true, any-found}
 use Rattle.model.specs.Cell.{Cell, issued, equal}
 use Rattle.model.specs.Scheme.{Column, sameColumn, candidate, Scheme}
@@ -22,7 +22,7 @@ use Rattle.model.specs.Turned.{gives}
 use Rattle.model.specs.Answers.{Answer, opened, openedBy, noOpener, orAnswer, openerAnswer}
 use Rattle.model.proofs.CellLaws.{equal-same}
 use Rattle.model.proofs.DatabaseLaws.{same-column, same-column-self, has-Has}
-use Rattle.model.proofs.RangeLaws.{same-range, or-second}
+use Rattle.model.proofs.RangeLaws.{same-range}
 use Rattle.model.proofs.RangesFit.{some-any}
 use Rattle.model.proofs.Referring.{listed-held}
 use Rattle.model.proofs.RunLaws.{Sound, held-more, held-wants}

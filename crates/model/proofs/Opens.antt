@@ -6,7 +6,7 @@ use mathlib.Core.Logic.{_↔_, _≢_, _⊎_, inl, inr, ⊎-elim}
 use mathlib.Core.Bool.{Bool, true, false, _&&_, _||_, and-eq-true-iff}
 use borrow.Author.Tests.{eqb-false, not-true}
 use Rattle.finite.specs.Finite.{any}
-use Rattle.finite.proofs.Bools.{both, clash, or-cases, ne-not}
+use Rattle.finite.proofs.Bools.{both, clash, or-cases, ne-not, or-second}
 use Rattle.finite.proofs.Search.{any-true, any-found}
 use Rattle.model.specs.Cell.{Cell}
 use Rattle.model.specs.Scheme.{Column, candidate, Scheme, sameColumn}
@@ -19,7 +19,6 @@ use Rattle.model.specs.Opener.{isOpen, opens}
 use Rattle.model.specs.Turned.{gives, leadsOn}
 use Rattle.model.proofs.DatabaseLaws.{same-column, same-column-self, has-Has, Has-has}
 use Rattle.model.proofs.ProbeLaws.{Seen, seen-Seen, Seen-seen, Demanded, demanded-Demanded, Demanded-demanded, probe-yes, probe-sent}
-use Rattle.model.proofs.RangeLaws.{or-second}
 use Rattle.model.proofs.Loads.{Wants, one-wants, both-want}
 use Rattle.model.proofs.Marks.{marks-smallest}
 use Rattle.model.proofs.RunLaws.{Sound, refer-smallest, held-more, held-wants}

@@ -8,7 +8,7 @@ use mathlib.Core.Bool.{true, false, _||_}
 use borrow.Author.Tests.{lt-ltb, le-ltb}
 use lib.Dec.{ltb}
 use Rattle.finite.specs.Finite.{any, lowestOf}
-use Rattle.finite.proofs.Bools.{bool-ext, clash, cond-true, cond-false, or-cases, or-left}
+use Rattle.finite.proofs.Bools.{bool-ext, clash, cond-true, cond-false, or-cases, or-left, or-second}
 use Rattle.finite.proofs.Search.{any-true, any-found}
 use Rattle.finite.proofs.Lowest.{Order, order-of, lowest-is}
 use Rattle.finite.proofs.Order.{lower-self, lower-trans, lower-neither, last-trans, last-neither}
@@ -19,7 +19,7 @@ use Rattle.model.specs.Holding.{Holding, heldCount, heldPair, allRanges,
 use Rattle.model.specs.Reason.{Origin, byValue, byRange, originCount, originAt, isHeld, hasOrigin, lowerOrigin, lowestHeld}
 use Rattle.model.proofs.CellLaws.{lower-cells, lower-cell-neither}
 use Rattle.model.proofs.DatabaseLaws.{has-Has, has-full}
-use Rattle.model.proofs.RangeLaws.{same-range, same-range-self, or-second}
+use Rattle.model.proofs.RangeLaws.{same-range, same-range-self}
 use Rattle.model.proofs.RangesFit.{some-any}
 use Rattle.model.proofs.HoldingLaws.{held-at, at-held, wanted-some}
 

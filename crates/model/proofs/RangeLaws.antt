@@ -1,7 +1,6 @@
 -- Joining and dropping ranges: a range joined to a list holds exactly its values and the list's, the list still rises and has gaps, and what a drop takes out of
 -- it are exactly the range's values (02, Req 10). Assumes nothing.
-use Prim.Native.Nat.{ℕ, _+_, _≤_, _<_, min, max}
-use native.Mathlib.Nat.{min-eq-left, min-eq-right, max-eq-left, max-eq-right, le-of-lt}
+use Prim.Native.Nat.{ℕ, _+_, _≤_, _<_}
 use native.Mathlib.Omega.{arith}
 use mathlib.Core.Path.{_≡_, refl, sym, ap, ap₂, _∙_}
 use mathlib.Core.Logic.{_⊎_, inl, inr, ⊎-elim}
@@ -10,7 +9,7 @@ use mathlib.Core.List.{List, [], _∷_}
 use borrow.Author.Tests.{leb-true, leb-false, le-leb, ltb-true, ltb-false, lt-ltb, eqb-true, eq-eqb, ne-eqb, not-true}
 use lib.Dec.{eqb, leb, ltb}
 use Rattle.finite.specs.Sameness.{listed, remove}
-use Rattle.finite.proofs.Bools.{dec, both, clash, refute, bool-ext, or-cases, or-left}
+use Rattle.finite.proofs.Bools.{dec, both, clash, refute, bool-ext, or-cases, or-left, or-second, or-and, min-cases, max-cases}
 use Rattle.finite.proofs.Order.{lower-less, lower-same, lower-cases, lower-neither}
 use Rattle.model.specs.Cell.{Cell, numbered, isBlank}
 use Rattle.model.specs.Scheme.{candidate, Scheme}
@@ -75,16 +74,6 @@ together r q a b =
     let n = lower-neither (q .filling) (r .filling) _ _ a b in
     record { filling = n .0; low = ltb-false (q .high + 1) (r .low) (n .1); high = ltb-false (r .high + 1) (q .low) (n .2) }
 
-min-is : (a b : ℕ) → ((min a b ≡ a) × (a ≤ b)) ⊎ ((min a b ≡ b) × (b ≤ a))
-min-is a b =
-    ⊎-elim (λ (e : leb a b ≡ true). let h = leb-true a b e in inl (min-eq-left h, h))
-    (λ (e : leb a b ≡ false). let h : b ≤ a = le-of-lt (leb-false a b e) in inr (min-eq-right h, h)) (dec (leb a b))
-
-max-is : (a b : ℕ) → ((max a b ≡ b) × (a ≤ b)) ⊎ ((max a b ≡ a) × (b ≤ a))
-max-is a b =
-    ⊎-elim (λ (e : leb a b ≡ true). let h = leb-true a b e in inl (max-eq-right h, h))
-    (λ (e : leb a b ≡ false). let h : b ≤ a = le-of-lt (leb-false a b e) in inr (max-eq-left h, h)) (dec (leb a b))
-
 -- the lower low, and the higher high
 pub record Spans (r q : Range) : Type 0 where
   pub low : (hull r q .low ≡ r .low) ⊎ (hull r q .low ≡ q .low)
@@ -96,8 +85,8 @@ pub record Spans (r q : Range) : Type 0 where
 
 pub spans : (r q : Range) → Spans r q
 spans r q =
-    let a = min-is (r .low) (q .low) in
-    let b = max-is (r .high) (q .high) in
+    let a = min-cases (r .low) (q .low) in
+    let b = max-cases (r .high) (q .high) in
     record {
       low = ⊎-elim (λ x. inl (x .0)) (λ x. inr (x .0)) a;
       high = ⊎-elim (λ x. inr (x .0)) (λ x. inl (x .0)) b;
@@ -106,10 +95,6 @@ spans r q =
       high-own = ⊎-elim (λ x. omega (arith, x .0, x .1)) (λ x. omega (arith, x .0)) b;
       high-other = ⊎-elim (λ x. omega (arith, x .0)) (λ x. omega (arith, x .0, x .1)) b;
     }
-
-pub or-second : (a b : Bool) → b ≡ true → a || b ≡ true
-or-second true b e = refl
-or-second false b e = e
 
 -- the values of both, and no other
 pub hull-in : (r q : Range) → Together r q → (v : Cell) → inRange (hull r q) v ≡ inRange r v || inRange q v
@@ -170,10 +155,6 @@ joined-some p h (q ∷ qs) r = go (dec (standsBefore q r)) (dec (standsBefore r 
 -- v is a value of filling f that the range has
 abbrev pub has : ℕ → Cell → Range → Bool
 has f v r = eqb (r .filling) f && inRange r v
-
-or-and : (a b c : Bool) → a && (b || c) ≡ (a && b) || (a && c)
-or-and true b c = refl
-or-and false b c = refl
 
 -- THEOREM: the list with the range in it holds exactly the values of the range and those of the list
 pub joined-holds : (rs : List Range) (r : Range) (f : ℕ) (v : Cell) → someRange (has f v) (joined r rs) ≡ has f v r || someRange (has f v) rs

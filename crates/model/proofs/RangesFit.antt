@@ -12,14 +12,14 @@ use lib.Dec.{eqb, leb}
 use lib.ListN.{length, getD}
 use Rattle.finite.specs.Finite.{any}
 use Rattle.finite.specs.Sameness.{listed, remove}
-use Rattle.finite.proofs.Bools.{both, clash, or-cases, or-left, same-number}
+use Rattle.finite.proofs.Bools.{both, clash, or-cases, or-left, same-number, or-second}
 use Rattle.finite.proofs.Search.{any-front, any-start}
 use Rattle.model.specs.Cell.{Cell}
 use Rattle.model.specs.Scheme.{Scheme}
 use Rattle.model.specs.Ranges.{Range, sameRange, inRange, isRange, onlyCandidates, someRange, joined, contains}
 use Rattle.model.specs.Holding.{desks, mostRanges, noRange, rangesOf, withList, allRanges, Holding, ownRanges, coversRange, hasRangeRoom, holdsRange, withRange, withoutRange}
 use Rattle.model.specs.Runs.{rangeTaken}
-use Rattle.model.proofs.RangeLaws.{in-says, says-in, or-second, has, Before, Full, Rising, none, one, more, Every, every-of, joined-holds, joined-rising, joined-every, same-range, remove-rising, remove-every, removed-holds, RangeFits, range-fits, hull-fits}
+use Rattle.model.proofs.RangeLaws.{in-says, says-in, has, Before, Full, Rising, none, one, more, Every, every-of, joined-holds, joined-rising, joined-every, same-range, remove-rising, remove-every, removed-holds, RangeFits, range-fits, hull-fits}
 use Rattle.model.proofs.RangesHeld.{list-own, list-other, list-count}
 
 abbrev pub rangeAt : List Range → ℕ → Range

@@ -9,7 +9,7 @@ use borrow.Author.Tests.{eqb-true, eq-eqb}
 use lib.Dec.{eqb}
 use lib.ListN.{length}
 use Rattle.finite.specs.Sameness.{remove}
-use Rattle.finite.proofs.Bools.{both, or-cases, or-left}
+use Rattle.finite.proofs.Bools.{both, or-cases, or-left, or-and, or-second}
 use Rattle.model.specs.Cell.{Cell}
 use Rattle.model.specs.Scheme.{Column, sameColumn, Scheme}
 use Rattle.model.specs.Database.{Database, Has}
@@ -18,7 +18,7 @@ use Rattle.model.specs.Holding.{Holding, rangesOf, withList, allRanges, 
 use Rattle.model.proofs.CellLaws.{equal-same, equal-self}
 use Rattle.model.proofs.DatabaseLaws.{same-column, same-column-self}
 use Rattle.model.proofs.Loads.{Hold, Wants, none-wants, both-want}
-use Rattle.model.proofs.RangeLaws.{or-second, in-says, Together, hull-in, joined-some}
+use Rattle.model.proofs.RangeLaws.{in-says, Together, hull-in, joined-some}
 
 -- ---- the desks' lists
 
@@ -99,10 +99,6 @@ fewer-all p (qs ∷ qss) (suc d) rs h e =
     (or-cases (someRange p qs) (someRange p (allRanges (withList qss d rs))) (sym (some-append p qs (allRanges (withList qss d rs))) ∙ e))
 
 -- ---- what a range holds
-
-or-and : (a b c : Bool) → a && (b || c) ≡ (a && b) || (a && c)
-or-and true b c = refl
-or-and false b c = refl
 
 hull-holds : (S : Scheme) (k : Column) (v : Cell) (r q : Range) → Together r q → rangeHolds S (hull r q) k v ≡ rangeHolds S r k v || rangeHolds S q k v
 unfolding rangeHolds

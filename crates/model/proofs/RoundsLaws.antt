@@ -32,6 +32,14 @@ pub level-reached : (L : List ℕ) (r : ℕ) → 0 < level L r → reached L r �
 unfolding reached
 level-reached L r p = lt-ltb 0 (level L r) p
 
+pub orElse-zero : (l : ℕ) → orElse l 0 ≡ l
+orElse-zero zero = refl
+orElse-zero (suc l) = refl
+
+pub orElse-kept : (l m : ℕ) → 0 < l → orElse l m ≡ l
+orElse-kept zero m h = absurd (omega arith)
+orElse-kept (suc l) m h = refl
+
 pub zero-unreached : (L : List ℕ) (r : ℕ) → level L r ≡ 0 → reached L r ≡ false
 unfolding reached
 zero-unreached L r z = le-ltb 0 (level L r) (omega arith)
@@ -103,21 +111,18 @@ record Added (S : Scheme) (D : Database) (n : ℕ) (L : List ℕ) (r : ℕ) : Ty
   demand : Demand S D by r
 
 module _ (S : Scheme) (D : Database) (n : ℕ) (L : List ℕ) where
-  next-at : (r : ℕ) → r < D .size → level (next S D n L) r ≡ orElse (level L r) (cond (reachedFrom S D n L r) (suc (suc (suc n))) 0)
+  -- what a round leaves of a row's level
+  pub next-at : (r : ℕ) → r < D .size → level (next S D n L) r ≡ orElse (level L r) (cond (reachedFrom S D n L r) (suc (suc (suc n))) 0)
   unfolding next
   next-at r h = tab-at 0 (D .size) (λ i. orElse (level L i) (cond (reachedFrom S D n L i) (suc (suc (suc n))) 0)) r h
 
-  next-past : (r : ℕ) → D .size ≤ r → level (next S D n L) r ≡ 0
+  pub next-past : (r : ℕ) → D .size ≤ r → level (next S D n L) r ≡ 0
   unfolding next
   next-past r h = tab-past 0 (D .size) (λ i. orElse (level L i) (cond (reachedFrom S D n L i) (suc (suc (suc n))) 0)) r h
 
   -- a row keeps its level
   next-keeps : (r : ℕ) → r < D .size → 0 < level L r → level (next S D n L) r ≡ level L r
-  next-keeps r h p = next-at r h ∙ go (level L r) _ p
-    where
-      go : (l m : ℕ) → 0 < l → orElse l m ≡ l
-      go zero m q = absurd (omega arith)
-      go (suc l) m q = refl
+  next-keeps r h p = next-at r h ∙ orElse-kept (level L r) _ p
 
   -- a demanded row has a level
   next-adds : (s r : ℕ) → s < D .size → r < D .size → level L s ≡ suc (suc n) → Demand S D s r → 0 < level (next S D n L) r

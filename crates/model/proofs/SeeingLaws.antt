@@ -7,7 +7,7 @@ use mathlib.Core.Logic.{_⊎_, inl, inr, ⊎-elim}
 use mathlib.Core.Bool.{Bool, true, false, not, _&&_, _||_, and-eq-true-iff}
 use borrow.Author.Tests.{eqb-true, eq-eqb}
 use lib.Dec.{eqb}
-use Rattle.finite.proofs.Bools.{both, clash, dec, or-cases, or-left}
+use Rattle.finite.proofs.Bools.{both, clash, dec, or-cases, or-left, or-second}
 use Rattle.model.specs.Cell.{Cell}
 use Rattle.model.specs.Scheme.{Column, Scheme}
 use Rattle.model.specs.Database.{Database, Has}
@@ -18,7 +18,6 @@ use Rattle.model.specs.Seeing.{OneColumn, SeeingEnough}
 use Rattle.model.proofs.CellLaws.{equal-same}
 use Rattle.model.proofs.DatabaseLaws.{same-column}
 use Rattle.model.proofs.ProbeLaws.{Demanded-demanded}
-use Rattle.model.proofs.RangeLaws.{or-second}
 use Rattle.model.proofs.HoldingLaws.{HoldingFits, held-from}
 
 -- the lowest ground is 1 or 2 if one of these applies

@@ -10,7 +10,7 @@ use borrow.Author.Tests.{eqb-true, eq-eqb, ne-eqb, ltb-true, lt-ltb, le-ltb, le-
 use lib.Dec.{eqb, ltb, lit<}
 use Rattle.finite.specs.Finite.{all}
 use Rattle.finite.specs.Sameness.{listed}
-use Rattle.finite.proofs.Bools.{both, clash, dec, refute, or-cases, or-left}
+use Rattle.finite.proofs.Bools.{both, clash, dec, refute, or-cases, or-left, or-second}
 use Rattle.finite.proofs.Tables.{length-tab, tab-at}
 use Rattle.finite.proofs.Search.{any-true, any-found, all-at, all-true}
 use Rattle.model.specs.Cell.{Cell, Fits, numbered, blank, isBlank, equal}
@@ -27,7 +27,7 @@ use Rattle.model.specs.Verdict.{Proper, fetches, canCache, linksTo, once
 use Rattle.model.proofs.CellLaws.{blank-fits, equal-self}
 use Rattle.model.proofs.DatabaseLaws.{same-column, same-column-self}
 use Rattle.model.proofs.ProbeLaws.{Seen-seen, demanded-Demanded, seen-Seen}
-use Rattle.model.proofs.RangeLaws.{Rising, Every, or-second}
+use Rattle.model.proofs.RangeLaws.{Rising, Every}
 use Rattle.model.proofs.ReachLaws.{reach-join, reaches-Reaches, Reaches-reaches}
 use Rattle.model.proofs.HoldingLaws.{HoldingFits, held-from, step-fit}
 use Rattle.model.proofs.RangesFit.{RangesFit, ListsFit}

@@ -11,21 +11,13 @@ use lib.Dec.{ltb}
 use lib.ListN.{length, getD, set, length-set, replicate}
 use lib.Seq.{getD-set-same, getD-set-other}
 use Rattle.finite.specs.Finite.{any, firstFrom, tab}
-use Rattle.finite.proofs.Bools.{dec, both, same-number, and-left, and-right}
+use Rattle.finite.proofs.Bools.{dec, both, same-number, and-left, and-right, or-none, or-second}
 use Rattle.finite.proofs.First.{first-from, first-after}
 use Rattle.finite.proofs.Search.{any-start, any-suc}
 use Rattle.finite.proofs.Tables.{tab-at, tab-of, replicate-tab}
 use Rattle.catalog.specs.Hits.{Hit}
 use Rattle.catalog.proofs.HitLaws.{first-hit}
 use Rattle.opener.specs.Marking.{Marked}
-
-or-none : (a b : Bool) → b ≡ false → a || b ≡ a
-or-none true b e = refl
-or-none false b e = e
-
-or-second : (a b : Bool) → b ≡ true → a || b ≡ true
-or-second true b e = refl
-or-second false b e = e
 
 and-whole : (a b : Bool) → b ≡ true → a && b ≡ a
 and-whole true b e = e

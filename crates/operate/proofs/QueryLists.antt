@@ -2,7 +2,7 @@
 -- nothing.
 use Prim.Native.Nat.{ℕ, _<_}
 use mathlib.Core.Path.{_≡_, refl, _∙_, subst}
-use mathlib.Core.Bool.{true, false, and-eq-true-iff}
+use mathlib.Core.Bool.{true, and-eq-true-iff}
 use mathlib.Core.List.{List}
 use lib.ListN.{take}
 use Rattle.model.specs.Probe.{probe}
@@ -17,7 +17,7 @@ use Rattle.state.specs.Lent.{State, scheme, database, cache, longEnough, lawful
 use Rattle.lawful.proofs.Asked.{sound-column}
 use Rattle.lawful.proofs.LawfulState.{lawful-says}
 use Rattle.lawful.proofs.RowsLaws.{Stored}
-use Rattle.query.proofs.OperandLaws.{fits-column}
+use Rattle.model.proofs.OperandLaws.{fits-column}
 use Rattle.query.proofs.MarkedRows.{markedLists, lists-front}
 use Rattle.query.proofs.PlanLaws.{four-pairs}
 use Rattle.operate.specs.Queries.{Drawn}

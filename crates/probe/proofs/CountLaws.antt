@@ -17,7 +17,7 @@ use Rattle.model.specs.Probe.{cachedRows}
 use Rattle.model.specs.Runs.{marked}
 use Rattle.catalog.specs.Hits.{Hit}
 use Rattle.catalog.proofs.HitLaws.{first-hit}
-use Rattle.catalog.proofs.Walks.{count-first, count-next-hit, count-next-miss, only-right}
+use Rattle.finite.proofs.Walks.{count-first, count-next-hit, count-next-miss, only-right}
 
 -- a row is cached whose mark is 1, and none whose mark is another
 module _ (m : List ℕ) (r : ℕ) where

@@ -12,7 +12,7 @@ use Rattle.model.specs.Cache.{RowSet}
 use Rattle.model.specs.Probe.{seen}
 use Rattle.catalog.specs.Hits.{Hit}
 use Rattle.catalog.proofs.HitLaws.{first-hit}
-use Rattle.catalog.proofs.Walks.{any-first, any-next, only-right}
+use Rattle.finite.proofs.Walks.{any-first, any-next, only-right}
 
 -- the search stands at r, and has found none below
 pub record Seeking (D : Database) (X : RowSet) (k : Column) (v : Cell) (r : ℕ) : Type 0 where

@@ -8,13 +8,11 @@ pub mod Hops
 pub mod Chains
 pub mod CapLaws
 pub mod WeightLaws
-pub mod Writing
 pub mod ListLaws
 pub mod PartLaws
 pub mod Weighing
 pub mod Walking
 pub mod Planned
-pub mod OperandLaws
 pub mod Bridge
 pub mod PlanLaws
 pub mod Counts

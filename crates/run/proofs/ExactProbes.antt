@@ -25,12 +25,12 @@ use Rattle.state.specs.Changes.{Rows, rowsIn, tablesOf}
 use Rattle.lawful.proofs.DesignLaws.{column-if}
 use Rattle.lawful.proofs.HeldLaws.{holding-back}
 use Rattle.lawful.proofs.SoundState.{answer-at}
-use Rattle.cache.proofs.Answering.{probe-full}
+use Rattle.model.proofs.Answering.{probe-full}
 use Rattle.format.specs.Reading.{Draft}
 use Rattle.run.specs.Moments.{Moment, tablesAt}
 use Rattle.script.specs.JustRead.{Buffers}
 use Rattle.run.specs.Runs.{Point, CompleteInAll}
-use Rattle.script.proofs.SameRows.{SameRows, same-on}
+use Rattle.model.proofs.SameRows.{SameRows, same-on}
 use Rattle.script.proofs.LongerRows.{longer-same}
 use Rattle.run.proofs.Tracking.{Standing, beyond}
 

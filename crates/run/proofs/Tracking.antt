@@ -31,7 +31,7 @@ use Rattle.format.specs.Reading.{Draft}
 use Rattle.run.specs.Moments.{Action, operation, change, Moment, tablesAt, momentAfter, momentFrom}
 use Rattle.script.specs.JustRead.{Buffers, longer, pastCells}
 use Rattle.run.specs.Runs.{Point}
-use Rattle.script.proofs.SameRows.{SameRows, same-back, smallest-same, lawful-same, held-same}
+use Rattle.model.proofs.SameRows.{SameRows, same-back, smallest-same, lawful-same, held-same}
 use Rattle.script.proofs.LongerRows.{RowsSized, extended, longer-same, rows-same, sized-after}
 use Rattle.script.proofs.StepLaws.{after-past}
 

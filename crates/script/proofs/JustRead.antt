@@ -47,7 +47,7 @@ use Rattle.format.proofs.Reached.{Sizes}
 use Rattle.format.proofs.Small.{Small}
 use Rattle.format.proofs.Reached.{accepted-lawful}
 use Rattle.script.specs.JustRead.{Buffers, readingOf, justRead, longer, pastCells}
-use Rattle.script.proofs.SameRows.{SameRows, lawful-same}
+use Rattle.model.proofs.SameRows.{SameRows, lawful-same}
 use Rattle.script.proofs.LongerRows.{RowsSized, extended, longer-cell, longer-same}
 
 -- the record that holds nothing

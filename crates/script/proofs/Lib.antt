@@ -3,7 +3,6 @@
 -- JustRead: the state with which a run begins is sound. AnswerCases: the place that goes with an answer. StepCode: from what the parts of the code give to what a
 -- step gives. Refusals: a refused operation or change leaves the state as it was and writes neither words nor text. Theorems: a refused step. (What these say to a
 -- user stands in the crate `demands`.)
-pub mod SameRows
 pub mod LongerRows
 pub mod Places
 pub mod StepLaws

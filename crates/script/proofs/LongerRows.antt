@@ -22,7 +22,7 @@ use Rattle.state.specs.Changes.{Change, put, remove, Rows, rowsIn, tablesOf, ro
 use Rattle.lawful.proofs.StoredLaws.{RowSized}
 use Rattle.lawful.proofs.SoundChange.{number-below, rows-changed, rows-unchanged}
 use Rattle.script.specs.JustRead.{longer}
-use Rattle.script.proofs.SameRows.{SameRows, and-same, has-test}
+use Rattle.model.proofs.SameRows.{SameRows, and-same, has-test}
 
 -- rows that have the sizes of a design just read
 pub record RowsSized (R : Rows) : Type 0 where

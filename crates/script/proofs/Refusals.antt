@@ -29,8 +29,8 @@ use Rattle.lawful.proofs.DesignLaws.{low-full}
 use Rattle.lawful.proofs.HeldLaws.{holding-fits}
 use Rattle.lawful.proofs.SoundState.{parts, unchanged, answer-at, words-at, text-at}
 use Rattle.lawful.proofs.SoundChange.{state-refused, state-unsound, answer-changed}
-use Rattle.cache.proofs.Answering.{refer-loads, drop-drops}
-use Rattle.cache.proofs.RangeAnswers.{range-loads, drop-range-drops}
+use Rattle.model.proofs.Answering.{refer-loads, drop-drops}
+use Rattle.model.proofs.RangeAnswers.{range-loads, drop-range-drops}
 use Rattle.script.specs.Step.{Outputs, outputs, outputsAfter}
 
 module _ (s : State) (e : sound s ≡ true) (n : ℕ) where

@@ -10,7 +10,7 @@ use lib.Dec.{eqb, leb, ltb}
 use lib.ListN.{getD, take}
 use lib.Seq.{getD-take}
 use Rattle.finite.specs.Finite.{any, firstFrom, tab}
-use Rattle.finite.proofs.Bools.{clash, cond-true, cond-false, dec, refute}
+use Rattle.finite.proofs.Bools.{clash, cond-true, cond-false, dec, refute, or-second}
 use Rattle.finite.proofs.First.{first-from, first-is, first-through, first-here, first-past, first-none}
 use Rattle.model.specs.Cache.{RowSet}
 use Rattle.model.specs.Cell.{Cell, blank, issued, numbered, isBlank}
@@ -21,7 +21,6 @@ use Rattle.model.specs.Ranges.{Range}
 use Rattle.model.specs.Runs.{marked}
 use Rattle.model.specs.Scheme.{Column, Scheme}
 use Rattle.model.proofs.MissingLaws.{spanned-known}
-use Rattle.model.proofs.RangeLaws.{or-second}
 use Rattle.model.proofs.MissingLoops.{first-any, lack-hit, lack-more, lack-end, lack-append, lack-tab}
 use Rattle.state.specs.Cells.{Cells}
 use Rattle.state.specs.declared.cell.Cell as Declared-cell

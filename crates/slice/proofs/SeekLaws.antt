@@ -8,14 +8,13 @@ use mathlib.Core.List.{List}
 use borrow.Author.Tests.{ltb-true, ltb-false, lt-ltb, le-ltb}
 use lib.Dec.{ltb}
 use Rattle.finite.specs.Finite.{any}
-use Rattle.finite.proofs.Bools.{bool-ext, both, clash, dec, or-cases, or-go, or-left, order, refute, same-number}
+use Rattle.finite.proofs.Bools.{bool-ext, both, clash, dec, or-cases, or-go, or-left, order, refute, same-number, or-second}
 use Rattle.finite.proofs.Order.{lower-self}
 use Rattle.finite.proofs.Search.{any-true, any-found, any-refuted}
 use Rattle.model.specs.Cell.{Cell}
 use Rattle.model.specs.Missing as Model
 use Rattle.model.specs.Scheme.{Column}
 use Rattle.model.proofs.MissingLoops.{some-tab}
-use Rattle.model.proofs.RangeLaws.{or-second}
 use Rattle.slice.specs.declared.fetch.Fetch.{Fetch}
 use Rattle.slice.specs.Fetches.{fetchOf, valueFetch, spanFetch, fetchAt, fetchesIn, endBefore, fetchBefore, Ordered, Sought, spanOf, NextSpan}
 use Rattle.slice.proofs.OrderLaws.{same-kind, kinds, kind-less, table-less, column-less, before-end, end-less, less-end, before-trans}

@@ -2,14 +2,15 @@
 use Prim.Native.Nat.{ℕ, _+_, _*_, _-_, _/_, _%_, _≤_, _<_}
 use native.Mathlib.Nat.{div-add-mod}
 use native.Mathlib.Omega.{arith}
-use mathlib.Core.Path.{_≡_, sym, ap, ap₂, subst, _∙_}
-use mathlib.Core.Bool.{true, false, cond, _&&_, and-eq-true-iff}
+use mathlib.Core.Path.{_≡_, sym, ap, subst, _∙_}
+use mathlib.Core.Bool.{true, false, cond, and-eq-true-iff}
 use mathlib.Core.List.{List}
 use mathlib.Core.Logic.{_⊎_, ⊎-elim}
 use borrow.Author.Tests.{lt-ltb, le-ltb, ltb-true, ltb-false, eqb-true}
 use lib.Dec.{eqb, ltb}
 use lib.ListN.{length, getD, set, length-set}
 use lib.Seq.{sets, length-sets, getD-set-same, getD-set-other}
+use Rattle.lawful.proofs.DesignLaws.{zero-table, zero-constraint, zero-filling}
 use Rattle.finite.specs.Finite.{tab, all}
 use Rattle.finite.proofs.Bools.{dec, cond-true, cond-false, order}
 use Rattle.finite.proofs.Search.{all-at}
@@ -18,15 +19,11 @@ use Rattle.finite.proofs.Stores.{sets-below, sets-at, sets-above}
 use Rattle.model.specs.Cell.{blank, isBlank}
 use Rattle.model.proofs.CellLaws.{is-blank}
 use Rattle.state.specs.Cells.{Cells}
-use Rattle.state.specs.declared.design.Table.{Table}
-use Rattle.state.specs.declared.design.Column.{Column}
-use Rattle.state.specs.declared.design.Constraint.{Constraint}
-use Rattle.state.specs.declared.design.Filling.{Filling}
 use Rattle.state.specs.declared.design.Design.{Design}
-use Rattle.state.specs.Design.{noTable, noColumn, noConstraint, noFilling, tableAt, constraintAt, fillingAt}
+use Rattle.state.specs.Design.{noTable, noConstraint, noFilling, tableAt, constraintAt, fillingAt}
 use Rattle.state.specs.Held.{noCell}
 use Rattle.state.specs.Meaning.{cellBack, cellIn, cellAt, freeTable, schemeOf, databaseOf}
-use Rattle.state.specs.Lawful.{tableFits, zeroTable, zeroColumn, constraintFits, zeroConstraint, fillingFits, zeroFilling, blankRow}
+use Rattle.state.specs.Lawful.{tableFits, zeroTable, constraintFits, zeroConstraint, fillingFits, zeroFilling, blankRow}
 use Rattle.state.proofs.Places.{unused-is}
 use Rattle.state.proofs.RowLaws.{cell-at}
 use Rattle.format.proofs.LawfulLaws.{Parts, RowParts, rowTest, noRow}
@@ -82,32 +79,6 @@ cut-eight n f r l =
     (dec (ltb i (8 * r + 8)))) (dec (ltb i (8 * r))))
 
 -- ---- what is 0
-
-zero-table : (t : Table) → zeroTable t ≡ true → t ≡ noTable
-unfolding zeroTable
-zero-table t h =
-    let x = and-eq-true-iff (eqb (t .columns) 0) (eqb (t .unique) 0) .0 h in
-    ap₂ (λ (a b : ℕ). let y : Table = record { columns = a; unique = b } in y) (eqb-true _ _ (x .0)) (eqb-true _ _ (x .1))
-
-zero-column : (k : Column) → zeroColumn k ≡ true → k ≡ noColumn
-unfolding zeroColumn
-zero-column k h =
-    let x = and-eq-true-iff (eqb (k .table) 0) (eqb (k .place) 0) .0 h in
-    ap₂ (λ (a b : ℕ). let y : Column = record { table = a; place = b } in y) (eqb-true _ _ (x .0)) (eqb-true _ _ (x .1))
-
-zero-constraint : (c : Constraint) → zeroConstraint c ≡ true → c ≡ noConstraint
-unfolding zeroConstraint
-zero-constraint c h =
-    let x = and-eq-true-iff (zeroColumn (c .source)) (zeroColumn (c .target)) .0 h in
-    ap₂ (λ (a b : Column). let y : Constraint = record { source = a; target = b } in y) (zero-column _ (x .0)) (zero-column _ (x .1))
-
-zero-filling : (f : Filling) → zeroFilling f ≡ true → f ≡ noFilling
-unfolding zeroFilling
-zero-filling f h =
-    let x = and-eq-true-iff (zeroColumn (f .column)) (eqb (f .low) 0 && eqb (f .high) 0) .0 h in
-    let y = and-eq-true-iff (eqb (f .low) 0) (eqb (f .high) 0) .0 (x .1) in
-    ap (λ (k : Column). let z : Filling = record { column = k; low = f .low; high = f .high } in z) (zero-column _ (x .0)) ∙
-    ap₂ (λ (a b : ℕ). let z : Filling = record { column = noColumn; low = a; high = b } in z) (eqb-true _ _ (y .0)) (eqb-true _ _ (y .1))
 
 -- a free number, in the buffers
 no-row : (cells : Cells) (tables : List ℕ) (r : ℕ) → noRow (databaseOf cells tables) r ≡ true

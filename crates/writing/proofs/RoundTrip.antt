@@ -23,7 +23,7 @@ use Rattle.format.specs.Writing.{designBytes, Dense, numbersLeft, compact}
 use Rattle.format.proofs.Lengths.{length-most, bytes-dense, length-dense}
 use Rattle.format.proofs.LawfulLaws.{parts, row-parts}
 use Rattle.format.proofs.ReadingLaws.{readAll}
-use Rattle.format.proofs.Reached.{Sizes}
+use Rattle.format.proofs.Reached.{Sizes, accepted-lawful}
 use Rattle.finite.proofs.Standing.{Stands, stands-first}
 use Rattle.format.proofs.Small.{Small, small-design}
 use Rattle.writing.proofs.ReadBack.{Numbers, reading}

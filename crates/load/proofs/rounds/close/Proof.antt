@@ -4,7 +4,7 @@ use mathlib.Core.Path.{sym, _∙_}
 use borrow.Author.Needs.{needs}
 use Rattle.load.proofs.EndedLaws.{ended-whole}
 use Rattle.load.proofs.FrontLaws.{front-start, queue-empty}
-use Rattle.load.proofs.RoundsEnd.{running-none}
+use Rattle.model.proofs.RoundsEnd.{running-none}
 use Rattle.load.proofs.WalkedLaws.{walked-none}
 use Rattle.load.proofs.rounds.close.Statement.{statement}
 use Rattle.load.proofs.rounds.close.Tie as tie

@@ -1,4 +1,4 @@
-use Rattle.load.proofs.RoundsEnd.{some-at, Running, running-end, running-next, running-start, running-stop}
+use Rattle.model.proofs.RoundsEnd.{some-at, Running, running-end, running-next, running-start, running-stop}
 -- `load::rounds::run` meets its contract: rounds that each added a row, until one adds nothing or enough rows are reached. Assumes nothing.
 use Rattle.model.specs.Database.{Database}
 use Rattle.catalog.specs.Catalog.{Demands}

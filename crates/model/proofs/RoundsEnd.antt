@@ -13,11 +13,11 @@ use Rattle.finite.specs.Finite.{any}
 use Rattle.finite.proofs.Search.{any-found, any-true, any-none, any-refuted}
 use Rattle.finite.proofs.Bools.{clash, and-left}
 use Rattle.finite.proofs.Counting.{count-prefix}
-use Rattle.finite.proofs.Tables.{length-tab, tab-at, tab-past, tab-of}
+use Rattle.finite.proofs.Tables.{length-tab, tab-of}
 use Rattle.model.specs.Scheme.{Scheme}
 use Rattle.model.specs.Database.{Database}
 use Rattle.model.specs.Rounds.{level, orElse, demands, reachedFrom, next, levels, laterRounds}
-use Rattle.load.proofs.RaisedLaws.{orElse-zero, orElse-kept}
+use Rattle.model.proofs.RoundsLaws.{orElse-zero, orElse-kept, next-at, next-past}
 
 -- some row below `size` has level m
 unfoldable pub someAt : ℕ → List ℕ → ℕ → Bool
@@ -28,15 +28,6 @@ unfolding someAt
 some-at size z L m b h = ap (λ (k : ℕ). any k (λ r. eqb (level L r) m)) z ∙ h
 
 module _ (S : Scheme) (D : Database) (n : ℕ) (L : List ℕ) where
-  -- what a round leaves of a row's level
-  pub next-at : (r : ℕ) → r < D .size → level (next S D n L) r ≡ orElse (level L r) (cond (reachedFrom S D n L r) (suc (suc (suc n))) 0)
-  unfolding next
-  next-at r h = tab-at 0 (D .size) (λ i. orElse (level L i) (cond (reachedFrom S D n L i) (suc (suc (suc n))) 0)) r h
-
-  pub next-past : (r : ℕ) → D .size ≤ r → level (next S D n L) r ≡ 0
-  unfolding next
-  next-past r h = tab-past 0 (D .size) (λ i. orElse (level L i) (cond (reachedFrom S D n L i) (suc (suc (suc n))) 0)) r h
-
   pub length-next : length (next S D n L) ≡ D .size
   unfolding next
   length-next = length-tab (D .size) _
@@ -52,8 +43,8 @@ module _ (S : Scheme) (D : Database) (n : ℕ) (L : List ℕ) where
       go (suc l) b m k e = omega arith
 
       at-row : Dec (r < D .size) → level (next S D n L) r ≤ n + 3
-      at-row (yes l) = go (level L r) (reachedFrom S D n L r) _ (h r) (next-at r l)
-      at-row (no l) = omega (arith, next-past r (omega arith))
+      at-row (yes l) = go (level L r) (reachedFrom S D n L r) _ (h r) (next-at S D n L r l)
+      at-row (no l) = omega (arith, next-past S D n L r (omega arith))
 
   -- a level that some row has stays
   next-some : (m : ℕ) → someAt (D .size) L (m + 3) ≡ true → someAt (D .size) (next S D n L) (m + 3) ≡ true
@@ -62,7 +53,7 @@ module _ (S : Scheme) (D : Database) (n : ℕ) (L : List ℕ) where
       let f = any-found (D .size) (λ r. eqb (level L r) (m + 3)) t in
       let e : level L (f .0) ≡ m + 3 = eqb-true _ _ (f .2) in
       any-true (D .size) (λ r. eqb (level (next S D n L) r) (m + 3)) (f .0) (f .1)
-      (eq-eqb _ _ (next-at (f .0) (f .1) ∙ orElse-kept (level L (f .0)) _ (omega arith) ∙ e))
+      (eq-eqb _ _ (next-at S D n L (f .0) (f .1) ∙ orElse-kept (level L (f .0)) _ (omega arith) ∙ e))
 
   -- a round after one that added nothing adds nothing
   pub next-same : length L ≡ D .size → ((r : ℕ) → r < D .size → level L r ≡ n + 2 → ⊥) → next S D n L ≡ L

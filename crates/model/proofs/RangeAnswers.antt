@@ -3,15 +3,15 @@ use mathlib.Core.Path.{_≡_, refl, ap}
 use mathlib.Core.Bool.{true, false, not, _&&_}
 use Rattle.finite.proofs.Bools.{and-left, and-right, both, cond-true, cond-false}
 use Rattle.finite.specs.Finite.{count}
 use Rattle.model.specs.Scheme.{Scheme}
 use Rattle.model.specs.Database.{Database}
 use Rattle.model.specs.Rounds.{reached, addedRows, laterRounds}
 use Rattle.model.specs.Ranges.{Range, isRange, onlyCandidates}
 use Rattle.model.specs.Holding.{holdsRange, coversRange, hasRangeRoom, withoutRange}
 use Rattle.model.specs.Runs.{referRange, dropRange, rangeTaken, marked, Cache, rangeLevels, reloadLevels, referredRange, reloaded}
 use Rattle.model.specs.Answers.{loaded, held, noCandidate, dropped, refused}
 use Rattle.model.specs.Effects.{effect, cacheAfter, answer}
-use Rattle.cache.proofs.Answering.{stop, go, first, second, Kept}
+use Rattle.model.proofs.Answering.{stop, go, first, second, Kept}
 
 -- ---- a load
 
