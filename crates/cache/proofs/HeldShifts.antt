@@ -3,13 +3,11 @@
 use Prim.Native.Nat.{ℕ, _+_, _-_, _≤_, _<_}
 use native.Mathlib.Omega.{arith}
 use mathlib.Core.Path.{_≡_, refl, sym, ap, subst, _∙_}
-use mathlib.Core.Bool.{Bool, true, false, cond, _&&_}
+use mathlib.Core.Bool.{Bool, true, false, cond}
 use mathlib.Core.List.{List, [], _∷_}
-use mathlib.Core.Logic.{⊎-elim}
-use lib.ListN.{length, getD, set}
+use lib.ListN.{length, set}
 use Rattle.finite.specs.Finite.{any, tab}
 use Rattle.finite.specs.Sameness.{placeOf, remove}
-use Rattle.finite.proofs.Bools.{dec, and-go, and-stop, and-right}
 use Rattle.finite.proofs.Sameness.{place-found, place-none}
 use Rattle.finite.proofs.Search.{any-none}
 use Rattle.finite.proofs.Tables.{Upto}
@@ -21,13 +19,10 @@ use Rattle.state.specs.declared.held.OwnedValue.{OwnedValue}
 use Rattle.state.specs.declared.held.Held.{Held}
 use Rattle.state.specs.declared.held.DeskRanges.{DeskRanges}
 use Rattle.state.specs.Held.{noValue, heldAt, Tidy}
-use Rattle.state.specs.HeldWords.{wordsHeld, narrowHeld, Whole, Holds, withCount, withValueAt}
-use Rattle.state.specs.Lawful.{lawfulHeld}
-use Rattle.state.specs.Lent.{State, lawful}
+use Rattle.state.specs.HeldWords.{wordsHeld, Whole, Holds, withCount, withValueAt}
 use Rattle.state.specs.Meaning.{pairOf, ownedOf, valuesOf, listOf, listBack, holdingOf, heldOf}
 use Rattle.state.proofs.HeldWords.{words-sized, holds-whole, holds-same}
 use Rattle.lawful.proofs.RangeTests.{length-list}
-use Rattle.lawful.proofs.SoundState.{held-unlawful}
 use Rattle.cache.specs.Places.{keptAt, without}
 use Rattle.cache.proofs.HeldRecord.{append-is, shift-start, shift-next, shift-end}
 
@@ -144,15 +139,3 @@ remove-few r (q ∷ qs) = go (Model.sameRange q r) (remove-few r qs)
 pub left-few : (own t : DeskRanges) (r : Model.Range) → own .count ≤ 8 → t ≡ listBack (remove Model.sameRange r (listOf own)) → t .count ≤ 8
 unfolding listBack
 left-few own t r l e = omega (arith, ap (λ (u : DeskRanges). u .count) e, remove-few r (listOf own), length-list own)
-
--- ---- the tests of cause 12 over words
-
--- words of no record, or an unlawful one
-pub words-unlawful : (s : State) (ws : List ℕ) → narrowHeld ws && lawfulHeld (s .design) (s .held) ≡ false → false ≡ narrowHeld ws && lawful s
-words-unlawful s ws e =
-    ⊎-elim (λ (n : narrowHeld ws ≡ true). and-go (narrowHeld ws) (lawful s) n (held-unlawful s (subst (λ (b : Bool). b && lawfulHeld (s .design) (s .held) ≡ false) n e)))
-    (λ (n : narrowHeld ws ≡ false). and-stop (narrowHeld ws) (lawful s) n) (dec (narrowHeld ws))
-
--- something else is unlawful
-pub words-other : (b : Bool) (ws : List ℕ) → false ≡ b → false ≡ narrowHeld ws && b
-words-other b ws e = sym (and-right (narrowHeld ws) b (sym e))

@@ -1,5 +1,5 @@
--- HeldRecord, RangeRecord: the record and what it holds. HeldShifts: its words when a value comes or goes. TakenLaws: whether a REFER takes a pair. LoadLaws: the levels of a load over lent rows. Covered: why a drop adds no row. CauseWords: causes 7 and 12 of lent words; Causes: the two in front of whatever follows them.
--- DistinctLaws: when rows have no value twice in a unique column. Answering, RangeAnswers: the answers along the order of causes. Steps, RangeSteps, ProbeSteps,
+-- HeldRecord, RangeRecord: the record and what it holds. HeldShifts: its words when a value comes or goes. TakenLaws: whether a REFER takes a pair. LoadLaws: the levels of a load over lent rows. Covered: why a drop adds no row.
+-- Steps, RangeSteps, ProbeSteps,
 -- NameSteps: what the code's tests say of the answer and of the state afterwards.
 pub mod HeldRecord
 pub mod HeldShifts
@@ -7,9 +7,6 @@ pub mod RangeRecord
 pub mod TakenLaws
 pub mod LoadLaws
 pub mod Covered
-pub mod CauseWords
-pub mod Causes
-pub mod DistinctLaws
 pub mod Steps
 pub mod RangeSteps
 pub mod ProbeSteps

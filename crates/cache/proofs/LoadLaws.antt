@@ -4,11 +4,9 @@ use native.Mathlib.Omega.{arith}
 use mathlib.Core.Path.{_≡_, refl, sym, ap, ap₂, _∙_}
 use mathlib.Core.Bool.{Bool, true, false, not, cond, _&&_}
 use mathlib.Core.List.{List, _++_}
-use lib.Dec.{eqb}
-use lib.ListN.{length, getD, drop}
+use lib.ListN.{length, drop}
 use Rattle.finite.specs.Finite.{all, count, tab}
 use Rattle.finite.proofs.Bools.{clash}
-use Rattle.finite.proofs.Search.{all-same}
 use Rattle.finite.proofs.Counting.{count-same}
 use Rattle.finite.proofs.Tables.{tab-same}
 use Rattle.model.specs.Answers as Answers
@@ -20,14 +18,12 @@ use Rattle.model.specs.Rounds.{reached, load, addedRows, laterRounds}
 use Rattle.model.specs.Holding.{wanted}
 use Rattle.model.specs.Runs.{marks, marked, reloadLevels}
 use Rattle.model.proofs.RoundsLaws.{levels-length}
-use Rattle.state.specs.Cells.{Cells}
 use Rattle.state.specs.declared.cell.Cell.{Cell}
 use Rattle.state.specs.declared.design.Column.{Column}
 use Rattle.state.specs.declared.design.Design.{Design}
 use Rattle.state.specs.declared.held.Range.{Range}
 use Rattle.state.specs.declared.held.Held.{Held}
-use Rattle.state.specs.Meaning.{cellOf, columnOf, rangeOf, schemeOf, databaseOf, holdingOf}
-use Rattle.state.specs.Lawful.{lawfulMarks}
+use Rattle.state.specs.Meaning.{cellOf, columnOf, rangeOf, schemeOf, holdingOf}
 use Rattle.load.specs.Ended.{Covers, Within, Reaches}
 use Rattle.load.proofs.EndedLaws.{load-covered}
 use Rattle.cache.specs.Loads.{valueLevels, spanLevels, heldLevels, settled, goneRows}
@@ -113,9 +109,3 @@ module _ (d : Design) (D : Database) (z : D .size ≡ 512) where
 
       pub dropped-is : Answers.dropped (cached - rows) ≡ Answers.dropped (goneRows D (heldLevels d D h) m)
       dropped-is = ap Answers.dropped (omega (arith, gone, u .size))
-
--- whether marks are those of the rows that are reached
-pub agree-is : (d : Design) (cells : Cells) (tables : List ℕ) (h : Held) (K : List ℕ) (rows : ℕ) → Reaches K (reloadLevels (schemeOf d) (databaseOf cells tables) (holdingOf h)) rows →
-    (m : List ℕ) → all 512 (λ r. eqb (getD m r 0) (cond (reached K r) 1 0)) ≡ lawfulMarks d cells tables h m
-unfolding lawfulMarks
-agree-is d cells tables h K rows u m = all-same 512 _ _ (λ r l. ap (λ (J : List ℕ). eqb (getD m r 0) (cond (reached J r) 1 0)) (u .levels))

@@ -1,5 +1,4 @@
-// REFER, DROP, PROBE, the naming of a desk, and holding and dropping a range over a sound state, and the test for causes 7 and 12 that stands before them.
-mod distinct;
+// REFER, DROP, PROBE, the naming of a desk, and holding and dropping a range over a sound state.
 mod dropping;
 mod loads;
 mod naming;
@@ -8,7 +7,6 @@ mod ranges;
 mod ranging;
 mod referring;
 mod taking;
-mod tests;
 mod values;
 
 pub use dropping::drop_lawful;
@@ -19,4 +17,3 @@ pub use ranging::refer_range_lawful;
 pub use referring::refer_lawful;
 pub use taking::filling_for;
 pub use taking::takes;
-pub use tests::cause;

@@ -11,7 +11,7 @@ use Rattle.state.specs.HeldWords.{firstWords, wordsHeld}
 use Rattle.state.specs.Lent.{State, lent, causeAt, causeOf}
 use Rattle.state.specs.Changes.{Change, Changed}
 use Rattle.lawful.proofs.SoundChange.{change-cause, change-kept}
-use Rattle.cache.proofs.CauseWords.{cause-record, own-means, own-clear}
+use Rattle.guard.proofs.CauseWords.{cause-record, own-means, own-clear}
 use Rattle.change.specs.Replacing.{ChangedWords}
 
 -- one applies: that is the answer, and the state stays

@@ -8,7 +8,7 @@ ghost use Rattle.state.specs.Changes.{put, remove};
 ghost use Rattle.change.specs.Replacing.{ChangedWords};
 use crate::changing::put_lawful;
 use crate::changing::remove_lawful;
-use cache::cause;
+use guard::cause;
 use state::Answer;
 use state::Design;
 use state::Row;

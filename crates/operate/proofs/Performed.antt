@@ -22,7 +22,7 @@ use Rattle.state.specs.HeldWords.{firstWords, wordsHeld, Whole}
 use Rattle.state.specs.Lent.{State, lent, cache, scheme, database, sound, causeAt, causeOf, answerAt, wordsAt, textAt, Answered, Worded, Performed}
 use Rattle.state.proofs.Arrays.{HeldSized}
 use Rattle.state.proofs.LentWords.{same-record-words, stored-record}
-use Rattle.cache.proofs.CauseWords.{cause-record, own-means, own-clear}
+use Rattle.guard.proofs.CauseWords.{cause-record, own-means, own-clear}
 use Rattle.operate.specs.Lending.{PerformedWords}
 use Rattle.lawful.proofs.SoundState.{after, answer-at, unchanged, words-at, text-at, cause-answer, cause-state, cause-words, cause-text}
 

@@ -11,7 +11,7 @@ ghost use Rattle.operate.specs.Lending.{PerformedWords};
 use crate::inspecting::inspect_lawful;
 use crate::output::Output;
 use crate::querying::query_lawful;
-use cache::cause;
+use guard::cause;
 use cache::drop_lawful;
 use cache::drop_range_lawful;
 use cache::name_lawful;

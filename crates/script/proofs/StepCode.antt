@@ -25,7 +25,7 @@ use Rattle.script.specs.declared.outcome.Step.{Step}
 use Rattle.script.specs.Step.{Outputs, outputs, roomsOf, operationIn, Stepped, placeOf, refusing, operated, changing, carried, stepAt, Does, DoesWords}
 use Rattle.finite.proofs.Bools.{clash}
 use Rattle.state.proofs.LentWords.{same-record-words, stored-record}
-use Rattle.cache.proofs.CauseWords.{cause-record, own-means, own-clear}
+use Rattle.guard.proofs.CauseWords.{cause-record, own-means, own-clear}
 use Rattle.script.proofs.StepLaws.{step-caused, step-carried}
 
 -- ---- an operation

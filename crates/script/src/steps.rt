@@ -14,7 +14,7 @@ ghost use Rattle.command.specs.Bytes.{byteAt};
 ghost use Rattle.command.specs.Commands.{widthOf, putRowAt, commandAt};
 ghost use Rattle.script.specs.Step.{Outputs, placeOf, outputs, changing, carried, stepAt, Does, DoesWords};
 use crate::outcome::Step;
-use cache::cause;
+use guard::cause;
 use change::put_lawful;
 use change::remove_lawful;
 use command::Command;

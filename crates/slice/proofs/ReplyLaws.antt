@@ -14,7 +14,7 @@ use Rattle.state.specs.declared.design.Design.{Design}
 use Rattle.state.specs.declared.held.Held.{Held}
 use Rattle.state.specs.HeldWords.{firstWords, wordsHeld}
 use Rattle.state.specs.Lent.{State, lent, scheme, causeOf}
-use Rattle.cache.proofs.CauseWords.{own-means}
+use Rattle.guard.proofs.CauseWords.{own-means}
 use Rattle.slice.specs.declared.fetch.Lack.{Lack}
 use Rattle.slice.specs.Fetches.{fetchOf, fetchesIn, fetchesFit, asLack}
 use Rattle.slice.specs.Replies.{Reply, lack, refused, missingAt, replyIn, replyAt}

@@ -29,7 +29,7 @@ use Rattle.state.specs.Meaning.{holdingOf}
 use Rattle.lawful.proofs.DesignLaws.{fillings-apart}
 use Rattle.lawful.proofs.HeldLaws.{holding-back}
 use Rattle.lawful.proofs.SoundState.{parts, sound-fresh, sound-smallest, fresh-long, after, after-fit, held-after, marks-after, answer-at, words-at, sound-after}
-use Rattle.cache.proofs.CauseWords.{cause-clear}
+use Rattle.guard.proofs.CauseWords.{cause-clear}
 use Rattle.slice.specs.Fetches.{fetchesIn, fetchesFit}
 use Rattle.slice.specs.Replies.{Reply, lack, refused, missingAt, replyIn, replyAt}
 use Rattle.slice.specs.Fed.{Fed, fullCache}

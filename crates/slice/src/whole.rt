@@ -16,7 +16,7 @@ use crate::fetch::Lack;
 use crate::held::pairs_lack;
 use crate::ranges::ranges_lack;
 use crate::rows::rows_lack;
-use cache::cause;
+use guard::cause;
 use state::Design;
 use state::first_words;
 

@@ -10,11 +10,11 @@ use lib.Seq.{sets}
 use Rattle.finite.proofs.Bools.{clash, cond-true, cond-false}
 use Rattle.state.specs.HeldWords.{recordIn}
 use Rattle.state.specs.Lent.{State, sound, causeAt, causeOf}
-use Rattle.cache.proofs.CauseWords.{cause-record}
+use Rattle.guard.proofs.CauseWords.{cause-record}
 use Rattle.writing.specs.declared.outcome.Written.{Written}
 use Rattle.writing.specs.declared.outcome.Written.the-variants.{Bytes, Refused}
 use Rattle.writing.specs.Writing.{bytesOf, writtenAt, storedWith, Writes, WritesWords}
-use Rattle.cache.proofs.Causes.{caused, uncaused}
+use Rattle.guard.proofs.Causes.{caused, uncaused}
 
 module _ (s : State) (before : List ℕ) where
   -- a refusal stores nothing

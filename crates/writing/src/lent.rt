@@ -6,7 +6,7 @@ ghost use Rattle.writing.specs.Writing.{WritesWords};
 use crate::commands::write_design;
 use crate::lengths::design_length;
 use crate::outcome::Written;
-use cache::cause;
+use guard::cause;
 use state::Design;
 
 // Writes the design and its rows from the first byte of `out` on: causes 7 (rows), 12 and 7 (written design) first. The test for cause 12 (one look at

@@ -3,13 +3,13 @@ ghost use mathlib.Core.Path.{_≡_};
 ghost use Rattle.state.specs.Cells.{cellsIn};
 ghost use Rattle.words.specs.Words.{wordsDesign};
 ghost use Rattle.wurzsige.specs.Calls.{memory, memoryCause, arrays, CatalogIn};
-use cache::cause;
+use guard::cause;
 use words::DESIGN_WORDS;
 use words::design_from;
 use words::design_narrow;
 
 // Cause 7 or 12, and 0 if neither applies; then the arrays have the catalog of the rows, whatever stood there. One look at each word, and the cost of
-// `cache::cause`.
+// `guard::cause`.
 pub(crate) fn memory_cause(
     cells: &[u32],
     issues: &[u8],

@@ -3,7 +3,7 @@ use mathlib.Core.Path.{sym, _∙_}
 use denote.Ref.{now}
 use borrow.Author.Needs.{needs}
 use Rattle.state.specs.Changes.{remove}
-use Rattle.cache.proofs.CauseWords.{cause-clear, own-sound}
+use Rattle.guard.proofs.CauseWords.{cause-clear, own-sound}
 use Rattle.change.proofs.LendingLaws.{refused-words, changed-words}
 use Rattle.change.proofs.lending.remove_row.Statement.{statement}
 use Rattle.change.proofs.lending.remove_row.Tie as tie

@@ -2,7 +2,7 @@
 use mathlib.Core.Path.{sym, _∙_}
 use borrow.Author.Needs.{needs}
 use Rattle.state.proofs.HeldWords.{whole-long}
-use Rattle.cache.proofs.CauseWords.{cause-clear, own-sound, own-whole}
+use Rattle.guard.proofs.CauseWords.{cause-clear, own-sound, own-whole}
 use Rattle.operate.proofs.Performed.{refused-words, performed-words}
 use Rattle.operate.proofs.performing.perform.Statement.{statement}
 use Rattle.operate.proofs.performing.perform.Tie as tie

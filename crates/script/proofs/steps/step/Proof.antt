@@ -2,7 +2,7 @@
 use mathlib.Core.Path.{sym, _∙_}
 use borrow.Author.Needs.{needs}
 use Rattle.state.proofs.HeldWords.{whole-long}
-use Rattle.cache.proofs.CauseWords.{cause-clear, own-sound, own-whole}
+use Rattle.guard.proofs.CauseWords.{cause-clear, own-sound, own-whole}
 use Rattle.script.proofs.StepCode.{caused-words, done-words}
 use Rattle.script.proofs.steps.step.Statement.{statement}
 use Rattle.script.proofs.steps.step.Tie as tie

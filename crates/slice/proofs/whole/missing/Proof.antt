@@ -1,7 +1,7 @@
 -- `slice::whole::missing` meets its contract: causes 7 and 12, then what the first words answer. Assumes nothing.
 use mathlib.Core.Path.{sym, _∙_}
 use borrow.Author.Needs.{needs}
-use Rattle.cache.proofs.CauseWords.{cause-clear, own-sound}
+use Rattle.guard.proofs.CauseWords.{cause-clear, own-sound}
 use Rattle.slice.proofs.ReplyLaws.{reply-cause, reply-own}
 use Rattle.slice.proofs.whole.missing.Statement.{statement}
 use Rattle.slice.proofs.whole.missing.Tie as tie

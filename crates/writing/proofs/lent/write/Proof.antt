@@ -5,7 +5,7 @@ use borrow.Author.Needs.{needs}
 use denote.Ref.{now}
 use Rattle.state.proofs.Arrays.{sized}
 use Rattle.lawful.proofs.Asked.{sound-range, sound-backed}
-use Rattle.cache.proofs.CauseWords.{cause-clear}
+use Rattle.guard.proofs.CauseWords.{cause-clear}
 use Rattle.writing.proofs.WritingCases.{caused-words, writes-words, cramped-writes, stored-writes}
 use Rattle.writing.proofs.lent.write.Statement.{statement}
 use Rattle.writing.proofs.lent.write.Tie as tie

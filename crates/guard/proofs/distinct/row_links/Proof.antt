@@ -1,4 +1,4 @@
--- `cache::distinct::row_links` meets its contract: a search among the columns. Assumes nothing.
+-- `guard::distinct::row_links` meets its contract: a search among the columns. Assumes nothing.
 use Prim.Native.Nat.{_-_, _≤_}
 use native.Mathlib.Omega.{arith}
 use mathlib.Core.Bool.{false}
@@ -7,9 +7,9 @@ use Rattle.finite.proofs.Search.{any-end, any-hit, any-more, any-start}
 use Rattle.finite.specs.Finite.{any}
 use Rattle.model.specs.Database.{Database}
 use Rattle.catalog.specs.Catalog.{Links}
-use Rattle.cache.specs.Distinct.{linkedAt}
-use Rattle.cache.proofs.distinct.row_links.Statement.{statement}
-use Rattle.cache.proofs.distinct.row_links.Tie as tie
+use Rattle.guard.specs.Distinct.{linkedAt}
+use Rattle.guard.proofs.distinct.row_links.Statement.{statement}
+use Rattle.guard.proofs.distinct.row_links.Tie as tie
 
 abbrev Inv-loop : tie.InvT-loop
 Inv-loop unique catalog r c₀ c = (c ≤ 8) × ((D : Database) → Links D catalog → any c (linkedAt unique D r) ≡ false)

@@ -1,4 +1,4 @@
--- `cache::tests::is_lawful_catalog` meets its contract: the design, the rows, the held values, the catalog, unique columns, then the marks. Assumes nothing.
+-- `guard::causes::is_lawful_catalog` meets its contract: the design, the rows, the held values, the catalog, unique columns, then the marks. Assumes nothing.
 use mathlib.Core.Path.{refl, sym, _∙_}
 use mathlib.Core.Bool.{and-eq-true-iff}
 use denote.Ref.{now}
@@ -14,11 +14,11 @@ use Rattle.lawful.proofs.DesignLaws.{in-range}
 use Rattle.lawful.proofs.HeldLaws.{held-bounded}
 use Rattle.lawful.proofs.RowsLaws.{lawful-stand}
 use Rattle.load.proofs.EndedLaws.{within-all}
-use Rattle.cache.proofs.DistinctLaws.{distinct-is}
-use Rattle.cache.proofs.HeldShifts.{words-unlawful, words-other}
-use Rattle.cache.proofs.LoadLaws.{agree-is}
-use Rattle.cache.proofs.tests.is_lawful_catalog.Statement.{statement}
-use Rattle.cache.proofs.tests.is_lawful_catalog.Tie as tie
+use Rattle.guard.proofs.DistinctLaws.{distinct-is}
+use Rattle.guard.proofs.CauseWords.{words-unlawful, words-other}
+use Rattle.guard.proofs.MarkLaws.{agree-is}
+use Rattle.guard.proofs.causes.is_lawful_catalog.Statement.{statement}
+use Rattle.guard.proofs.causes.is_lawful_catalog.Tie as tie
 
 lawful-design-requires : tie.Need-lawful-design-requires
 lawful-design-requires c κs = search needs

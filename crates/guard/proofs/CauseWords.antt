@@ -4,14 +4,17 @@ use native.Mathlib.Omega.{arith}
 use mathlib.Core.Path.{_≡_, refl, sym, ap, ap₂, subst, _∙_}
 use mathlib.Core.Bool.{Bool, true, false, not, cond, _&&_}
 use mathlib.Core.List.{List}
+use mathlib.Core.Logic.{⊎-elim}
 use borrow.Author.Tests.{le-leb, lt-leb, leb-true}
 use lib.ListN.{length}
-use Rattle.finite.proofs.Bools.{clash}
+use Rattle.finite.proofs.Bools.{clash, dec, and-go, and-stop, and-right}
 use Rattle.state.specs.Cells.{Cells}
 use Rattle.state.specs.declared.design.Design.{Design}
 use Rattle.state.specs.declared.held.Held.{Held}
 use Rattle.state.specs.HeldWords.{heldLength, longHeld, narrowHeld, recordIn, firstWords, wordsHeld, Whole}
+use Rattle.state.specs.Lawful.{lawfulHeld}
 use Rattle.state.specs.Lent.{State, lent, longEnough, lawful, sound, causeAt, causeOf}
+use Rattle.lawful.proofs.SoundState.{held-unlawful}
 use Rattle.state.proofs.LentWords.{first-means, first-narrow, first-whole}
 
 -- the cause, by what applies
@@ -98,3 +101,15 @@ module _ (d : Design) (cs : Cells) (ts ms ws own : List ℕ) (is : own ≡ first
 
     pub own-whole : Whole own
     own-whole = subst Whole (sym is) (first-whole ws (own-clear .narrow))
+
+-- ---- the tests of cause 12 over words
+
+-- words of no record, or an unlawful one
+pub words-unlawful : (s : State) (ws : List ℕ) → narrowHeld ws && lawfulHeld (s .design) (s .held) ≡ false → false ≡ narrowHeld ws && lawful s
+words-unlawful s ws e =
+    ⊎-elim (λ (n : narrowHeld ws ≡ true). and-go (narrowHeld ws) (lawful s) n (held-unlawful s (subst (λ (b : Bool). b && lawfulHeld (s .design) (s .held) ≡ false) n e)))
+    (λ (n : narrowHeld ws ≡ false). and-stop (narrowHeld ws) (lawful s) n) (dec (narrowHeld ws))
+
+-- something else is unlawful
+pub words-other : (b : Bool) (ws : List ℕ) → false ≡ b → false ≡ narrowHeld ws && b
+words-other b ws e = sym (and-right (narrowHeld ws) b (sym e))

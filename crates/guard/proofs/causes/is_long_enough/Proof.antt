@@ -1,10 +1,10 @@
--- `cache::tests::is_long_enough` meets its contract: cells, issues, tables, marks. Assumes nothing.
+-- `guard::causes::is_long_enough` meets its contract: cells, issues, tables, marks. Assumes nothing.
 use mathlib.Core.Path.{refl}
 use borrow.Author.Tests.{le-leb, lt-leb}
 use Rattle.finite.proofs.Bools.{and-go, and-stop}
 use Rattle.state.specs.Lent.{longEnough}
-use Rattle.cache.proofs.tests.is_long_enough.Statement.{statement}
-use Rattle.cache.proofs.tests.is_long_enough.Tie as tie
+use Rattle.guard.proofs.causes.is_long_enough.Statement.{statement}
+use Rattle.guard.proofs.causes.is_long_enough.Tie as tie
 
 returns : tie.Need-returns
 unfolding longEnough

@@ -1,4 +1,4 @@
--- `cache::tests::cause` meets its contract: cause 7, then cause 12. Assumes nothing.
+-- `guard::causes::cause` meets its contract: cause 7, then cause 12. Assumes nothing.
 use native.Mathlib.Omega.{arith}
 use mathlib.Core.Path.{sym, ap, _∙_}
 use mathlib.Core.Bool.{not}
@@ -8,9 +8,9 @@ use borrow.Author.Tests.{not-true, not-false}
 use Rattle.finite.proofs.Bools.{cond-true, cond-false}
 use Rattle.state.specs.HeldWords.{wordsHeld}
 use Rattle.lawful.proofs.Asked.{long-asked}
-use Rattle.cache.proofs.CauseWords.{cause-few, cause-short, cause-long, first-lawful}
-use Rattle.cache.proofs.tests.cause.Statement.{statement}
-use Rattle.cache.proofs.tests.cause.Tie as tie
+use Rattle.guard.proofs.CauseWords.{cause-few, cause-short, cause-long, first-lawful}
+use Rattle.guard.proofs.causes.cause.Statement.{statement}
+use Rattle.guard.proofs.causes.cause.Tie as tie
 
 returns : tie.Need-returns
 returns c = (cause-few _ _ (c .if1 .taken), λ z. absurd (omega (arith, z)))

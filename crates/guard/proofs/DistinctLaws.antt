@@ -26,7 +26,7 @@ use Rattle.finite.specs.Finite.{firstFrom}
 use Rattle.catalog.specs.Catalog.{columnAt, nextOf}
 use Rattle.finite.proofs.First.{first-from}
 use Rattle.catalog.proofs.CatalogLaws.{next-has}
-use Rattle.cache.specs.Distinct.{linkedAt, distinct}
+use Rattle.guard.specs.Distinct.{linkedAt, distinct}
 
 module _ (d : Design) (cells : Cells) (tables : List ℕ) where
   abbrev D : Database

@@ -1,4 +1,4 @@
--- `cache::distinct::is_distinct` meets its contract: a loop that leaves at the first row that has a next row. Assumes nothing.
+-- `guard::distinct::is_distinct` meets its contract: a loop that leaves at the first row that has a next row. Assumes nothing.
 use Prim.Native.Nat.{_-_, _≤_}
 use native.Mathlib.Omega.{arith}
 use mathlib.Core.Bool.{not, true}
@@ -10,9 +10,9 @@ use Rattle.finite.specs.Finite.{all, any}
 use Rattle.model.specs.Database.{Database}
 use Rattle.state.specs.Design.{tableAt}
 use Rattle.catalog.specs.Catalog.{Links}
-use Rattle.cache.specs.Distinct.{distinct, linkedAt}
-use Rattle.cache.proofs.distinct.is_distinct.Statement.{statement}
-use Rattle.cache.proofs.distinct.is_distinct.Tie as tie
+use Rattle.guard.specs.Distinct.{distinct, linkedAt}
+use Rattle.guard.proofs.distinct.is_distinct.Statement.{statement}
+use Rattle.guard.proofs.distinct.is_distinct.Tie as tie
 
 abbrev Inv-loop : tie.InvT-loop
 Inv-loop d tables catalog r₀ r = (r ≤ 512) × ((D : Database) → Links D catalog → all r (λ s. not (any 8 (linkedAt (tableAt d (getD tables s 0) .unique) D s))) ≡ true)

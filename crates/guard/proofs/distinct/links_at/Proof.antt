@@ -1,12 +1,12 @@
--- `cache::distinct::links_at` meets its contract: the column is unique, and the link is a row. Assumes nothing.
+-- `guard::distinct::links_at` meets its contract: the column is unique, and the link is a row. Assumes nothing.
 use Prim.Native.Nat.{ℕ}
 use mathlib.Core.Path.{_∙_, ap, sym}
 use borrow.Author.Needs.{needs}
 use borrow.Author.Tests.{not-false, not-true}
 use lib.Dec.{ltb}
 use Rattle.finite.proofs.Bools.{and-go, and-stop}
-use Rattle.cache.proofs.distinct.links_at.Statement.{statement}
-use Rattle.cache.proofs.distinct.links_at.Tie as tie
+use Rattle.guard.proofs.distinct.links_at.Statement.{statement}
+use Rattle.guard.proofs.distinct.links_at.Tie as tie
 
 has-bit-requires : tie.Need-has-bit-requires
 has-bit-requires c κs = search needs

@@ -5,7 +5,7 @@ ghost use lib.ListN.{length};
 ghost use Rattle.finite.specs.Finite.{any};
 ghost use Rattle.model.specs.Database.{Database};
 ghost use Rattle.catalog.specs.Catalog.{Links};
-ghost use Rattle.cache.specs.Distinct.{linkedAt, distinct};
+ghost use Rattle.guard.specs.Distinct.{linkedAt, distinct};
 use catalog::next_row;
 use lawful::has_bit;
 use state::Design;
