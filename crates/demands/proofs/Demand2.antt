@@ -35,7 +35,7 @@ module _ (s : State) (e : sound s ≡ true) where
       subst (λ (a : Answer). (a ≡ sent) ↔ Groundless (scheme s) (database s) (cache s) k v) (sym at)
       (probe-sent-exactly (scheme s) (database s) (cache s) k v (subst Unrefused at u))
     where
-      at : answerAt s (ask (probe k v)) ≡ reply (scheme s) (database s .answer) (cache s) (probe k v)
+      at : answerAt s (ask (probe k v)) ≡ reply (scheme s) (database s) (cache s) (probe k v) .answer
       at = answer-at s e (ask (probe k v))
 
   -- THEOREM: `operate::perform` of a QUERY or a total, and one of a script: what is answered is the model's answer, and demand 2 holds of it. The cells are u32

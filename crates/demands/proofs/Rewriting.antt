@@ -48,7 +48,7 @@ use Rattle.writing.specs.Writing.{bytesOf, writtenAt, storedWith, Writes}
 use Rattle.model.proofs.SameRows.{SameRows, same-back, lawful-same}
 use Rattle.script.proofs.LongerRows.{RowsSized, extended, longer-cell, longer-table, longer-same}
 use Rattle.script.proofs.Places.{command-kinds}
-use Rattle.guard.proofs.Causes.{uncaused}
+use Rattle.guard.proofs.CausesFirst.{uncaused}
 use Rattle.run.proofs.Tracking.{beyond}
 use Rattle.script.proofs.JustRead.{stored-first, into-parts, draft-sized}
 use Rattle.run.proofs.Begun.{begun}

@@ -74,7 +74,7 @@ module _ (s : State) (e : sound s ≡ true) (w t : List ℕ) where
     ask-writes q a t′ h = record { answered = asked (ask q) refl a (h .0); words = wordless (ask q) refl; text = h .1 }
 
     -- a question that writes none
-    pub ask-performs : (q : Question) → reply (scheme s) (database s .text) (cache s) q ≡ [] → (a : Answer) → a ≡ answerAt s (ask q) → Performed s w t (ask q) a s w t
+    pub ask-performs : (q : Question) → reply (scheme s) (database s) (cache s) q .text ≡ [] → (a : Answer) → a ≡ answerAt s (ask q) → Performed s w t (ask q) a s w t
     unfolding effect
     ask-performs q n a h = ask-writes q a t (h, textless s e t (ask q) n)
 

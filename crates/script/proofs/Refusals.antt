@@ -124,7 +124,7 @@ module _ (s : State) (e : sound s ≡ true) (n : ℕ) where
   refused-wordless (query q out) h = ap (λ (a : Answer). writtenWith a (wordsOf (fullLists (scheme s) (database s) q))) h
 
   -- neither does text: a question for a reason alone writes any
-  question-textless : (q : Question) → reply (scheme s) (database s .answer) (cache s) q ≡ refused n → reply (scheme s) (database s .text) (cache s) q ≡ []
+  question-textless : (q : Question) → reply (scheme s) (database s) (cache s) q .answer ≡ refused n → reply (scheme s) (database s) (cache s) q .text ≡ []
   unfolding reply textWith hasText shown
   question-textless (probe k v) h = refl
   question-textless evenness h = refl

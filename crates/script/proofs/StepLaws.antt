@@ -28,7 +28,7 @@ use Rattle.command.specs.Commands.{commandAt, widthOf, putRowAt}
 use Rattle.format.specs.Reading.{mostBytes}
 use Rattle.format.proofs.ReadingLaws.{Whole}
 use Rattle.script.specs.Step.{Outputs, roomsOf, operationIn, Stepped, refusing, operated, changing, carried, stepAt}
-use Rattle.guard.proofs.Causes.{caused, uncaused}
+use Rattle.guard.proofs.CausesFirst.{caused, uncaused}
 use Rattle.script.proofs.Places.{command-kinds, put-sized}
 
 -- ---- an operation

@@ -14,7 +14,7 @@ use Rattle.guard.proofs.CauseWords.{cause-record}
 use Rattle.writing.specs.declared.outcome.Written.{Written}
 use Rattle.writing.specs.declared.outcome.Written.the-variants.{Bytes, Refused}
 use Rattle.writing.specs.Writing.{bytesOf, writtenAt, storedWith, Writes, WritesWords}
-use Rattle.guard.proofs.Causes.{caused, uncaused}
+use Rattle.guard.proofs.CausesFirst.{caused, uncaused}
 
 module _ (s : State) (before : List ℕ) where
   -- a refusal stores nothing
