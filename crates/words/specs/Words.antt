@@ -1,6 +1,7 @@
 -- A design as a list of 115 u32 words, the design that such a list stands for, and which lists are words of one: its three counts, then each table, constraint and
 -- filling. (What is held as words: state's specs/HeldWords.antt.) Assumes nothing.
-use Prim.Native.Nat.{ℕ, _+_, _*_}
+use Prim.Native.Nat.{ℕ, _+_, _*_, _≤_, _<_}
+use mathlib.Core.Path.{_≡_}
 use mathlib.Core.Bool.{Bool, _&&_}
 use mathlib.Core.List.{List, [], _∷_, _++_}
 use Rattle.finite.specs.Finite.{all}
@@ -55,6 +56,10 @@ constraintFrom ws i = record { source = columnFrom ws i; target = columnFrom ws 
 
 abbrev pub fillingFrom : List ℕ → ℕ → Filling
 fillingFrom ws i = record { column = columnFrom ws i; low = wordAt ws (i + 2); high = wordAt ws (i + 3) }
+
+-- of n places of w words each, from word a on, those from place m on are empty
+abbrev pub EmptyFrom : {A : Type 0} → ℕ → ℕ → ℕ → A → (List ℕ → ℕ → A) → List ℕ → ℕ → Type 0
+EmptyFrom n a w none from ws m = (i : ℕ) → i < n → m ≤ i → from ws (a + w * i) ≡ none
 
 abbrev pub tablesFrom : List ℕ → List Table
 tablesFrom = placesFrom 8 3 2 tableFrom

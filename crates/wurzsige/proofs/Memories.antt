@@ -12,7 +12,9 @@ use Rattle.finite.proofs.Bools.{both, clash, and-left, and-right}
 use Rattle.state.specs.Cells.{Cells}
 use Rattle.state.specs.declared.design.Design.{Design}
 use Rattle.state.specs.HeldWords.{heldLength, longHeld, wordsHeld, narrowHeld, firstWords, Whole}
+use Rattle.state.specs.Lawful.{lawfulDesign}
 use Rattle.state.specs.Lent.{lent, longEnough, lawful, sound, causeOf}
+use Rattle.lawful.proofs.SoundState.{parts}
 use Rattle.state.proofs.LentWords.{first-means, first-whole}
 use Rattle.script.specs.Step.{Outputs, refusing, stepAt}
 use Rattle.writing.specs.Writing.{bytesOf}
@@ -69,6 +71,10 @@ module _ (m : Memory) where
         heldNarrow = n .1;
         state = both (l .1) (g .1);
       }
+
+  -- its design is lawful
+  pub memory-design : soundMemory m ≡ true → (designLength ≤ length (m .design)) × (lawfulDesign (wordsDesign (m .design)) ≡ true)
+  memory-design e = let p = memory-parts e in (p .design, parts (stateIn m) (p .state) .design)
 
   pub from-parts : Parts m → soundMemory m ≡ true
   unfolding longMemory lawfulMemory

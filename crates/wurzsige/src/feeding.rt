@@ -15,6 +15,7 @@ use state::first_words;
 use verdict::verdicts;
 use words::DESIGN_WORDS;
 use words::design_from;
+use words::lawful_design_from;
 use words::design_narrow;
 
 // 0 for a value, 1 for a span. Constant time.
@@ -62,7 +63,7 @@ pub extern "C" fn wurzsige_parts_missing_trusted(
         (now (fetches .entry)) count)
         n (now (fetch .entry)) (now (fetch .exit)) ⌝ }
 {
-    let d = design_from(design);
+    let d = lawful_design_from(design);
     let next = missing_catalogued(
         d,
         cells,

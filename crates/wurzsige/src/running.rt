@@ -5,7 +5,7 @@ ghost use Rattle.script.specs.Step.{outputs};
 ghost use Rattle.run.specs.Runs.{leftFrom};
 ghost use Rattle.wurzsige.specs.Calls.{memory, arrays, stateIn, Trusts, RunMade};
 use run::run_lawful;
-use words::design_from;
+use words::lawful_design_from;
 
 // The steps from place `at` on, until the script ends or cause 1, 2 or 4 stops it; no answer is told, the answer words are the last query's, and the text is
 // the last reason's. The arrays behind `text` are working memory. The cost of the operations, and one copy of the design's words.
@@ -36,7 +36,7 @@ pub extern "C" fn wurzsige_parts_run_trusted(
         (arrays (now (catalog .exit)) (now (keys .exit)))
         (outputs (now (words .exit)) (now (text .exit))) ⌝ }
 {
-    let d = design_from(design);
+    let d = lawful_design_from(design);
     run_lawful(
         script,
         at,

@@ -10,7 +10,7 @@ use script::step_lawful;
 use state::Answer;
 use state::first_words;
 use state::store_words;
-use words::design_from;
+use words::lawful_design_from;
 
 // The step at place `at` of a script on memory that is ready: the number of the answer's word, with what is told beside it; the arrays behind `text` are
 // working memory, whatever stands in them before, and nothing is said of them after. A reason's sentence stands in `text`, from its first byte on. The cost of
@@ -46,7 +46,7 @@ pub extern "C" fn wurzsige_parts_step_trusted(
         (arrays (now (catalog .exit)) (now (keys .exit)))
         (outputs (now (words .exit)) (now (text .exit))) ⌝ }
 {
-    let d = design_from(design);
+    let d = lawful_design_from(design);
     let t = step_lawful(
         script,
         at,

@@ -5,15 +5,16 @@ use mathlib.Core.Path.{refl}
 use borrow.Author.Needs.{needs}
 use Rattle.state.specs.Design.{noConstraint}
 use Rattle.words.specs.Words.{constraintFrom}
-use Rattle.state.proofs.WordPlaces.{Reading, reading-start, reading-more, reading-end}
+use Rattle.state.proofs.WordPlaces.{Reading, reading-start, reading-more}
+use Rattle.words.proofs.EmptyPlaces.{reading-rest}
 use Rattle.words.proofs.from_words.constraints_from.Statement.{statement}
 use Rattle.words.proofs.from_words.constraints_from.Tie as tie
 
 pub constraints-from-spec : {M : Type 1} → statement M
 constraints-from-spec =
     tie.close
-    (tie.spec (λ words cs₀ i₀ cs i. Reading 16 19 4 noConstraint constraintFrom words cs₀ cs i) (λ words cs₀ i₀ cs i. 16 - i)
+    (tie.spec (λ words n cs₀ i₀ cs i. Reading 16 19 4 noConstraint constraintFrom words cs₀ cs i) (λ words n cs₀ i₀ cs i. n - i)
     (λ c. reading-start refl) (λ c. search needs) (λ c. omega arith) (λ c κs. omega arith) (λ c. search needs) (λ c. search needs)
     (λ c. omega arith) (λ c. omega arith)
-    (λ c. reading-more (c .before .before .loop .inv) (c .before .loop-test .taken) (c .constraint-from .ensures))
-    (λ c. reading-end (c .before .loop .inv) (c .loop-test .left)))
+    (λ c. reading-more (c .before .before .loop .inv) (omega (arith, c .before .loop-test .taken, c .before .before .before .before .pre .1)) (c .constraint-from .ensures))
+    (λ c. reading-rest (c .before .loop .inv) (c .loop-test .left) (c .before .before .before .pre .2)))

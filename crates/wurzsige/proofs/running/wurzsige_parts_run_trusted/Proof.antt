@@ -2,16 +2,16 @@
 use borrow.Author.Needs.{needs}
 use denote.Ref.{now}
 use Rattle.script.specs.Step.{outputs}
-use Rattle.wurzsige.proofs.Memories.{memory-parts}
+use Rattle.wurzsige.proofs.Memories.{memory-design}
 use Rattle.wurzsige.proofs.StepTaking.{ready-lawful, run-made}
 use Rattle.wurzsige.proofs.running.wurzsige_parts_run_trusted.Statement.{statement}
 use Rattle.wurzsige.proofs.running.wurzsige_parts_run_trusted.Tie as tie
 
-design-from-requires : tie.Need-design-from-requires
-design-from-requires c κs = let s = c .before .before .before .before .before .before .before .before in memory-parts _ (s .pre .ready .sound) .design
+lawful-design-from-requires : tie.Need-lawful-design-from-requires
+lawful-design-from-requires c κs = let s = c .before .before .before .before .before .before .before .before in memory-design _ (s .pre .ready .sound)
 
 run-lawful-requires : tie.Need-run-lawful-requires
-run-lawful-requires c κs = let s = c .before .before .before .before .before .before .before .before .before .before .before .before .before .before .before .before .before .before .before .before in ready-lawful _ _ _ _ _ _ _ (c .before .before .before .before .before .before .before .before .before .before .before .design-from .ensures) (s .pre .ready) (s .pre .held)
+run-lawful-requires c κs = let s = c .before .before .before .before .before .before .before .before .before .before .before .before .before .before .before .before .before .before .before .before in ready-lawful _ _ _ _ _ _ _ (c .before .before .before .before .before .before .before .before .before .before .before .lawful-design-from .ensures) (s .pre .ready) (s .pre .held)
 
 same-length : tie.Need-same-length
 same-length c = search needs
@@ -34,14 +34,14 @@ same-length-6 c = search needs
 returns : tie.Need-returns
 returns c =
     let s = c .before .before .before .before .before .before .before .before .before .before .before .before .before .before .before .before .before .before .before .before .before .before .before .before .before .before .before .before .before .before .before .before .before in
-    run-made _ _ _ _ _ _ _ (c .before .before .before .before .before .before .before .before .before .before .before .before .before .before .before .before .before .before .before .before .before .before .before .before .design-from .ensures) (s .pre .ready) (s .pre .held) (outputs (now (s .args .words)) (now (s .args .text))) (now (s .args .script)) (s .args .at) _ _ _ _ _
+    run-made _ _ _ _ _ _ _ (c .before .before .before .before .before .before .before .before .before .before .before .before .before .before .before .before .before .before .before .before .before .before .before .before .lawful-design-from .ensures) (s .pre .ready) (s .pre .held) (outputs (now (s .args .words)) (now (s .args .text))) (now (s .args .script)) (s .args .at) _ _ _ _ _
     (c .before .before .before .before .before .before .before .before .before .before .before .before .run-lawful .ensures .1 .1) (c .before .before .before .before .before .before .before .before .before .before .before .before .run-lawful .ensures .0) _ (c .before .before .before .before .before .before .before .before .before .before .before .before .run-lawful .ensures .1 .0)
 
 pub wurzsige-parts-run-trusted-spec : {M : Type 1} → statement M
 wurzsige-parts-run-trusted-spec =
     tie.close
     (tie.spec
-    design-from-requires
+    lawful-design-from-requires
     run-lawful-requires
     same-length
     same-length-2

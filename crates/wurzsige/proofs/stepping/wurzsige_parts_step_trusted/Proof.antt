@@ -1,15 +1,15 @@
 -- `wurzsige::stepping::wurzsige_parts_step_trusted` meets its contract: the step on the state that the words stand for. Assumes nothing.
 use borrow.Author.Needs.{needs}
-use Rattle.wurzsige.proofs.Memories.{memory-parts}
+use Rattle.wurzsige.proofs.Memories.{memory-design}
 use Rattle.wurzsige.proofs.StepTaking.{ready-lawful, step-ready, step-taken}
 use Rattle.wurzsige.proofs.stepping.wurzsige_parts_step_trusted.Statement.{statement}
 use Rattle.wurzsige.proofs.stepping.wurzsige_parts_step_trusted.Tie as tie
 
-design-from-requires : tie.Need-design-from-requires
-design-from-requires c κs = let s = c .before .before .before .before .before .before .before .before in memory-parts _ (s .pre .ready .sound) .design
+lawful-design-from-requires : tie.Need-lawful-design-from-requires
+lawful-design-from-requires c κs = let s = c .before .before .before .before .before .before .before .before in memory-design _ (s .pre .ready .sound)
 
 step-lawful-requires : tie.Need-step-lawful-requires
-step-lawful-requires c κs = let s = c .before .before .before .before .before .before .before .before .before .before .before .before .before .before .before .before .before .before .before .before in ready-lawful _ _ _ _ _ _ _ (c .before .before .before .before .before .before .before .before .before .before .before .design-from .ensures) (s .pre .ready) (s .pre .held)
+step-lawful-requires c κs = let s = c .before .before .before .before .before .before .before .before .before .before .before .before .before .before .before .before .before .before .before .before in ready-lawful _ _ _ _ _ _ _ (c .before .before .before .before .before .before .before .before .before .before .before .lawful-design-from .ensures) (s .pre .ready) (s .pre .held)
 
 tell-places-requires : tie.Need-tell-places-requires
 tell-places-requires c κs = search needs
@@ -39,9 +39,9 @@ returns : tie.Need-returns
 returns c =
     let s = c .before .before .before .before .before .before .before .before .before .before .before .before .before .before .before .before .before .before .before .before .before .before .before .before .before .before .before .before .before .before .before .before .before .before .before .before .before .before .before .before in
     record {
-      taken = step-taken _ _ _ _ _ _ _ (c .before .before .before .before .before .before .before .before .before .before .before .before .before .before .before .before .before .before .before .before .before .before .before .before .before .before .before .before .before .before .before .design-from .ensures) (s .pre .ready) (s .pre .held) _ _ _ _ _ _ _ _ (c .before .before .before .before .before .before .before .before .before .before .before .before .before .before .before .before .before .before .before .step-lawful .ensures .1 .1) _ (c .before .before .before .before .before .before .before .before .before .before .before .before .before .before .before .before .before .before .before .step-lawful .ensures .0) _ _ _ (c .tell .ensures) _ _ _
+      taken = step-taken _ _ _ _ _ _ _ (c .before .before .before .before .before .before .before .before .before .before .before .before .before .before .before .before .before .before .before .before .before .before .before .before .before .before .before .before .before .before .before .lawful-design-from .ensures) (s .pre .ready) (s .pre .held) _ _ _ _ _ _ _ _ (c .before .before .before .before .before .before .before .before .before .before .before .before .before .before .before .before .before .before .before .step-lawful .ensures .1 .1) _ (c .before .before .before .before .before .before .before .before .before .before .before .before .before .before .before .before .before .before .before .step-lawful .ensures .0) _ _ _ (c .tell .ensures) _ _ _
           (c .before .before .before .tell-places .ensures);
-      ready = step-ready _ _ _ _ _ _ _ (c .before .before .before .before .before .before .before .before .before .before .before .before .before .before .before .before .before .before .before .before .before .before .before .before .before .before .before .before .before .before .before .design-from .ensures) (s .pre .ready) (s .pre .held) _ _ _ _ _ _ _ _ (c .before .before .before .before .before .before .before .before .before .before .before .before .before .before .before .before .before .before .before .step-lawful .ensures .1 .1) _ (c .before .before .before .before .before .before .before .before .before .before .before .before .before .before .before .before .before .before .before .step-lawful .ensures .0) _
+      ready = step-ready _ _ _ _ _ _ _ (c .before .before .before .before .before .before .before .before .before .before .before .before .before .before .before .before .before .before .before .before .before .before .before .before .before .before .before .before .before .before .before .lawful-design-from .ensures) (s .pre .ready) (s .pre .held) _ _ _ _ _ _ _ _ (c .before .before .before .before .before .before .before .before .before .before .before .before .before .before .before .before .before .before .before .step-lawful .ensures .1 .1) _ (c .before .before .before .before .before .before .before .before .before .before .before .before .before .before .before .before .before .before .before .step-lawful .ensures .0) _
           (c .before .before .before .before .before .before .before .before .before .before .before .before .before .before .before .before .before .before .before .step-lawful .ensures .1 .0);
     }
 
@@ -49,7 +49,7 @@ pub wurzsige-parts-step-trusted-spec : {M : Type 1} → statement M
 wurzsige-parts-step-trusted-spec =
     tie.close
     (tie.spec
-    design-from-requires
+    lawful-design-from-requires
     step-lawful-requires
     tell-places-requires
     tell-requires
