@@ -29,6 +29,7 @@ use Rattle.format.specs.Reading.DesignRead.{accepted, refusedAt}
 use Rattle.run.specs.declared.outcome.Run.{Run}
 use Rattle.run.specs.Moments.{Action, operation, change, Moment, tablesAt, momentFrom}
 use Rattle.script.specs.Step.{Outputs, Rooms, roomsOf, operationIn, stepAt}
+use Rattle.script.specs.JustRead.{Buffers, readingOf, justRead, longer, pastCells}
 
 -- what a run does by the commands that stand in a script from place i on, where so many answer words and bytes of text are lent: c is the command at place i,
 -- and `rest` is what those behind it do. Design commands do nothing; behind 1 or 2 there is no command
