@@ -2,22 +2,25 @@
 use Prim.Native.Nat.{ℕ, _≤_, _<_}
 use native.Mathlib.Omega.{arith}
 use mathlib.Core.Path.{_≡_, refl, sym, ap, subst, _∙_}
-use mathlib.Core.Bool.{true, false}
+use mathlib.Core.Bool.{true, false, and-eq-true-iff}
 use mathlib.Core.List.{List, _++_}
-use borrow.Author.Tests.{le-leb, lt-leb}
-use lib.Dec.{leb}
+use borrow.Author.Tests.{le-leb, lt-leb, ltb-true}
+use lib.Dec.{leb, ltb}
 use lib.ListN.{length, set, take, drop as past}
 use Rattle.finite.specs.Finite.{count}
 use Rattle.finite.specs.Sameness.{listed, remove}
 use Rattle.finite.proofs.Bools.{clash, refute}
+use Rattle.finite.proofs.Search.{any-refuted}
+use Rattle.model.specs.Scheme.{Column}
+use Rattle.model.specs.Database.{Database}
 use Rattle.model.specs.Rounds.{reached, addedRows, laterRounds}
 use Rattle.model.specs.Ranges as Model
-use Rattle.model.specs.Ranges.{isRange, onlyCandidates, joined, sameRange, contains}
+use Rattle.model.specs.Ranges.{isRange, onlyCandidates, joined, sameRange, contains, hasRange}
 use Rattle.model.specs.Holding.{mostRanges, Holding, ownRanges, coversRange, holdsRange, hasRangeRoom, withRanges, withoutRange, wanted}
 use Rattle.model.specs.Runs.{referRange, dropRange, marks, marked, Cache, rangeLevels, reloadLevels, referredRange, reloaded}
 use Rattle.model.specs.Answers as Answers
 use Rattle.model.specs.Answers.{Answer, loaded, dropped, refused}
-use Rattle.model.proofs.RangeLaws.{fits-range, range-fits}
+use Rattle.model.proofs.RangeLaws.{fits-range}
 use Rattle.model.proofs.RangesFit.{held-range-fits}
 use Rattle.model.proofs.HoldingLaws.{HoldingFits, fit-without}
 use Rattle.model.proofs.RoundsLaws.{load-same}
@@ -26,19 +29,25 @@ use Rattle.state.specs.declared.held.DeskRanges.{DeskRanges}
 use Rattle.state.specs.declared.held.Held.{Held}
 use Rattle.state.specs.Design.{fillingAt}
 use Rattle.state.specs.Held.{rangesAt, Bounded}
-use Rattle.state.specs.Meaning.{rangeOf, listOf, listBack, schemeOf, databaseOf, holdingOf, heldOf}
+use Rattle.state.specs.Meaning.{columnOf, rangeOf, listOf, listBack, schemeOf, databaseOf, holdingOf, heldOf}
 use Rattle.state.specs.Lent.{State, lent, scheme, database, cache, sound, Answered}
 use Rattle.state.proofs.Arrays.{HeldSized}
 use Rattle.lawful.proofs.Asked.{sound-fillings}
 use Rattle.lawful.proofs.HeldLaws.{held-tidy}
 use Rattle.lawful.proofs.SoundState.{parts, after}
+use Rattle.catalog.specs.Spans.{Spanned}
 use Rattle.probe.proofs.GroundLaws.{marked-front}
 use Rattle.load.specs.Ended.{Covers}
 use Rattle.cache.specs.Loads.{spanLevels, heldLevels, settled, goneRows}
 use Rattle.model.proofs.RangeAnswers.{range-nowhere, range-none, range-held, range-full, range-loads, range-leaves, drop-range-nowhere, drop-range-none, drop-range-drops, drop-range-leaves}
 use Rattle.cache.proofs.RangeRecord.{own-list, own-put}
-use Rattle.cache.proofs.Covered.{sound-covers-range}
-use Rattle.cache.proofs.Steps.{steps, stays, held-fits, gone-same, left-of-bounded, left-of-holding, reload-of}
+use Rattle.cache.proofs.Covered.{sound-covers-range, wanted-without-range}
+use Rattle.cache.proofs.Steps.{steps, stays, held-fits, gone-same, left-of-bounded, left-of-holding, left-of-stays, reload-of}
+
+-- where a range's values have no place in the directory, no row has one
+pub span-empty : {D : Database} {k : Column} {q : Model.Range} {keys heads : List ℕ} {from n : ℕ} → Spanned D k q keys heads from n → n ≡ 0 →
+    (r : ℕ) → hasRange D k q r ≡ false
+span-empty {n} x z r = x .rows r ∙ any-refuted n _ (λ i l. absurd (omega (arith, z)))
 
 module _ (s : State) (e : sound s ≡ true) where
   pub desk-named : s .held .desk < 4
@@ -70,12 +79,15 @@ module _ (s : State) (e : sound s ≡ true) where
       pub range-no-candidate : onlyCandidates (scheme s) (rangeOf q) ≡ false → Answered s (referRange (rangeOf q)) Answers.noCandidate s
       range-no-candidate n = stays s e z _ _ (range-none _ _ _ (rangeOf q) f n)
 
-      module _ (k : onlyCandidates (scheme s) (rangeOf q) ≡ true) where
-        -- its filling has a place in the design
-        pub range-filling : q .filling < 8
-        unfolding schemeOf
-        range-filling = omega (arith, range-fits (scheme s) (rangeOf q) f k .filling, sound-fillings s e)
+      -- its filling has a place in the design
+      pub range-filling : q .filling < 8
+      unfolding schemeOf isRange
+      range-filling =
+          let a = and-eq-true-iff (ltb (q .filling) (s .design .fillings)) _ .0 f in
+          let l : q .filling < s .design .fillings = ltb-true _ _ (a .0) in
+          omega (arith, l, sound-fillings s e)
 
+      module _ (k : onlyCandidates (scheme s) (rangeOf q) ≡ true) where
         module _ (own : DeskRanges) (o : own ≡ rangesAt (s .held) (s .held .desk)) where
           pub range-already : listed contains (rangeOf q) (listOf own) ≡ true → Answered s (referRange (rangeOf q)) Answers.held s
           range-already n = stays s e z _ _ (range-held _ _ _ (rangeOf q) f k (ap (listed contains (rangeOf q)) (own-is own o) ∙ n))
@@ -177,3 +189,11 @@ module _ (s : State) (e : sound s ≡ true) where
 
             left : after s (dropRange (rangeOf q)) ≡ reloaded (scheme s) (database s) rest
             left = drop-range-leaves (scheme s) (database s) (cache s) (rangeOf q) f (holds-is ∙ n)
+
+        -- no row has a value of the range: all rows stay
+        pub range-stays : ((r : ℕ) → hasRange (database s) (columnOf (fillingAt (s .design) (q .filling) .column)) (rangeOf q) r ≡ false) →
+            Answered s (dropRange (rangeOf q)) (dropped 0) (lent (s .design) (s .cells) (s .tables) (s .marks) h)
+        unfolding schemeOf
+        range-stays w =
+            range-drop (dropped 0) (s .marks)
+            (left-of-stays s e rest rest-fits h left-is (λ r l. wanted-without-range (scheme s) (database s) (holdingOf (s .held)) r (rangeOf q) (w r)))

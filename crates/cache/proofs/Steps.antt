@@ -6,12 +6,14 @@ use mathlib.Core.Bool.{Bool, true, false, not, _&&_}
 use mathlib.Core.List.{List, _++_}
 use borrow.Author.Tests.{lt-ltb, le-ltb}
 use lib.Dec.{ltb}
-use lib.ListN.{take, drop as past}
-use Rattle.finite.specs.Finite.{count}
+use lib.ListN.{take, drop as past, take-append-drop}
+use Rattle.finite.specs.Finite.{count, firstFrom}
 use Rattle.finite.proofs.Bools.{clash, refute}
-use Rattle.finite.proofs.Counting.{count-same}
+use Rattle.finite.proofs.Counting.{count-same, count-none}
+use Rattle.finite.proofs.First.{first-from}
 use Rattle.model.specs.Cell.{numberless}
 use Rattle.model.specs.Scheme.{candidate}
+use Rattle.model.specs.Database.{has}
 use Rattle.model.specs.Rounds.{reached, addedRows, laterRounds}
 use Rattle.model.specs.Holding.{Holding, holds, hasRoom, withPair, withoutPair, wanted}
 use Rattle.model.specs.Runs.{Operation, refer, drop, marks, marked, Cache, referLevels, reloadLevels, reloaded}
@@ -20,22 +22,23 @@ use Rattle.model.specs.Answers.{Answer, loaded, dropped, refused}
 use Rattle.model.specs.Effects.{answer}
 use Rattle.model.proofs.HoldingLaws.{HoldingFits, room-few, fit-fewer, listed-fits, listed-candidate}
 use Rattle.model.proofs.RoundsLaws.{load-same}
+use Rattle.model.proofs.RunLaws.{sound-reloaded}
 use Rattle.state.specs.declared.held.HeldValue.{HeldValue}
 use Rattle.state.specs.declared.held.Held.{Held}
 use Rattle.state.specs.Design.{fillingAt}
 use Rattle.state.specs.Held.{Bounded}
-use Rattle.state.specs.Meaning.{cellOf, fillingOf, schemeOf, databaseOf, pairOf, holdingOf, heldOf}
+use Rattle.state.specs.Meaning.{cellOf, columnOf, fillingOf, schemeOf, databaseOf, pairOf, holdingOf, heldOf}
 use Rattle.state.specs.Lawful.{lawfulHeld}
 use Rattle.state.specs.Lent.{State, lent, scheme, database, cache, sound, Answered}
 use Rattle.lawful.proofs.DesignLaws.{low-full}
 use Rattle.state.proofs.Arrays.{HeldSized}
 use Rattle.lawful.proofs.HeldLaws.{length-values, held-bounded, holding-fits, holding-back, held-of-sized, fit-held}
-use Rattle.lawful.proofs.SoundState.{parts, after, answer-at, held-after, marks-after, unchanged}
+use Rattle.lawful.proofs.SoundState.{parts, sound-fresh, sound-smallest, after, answer-at, held-after, marks-after, unchanged}
 use Rattle.probe.proofs.GroundLaws.{marked-front}
 use Rattle.load.specs.Ended.{Covers}
 use Rattle.cache.specs.Loads.{valueLevels, heldLevels, settled, goneRows}
 use Rattle.model.proofs.Answering.{Kept, refer-nowhere, refer-numberless, refer-none, refer-held, refer-full, refer-loads, refer-leaves, drop-nowhere, drop-numberless, drop-none, drop-drops, drop-leaves}
-use Rattle.cache.proofs.Covered.{sound-covers}
+use Rattle.cache.proofs.Covered.{sound-covers, wanted-without}
 
 module _ (s : State) (e : sound s ≡ true) where
   -- the parts that the operation leaves
@@ -53,6 +56,10 @@ module _ (s : State) (e : sound s ≡ true) where
 
   pub held-fits : HoldingFits (scheme s) (holdingOf (s .held))
   held-fits = holding-fits (s .design) (s .held) (parts s e .held)
+
+  pub gone-same : (L : List ℕ) → goneRows (database s) L (s .marks) ≡ count (database s .size) (λ r. marked (take 512 (s .marks)) r && not (reached L r))
+  unfolding goneRows databaseOf
+  gone-same L = count-same 512 _ _ (λ r l. ap (λ (x : Bool). x && not (reached L r)) (marked-front (s .marks) 512 r l))
 
   -- ---- what is left after a drop, whichever it is: the record h holds `rest`, which fits
 
@@ -72,9 +79,28 @@ module _ (s : State) (e : sound s ≡ true) where
     unfolding heldLevels
     reload-of = ap (reloadLevels (scheme s) (database s)) left-of-holding
 
-  pub gone-same : (L : List ℕ) → goneRows (database s) L (s .marks) ≡ count (database s .size) (λ r. marked (take 512 (s .marks)) r && not (reached L r))
-  unfolding goneRows databaseOf
-  gone-same L = count-same 512 _ _ (λ r l. ap (λ (x : Bool). x && not (reached L r)) (marked-front (s .marks) 512 r l))
+    -- where it wants the rows that are wanted already, they stay, and no row goes
+    pub left-of-stays : ((r : ℕ) → r < 512 → wanted (scheme s) (database s) rest r ≡ wanted (scheme s) (database s) (holdingOf (s .held)) r) →
+        (let D = databaseOf (s .cells) (s .tables) in
+        let L = heldLevels (s .design) (database s) h in
+        (dropped 0 ≡ dropped (goneRows D L (s .marks))) × (s .marks ≡ settled D L (s .marks)))
+    unfolding settled reloadLevels databaseOf
+    left-of-stays w = (
+      ap dropped (sym (gone-same _ ∙ count-none _ _ (λ r l. gone r))),
+      sym (take-append-drop 512 (s .marks)) ∙ ap (λ (m : List ℕ). m ++ past 512 (s .marks)) (sound-fresh s e .reloaded ∙ ap (λ (L : List ℕ). marks (database s) (reached L)) (sym same)),
+    )
+      where
+        same : heldLevels (s .design) (database s) h ≡ reloadLevels (scheme s) (database s) (holdingOf (s .held))
+        same = reload-of ∙ load-same (scheme s) (database s) _ _ _ _ (λ r l. refl) w
+
+        both : (b : Bool) → b && not b ≡ false
+        both true = refl
+        both false = refl
+
+        gone : (r : ℕ) → marked (take 512 (s .marks)) r && not (reached (heldLevels (s .design) (database s) h) r) ≡ false
+        gone r =
+            ap (λ (b : Bool). b && not (reached (heldLevels (s .design) (database s) h) r)) (sound-reloaded (cache s) (sound-smallest s e) r ∙ ap (λ (L : List ℕ). reached L r) (sym same)) ∙
+            both (reached (heldLevels (s .design) (database s) h) r)
 
   -- ---- REFER
 
@@ -193,3 +219,13 @@ module _ (s : State) (e : sound s ≡ true) where
             where
               left : after s (drop (pairOf v)) ≡ reloaded (scheme s) (database s) rest
               left = drop-leaves (scheme s) (database s) (cache s) (pairOf v) (exists v f) b n
+
+          -- no row has the value: all rows stay
+          pub drop-stays : (r : ℕ) → r ≡ firstFrom 512 (has (database s) (columnOf (fillingAt (s .design) (v .filling) .column)) (cellOf (v .value))) 0 → 512 ≤ r →
+              Answered s (drop (pairOf v)) (dropped 0) (lent (s .design) (s .cells) (s .tables) (s .marks) h)
+          unfolding schemeOf
+          drop-stays r g k =
+              let with = has (database s) (columnOf (fillingAt (s .design) (v .filling) .column)) (cellOf (v .value)) in
+              drop-load (dropped 0) (s .marks)
+              (left-of-stays rest rest-fits h q (λ x l. wanted-without (scheme s) (database s) (holdingOf (s .held)) x (pairOf v)
+              (first-from 512 with 0 (omega arith) .none x (omega arith) (omega (arith, g, k)))))

@@ -10,14 +10,15 @@ ghost use Rattle.cache.specs.Ready.{Ready};
 use crate::loads::mark_held;
 use crate::values::close_gap;
 use crate::values::place;
+use catalog::find;
 use state::Answer;
 use state::Design;
 use state::HeldValue;
 use state::is_numberless;
 use state::value_count;
 
-// Lets the named desk's value go, and the cached rows become the smallest set for the values left. One look at each held value, then one reload: a
-// step for each row that is reached and each constraint.
+// Lets the named desk's value go, and the cached rows become the smallest set for the values left. One look at each held value, and a search of the directory:
+// where no row has the value, the cached rows stay. Else one reload: a step for each row that is reached and each constraint.
 pub fn drop_lawful(
     design: Design,
     catalog: &[u16; 16449],
@@ -45,5 +46,10 @@ pub fn drop_lawful(
         return Answer::Refused(10);
     }
     close_gap(held, gap);
+    let filling = design.filling[f];
+    let first = find(catalog, keys, filling.column, v.value);
+    if Design::ROWS <= first {
+        return Answer::Dropped(0);
+    }
     mark_held(design, catalog, keys, marks, held)
 }

@@ -15,6 +15,7 @@ use crate::ranges::joined;
 use crate::ranges::own_ranges;
 use crate::ranges::removed;
 use crate::ranges::set_own;
+use catalog::find_range;
 use lawful::is_range;
 use lawful::only_candidates;
 use state::Answer;
@@ -61,8 +62,8 @@ pub fn refer_range_lawful(
     answer
 }
 
-// Lets a range of the named desk go, and the cached rows become the smallest set for what is left. Two looks at each of the desk's ranges, then one reload: a step
-// for each row that is reached and each constraint.
+// Lets a range of the named desk go, and the cached rows become the smallest set for what is left. Two looks at each of the desk's ranges, and a search of the
+// directory: where no row has a value of the range, the cached rows stay. Else one reload: a step for each row that is reached and each constraint.
 pub fn drop_range_lawful(
     design: Design,
     catalog: &[u16; 16449],
@@ -87,5 +88,10 @@ pub fn drop_range_lawful(
     }
     let left = removed(own, r);
     set_own(held, left);
+    let filling = design.filling[r.filling as usize];
+    let span = find_range(catalog, keys, filling.column, r);
+    if span.count == 0 {
+        return Answer::Dropped(0);
+    }
     mark_held(design, catalog, keys, marks, held)
 }

@@ -44,7 +44,7 @@ mul-filling : tie.Need-mul-filling
 mul-filling c = search needs
 
 element-copy-out-filling : tie.Need-element-copy-out-filling
-element-copy-out-filling c = let s = c .before .before .before .before .before .before .before .before .before .before .before .before .before in range-filling _ (s .pre .1 .2 .sound-is) (words-sized (now (s .args .held))) _ (sym (c .before .before .before .before .before .before .before .before .before .before .before .is-range .ensures) ∙ not-false _ (c .before .before .before .before .before .before .before .before .before .before .if1 .left)) (sym (c .before .before .before .before .before .before .before .before .before .only-candidates .ensures) ∙ not-false _ (c .before .before .before .before .before .before .before .before .if2 .left))
+element-copy-out-filling c = let s = c .before .before .before .before .before .before .before .before .before .before .before .before .before in range-filling _ (s .pre .1 .2 .sound-is) (words-sized (now (s .args .held))) _ (sym (c .before .before .before .before .before .before .before .before .before .before .before .is-range .ensures) ∙ not-false _ (c .before .before .before .before .before .before .before .before .before .before .if1 .left))
 
 mark-range-requires : tie.Need-mark-range-requires
 mark-range-requires c κs = let s = c .before .before .before .before .before .before .before .before .before .before .before .before .before .before .before .before in let range = sound-range _ (s .pre .1 .2 .sound-is) (sized (s .args .t1) _ (s .good .0)) in ((range, sound-marks _ (s .pre .1 .2 .sound-is), range .column-table _, range .column _), (_, s .pre .1 .2 .catalogued))
