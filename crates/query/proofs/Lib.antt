@@ -1,5 +1,5 @@
 -- SumLaws, Hops, Chains, CapLaws: lists of rows, counted and pruned by weights, over any tests. Counts: how many lists there can be. WeightLaws, PartLaws, Weighing: the tables that
--- elimination leaves. WorkingLaws: the arrays they stand in. Stages, EntryLaws, MemoLaws, FindLaws, WayLaws, Turns, Steps, Visited, Found: their entries one at a time, kept where a walk comes.
+-- elimination leaves. WorkingLaws: the arrays they stand in. Stages, EntryLaws, MemoLaws, FindLaws, Turns, Steps, Visited, Found: their entries one at a time, kept where a walk comes.
 -- Writing, ListLaws, Walking: what the lister writes from them. OperandLaws, OperandTests, PositionLaws, PlanLaws, Bridge, Planned, Answering, Totals: from a query's
 -- operands to its lists, their count and their totals. MarkedRows, ListTheorems, TotalTheorems: what is
 -- listed and added up.
@@ -29,7 +29,6 @@ pub mod EntryLaws
 pub mod FindLaws
 pub mod Found
 pub mod Totals
-pub mod WayLaws
 pub mod Turns
 pub mod WorkingLaws
 pub mod Steps

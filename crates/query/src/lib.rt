@@ -10,7 +10,6 @@ mod operands;
 mod plan;
 mod tables;
 mod totalling;
-mod ways;
 
 pub use counting::count_fitting;
 pub use listing::list_fitting;
