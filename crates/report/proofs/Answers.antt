@@ -2,7 +2,7 @@
 use Prim.Native.Nat.{ℕ, _+_, _≤_}
 use native.Mathlib.Omega.{arith}
 use mathlib.Core.Path.{_≡_, refl, sym, ap, subst, _∙_}
-use mathlib.Core.Bool.{Bool, true, false, cond}
+use mathlib.Core.Bool.{Bool, true, cond}
 use mathlib.Core.List.{List, [], _∷_, _++_, append-assoc, append-nil}
 use borrow.Author.Tests.{eq-eqb, ne-eqb}
 use lib.Dec.{eqb}
@@ -18,9 +18,9 @@ use Rattle.state.specs.declared.answer.Answer.{Answer}
 use Rattle.state.specs.declared.answer.Shown.{Shown}
 use Rattle.state.specs.Meaning.{answerOf, sixteen, shownOf}
 use Rattle.state.proofs.AnswerLaws.{few-numbers}
-use Rattle.model.specs.Answers.{shown, isRefusal, hasText, explainedWord}
+use Rattle.model.specs.Answers.{shown, isRefusal, hasText, refusedWord, explainedWord}
 use Rattle.finite.specs.Decimal.{space, spaced}
-use Rattle.report.specs.Report.{answer-words, spacedWord, wordText, numbersText, plainText, bytesIn, answerText}
+use Rattle.report.specs.Report.{answer-words, spacedWord, wordText, numbersText, plainText, shownText, bytesIn, answerText}
 
 -- the word with number w, which is k
 pub in-word : {o o′ : List ℕ} {n z : ℕ} {w k : ℕ} → w ≡ k → Wrote o o′ n z (wordText k) → Wrote o o′ n z (wordText w)
@@ -50,6 +50,21 @@ empty-word o n = (wrote-none o n, wrote-none o n)
 
 -- ---- a word, its numbers, and the place of a refusal
 
+-- what is shown, and the place behind a refusal
+module _ (s : Shown) (place : ℕ) where
+  abbrev pub shownNumbers : List ℕ
+  shownNumbers = collect (s .count) (λ _. true) (λ i. spaced (getD (s .numbers) i 0))
+
+  pub shown-plain : (s .word ≡ refusedWord → ⊥) → wordText (s .word) ++ shownNumbers ≡ shownText s place
+  shown-plain n =
+      ap (λ (xs : List ℕ). wordText (s .word) ++ xs)
+      (sym (append-nil shownNumbers) ∙ ap (λ (x : Bool). shownNumbers ++ cond x (spaced place) []) (sym (ne-eqb (s .word) refusedWord n)))
+
+  pub shown-refusal : s .word ≡ refusedWord → (wordText (s .word) ++ shownNumbers) ++ spaced place ≡ shownText s place
+  shown-refusal e =
+      append-assoc (wordText (s .word)) shownNumbers (spaced place) ∙
+      ap (λ (x : Bool). wordText (s .word) ++ (shownNumbers ++ cond x (spaced place) [])) (sym (eq-eqb (s .word) refusedWord e))
+
 -- what is shown of the answer a
 module _ (s : Shown) (a : Answer) (place : ℕ) (e : s ≡ shownOf (shown (answerOf a))) where
   abbrev word : List ℕ
@@ -66,20 +81,12 @@ module _ (s : Shown) (a : Answer) (place : ℕ) (e : s ≡ shownOf (shown (answe
       collect-same (length ns) (λ _. true) (λ _. true) (λ i. spaced (getD (sixteen ns) i 0)) (λ i. spaced (getD ns i 0)) (λ _ _. refl)
       (λ i l _. ap spaced (tab-at 0 16 (λ j. getD ns j 0) i (omega (arith, few-numbers a))))
 
-  abbrev text : Bool → List ℕ
-  text b = wordText (shown (answerOf a) .word) ++ (numbersText (shown (answerOf a) .numbers) ++ cond b (spaced place) [])
-
-  pub plain-text : isRefusal (answerOf a) ≡ false → word ++ numbers ≡ plainText (answerOf a) place
-  unfolding plainText
-  plain-text t =
-      ap (λ (x : Shown). wordText (x .word) ++ numbers) e ∙ ap (λ (xs : List ℕ). wordText (shown (answerOf a) .word) ++ xs) (numbers-are ∙ sym (append-nil _)) ∙
-      ap text (sym t)
-
-  pub refusal-text : isRefusal (answerOf a) ≡ true → (word ++ numbers) ++ spaced place ≡ plainText (answerOf a) place
-  unfolding plainText
-  refusal-text t =
-      append-assoc word numbers (spaced place) ∙ ap (λ (x : Shown). wordText (x .word) ++ (numbers ++ spaced place)) e ∙
-      ap (λ (xs : List ℕ). wordText (shown (answerOf a) .word) ++ (xs ++ spaced place)) numbers-are ∙ ap text (sym t)
+  -- what is shown of an answer is its text
+  pub shown-text : shownText s place ≡ plainText (answerOf a) place
+  unfolding plainText isRefusal
+  shown-text =
+      ap (λ (xs : List ℕ). word ++ (xs ++ cond (eqb (s .word) refusedWord) (spaced place) [])) numbers-are ∙
+      ap (λ (x : Shown). wordText (x .word) ++ (numbersText (shown (answerOf a) .numbers) ++ cond (eqb (x .word) refusedWord) (spaced place) [])) e
 
 -- ---- what was written with an answer
 
@@ -89,9 +96,11 @@ module _ (s : Shown) (a : Answer) (place : ℕ) (text : List ℕ) (e : s ≡ sho
   unfolding hasText
   has-text = ap (λ (x : Shown). eqb (x .word) explainedWord) (sym e)
 
-  pub without-text : (s .word ≡ explainedWord → ⊥) → Wrote o o′ n z (plainText (answerOf a) place) → Wrote o o′ n z (answerText (answerOf a) place text)
+  pub without-text : (s .word ≡ explainedWord → ⊥) → Wrote o o′ n z (shownText s place) → Wrote o o′ n z (answerText (answerOf a) place text)
   unfolding answerText
-  without-text m = wrote-as o o′ n z z _ _ refl (sym (cond-false (hasText (answerOf a)) _ _ (has-text ∙ ne-eqb (s .word) explainedWord m)))
+  without-text m =
+      wrote-as o o′ n z z _ _ refl
+      (shown-text s a place e ∙ sym (cond-false (hasText (answerOf a)) _ _ (has-text ∙ ne-eqb (s .word) explainedWord m)))
 
   bytes-are : getD (s .numbers) 0 0 ≡ bytesIn (answerOf a)
   bytes-are = ap (λ (x : Shown). getD (x .numbers) 0 0) e ∙ tab-at 0 16 (λ j. getD (shown (answerOf a) .numbers) j 0) 0 (omega arith)

@@ -2,11 +2,13 @@
 use Prim.Native.Nat.{ℕ, _+_, _-_, _*_}
 use mathlib.Core.Bool.{true, cond}
 use mathlib.Core.List.{List, [], _∷_, _++_}
+use lib.Dec.{eqb}
 use lib.ListN.{length, getD, take}
 use Rattle.finite.specs.Finite.{collect}
 use Rattle.finite.specs.Decimal.{space, decimal, spaced}
+use Rattle.state.specs.declared.answer.Shown.{Shown}
 use Rattle.state.specs.declared.design.Design.{Design}
-use Rattle.model.specs.Answers.{Answer, shown, isRefusal, hasText}
+use Rattle.model.specs.Answers.{Answer, shown, isRefusal, hasText, refusedWord}
 
 abbrev pub newline : ℕ
 newline = 10
@@ -86,6 +88,13 @@ numbersText ns = collect (length ns) (λ _. true) (λ i. spaced (getD ns i 0))
 -- an answer's word and its numbers, each behind a space; the place goes with a refusal
 unfoldable pub plainText : Answer → ℕ → List ℕ
 plainText a place = wordText (shown a .word) ++ (numbersText (shown a .numbers) ++ cond (isRefusal a) (spaced place) [])
+
+-- the same of what the code shows of an answer
+abbrev pub shownText : Shown → ℕ → List ℕ
+shownText s place =
+    wordText (s .word) ++
+    (collect (s .count) (λ _. true) (λ i. spaced (getD (s .numbers) i 0)) ++
+    cond (eqb (s .word) refusedWord) (spaced place) [])
 
 -- how many bytes of text go with an answer: the first number behind its word
 abbrev pub bytesIn : Answer → ℕ

@@ -7,11 +7,10 @@ ghost use Rattle.finite.specs.Finite.{collect};
 ghost use Rattle.finite.specs.Writing.{Wrote};
 ghost use Rattle.finite.specs.Decimal.{space, spaced};
 ghost use Rattle.state.specs.Meaning.{answerOf};
-ghost use Rattle.report.specs.Report.{wordText, plainText, answerText, commandLine, designLine, refusalLine, listLine, listLines};
+ghost use Rattle.report.specs.Report.{wordText, shownText, answerText, commandLine, designLine, refusalLine, listLine, listLines};
 use state::Answer;
 use state::Design;
 use state::Shown;
-use state::is_refusal;
 use state::show;
 use text::put_byte;
 use text::put_bytes;
@@ -64,15 +63,14 @@ fn put_numbers(out: &mut [u8], at: usize, shown: Shown) -> usize
     z
 }
 
-// Writes an answer's word and numbers; the place goes with a refusal. At most 370 bytes.
-fn put_plain(out: &mut [u8], at: usize, answer: Answer, place: usize) -> usize
-    requires { ⌜ at + 370 ≤ length (now out) ⌝ }
-    ensures { λ z. ⌜ Wrote (now (out .entry)) (now (out .exit)) at z (plainText (answerOf answer) place) ⌝ }
+// Writes what is shown of an answer: its word, its numbers, and the place behind a refusal. At most 370 bytes.
+fn put_shown(out: &mut [u8], at: usize, shown: Shown, place: usize) -> usize
+    requires { ⌜ (shown .count ≤ 16) × (at + 370 ≤ length (now out)) ⌝ }
+    ensures { λ z. ⌜ Wrote (now (out .entry)) (now (out .exit)) at z (shownText shown place) ⌝ }
 {
-    let s = show(answer);
-    let z = put_word(out, at, s.word);
-    let y = put_numbers(out, z, s);
-    if !is_refusal(answer) {
+    let z = put_word(out, at, shown.word);
+    let y = put_numbers(out, z, shown);
+    if shown.word != 7 {
         return y;
     }
     put_spaced(out, y, place as u64)
@@ -97,7 +95,7 @@ fn put_answer(out: &mut [u8], at: usize, answer: Answer, place: usize, text: &[u
 {
     let s = show(answer);
     if s.word != 17 {
-        return put_plain(out, at, answer, place);
+        return put_shown(out, at, s, place);
     }
     put_text(out, at, text, s.numbers[0])
 }

@@ -27,6 +27,7 @@ use state::Answer;
 use state::Design;
 use state::Operation;
 use state::first_words;
+use state::is_refusal;
 use state::store_words;
 
 // A refusal, with nothing changed. Constant time.
@@ -45,10 +46,7 @@ fn refusing(cause: u8, place: usize, after: usize, more: bool) -> Step
 fn place_of(answer: Answer, at: usize) -> usize
     ensures { λ p. ⌜ p ≡ placeOf (answerOf answer) at ⌝ }
 {
-    match answer {
-        Answer::Refused(_) => at,
-        _ => 0,
-    }
+    if is_refusal(answer) { at } else { 0 }
 }
 
 // The answer of an operation that stood at place `at`, before place `after`. Constant time.

@@ -1,13 +1,16 @@
 -- An answer as the report shows it: from the code's answer to the model's. Assumes nothing.
 use Prim.Native.Nat.{ℕ, _+_, _-_, _≤_, _<_}
 use native.Mathlib.Omega.{arith}
-use mathlib.Core.Path.{_≡_, refl, sym, ap, _∙_}
+use mathlib.Core.Path.{_≡_, refl, sym, ap, subst, _∙_}
 use mathlib.Core.Logic.{⊎-elim}
 use mathlib.Core.Bool.{Bool, true, false, cond}
 use mathlib.Core.List.{List, [], _∷_, _++_, append-nil}
+use borrow.Author.Tests.{eq-eqb, ne-eqb}
 use lib.Dec.{eqb}
 use lib.ListN.{length, getD, set, length-append, length-set, List·getD-eq-default}
 use lib.Seq.{getD-set-same, getD-set-other}
+use types.Run.{OneOf}
+use denote.Enum.Declared.{tagOf}
 use Rattle.finite.specs.Finite.{collect}
 use Rattle.finite.proofs.Bools.{order}
 use Rattle.finite.proofs.Collecting.{collect-suc, collect-most}
@@ -17,15 +20,12 @@ use Rattle.model.specs.Answers as Model
 use Rattle.state.specs.declared.answer.Answer.{Answer}
 use Rattle.state.specs.declared.answer.Answer.the-variants as A
 use Rattle.state.specs.declared.answer.Shown.{Shown}
+use Rattle.state.proofs.answer.Answer.{the-type}
 use Rattle.state.specs.Meaning.{bit, maskMembers, answerOf, sixteen, shownOf}
 
 -- the answer is b, and what is shown of it is t
 pub shows-case : {s t : Shown} {a b : Answer} → s ≡ t → a ≡ b → t ≡ shownOf (Model.shown (answerOf b)) → s ≡ shownOf (Model.shown (answerOf a))
 shows-case p q h = p ∙ h ∙ sym (ap (λ (x : Answer). shownOf (Model.shown (answerOf x))) q)
-
--- a test of its word
-pub shows-word : (s : Shown) (a : Answer) (n : ℕ) → s ≡ shownOf (Model.shown (answerOf a)) → eqb (s .word) n ≡ eqb (Model.shown (answerOf a) .word) n
-shows-word s a n h = ap (λ (x : Shown). eqb (x .word) n) h
 
 -- ---- the members of a mask
 
@@ -97,3 +97,33 @@ few-numbers (A.Changed came went) = omega arith
 
 pub shows-few : (s : Shown) (a : Answer) → s ≡ shownOf (Model.shown (answerOf a)) → s .count ≤ 16
 shows-few s a h = omega (arith, few-numbers a, ap (λ (x : Shown). x .count) h)
+
+-- the number of an answer's word is that of its case
+pub word-tag : (a : Answer) → Model.shown (answerOf a) .word ≡ tagOf the-type a
+unfolding Model.shown
+word-tag (A.Loaded rows rounds) = refl
+word-tag A.Held = refl
+word-tag A.NoCandidate = refl
+word-tag (A.Dropped rows) = refl
+word-tag (A.Ground g rows) = refl
+word-tag A.Sent = refl
+word-tag (A.Lists n) = refl
+word-tag (A.Refused n) = refl
+word-tag A.Even = refl
+word-tag (A.Uneven i j) = refl
+word-tag (A.Total n) = refl
+word-tag (A.Knot mask) = refl
+word-tag (A.Named d) = refl
+word-tag A.Open = refl
+word-tag (A.OpenedBy f n i) = refl
+word-tag A.NoOpener = refl
+word-tag A.Absent = refl
+word-tag (A.Explained n) = refl
+word-tag (A.Changed came went) = refl
+
+-- so a match on the cases is a test of the word: the case is n, or one of the others
+pub word-is : (a : Answer) (n : ℕ) → OneOf (n ∷ []) (tagOf the-type a) → true ≡ eqb (Model.shown (answerOf a) .word) n
+word-is a n e = sym (ap (λ (k : ℕ). eqb k n) (word-tag a) ∙ eq-eqb _ _ e)
+
+pub word-other : (a : Answer) (n : ℕ) (others : List ℕ) → (OneOf others n → ⊥) → OneOf others (tagOf the-type a) → false ≡ eqb (Model.shown (answerOf a) .word) n
+word-other a n others m e = sym (ap (λ (k : ℕ). eqb k n) (word-tag a) ∙ ne-eqb _ _ (λ (q : tagOf the-type a ≡ n). m (subst (OneOf others) q e)))

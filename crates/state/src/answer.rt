@@ -139,12 +139,18 @@ pub fn show(answer: Answer) -> Shown
 pub fn is_refusal(answer: Answer) -> bool
     ensures { λ b. ⌜ b ≡ Model.isRefusal (answerOf answer) ⌝ }
 {
-    show(answer).word == 7
+    match answer {
+        Answer::Refused(_) => true,
+        _ => false,
+    }
 }
 
 // Whether an answer has lists.
 pub fn has_lists(answer: Answer) -> bool
     ensures { λ b. ⌜ b ≡ Model.hasLists (answerOf answer) ⌝ }
 {
-    show(answer).word == 6
+    match answer {
+        Answer::Lists(_) => true,
+        _ => false,
+    }
 }

@@ -1,16 +1,25 @@
--- `state::answer::has_lists` meets its contract: a test of the word. Assumes nothing.
+-- `state::answer::has_lists` meets its contract: the case, and the others. Assumes nothing.
+use Prim.Native.Nat.{ℕ}
+use mathlib.Core.List.{List, [], _∷_}
 use borrow.Author.Needs.{needs}
+use types.Run.{miss}
 use Rattle.model.specs.Answers.{hasLists}
-use Rattle.state.proofs.AnswerLaws.{shows-word}
+use Rattle.state.proofs.AnswerLaws.{word-is, word-other}
 use Rattle.state.proofs.answer.has_lists.Statement.{statement}
 use Rattle.state.proofs.answer.has_lists.Tie as tie
 
-show-requires : tie.Need-show-requires
-show-requires c κs = search needs
+enum-told : tie.Need-enum-told
+enum-told c = search needs
 
 returns : tie.Need-returns
 unfolding hasLists
-returns c = shows-word (c .before .show .result) (c .before .before .args .answer) 6 (c .before .show .ensures)
+returns c = word-is (c .before .before .args .answer) 6 (c .before .match .keys1)
+
+returns-2 : tie.Need-returns-2
+unfolding hasLists
+returns-2 c =
+    let others : List ℕ = 0 ∷ 1 ∷ 2 ∷ 3 ∷ 4 ∷ 5 ∷ 7 ∷ 8 ∷ 9 ∷ 10 ∷ 11 ∷ 12 ∷ 13 ∷ 14 ∷ 15 ∷ 16 ∷ 17 ∷ 18 ∷ [] in
+    word-other (c .before .args .answer) 6 others (miss others 6 tt) (c .match .keys2)
 
 pub has-lists-spec : {M : Type 1} → statement M
-has-lists-spec = tie.close (tie.spec show-requires returns)
+has-lists-spec = tie.close (tie.spec enum-told returns returns-2)
