@@ -12,7 +12,7 @@ use lib.ListN.{length, getD, set, length-set}
 use lib.Seq.{getD-set-same, getD-set-other}
 use Rattle.finite.specs.Finite.{firstFrom}
 use Rattle.finite.proofs.Bools.{dec, clash, refute, same-number, and-left, and-right, cond-true, cond-false}
-use Rattle.finite.proofs.First.{first-none, first-same}
+use Rattle.finite.proofs.First.{first-none, first-same, first-from}
 use Rattle.finite.proofs.Tables.{tab-at, tab-of, Upto, upto-set}
 use Rattle.model.specs.Cell.{Cell}
 use Rattle.model.specs.Scheme as Model
@@ -28,7 +28,7 @@ use Rattle.state.proofs.RowLaws.{cell-at}
 use Rattle.catalog.specs.Catalog.{demandedFirst, firsts, part, firstIn, Links, Indexed}
 use Rattle.mend.specs.Changing.{Without}
 use Rattle.mend.specs.Resetting.{Only, Firsts, Reset, Leads, Redemanded}
-use Rattle.mend.proofs.BesideLaws.{has-beside, has-free}
+use Rattle.mend.proofs.BesideLaws.{first-near, has-beside, has-free}
 use Rattle.catalog.proofs.CatalogLaws.{has-table, has-cell}
 use Rattle.catalog.proofs.PartLaws.{part-long, part-at}
 use Rattle.mend.proofs.RelinkLaws.{part-kept, directory-kept}
@@ -101,10 +101,17 @@ module _ (p : ℕ → Bool) (f a : ℕ) (xs : List ℕ) where
   pub reset-end : (s : ℕ) (ys : List ℕ) → 512 ≤ s → Upto 0 512 s new old (part a 512 ys) → (t : ℕ) → t < 512 → getD ys (a + t) 0 ≡ cond (p t) f (getD xs (a + t) 0)
   reset-end s ys g u t l = sym (part-at a 512 ys t l) ∙ u .at t l ∙ cond-true (ltb t s) (new t) (old t) (lt-ltb t s (omega arith))
 
-pub reset-made : (D : Database) (j : Model.Constraint) (i : ℕ) (v : Cell) (xs ys : List ℕ) (f : ℕ) → f ≡ firstFrom 512 (has D (j .target) v) 0
-    → ((t : ℕ) → t < 512 → getD ys (4096 + 512 * i + t) 0 ≡ cond (has D (j .source) v t) f (getD xs (4096 + 512 * i + t) 0)) → Reset D j i v xs ys
-reset-made D j i v xs ys f e h =
-    record { at = λ t l. h t l ∙ ap (λ (n : ℕ). cond (has D (j .source) v t) n (getD xs (4096 + 512 * i + t) 0)) e }
+module _ (D : Database) (j : Model.Constraint) (i : ℕ) (v : Cell) (r : ℕ) (xs : List ℕ) (f : ℕ) (e : f ≡ firstFrom 512 (has D (j .target) v) 0) where
+  pub reset-before : f < r → Reset D j i v r xs xs
+  reset-before l = record { before = λ _ t k. refl; at = λ g. absurd (omega arith) }
+
+  pub reset-made : r ≤ f → (ys : List ℕ) → ((t : ℕ) → t < 512 → getD ys (4096 + 512 * i + t) 0 ≡ cond (has D (j .source) v t) f (getD xs (4096 + 512 * i + t) 0))
+      → Reset D j i v r xs ys
+  reset-made g ys h =
+      record {
+        before = λ l. absurd (omega arith);
+        at = λ _ t l. h t l ∙ ap (λ (n : ℕ). cond (has D (j .source) v t) n (getD xs (4096 + 512 * i + t) 0)) e;
+      }
 
 -- ---- what a constraint j demands of row s
 
@@ -163,6 +170,15 @@ module _ (j : Model.Constraint) (s : ℕ) where
             (leads-free ∙ sym (refute (leads F j s r) (λ h. let x = leads-says h in apart (x .0) (x .1))))
         go q (inr nq) = leads-beside q nq
 
+    -- nor where one that stands before it is
+    module _ (D G : Database) (alike : (k : Model.Column) (u : Cell) (q : ℕ) → (q ≡ r → ⊥) → has G k u q ≡ has D k u q) where
+      pub leads-near : has G (j .source) v s ≡ true → firstFrom 512 (has G (j .target) v) 0 < r → firstFrom 512 (leads D j s) 0 ≡ firstFrom 512 (leads G j s) 0
+      leads-near h l =
+          leads-value D v (sym (alike (j .source) v s ne) ∙ h)
+          ∙ sym (first-near (has G (j .target) v) (has D (j .target) v) r (alike (j .target) v) 0 _ (omega arith) l (w .bound)
+          (first-from 512 (has G (j .target) v) 0 (omega arith) .here (omega (arith, w .bound))))
+          ∙ sym (leads-value G v h)
+
 -- ---- constraint j, number i: row r comes, or goes
 
 module _ (E F : Database) (r : ℕ) (w : Without E F r) (j : Model.Constraint) (i : ℕ) (b : i < 16) (c₀ c₁ : List ℕ) (long : length c₁ ≡ 16449) where
@@ -170,16 +186,24 @@ module _ (E F : Database) (r : ℕ) (w : Without E F r) (j : Model.Constraint) (
   module _ (D G : Database) (n : ℕ) (e : n ≡ firstFrom 512 (leads G j r) 0) (f : Firsts D j i c₀) (x : Leads G F j i r c₀ c₁)
       (keep : (s : ℕ) → (s ≡ r → ⊥) → (F .table r ≡ j .target .table → has F (j .source) (F .cell r (j .target .place)) s ≡ true → ⊥)
       → firstFrom 512 (leads D j s) 0 ≡ firstFrom 512 (leads G j s) 0)
-      (alike : (s : ℕ) → (s ≡ r → ⊥) → has G (j .source) (F .cell r (j .target .place)) s ≡ has F (j .source) (F .cell r (j .target .place)) s) where
+      (alike : (s : ℕ) → (s ≡ r → ⊥) → has G (j .source) (F .cell r (j .target .place)) s ≡ has F (j .source) (F .cell r (j .target .place)) s)
+      (near : (s : ℕ) → (s ≡ r → ⊥) → has G (j .source) (F .cell r (j .target .place)) s ≡ true
+      → firstFrom 512 (has G (j .target) (F .cell r (j .target .place))) 0 < r → firstFrom 512 (leads D j s) 0 ≡ firstFrom 512 (leads G j s) 0) where
     changed : Firsts G j i (set c₁ (4096 + 512 * i + r) n)
     changed = record { at = λ s l. go s l (same-number s r) }
       where
         other : (s : ℕ) → s < 512 → (s ≡ r → ⊥) → (F .table r ≡ j .target .table) ⊎ (F .table r ≡ j .target .table → ⊥)
             → (has G (j .source) (F .cell r (j .target .place)) s ≡ true) ⊎ (has G (j .source) (F .cell r (j .target .place)) s ≡ false)
             → getD c₁ (4096 + 512 * i + s) 0 ≡ firstFrom 512 (leads G j s) 0
-        other s l ne (inl t) (inl h) = x .reset t .at s l ∙ cond-true _ _ _ h ∙ sym (leads-value j s G (F .cell r (j .target .place)) h)
-        other s l ne (inl t) (inr h) =
-            x .reset t .at s l ∙ cond-false _ _ _ h ∙ f .at s l ∙ keep s ne (λ _ y. clash (alike s ne ∙ y) h)
+        other s l ne (inl t) h = go (decLt (firstFrom 512 (has G (j .target) (F .cell r (j .target .place))) 0) r) h
+          where
+            go : Dec (firstFrom 512 (has G (j .target) (F .cell r (j .target .place))) 0 < r)
+                → (has G (j .source) (F .cell r (j .target .place)) s ≡ true) ⊎ (has G (j .source) (F .cell r (j .target .place)) s ≡ false)
+                → getD c₁ (4096 + 512 * i + s) 0 ≡ firstFrom 512 (leads G j s) 0
+            go (yes k) (inl y) = x .reset t .before k s l ∙ f .at s l ∙ near s ne y k
+            go (yes k) (inr y) = x .reset t .before k s l ∙ f .at s l ∙ keep s ne (λ _ z. clash (alike s ne ∙ z) y)
+            go (no k) (inl y) = x .reset t .at (omega arith) s l ∙ cond-true _ _ _ y ∙ sym (leads-value j s G (F .cell r (j .target .place)) y)
+            go (no k) (inr y) = x .reset t .at (omega arith) s l ∙ cond-false _ _ _ y ∙ f .at s l ∙ keep s ne (λ _ z. clash (alike s ne ∙ z) y)
         other s l ne (inr t) _ = x .same t s l ∙ f .at s l ∙ keep s ne (λ y _. t y)
 
         go : (s : ℕ) → s < 512 → (s ≡ r) ⊎ (s ≡ r → ⊥) → getD (set c₁ (4096 + 512 * i + r) n) (4096 + 512 * i + s) 0 ≡ firstFrom 512 (leads G j s) 0
@@ -191,11 +215,14 @@ module _ (E F : Database) (r : ℕ) (w : Without E F r) (j : Model.Constraint) (
             ∙ other s l ne (same-number (F .table r) (j .target .table)) (dec (has G (j .source) (F .cell r (j .target .place)) s))
 
   pub firsts-comes : (n : ℕ) → n ≡ firstFrom 512 (leads F j r) 0 → Firsts E j i c₀ → Leads F F j i r c₀ c₁ → Firsts F j i (set c₁ (4096 + 512 * i + r) n)
-  firsts-comes n e f x = changed E F n e f x (λ s ne h. leads-kept j s E F r w ne h) (λ s ne. refl)
+  firsts-comes n e f x =
+      changed E F n e f x (λ s ne h. leads-kept j s E F r w ne h) (λ s ne. refl)
+      (λ s ne h l. leads-near j s E F r w ne E F (λ k u q nq. sym (has-beside E F r w k u q nq)) h l)
 
   pub firsts-goes : Firsts F j i c₀ → Leads E F j i r c₀ c₁ → Firsts E j i (set c₁ (4096 + 512 * i + r) 512)
   firsts-goes f x =
       changed F E 512 (leads-none j r E (w .free)) f x (λ s ne h. sym (leads-kept j s E F r w ne h)) (λ s ne. has-beside E F r w (j .source) _ s ne)
+      (λ s ne h l. leads-near j s E F r w ne F E (λ k u q nq. has-beside E F r w k u q nq) h l)
 
 -- ---- as the code finds row r among the lent rows
 
@@ -204,10 +231,10 @@ module _ (D : Database) (cells : Cells) (tables : List ℕ) (j : Model.Constrain
   leads-apart h = record { reset = λ e. absurd (elsewhere-at cells tables r (j .target .table) h e); same = λ _ s l. refl }
 
   pub leads-made : (ys : List ℕ) → j .target .place < 8 → (v : State.Cell) → v ≡ cellAt cells r (j .target .place) → getD tables r 0 ≡ j .target .table
-      → Reset D j i (cellOf v) xs ys → Leads D (databaseOf cells tables) j i r xs ys
+      → Reset D j i (cellOf v) r xs ys → Leads D (databaseOf cells tables) j i r xs ys
   leads-made ys q v e t x =
       record {
-        reset = λ _. subst (λ (u : Cell). Reset D j i u xs ys) (ap cellOf e ∙ sym (cell-at cells tables r (j .target .place) q)) x;
+        reset = λ _. subst (λ (u : Cell). Reset D j i u r xs ys) (ap cellOf e ∙ sym (cell-at cells tables r (j .target .place) q)) x;
         same = λ ne. absurd (ne (table-at cells tables r (j .target .table) t));
       }
 

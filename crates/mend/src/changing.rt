@@ -20,8 +20,8 @@ use catalog::start_at;
 use state::Design;
 
 // Row r came: the catalog of the rows without it becomes that of the lent rows, which have it. For each of its values a search, a walk to the row before it, and
-// where the value is new in its column a step for every value behind it; for each constraint three searches at most, and a step for each row of which it demands
-// row r. Where the directory has no room for eight values more, the catalog is made anew.
+// where the value is new in its column a step for every value behind it; for each constraint three searches at most, and where row r is the first that it
+// demands of some rows, a step for each of these. Where the directory has no room for eight values more, the catalog is made anew.
 pub fn put_in(
     d: Design,
     cells: &[u32],

@@ -19,16 +19,27 @@ use state::Constraint;
 use state::Design;
 use state::cell_at;
 
-// Stores the first row that has v in the target column of constraint j, number i, with each row that has it in the source column. Two searches, and a step
-// for each such row.
-fn reset_firsts(catalog: &mut [u16; 16449], keys: &[u64; 4096], j: Constraint, i: usize, v: Cell)
+// Stores the first row that has v in the target column of constraint j, number i, with each row that has it in the source column, unless it stands before r: then
+// it was the first before row r came, or went. Two searches, and a step for each such row.
+fn reset_firsts(
+    catalog: &mut [u16; 16449],
+    keys: &[u64; 4096],
+    j: Constraint,
+    i: usize,
+    v: Cell,
+    r: usize,
+)
     requires { ⌜ (i < 16) × (j .source .table < 8) × (j .source .place < 8) × (j .target .table < 8) × (j .target .place < 8) ⌝ }
     requires { ⌜ ((D : Database) × Indexed D (now catalog) (now keys)) ⌝ }
     ensures { λ _. ⌜ Only i (now (catalog .entry)) (now (catalog .exit)) × ((D : Database) → Indexed D (now (catalog .entry)) (now (keys .entry))
-        → Reset D (constraintOf j) i (cellOf v) (now (catalog .entry)) (now (catalog .exit))) ⌝ }
+        → Reset D (constraintOf j) i (cellOf v) r (now (catalog .entry)) (now (catalog .exit))) ⌝ }
 {
     let t = j.target;
-    let first = find(catalog, keys, t, v) as u16;
+    let h = find(catalog, keys, t, v);
+    if h < r {
+        return;
+    }
+    let first = h as u16;
     let k = j.source;
     let c = k.place as usize;
     let mut s = find(catalog, keys, k, v);
@@ -61,11 +72,11 @@ fn reset_for(
         return;
     }
     let v = cell_at(cells, issues, r, t.place as usize);
-    reset_firsts(catalog, keys, j, i, v);
+    reset_firsts(catalog, keys, j, i, v, r);
 }
 
-// Row r comes: what constraint j, number i, demands of the rows without it becomes what it demands of the lent rows. Three searches at most, and a step for each
-// row of which it demands row r.
+// Row r comes: what constraint j, number i, demands of the rows without it becomes what it demands of the lent rows. Three searches at most, and where row r is the
+// first that it demands of some rows, a step for each of these.
 fn demand_in(
     cells: &[u32],
     issues: &[u8],
@@ -87,8 +98,8 @@ fn demand_in(
     catalog[FIRSTS + 512 * i + r] = demanded(cells, issues, tables, catalog, keys, j, r);
 }
 
-// Row r goes: what constraint j, number i, demands of the lent rows becomes what it demands of the rows without it. Two searches at most, and a step for each row
-// of which it demands row r.
+// Row r goes: what constraint j, number i, demands of the lent rows becomes what it demands of the rows without it. Two searches at most, and where row r was the
+// first that it demanded of some rows, a step for each of these.
 fn demand_out(
     cells: &[u32],
     issues: &[u8],

@@ -7,8 +7,6 @@ use format::Verdict;
 use format::read_design;
 use operate::perform;
 use script::step;
-use writing::Written;
-use writing::write;
 use state::Answer;
 use state::Cell;
 use state::Column;
@@ -20,6 +18,8 @@ use state::Join;
 use state::Operation;
 use state::Query;
 use state::Table;
+use writing::Written;
+use writing::write;
 
 // Everything that a caller lends an operation.
 pub struct State {

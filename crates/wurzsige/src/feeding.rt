@@ -15,8 +15,8 @@ use state::first_words;
 use verdict::verdicts;
 use words::DESIGN_WORDS;
 use words::design_from;
-use words::lawful_design_from;
 use words::design_narrow;
+use words::lawful_design_from;
 
 // 0 for a value, 1 for a span. Constant time.
 fn kind_of(kind: u32) -> u32

@@ -2,10 +2,10 @@
 ghost use Rattle.state.specs.Cells.{cellsIn};
 ghost use Rattle.wurzsige.specs.Calls.{memory, SizesTold};
 use crate::causes::memory_cause;
-use writing::design_length;
 use sizes::step_sizes_lawful;
 use state::first_words;
 use words::design_from;
+use writing::design_length;
 
 // Stores the three numbers: 0, or cause 7 or 12, which leaves them as they were; nothing else changes. The cost of `memory_cause`, of counting a query's lists
 // without writing them, or of composing a reason, and of a look at each row.

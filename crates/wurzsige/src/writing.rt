@@ -2,9 +2,9 @@
 ghost use Rattle.state.specs.Cells.{cellsIn};
 ghost use Rattle.wurzsige.specs.Calls.{memory, DesignWritten};
 use crate::causes::memory_cause;
+use words::design_from;
 use writing::design_length;
 use writing::write_design;
-use words::design_from;
 
 // Writes the design with its rows from the first byte of `out` on, and how many bytes it has: 0, or cause 7 or 12 of the memory, or cause 7 for `out`, which
 // write nothing. The cost of `memory_cause`, then one step for each table, constraint and filling and eight for each row.

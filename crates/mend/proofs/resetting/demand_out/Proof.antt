@@ -1,4 +1,4 @@
--- `catalog::demanding::demand_out` meets its contract. Assumes nothing.
+-- `mend::resetting::demand_out` meets its contract. Assumes nothing.
 use mathlib.Core.Path.{_∙_}
 use borrow.Author.Needs.{needs}
 use Rattle.state.specs.Meaning.{constraintOf}

@@ -1,4 +1,4 @@
--- `catalog::demanding::demands_in` meets its contract: the constraints below i are done. Assumes nothing.
+-- `mend::resetting::demands_in` meets its contract: the constraints below i are done. Assumes nothing.
 use Prim.Native.Nat.{_-_, _≤_, _<_}
 use native.Mathlib.Omega.{arith}
 use mathlib.Core.Path.{_≡_}

@@ -1,4 +1,4 @@
--- `catalog::demanding::reset_for` meets its contract. Assumes nothing.
+-- `mend::resetting::reset_for` meets its contract. Assumes nothing.
 use borrow.Author.Needs.{needs}
 use Rattle.state.specs.Meaning.{constraintOf}
 use Rattle.mend.proofs.ResetLaws.{only-same, leads-apart, leads-made}

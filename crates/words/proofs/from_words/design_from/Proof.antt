@@ -10,9 +10,15 @@ use Rattle.words.proofs.from_words.design_from.Tie as tie
 
 design-with-requires : tie.Need-design-with-requires
 design-with-requires c κs =
-    let ws = now (c .before .args .words) in
-    (c .before .pre, omega arith, omega arith, omega arith, all-read 8 3 2 noTable tableFrom ws, all-read 16 19 4 noConstraint constraintFrom ws,
-    all-read 8 83 4 noFilling fillingFrom ws)
+    let ws = now (c .before .args .words) in (
+      c .before .pre,
+      omega arith,
+      omega arith,
+      omega arith,
+      all-read 8 3 2 noTable tableFrom ws,
+      all-read 16 19 4 noConstraint constraintFrom ws,
+      all-read 8 83 4 noFilling fillingFrom ws,
+    )
 
 returns : tie.Need-returns
 returns c = search needs
