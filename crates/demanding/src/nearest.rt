@@ -146,12 +146,7 @@ fn note_nearest(
 
 // For each constraint and row the nearest, by levels, of the rows of which the constraint demands it; 512 if none of these has a level. One step for each row
 // number, and for each constraint two for each row that has a level and one for each row that it demands of them.
-pub fn demanding_rows(
-    d: Design,
-    catalog: &[u16; 16449],
-    levels: &[u16; 512],
-    near: &mut [u16; 8192],
-)
+fn demanding_rows(d: Design, catalog: &[u16; 16449], levels: &[u16; 512], near: &mut [u16; 8192])
     requires { ⌜ InRange d × ((D : Database) × Links D (now catalog)) ⌝ }
     ensures { λ _. ⌜ ((D : Database) → Demands (schemeOf d) D (now (catalog .entry))
         → Demanding (schemeOf d) D (now (levels .entry)) (d .constraints) (now (near .exit))) ⌝ }

@@ -2,7 +2,7 @@
 use Prim.Native.Nat.{ℕ, zero, suc, _+_, _*_, _-_, _≤_, _<_}
 use native.Mathlib.Omega.{arith}
 use mathlib.Core.Path.{_≡_, refl, sym, ap, ap₂, subst, _∙_}
-use mathlib.Core.Bool.{true, false}
+use mathlib.Core.Bool.{true}
 use mathlib.Core.List.{List, _++_}
 use lib.ListN.{length, length-append}
 use Rattle.finite.specs.Finite.{any}
@@ -12,31 +12,19 @@ use Rattle.finite.proofs.Decimals.{decimal-within}
 use Rattle.finite.proofs.Writing.{behind, wrote-as, wrote-none}
 use Rattle.model.specs.Scheme.{Scheme}
 use Rattle.model.specs.Database.{Database}
-use Rattle.model.specs.Rounds.{level, load}
-use Rattle.model.specs.Holding.{Holding, wanted}
+use Rattle.model.specs.Rounds.{level}
+use Rattle.model.specs.Holding.{Holding}
 use Rattle.model.specs.Runs.{cachedFor, reloadLevels}
 use Rattle.model.specs.Reason.{hasOrigin, originAt, originCount, isLink, lastConstraint, lastRow, chainBy, lowestHeld, distance, reasonFor}
 use Rattle.model.specs.Sentence.{row-word, linkText, originText, chainText, sentence, reasonText}
 use Rattle.model.proofs.ReasonLaws.{reload-levels, constraint-within, row-within, row-level, cached-level}
-use Rattle.model.proofs.RoundsLaws.{levels-length}
 use Rattle.reason.specs.Links.{Graded, rootBy, linksText}
 use Rattle.reason.proofs.WordingLaws.{link-short, origin-short, chain-parts}
 
 -- ---- the levels of a reload
 
-reload-long : (S : Scheme) (D : Database) (h : Holding) → length (reloadLevels S D h) ≡ D .size
-unfolding reloadLevels load
-reload-long S D h = levels-length S D (λ _. false) (wanted S D h) (D .size)
-
-pub graded-reload : (S : Scheme) (D : Database) (h : Holding) (L : List ℕ) → D .size ≡ 512 → L ≡ reloadLevels S D h → Graded S D L
-graded-reload S D h L z e =
-    subst (Graded S D) (sym e)
-    (record {
-      long = reload-long S D h ∙ z;
-      rows = reload-levels S D h .rows;
-      link = reload-levels S D h .link;
-      near = λ s r i l t p. reload-levels S D h .near s r i l t p .1;
-    })
+pub graded-reload : (S : Scheme) (D : Database) (h : Holding) (L : List ℕ) → L ≡ reloadLevels S D h → Graded S D L
+graded-reload S D h L e = subst (Graded S D) (sym e) (record { rows = reload-levels S D h .rows; link = reload-levels S D h .link })
 
 -- ---- one link more: row r is n constraints away from what is held
 
@@ -127,11 +115,11 @@ module _ (S : Scheme) (D : Database) (h : Holding) (L : List ℕ) (f : L ≡ rel
   pub root-has : D .size ≡ 512 → (n t : ℕ) → n ≡ level L r - 2 → t ≡ rootBy S D L n r → any (originCount h) (λ i. hasOrigin S D t (originAt h i)) ≡ true
   root-has z n t e q =
       reload-levels S D h .some t
-      (sym (ap (λ (K : List ℕ). level K t) f) ∙ ap (level L) q ∙ root-held S D L (graded-reload S D h L z f) n r (away n e))
+      (sym (ap (λ (K : List ℕ). level K t) f) ∙ ap (level L) q ∙ root-held S D L (graded-reload S D h L f) n r (away n e))
 
   pub root-within : D .size ≡ 512 → (n t : ℕ) → n ≡ level L r - 2 → t ≡ rootBy S D L n r → t < 512
   root-within z n t e q =
-      let g = graded-reload S D h L z f in
+      let g = graded-reload S D h L f in
       let l : 0 < level L t = omega (arith, ap (level L) q, root-held S D L g n r (away n e)) in
       omega (arith, D .finite t (g .rows t l))
 
@@ -161,7 +149,7 @@ unfolding reasonText sentence reasonFor
 reason-short S D h r c z few =
     let L = reloadLevels S D h in
     let n = distance S D h r in
-    let g = graded-reload S D h L z refl in
+    let g = graded-reload S D h L refl in
     let e = at-level S D h L refl r c in
     let o = lowestHeld S D h in
     let l = linksText S D L n r in

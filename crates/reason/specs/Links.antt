@@ -1,46 +1,46 @@
 -- What the search for a row's chain asks of the levels, and the chain's links in words, apart from what the chain ends with. Assumes nothing.
-use Prim.Native.Nat.{ℕ, zero, suc, _≤_, _<_}
+use Prim.Native.Nat.{ℕ, zero, suc, _+_, _≤_, _<_}
 use mathlib.Core.Path.{_≡_}
-use mathlib.Core.Bool.{true, cond, _&&_}
+use mathlib.Core.Bool.{true, cond}
 use mathlib.Core.List.{List, [], _++_}
 use lib.Dec.{eqb, ltb}
-use lib.ListN.{length}
+use lib.ListN.{getD}
 use Rattle.finite.specs.Finite.{any, firstFrom}
-use Rattle.model.specs.Scheme.{Constraint, Scheme}
+use Rattle.model.specs.Scheme.{Scheme}
 use Rattle.model.specs.Database.{Database}
-use Rattle.model.specs.Rounds.{leads, level}
+use Rattle.model.specs.Rounds.{level}
 use Rattle.model.specs.Reason.{isLink, lastConstraint, lastRow}
 use Rattle.model.specs.Sentence.{linkText}
-use Rattle.demanding.specs.Demanding.{Demanding}
+use Rattle.reason.specs.declared.linking.Link.{Link}
 
--- levels of a load from nothing: a row of a later level is demanded of one of the level before, and no row demands one of a level that is more than one
--- later
+-- levels of a load from nothing: a row of a later level is demanded of one of the level before
 pub record Graded (S : Scheme) (D : Database) (L : List ℕ) : Type 0 where
-  pub long : length L ≡ 512
   pub rows : (r : ℕ) → 0 < level L r → D .live r ≡ true
   pub link : (r n : ℕ) → level L r ≡ suc (suc (suc n)) → any (S .constraints) (λ i. any (D .size) (isLink S D L n r i)) ≡ true
-  pub near : (s r i : ℕ) → i < S .constraints → leads D (S .constraint i) s r ≡ true → 0 < level L s → level L r ≤ suc (level L s)
-
--- the lowest row of level l of which constraint j demands row r; 512 if there is none
-unfoldable pub sourceRow : Database → List ℕ → ℕ → Constraint → ℕ → ℕ
-sourceRow D L l j r = firstFrom 512 (λ t. eqb (level L t) l && leads D j t r) 0
-
--- the rows of which constraint j demands row r have level l or a later one, if they have any
-pub record Near (D : Database) (L : List ℕ) (l : ℕ) (j : Constraint) (r : ℕ) : Type 0 where
-  pub levels : (s : ℕ) → leads D j s r ≡ true → 0 < level L s → l ≤ level L s
 
 -- the levels below m, and 0 in place of the others
 pub record Below (L : List ℕ) (m : ℕ) (K : List ℕ) : Type 0 where
   pub at : (s : ℕ) → s < 512 → level K s ≡ cond (ltb (level L s) m) (level L s) 0
 
--- what the links of a chain are read off: the levels, and for each of the n constraints and each row the nearest row of a level below m that demands it
-pub record Traceable (S : Scheme) (D : Database) (L near : List ℕ) (n m : ℕ) : Type 0 where
-  pub count : S .constraints ≡ n
-  pub size-is : D .size ≡ 512
-  pub graded : Graded S D L
-  pub low : List ℕ
-  pub below : Below L m low
-  pub demanding : Demanding S D low n near
+-- the next row of level l, from row s on; 512 if there is none
+abbrev pub ofLevel : List ℕ → ℕ → ℕ → ℕ
+ofLevel L l s = firstFrom 512 (λ t. eqb (level L t) l) s
+
+-- for each level from 1 on and below m the first of its rows, and for each row of such a level the next one of it
+pub record Ranked (L : List ℕ) (m : ℕ) (heads next : List ℕ) : Type 0 where
+  pub head : (l : ℕ) → 0 < l → l < m → getD heads l 0 ≡ ofLevel L l 0
+  pub after : (s : ℕ) → s < 512 → 0 < level L s → level L s < m → getD next s 0 ≡ ofLevel L (level L s) (s + 1)
+
+-- the link by constraint i from row s, if i is the lower
+unfoldable pub lowerLink : Link → ℕ → ℕ → Link
+lowerLink best i s = cond (ltb i (best .constraint)) (record { constraint = i; row = s }) best
+
+-- constraint i and row s are the lowest link of row r, n + 1 constraints away from what is held, that comes from a row below t; i is the number of constraints
+-- if there is none
+pub record LowestLink (S : Scheme) (D : Database) (L : List ℕ) (n r t i s : ℕ) : Type 0 where
+  pub few : i ≤ S .constraints
+  pub here : i < S .constraints → (s < t) × (isLink S D L n r i s ≡ true)
+  pub least : (j u : ℕ) → j < S .constraints → u < t → isLink S D L n r j u ≡ true → (i ≤ j) × (i ≡ j → s ≤ u)
 
 module _ (S : Scheme) (D : Database) (L : List ℕ) where
   -- the row with something held with which the chain of row r, n constraints away from it, ends
@@ -52,3 +52,16 @@ module _ (S : Scheme) (D : Database) (L : List ℕ) where
   unfoldable pub linksText : ℕ → ℕ → List ℕ
   linksText zero r = []
   linksText (suc n) r = linkText (lastConstraint S D L n r) (lastRow S D L n r) ++ linksText n (lastRow S D L n r)
+
+  -- behind each distance from 1 to n stand the constraint and the row of the link there, of the chain of row r, n constraints away from what is held
+  unfoldable pub Chained : List ℕ → List ℕ → ℕ → ℕ → Type 0
+  Chained by from zero r = Unit
+  Chained by from (suc n) r = (getD by (suc n) 0 ≡ lastConstraint S D L n r) × (getD from (suc n) 0 ≡ lastRow S D L n r) × Chained by from n (lastRow S D L n r)
+
+-- what the links of row r are read off, n constraints away from what is held
+pub record Traceable (S : Scheme) (D : Database) (L by from : List ℕ) (n r : ℕ) : Type 0 where
+  pub few : S .constraints ≤ 16
+  pub size-is : D .size ≡ 512
+  pub graded : Graded S D L
+  pub away : level L r ≡ n + 2
+  pub links : Chained S D L by from n r

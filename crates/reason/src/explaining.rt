@@ -1,5 +1,6 @@
 // The sentence of a row, link by link back to a held value or range, and the answer.
 ghost use mathlib.Core.Bool.{true};
+ghost use mathlib.Core.List.{List};
 ghost use mathlib.Core.Path.{_≡_};
 ghost use Prim.Native.Nat.{ℕ, _+_, _*_, _≤_, _<_};
 ghost use lib.ListN.{length};
@@ -17,14 +18,15 @@ ghost use Rattle.state.specs.Held.{Bounded};
 ghost use Rattle.state.specs.HeldWords.{wordsHeld};
 ghost use Rattle.state.specs.Lent.{answerAt, lent, sound, textAt};
 ghost use Rattle.state.specs.Meaning.{answerOf, databaseOf, holdingOf, schemeOf};
-ghost use Rattle.catalog.specs.Catalog.{Catalogued, Demands};
+ghost use Rattle.catalog.specs.Catalog.{Catalogued};
 ghost use Rattle.reason.specs.Links.{Graded, Traceable, linksText, rootBy};
-use crate::linking::last_link;
+use crate::linking::find_links;
 use crate::lowest::lowest_held;
 use crate::nearing::levels_below;
+use crate::nearing::list_levels;
+use crate::nearing::wide;
 use crate::wording::put_link;
 use crate::wording::put_origin;
-use demanding::demanding_rows;
 use load::load_held;
 use state::Answer;
 use state::Design;
@@ -38,56 +40,73 @@ struct Traced {
     at: usize,
 }
 
-// Writes the links of row r, which is n constraints away from what is held, the last one first. Document 01 has this by recursion: the distance falls. A look
-// at each constraint for each link: `near` has the rows that demand each.
+// Writes the links of row r, which is n constraints away from what is held, the last one first. Document 01 has this by recursion: the distance falls. The
+// links were noted behind their distances.
 fn put_links(
-    constraints: usize,
-    levels: &[u16; 512],
-    near: &[u16; 8192],
+    by: &[u16; 512],
+    from: &[u16; 512],
     r: usize,
-    n: u16,
+    n: usize,
     out: &mut [u8],
     at: usize,
 ) -> Traced
-    requires { ⌜ (constraints ≤ 16) × (r < 512) × (n < 512) × (at + 30 * n + 47 ≤ length (now out)) ⌝ }
-    requires { ⌜ ((S : Scheme) × (D : Database) × (m : ℕ) × Traceable S D (now levels) (now near) constraints m × (level (now levels) r ≡ n + 2) × (n + 2 ≤ m)) ⌝ }
-    ensures { λ t. ⌜ ((S : Scheme) (D : Database) (m : ℕ) → Traceable S D (now (levels .entry)) (now (near .entry)) constraints m → level (now (levels .entry)) r ≡ n + 2
-        → n + 2 ≤ m → (t .row ≡ rootBy S D (now (levels .entry)) n r) × (t .at ≤ at + 30 * n)
-        × Wrote (now (out .entry)) (now (out .exit)) at (t .at) (linksText S D (now (levels .entry)) n r)) ⌝ }
+    requires { ⌜ (n < 512) × (at + 30 * n + 47 ≤ length (now out)) × ((S : Scheme) × (D : Database) × (L : List ℕ) × Traceable S D L (now by) (now from) n r) ⌝ }
+    ensures { λ t. ⌜ ((S : Scheme) (D : Database) (L : List ℕ) → Traceable S D L (now (by .entry)) (now (from .entry)) n r
+        → (t .row ≡ rootBy S D L n r) × (t .at ≤ at + 30 * n) × Wrote (now (out .entry)) (now (out .exit)) at (t .at) (linksText S D L n r)) ⌝ }
 {
     if n == 0 {
         return Traced { row: r, at };
     }
-    let k = last_link(constraints, levels, near, r, n - 1);
-    let z = put_link(out, at, k.constraint, k.row);
-    put_links(constraints, levels, near, k.row, n - 1, out, z)
+    let s = wide(from[n]);
+    let i = wide(by[n]);
+    let z = put_link(out, at, i, s);
+    put_links(by, from, s, n - 1, out, z)
 }
 
-// The same from the catalog. Constant time for a row that has something held, else a step for each row number, a few for each constraint and row that is nearer
-// to what is held, and the links.
+// The same from the rows and their levels. Constant time for a row that has something held, else a few steps for each row number, a look at each constraint
+// for each row that is nearer to what is held, and the links.
 fn put_chain(
     d: Design,
-    catalog: &[u16; 16449],
+    cells: &[u32],
+    issues: &[u8],
+    tables: &[u8],
     levels: &[u16; 512],
     r: usize,
     n: u16,
     out: &mut [u8],
     at: usize,
 ) -> Traced
-    requires { ⌜ InRange d × (r < 512) × (n < 512) × (at + 30 * n + 47 ≤ length (now out)) ⌝ }
-    requires { ⌜ ((D : Database) × Demands (schemeOf d) D (now catalog) × Graded (schemeOf d) D (now levels) × (level (now levels) r ≡ n + 2)) ⌝ }
-    ensures { λ t. ⌜ ((D : Database) → Demands (schemeOf d) D (now (catalog .entry)) → Graded (schemeOf d) D (now (levels .entry))
-        → level (now (levels .entry)) r ≡ n + 2 → (t .row ≡ rootBy (schemeOf d) D (now (levels .entry)) n r) × (t .at ≤ at + 30 * n)
-        × Wrote (now (out .entry)) (now (out .exit)) at (t .at) (linksText (schemeOf d) D (now (levels .entry)) n r)) ⌝ }
+    requires { ⌜ InRange d × (r < 512) × (n < 512) × Backed (cellsIn (now cells) (now issues)) (now tables) × (at + 30 * n + 47 ≤ length (now out)) ⌝ }
+    requires { ⌜ Graded (schemeOf d) (databaseOf (cellsIn (now cells) (now issues)) (now tables)) (now levels) × (level (now levels) r ≡ n + 2) ⌝ }
+    ensures { λ t. ⌜ (t .row ≡ rootBy (schemeOf d) (databaseOf (cellsIn (now (cells .entry)) (now (issues .entry))) (now (tables .entry))) (now (levels .entry)) n r)
+        × (t .at ≤ at + 30 * n) × Wrote (now (out .entry)) (now (out .exit)) at (t .at)
+        (linksText (schemeOf d) (databaseOf (cellsIn (now (cells .entry)) (now (issues .entry))) (now (tables .entry))) (now (levels .entry)) n r) ⌝ }
 {
     if n == 0 {
         return Traced { row: r, at };
     }
     let mut low = [0u16; 512];
     levels_below(levels, n + 2, &mut low);
-    let mut near = [0u16; 8192];
-    demanding_rows(d, catalog, &low, &mut near);
-    put_links(d.constraints, levels, &near, r, n, out, at)
+    let mut heads = [512u16; 514];
+    let mut next = [512u16; 512];
+    list_levels(&low, &mut heads, &mut next);
+    let mut by = [0u16; 512];
+    let mut from = [0u16; 512];
+    let k = n as usize;
+    find_links(
+        d,
+        cells,
+        issues,
+        tables,
+        levels,
+        &heads,
+        &next,
+        r,
+        k,
+        &mut by,
+        &mut from,
+    );
+    put_links(&by, &from, r, k, out, at)
 }
 
 // Writes the reason for row r, which is cached; how long it is. One reload, the search of the links, and one look at each held value and range.
@@ -115,15 +134,15 @@ fn put_reason(
     let z = put_bytes(out, 0, b"row", 3);
     let y = put_spaced(out, z, r as u64);
     let n = levels[r] - 2;
-    let t = put_chain(d, catalog, &levels, r, n, out, y);
+    let t = put_chain(d, cells, issues, tables, &levels, r, n, out, y);
     let o = lowest_held(d, cells, issues, tables, held, t.row);
     put_origin(out, t.at, o)
 }
 
 // Why row number `row` is cached, in words: the lent text is written from its first byte on, if it is long enough for the whole sentence. The sentence is
 // composed in memory of its own, so that cause 11 leaves the text as it was. Constant time for a number that names nothing and for a row that isn't
-// cached; else no more than a reload and the chain's own links: one reload, a few steps for each constraint and row that is nearer to what is held, a look at each
-// constraint for each link, one look at each held value and range, and two steps for each byte of the sentence.
+// cached; else no more than a reload and the chain's own links: one reload, a few steps for each row number, a look at each constraint for each row that is nearer to
+// what is held, one look at each held value and range, and two steps for each byte of the sentence.
 pub fn reason_lawful(
     design: Design,
     cells: &[u32],

@@ -40,22 +40,22 @@ put-chain-requires c κs =
     let p = c .before .before .before .before .before .before .before .before .before .before .before .before .before .before .before .before .before .pre in
     let f = c .before .before .before .before .before .before .before .before .before .before .before .load-held .ensures _ (p .1 .0) (within-all _ _ _) .levels in
     let n = few-links _ _ _ _ f _ (p .1 .1) (size-lent _ _) _ refl in (
-      (p .0 .1, p .0 .0, n, omega (arith, n, spaced-reach-by _ _ _ _ 2 _ (omega arith) (c .before .before .before .before .put-spaced .ensures))),
-      (_, p .1 .0 .demands, graded-reload _ _ _ _ (size-lent _ _) f, away _ _ _ _ f _ (p .1 .1) _ refl),
+      (p .0 .1, p .0 .0, n, p .0 .2, omega (arith, n, spaced-reach-by _ _ _ _ 2 _ (omega arith) (c .before .before .before .before .put-spaced .ensures))),
+      (graded-reload _ _ _ _ f, away _ _ _ _ f _ (p .1 .1) _ refl),
     )
 
 lowest-held-requires : tie.Need-lowest-held-requires
 lowest-held-requires c κs =
     let p = c .before .before .before .before .before .before .before .before .before .before .before .before .before .before .before .before .before .before .before .before .pre in
     let f = c .before .before .before .before .before .before .before .before .before .before .before .before .before .before .load-held .ensures _ (p .1 .0) (within-all _ _ _) .levels in
-    let t = c .before .before .put-chain .ensures _ (p .1 .0 .demands) (graded-reload _ _ _ _ (size-lent _ _) f) (away _ _ _ _ f _ (p .1 .1) _ refl) .0 in
+    let t = c .before .before .put-chain .ensures .0 in
     ((root-within _ _ _ _ f _ (p .1 .1) (size-lent _ _) _ _ refl t, p .0 .1, p .0 .2, p .0 .3), root-has _ _ _ _ f _ (p .1 .1) (size-lent _ _) _ _ refl t)
 
 put-origin-requires : tie.Need-put-origin-requires
 put-origin-requires c κs =
     let p = c .before .before .before .before .before .before .before .before .before .before .before .before .before .before .before .before .before .before .before .before .before .before .pre in
     let f = c .before .before .before .before .before .before .before .before .before .before .before .before .before .before .before .before .load-held .ensures _ (p .1 .0) (within-all _ _ _) .levels in
-    let t = c .before .before .before .before .put-chain .ensures _ (p .1 .0 .demands) (graded-reload _ _ _ _ (size-lent _ _) f) (away _ _ _ _ f _ (p .1 .1) _ refl) in
+    let t = c .before .before .before .before .put-chain .ensures in
     let n = few-links _ _ _ _ f _ (p .1 .1) (size-lent _ _) _ refl in
     omega (arith, n, t .1, spaced-reach-by _ _ _ _ 2 _ (omega arith) (c .before .before .before .before .before .before .before .before .before .put-spaced .ensures))
 
@@ -66,7 +66,7 @@ returns : tie.Need-returns
 returns c =
     let p = c .before .before .before .before .before .before .before .before .before .before .before .before .before .before .before .before .before .before .before .before .before .before .before .before .before .pre in
     let f = c .before .before .before .before .before .before .before .before .before .before .before .before .before .before .before .before .before .before .before .load-held .ensures _ (p .1 .0) (within-all _ _ _) .levels in
-    let t = c .before .before .before .before .before .before .before .put-chain .ensures _ (p .1 .0 .demands) (graded-reload _ _ _ _ (size-lent _ _) f) (away _ _ _ _ f _ (p .1 .1) _ refl) in
+    let t = c .before .before .before .before .before .before .before .put-chain .ensures in
     let n = few-links _ _ _ _ f _ (p .1 .1) (size-lent _ _) _ refl in (
       sentence-within _ _ _ _ _ n (t .1) (spaced-reach-by _ _ _ _ 2 _ (omega arith) (c .before .before .before .before .before .before .before .before .before .before .before .before .put-spaced .ensures)) (reach _ _ _ _ row-word 3 (omega arith) (c .before .before .before .before .before .before .before .before .before .before .before .before .before .before .before .before .put-bytes .ensures))
           (origin-reach _ _ _ _ _ (c .before .before .put-origin .ensures)),
