@@ -14,7 +14,7 @@ mod sizing;
 mod stepping;
 mod telling;
 mod version;
-mod writing;
+mod writing_out;
 
 // The number of a refusal's word.
 const REFUSED: u8 = 7;

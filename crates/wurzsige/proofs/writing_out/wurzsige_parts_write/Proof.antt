@@ -1,4 +1,4 @@
--- `wurzsige::writing::wurzsige_parts_write` meets its contract: a cause of the memory, too few bytes, the bytes stored. Assumes nothing.
+-- `wurzsige::writing_out::wurzsige_parts_write` meets its contract: a cause of the memory, too few bytes, the bytes stored. Assumes nothing.
 use native.Mathlib.Omega.{arith}
 use mathlib.Core.Path.{sym, ap, _∙_}
 use denote.Ref.{now}
@@ -7,8 +7,8 @@ use lib.Seq.{sets}
 use Rattle.wurzsige.proofs.Memories.{memory-parts, cause-sound}
 use Rattle.wurzsige.proofs.WriteTaking.{caused-written, cramped-written, stored-written, written-range, written-backed, written-bytes}
 use borrow.Author.Needs.{needs}
-use Rattle.wurzsige.proofs.writing.wurzsige_parts_write.Statement.{statement}
-use Rattle.wurzsige.proofs.writing.wurzsige_parts_write.Tie as tie
+use Rattle.wurzsige.proofs.writing_out.wurzsige_parts_write.Statement.{statement}
+use Rattle.wurzsige.proofs.writing_out.wurzsige_parts_write.Tie as tie
 
 returns : tie.Need-returns
 returns c = caused-written _ _ _ _ (c .before .memory-cause .ensures .0) (c .if1 .taken)
