@@ -4,15 +4,20 @@ use mathlib.Core.Path.{_≡_, sym, ap, ap₂, _∙_}
 use mathlib.Core.Bool.{Bool, true, not, cond, _&&_}
 use mathlib.Core.List.{List, _++_}
 use lib.Dec.{eqb}
-use lib.ListN.{length, take, drop}
-use lib.Seq.{getD-take}
+use lib.ListN.{length, getD, take, drop, take-append-drop}
+use lib.Seq.{getD-take, length-take-le}
 use Rattle.finite.specs.Finite.{count, tab}
 use Rattle.finite.proofs.Counting.{count-same}
+use Rattle.finite.proofs.Tables.{tab-of}
 use Rattle.model.specs.Scheme.{Scheme}
 use Rattle.model.specs.Database.{Database}
 use Rattle.model.specs.Rounds.{reached}
-use Rattle.model.specs.Runs.{marks, marked, reloadLevels}
+use Rattle.model.specs.Cache.{RowSet, Smallest}
+use Rattle.model.specs.Holding.{heldIn}
+use Rattle.model.specs.Runs.{marks, marked, cachedFor, reloadLevels}
 use Rattle.model.specs.Answers.{Answer, changed, refused}
+use Rattle.model.proofs.Loads.{one-smallest}
+use Rattle.model.proofs.RunLaws.{held-smallest}
 use Rattle.state.specs.declared.design.Design.{Design}
 use Rattle.state.specs.declared.held.Held.{Held}
 use Rattle.state.specs.declared.rows.Row.{Row}
@@ -48,6 +53,28 @@ remarked S D z h m K m′ came went e f g k =
           k ∙ ap (λ (L : List ℕ). tab 512 (λ r. cond (reached L r) 1 0) ++ drop 512 m) e ∙
           ap (λ (n : ℕ). tab n (λ r. cond (reached (reloadLevels S D (holdingOf h)) r) 1 0) ++ drop 512 m) (sym z);
     }
+
+-- the same of any row set Y that is the smallest: there is no other
+pub remarked-by : {S : Scheme} {D : Database} → D .size ≡ 512 → {h : Held} {m m′ : List ℕ} {Y : RowSet} → Smallest S D (heldIn S (holdingOf h)) Y → {came went : ℕ} →
+    came ≡ count 512 (λ r. Y r && not (marked m r)) → went ≡ count 512 (λ r. marked m r && not (Y r)) →
+    512 ≤ length m′ → ((r : ℕ) → r < 512 → getD m′ r 0 ≡ cond (Y r) 1 0) → drop 512 m′ ≡ drop 512 m → Remarked S D h m (changed came went) m′
+unfolding changedAnswer marks
+remarked-by {S} {D} z {h} {m} {m′} {Y} s f g l at past =
+    record {
+      answer =
+          ap₂ changed
+          (f ∙ count-same 512 _ _ (λ r k. ap₂ (λ (a b : Bool). a && not b) (same r) (marked-take m r k)))
+          (g ∙ count-same 512 _ _ (λ r k. ap₂ (λ (a b : Bool). b && not a) (same r) (marked-take m r k)));
+      marks =
+          sym (take-append-drop 512 m′) ∙
+          ap₂ (λ (xs ys : List ℕ). xs ++ ys)
+          (tab-of 0 512 (λ r. cond (cachedFor S D (holdingOf h) r) 1 0) (take 512 m′) (length-take-le 512 m′ l)
+          (λ r k. getD-take 512 m′ r 0 k ∙ at r k ∙ ap (λ (b : Bool). cond b 1 0) (same r))) past ∙
+          ap (λ (n : ℕ). tab n (λ r. cond (cachedFor S D (holdingOf h) r) 1 0) ++ drop 512 m) (sym z);
+    }
+  where
+    same : (r : ℕ) → Y r ≡ cachedFor S D (holdingOf h) r
+    same r = one-smallest s (held-smallest S D (holdingOf h)) r
 
 -- the rows with one stored, and marked anew
 pub replaced : (d : Design) (R R′ : Rows) (h : Held) (m m′ : List ℕ) (r : ℕ) (x : Row) (a : Answer) → R′ ≡ stored R r x →

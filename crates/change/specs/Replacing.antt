@@ -1,11 +1,12 @@
 -- What the steps of a change that isn't refused answer and leave: the marks of a load from nothing, and a row stored before it. Assumes nothing.
-use Prim.Native.Nat.{ℕ}
+use Prim.Native.Nat.{ℕ, _<_}
 use mathlib.Core.Path.{_≡_}
-use mathlib.Core.Bool.{true, false}
+use mathlib.Core.Bool.{Bool, true, false, cond}
 use mathlib.Core.List.{List, _++_}
-use lib.ListN.{drop}
+use lib.ListN.{drop, getD}
 use Rattle.model.specs.Scheme.{Scheme}
 use Rattle.model.specs.Database.{Database}
+use Rattle.model.specs.Rounds.{demands}
 use Rattle.model.specs.Runs.{marks, cachedFor}
 use Rattle.model.specs.Answers.{Answer, refused}
 use Rattle.state.specs.declared.held.Held.{Held}
@@ -13,6 +14,7 @@ use Rattle.state.specs.declared.rows.Row.{Row}
 use Rattle.state.specs.Meaning.{holdingOf, cacheOf}
 use Rattle.state.specs.HeldWords.{recordIn}
 use Rattle.state.specs.Lent.{State, scheme, cache, causeOf}
+use Rattle.mend.specs.Changing.{Without}
 use Rattle.state.specs.Changes.{rows, tablesOf, stored, changedAnswer, changedWith, Change, Changed}
 
 -- D are the tables as they now are: the marks m become m′, those of the smallest set, and a tells how many rows came and went
@@ -20,7 +22,17 @@ pub record Remarked (S : Scheme) (D : Database) (h : Held) (m : List ℕ) (a : A
   pub answer : a ≡ changedAnswer S D (cacheOf h m)
   pub marks : m′ ≡ marks D (cachedFor S D (holdingOf h)) ++ drop 512 m
 
--- the same of a state s in which x is stored as row r
+-- the marks m are those of the smallest set for the tables D
+pub record Marking (S : Scheme) (D : Database) (h : Held) (m : List ℕ) : Type 0 where
+  pub at : (r : ℕ) → r < 512 → getD m r 0 ≡ cond (cachedFor S D (holdingOf h) r) 1 0
+
+-- row r of F goes, and leaves E; the marks m are those from before. It demands a row only if `on` says so
+pub record Leaving (S : Scheme) (E F : Database) (h : Held) (r : ℕ) (on : Bool) (m : List ℕ) : Type 0 where
+  pub without : Without E F r
+  pub marking : Marking S F h m
+  pub last : on ≡ false → (t : ℕ) → t < 512 → demands S F r t ≡ false
+
+-- what is answered and left of a state s in which x is stored as row r
 pub record Replaced (s : State) (r : ℕ) (x : Row) (a : Answer) (s′ : State) : Type 0 where
   pub answer : a ≡ changedAnswer (scheme s) (tablesOf (stored (rows s) r x)) (cache s)
   pub state : s′ ≡ changedWith s (stored (rows s) r x)

@@ -1,8 +1,9 @@
 // Putting a row in and removing one, over a sound state with the catalog of its rows. A change that is refused costs its tests; any other mends the catalog in
-// place and loads all that is held from nothing.
+// place. A row that goes and wasn't cached, or led to no other row, leaves the other marks as they are; else all that is held is loaded from nothing.
 ghost use mathlib.Core.Bool.{true, false};
 ghost use mathlib.Core.Path.{_≡_};
 ghost use Prim.Native.Nat.{_≤_, _<_};
+ghost use lib.Dec.{ltb};
 ghost use lib.ListN.{length, getD};
 ghost use Rattle.model.specs.Database.{Database};
 ghost use Rattle.state.specs.Cells.{cellsIn};
@@ -12,14 +13,17 @@ ghost use Rattle.state.specs.HeldWords.{wordsHeld};
 ghost use Rattle.state.specs.Meaning.{answerOf, databaseOf, schemeOf};
 ghost use Rattle.state.specs.Lent.{lent, sound};
 ghost use Rattle.state.specs.Changes.{freeRow, put, remove, Changed};
-ghost use Rattle.catalog.specs.Catalog.{Catalogued};
-ghost use Rattle.change.specs.Replacing.{Remarked, Replaced};
+ghost use Rattle.model.specs.Rounds.{leads};
+ghost use Rattle.finite.specs.Finite.{any, firstFrom};
+ghost use Rattle.catalog.specs.Catalog.{Catalogued, Demands};
+ghost use Rattle.change.specs.Replacing.{Leaving, Marking, Remarked, Replaced};
 use crate::causes::put_cause;
 use crate::causes::remove_cause;
 use crate::counting::rows_came;
 use crate::counting::rows_went;
 use crate::storing::free_row;
 use crate::storing::store_row;
+use catalog::first_row;
 use load::load_held;
 use load::settle;
 use mend::put_in;
@@ -50,6 +54,46 @@ fn remark(
     Answer::Changed(came, went)
 }
 
+// Whether a constraint demands a row of row r. One look for each constraint.
+fn leads_on(d: Design, catalog: &[u16; 16449], r: usize) -> bool
+    requires { ⌜ InRange d × (r < 512) ⌝ }
+    ensures { λ b. ⌜ ((D : Database) → Demands (schemeOf d) D (now (catalog .entry))
+        → b ≡ any (d .constraints) (λ i. ltb (firstFrom 512 (leads D (schemeOf d .constraint i) r) 0) 512)) ⌝ }
+{
+    for i in 0..d.constraints {
+        if first_row(catalog, i, r) < Design::ROWS {
+            return true;
+        }
+    }
+    false
+}
+
+// Marks the smallest set after row r went. Where it wasn't cached, all marks stay; where it led to no other row, all but its own. Else the cost is that of `remark`.
+fn unmark(
+    design: Design,
+    catalog: &[u16; 16449],
+    keys: &[u64; 4096],
+    marks: &mut [u8],
+    held: &[u32; 358],
+    r: usize,
+    on: bool,
+) -> Answer
+    requires { ⌜ (r < 512) × InRange design × Bounded (wordsHeld (now held)) × (512 ≤ length (now marks)) ⌝ }
+    requires { ⌜ ((D : Database) × Catalogued (schemeOf design) D (now catalog) (now keys)) ⌝ }
+    ensures { λ a. ⌜ ((E : Database) (F : Database) → Catalogued (schemeOf design) E (now (catalog .entry)) (now (keys .entry))
+        → Leaving (schemeOf design) E F (wordsHeld (now (held .entry))) r on (now (marks .entry))
+        → Remarked (schemeOf design) E (wordsHeld (now (held .entry))) (now (marks .entry)) (answerOf a) (now (marks .exit))) ⌝ }
+{
+    if marks[r] != 1 {
+        return Answer::Changed(0, 0);
+    }
+    if on {
+        return remark(design, catalog, keys, marks, held);
+    }
+    marks[r] = 0;
+    Answer::Changed(0, 1)
+}
+
 // Stores x at the free number r, mends the catalog, and marks the smallest set.
 fn come(
     design: Design,
@@ -76,7 +120,7 @@ fn come(
     remark(design, catalog, keys, marks, held)
 }
 
-// Mends the catalog for the rows without row r, frees its number, and marks the smallest set.
+// Mends the catalog for the rows without row r, frees its number, and marks the smallest set. The cost is that of `take_out` and `unmark`.
 fn go(
     design: Design,
     cells: &mut [u32],
@@ -89,16 +133,17 @@ fn go(
     r: usize,
 ) -> Answer
     requires { ⌜ (r < 512) × InRange design × Bounded (wordsHeld (now held)) × Backed (cellsIn (now cells) (now issues)) (now tables) × (512 ≤ length (now marks)) ⌝ }
-    requires { ⌜ (getD (now tables) r 0 < 8)
+    requires { ⌜ (getD (now tables) r 0 < 8) × Marking (schemeOf design) (databaseOf (cellsIn (now cells) (now issues)) (now tables)) (wordsHeld (now held)) (now marks)
         × Catalogued (schemeOf design) (databaseOf (cellsIn (now cells) (now issues)) (now tables)) (now catalog) (now keys) ⌝ }
     ensures { λ a. ⌜ Replaced (lent design (cellsIn (now (cells .entry)) (now (issues .entry))) (now (tables .entry)) (now (marks .entry)) (wordsHeld (now (held .entry))))
         r freeRow (answerOf a)
         (lent design (cellsIn (now (cells .exit)) (now (issues .exit))) (now (tables .exit)) (now (marks .exit)) (wordsHeld (now (held .entry)))) ⌝ }
     ensures { λ _. ⌜ Catalogued (schemeOf design) (databaseOf (cellsIn (now (cells .exit)) (now (issues .exit))) (now (tables .exit))) (now (catalog .exit)) (now (keys .exit)) ⌝ }
 {
+    let on = leads_on(design, catalog, r);
     take_out(design, cells, issues, tables, catalog, keys, r);
     store_row(cells, issues, tables, r, free_row());
-    remark(design, catalog, keys, marks, held)
+    unmark(design, catalog, keys, marks, held, r, on)
 }
 
 // Puts the row x in at number r.

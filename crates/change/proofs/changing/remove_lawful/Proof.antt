@@ -7,6 +7,7 @@ use Rattle.state.proofs.HeldWords.{words-sized}
 use Rattle.lawful.proofs.Asked.{sound-backed}
 use Rattle.change.proofs.ReplaceLaws.{changed-refused, replace-asked, changed-well}
 use Rattle.change.proofs.BesideLaws.{remove-asked}
+use Rattle.change.proofs.LeavingLaws.{sound-marking}
 use borrow.Author.Needs.{needs}
 use Rattle.change.proofs.changing.remove_lawful.Statement.{statement}
 use Rattle.change.proofs.changing.remove_lawful.Tie as tie
@@ -28,7 +29,7 @@ go-requires c κs =
     let f = c .before .before .before .before .before .before .before .remove-cause .ensures _ in
     let z = c .before .before .before .before .before .before .if1 .left in
     let p = replace-asked _ (s .pre .0) (remove (s .args .r)) _ f z (sized (s .args .design) _ (s .good .0)) (words-sized (now (s .args .held))) in
-    (p, (remove-asked _ (s .pre .0) (p .1) (s .args .r) _ z f, s .pre .1))
+    (p, (remove-asked _ (s .pre .0) (p .1) (s .args .r) _ z f, sound-marking _ (s .pre .0), s .pre .1))
 
 same-length-2 : tie.Need-same-length-2
 same-length-2 c = search needs
