@@ -198,6 +198,13 @@ impl<'s> Session<'s> {
         self.slice.rows.get(number)
     }
 
+    /// The rows of an answer, one list after another: their keys and labels are lent, and not copied.
+    pub fn rows_of<'a>(&'a self, lists: &'a Lists) -> impl ExactSizeIterator<Item = &'a Entry> {
+        let rows = &self.slice.rows;
+        let row = |&number: &u16| rows.get(number).expect("a row of the slice").as_ref();
+        lists.lists.rows().iter().map(row)
+    }
+
     /// The number of a row, if it is cached.
     pub fn number(&self, identity: &Identity) -> Option<u16> {
         let number = self.slice.rows.number(identity)?;
