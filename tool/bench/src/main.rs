@@ -7,7 +7,6 @@
 //! the answer is there, as `psql` tells it, and of many runs the fastest.
 
 mod laboratory;
-mod recorded;
 
 use std::borrow::Cow;
 use std::hint::black_box;
@@ -16,10 +15,10 @@ use std::time::Duration;
 use bench::clock::thread_time;
 use design::{Design, Word};
 use laboratory::Laboratory;
-use recorded::Recorded;
 use rusqlite::Statement;
 use session::{Answered, Session, Wanted};
-use source::Source;
+use source::{Condition, Source};
+use testing::Recorded;
 
 /// How often each is measured, and how many runs in a row.
 const RUNS: usize = 20_000;
@@ -102,12 +101,11 @@ fn texts<'a>(session: &'a Session, answered: &'a Answered) -> Vec<[Cow<'a, str>;
             rows.map(|row| [row.key.as_str().into(), row.label.as_str().into()])
                 .collect()
         }
-        Answered::Sent => panic!("it isn't cached"),
         Answered::Total(total) => vec![[total.to_string().into(), "".into()]],
+        Answered::Sent => panic!("it isn't cached"),
     }
 }
 
-/// The rows of a statement in a text, and how many they are.
 /// How many lists an answer has.
 fn count(answered: &Answered) -> usize {
     match answered {
@@ -116,6 +114,7 @@ fn count(answered: &Answered) -> usize {
     }
 }
 
+/// The rows of a statement in a text, and how many they are.
 fn selected(statement: &mut Statement, value: &str, text: &mut String) -> usize {
     let width = statement.column_count();
     let mut rows = statement.query([value]).expect("a query");
@@ -188,9 +187,17 @@ fn question(
     );
 }
 
-fn cost(source: &mut dyn Source, design: &Design, name: &str, value: &str) {
+/// The SELECTs of a load on an empty desk.
+fn selects(source: &mut dyn Source, design: &Design, name: &str, value: &str) -> Vec<Condition> {
     let mut recorded = Recorded::new(source);
     let mut session = Session::open(design, &mut recorded).expect("a session");
+    load(&mut session, design, name, value);
+    recorded.fetched().take()
+}
+
+fn cost(source: &mut dyn Source, design: &Design, name: &str, value: &str) {
+    let conditions = selects(source, design, name, value);
+    let mut session = Session::open(design, source).expect("a session");
     let rows = load(&mut session, design, name, value);
     let (number, wanted) = wanted(&mut session, design, name, value);
     let whole = fastest(RUNS / 20, || {
@@ -199,7 +206,6 @@ fn cost(source: &mut dyn Source, design: &Design, name: &str, value: &str) {
     });
     let clearing = fastest(RUNS / 20, || session.clear().expect("an empty desk"));
     drop(session);
-    let conditions = recorded.once();
     let selects = fastest(RUNS / 20, || {
         for condition in &conditions {
             source.fetch(condition).expect("it can be read");

@@ -3,7 +3,7 @@
 
 use std::collections::HashSet;
 
-use crate::design::{Column, Design, Place, Role, Source, Table, Type};
+use crate::design::{Column, Design, Place, Role, Single, Source, Table, Type};
 use crate::item::{
     ColumnItem, Dotted, LinkItem, LoadItem, Name, QuestionItem, SourceItem, TableItem, TypeItem,
 };
@@ -153,7 +153,7 @@ impl<'a> Builder<'a> {
         let column = Column {
             name: name.text,
             role: Role::Plain,
-            kind: Type::Text,
+            kind: Single::Text.into(),
             issue: None,
         };
         let place = self.add_column(table, column, name.span);
@@ -256,10 +256,10 @@ impl<'a> Builder<'a> {
                 if is_tuple {
                     self.lost_names.insert(table);
                 }
-                (Type::Text, false)
+                (Single::Text.into(), false)
             }
         };
-        if typed && item.role == Role::Measure && kind != Type::Integer {
+        if typed && item.role == Role::Measure && kind != Single::Integer.into() {
             self.problem(types::no_measure(&item.role_span, &kind));
         }
         self.one_key(table, item.role, &item.role_span);
@@ -439,8 +439,7 @@ impl<'a> Builder<'a> {
         let columns = &self.design.tables[table].columns;
         let column = columns.iter().position(|column| column.name == name)?;
         let kind = &columns[column].kind;
-        let is_number = matches!(kind, Type::Integer | Type::Bigint);
-        (!is_number && !self.untyped.contains(&Place { table, column })).then_some(kind)
+        (!kind.is_number() && !self.untyped.contains(&Place { table, column })).then_some(kind)
     }
 
     fn check_tables(&mut self) {

@@ -40,7 +40,8 @@ mod word;
 pub use asked::{asked, Asked};
 pub use cells::{Cells, MOST_CELLS};
 pub use design::{
-    Column, Design, Join, Link, Load, Place, Question, Role, Source, SourceKind, Table, Total, Type,
+    Column, Design, Join, Link, Load, Place, Question, Role, Single, Source, SourceKind, Table,
+    Total, Type,
 };
 pub use labels::{pieces, Piece};
 pub use limits::{MOST_LINKS, MOST_LOADS, MOST_TABLES};

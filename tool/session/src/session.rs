@@ -2,7 +2,7 @@
 
 use std::rc::Rc;
 
-use design::{script, Design, Place, Question, Role, Total, Type, Word};
+use design::{script, Design, Place, Question, Role, Single, Total, Type, Word};
 use source::{Condition, Failure, Source};
 use wurzsige::{Column, Desk, Dropped, Join, Probed, Query, Range, Referred, Refusal, Totalled};
 
@@ -84,7 +84,9 @@ impl<'s> Session<'s> {
     pub fn wanted(&mut self, load: usize, word: &Word) -> Result<Wanted, Trouble> {
         let column = self.design.loads[load].column;
         let ends = word.text.split_once("..");
-        let (Type::Integer, Some((low, high))) = (&self.design.column(column).kind, ends) else {
+        let (Type::Single(Single::Integer), Some((low, high))) =
+            (&self.design.column(column).kind, ends)
+        else {
             return Ok(Wanted::Value(self.read(column, word)?));
         };
         match (low.parse(), high.parse()) {

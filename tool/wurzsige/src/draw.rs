@@ -209,10 +209,9 @@ fn row(design: &Design, place: Place, takes_cell: bool, seen: bool) -> String {
 /// A column's type, tuples as such.
 fn kind(design: &Design, place: Place) -> String {
     let column = design.column(place);
-    match (column.role, column.kind.name()) {
-        (design::Role::Measure, _) => "measure".into(),
-        (_, Some(name)) => name.into(),
-        (_, None) => column.kind.to_string(),
+    match column.role {
+        design::Role::Measure => "measure".into(),
+        _ => column.kind.to_string(),
     }
 }
 
