@@ -221,9 +221,14 @@ fn edge(design: &Design, number: usize, in_knot: bool) -> String {
     let look = look(design, link, in_knot);
     let end = |place: Place| format!("t{}:c{}", place.table, place.column);
     let (source, target) = (end(link.source), end(link.target));
-    match link.source.table == link.target.table {
-        true => turning(number, link, &source, &target, &look),
-        false => format!("  {source} -> {target} [{look}];\n"),
+    let turned = |other: &Link| (other.source, other.target) == (link.target, link.source);
+    if link.source.table == link.target.table {
+        turning(number, link, &source, &target, &look)
+    } else if design.links[..number].iter().any(turned) {
+        // `dot` draws two lines between the same ends beside each other only if both start at one end
+        format!("  {target} -> {source} [dir=back, {look}];\n")
+    } else {
+        format!("  {source} -> {target} [{look}];\n")
     }
 }
 
