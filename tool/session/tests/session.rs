@@ -308,7 +308,7 @@ fn past_512_rows_nothing_is_loaded() {
             table: 0,
             by: By::Load(0),
             round: 0,
-            rows: 300
+            rows: 600
         }]
     );
     assert_eq!((session.cached().count(), session.held().len()), (300, 1));
