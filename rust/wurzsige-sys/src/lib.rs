@@ -47,6 +47,6 @@ pub mod word;
 
 pub use limits::{COLUMNS, CONSTRAINTS, DESKS, FILLINGS, FREE, JOINS, RANGES, TABLES, VALUES};
 pub use memory::{CATALOG, CELLS, DESIGN_WORDS, HELD_WORDS, KEYS, Memory, ROWS, WORKING};
-pub use slices::{FETCH_WORDS, VERDICT_WORDS, verdict};
+pub use slices::{FETCH_WORDS, VERDICT_WORDS, verdict, verdicts};
 pub use told::{MOST_COMMAND, MOST_DESIGN, MOST_SCRIPT, MOST_TEXT, NUMBERS, Sizes, Told};
 pub use version::{VERSION, library_version};

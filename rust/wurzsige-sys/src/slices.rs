@@ -1,7 +1,7 @@
 //! What a slice of a larger database lacks, and what a design decides of its columns.
 
 use crate::cause::OTHER_VERSION;
-use crate::memory::Memory;
+use crate::memory::{DESIGN_WORDS, Memory};
 use crate::parts;
 use crate::version::{VERSION, library_version};
 
@@ -136,8 +136,7 @@ impl Memory {
         missing(told, fetch)
     }
 
-    /// What the design decides of each of its columns, in the words of [`verdict`]; or cause
-    /// 12 for words that are no design.
+    /// What the design decides of each of its columns: [`verdicts`] of its words.
     ///
     /// ```
     /// use wurzsige_sys::{verdict, Memory};
@@ -149,16 +148,33 @@ impl Memory {
     /// assert_eq!(verdicts[..3], [verdict::FETCHES + verdict::SEEING, verdict::NEVER, 0]);
     /// ```
     pub fn verdicts(&self) -> Result<[u32; VERDICT_WORDS], u8> {
-        if library_version() != VERSION {
-            return Err(OTHER_VERSION);
-        }
-        let mut verdicts = [0; VERDICT_WORDS];
-        let (design, length) = (self.design.as_ptr(), self.design.len());
-        // SAFETY: as in `missing`.
-        match unsafe { parts::wurzsige_parts_verdicts(design, length, &mut verdicts) } {
-            0 => Ok(verdicts),
-            cause => Err(cause),
-        }
+        verdicts(&self.design)
+    }
+}
+
+/// What a design, by its words, decides of each of its columns, in the words of [`verdict`];
+/// or cause 12 for words that are no design.
+///
+/// ```
+/// use wurzsige_sys::{verdict, verdicts, DESIGN_WORDS};
+///
+/// // One table of two columns, which are neither unique nor loaded.
+/// let mut design = [0; DESIGN_WORDS];
+/// (design[0], design[3]) = (1, 2);
+/// let told = verdicts(&design).expect("a design");
+/// assert_eq!([told[0] & verdict::NEVER, told[2]], [verdict::NEVER, 0]);
+/// design[3] = 9; // columns
+/// assert_eq!(verdicts(&design), Err(12));
+/// ```
+pub fn verdicts(design: &[u32; DESIGN_WORDS]) -> Result<[u32; VERDICT_WORDS], u8> {
+    if library_version() != VERSION {
+        return Err(OTHER_VERSION);
+    }
+    let mut verdicts = [0; VERDICT_WORDS];
+    // SAFETY: the pointer goes with its slice's length, and what is written doesn't overlap it.
+    match unsafe { parts::wurzsige_parts_verdicts(design.as_ptr(), design.len(), &mut verdicts) } {
+        0 => Ok(verdicts),
+        cause => Err(cause),
     }
 }
 

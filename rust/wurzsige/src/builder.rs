@@ -230,6 +230,21 @@ impl Builder {
         u16::try_from(self.rows.len() - 1).unwrap_or(u16::MAX)
     }
 
+    /// The parts so far but for the rows, whether the desk accepts them or not.
+    ///
+    /// ```
+    /// use wurzsige::{Builder, Named::Plain};
+    ///
+    /// let mut builder = Builder::new();
+    /// let [ward] = builder.table("wards", [Plain("ward")]);
+    /// assert!(builder.design().has(ward));
+    /// assert_eq!(*builder.design(), builder.open()?.design());
+    /// # Ok::<(), wurzsige::DesignRefusal>(())
+    /// ```
+    pub fn design(&self) -> &Design {
+        &self.design
+    }
+
     /// The bytes of the design's script, whether the desk accepts it or not. Operations may
     /// be put behind them.
     ///

@@ -7,7 +7,7 @@ use wurzsige_sys::command::{
 };
 use wurzsige_sys::{JOINS, MOST_COMMAND};
 
-use crate::operand::{Column, Join, Query, Range, Row, Value};
+use crate::operand::{Column, Query, Range, Row, Value};
 use crate::parts::{Constraint, Filling, Table};
 
 /// What the byte of an operation on a value is greater by if an issue byte ends its
@@ -178,14 +178,12 @@ impl Command {
     /// the query is refused.
     fn operands(self, query: &Query) -> Command {
         let joins = u8::try_from(query.joins.len()).unwrap_or(u8::MAX);
-        let command = self.column(query.column).u32(query.value.number).u8(joins);
-        (0..JOINS).fold(command, |command, pair| {
-            let Join {
-                position,
-                constraint,
-            } = query.joins.get(pair).copied().unwrap_or_default();
-            command.u8(position).u8(constraint)
-        })
+        let mut pairs = [0; 2 * JOINS];
+        for (pair, join) in pairs.chunks_exact_mut(2).zip(&query.joins) {
+            pair.copy_from_slice(&[join.position, join.constraint]);
+        }
+        let command = self.column(query.column).u32(query.value.number);
+        command.u8(joins).with(pairs)
     }
 }
 

@@ -3,7 +3,7 @@
 use alloc::vec::Vec;
 use core::fmt;
 
-use wurzsige_sys::{DESKS, Memory};
+use wurzsige_sys::{DESIGN_WORDS, DESKS, Memory};
 
 use crate::operand::{Column, Range, Row, Value};
 
@@ -248,6 +248,30 @@ pub(crate) fn design_in(memory: &Memory) -> Design {
         constraints: (0..constraints as usize).map(constraint).collect(),
         fillings: (0..fillings as usize).map(filling).collect(),
     }
+}
+
+/// The words of a design: what [`design_in`] reads. Of more parts than there may be only the
+/// count goes across, for which the desk refuses the design.
+pub(crate) fn words_of(design: &Design) -> [u32; DESIGN_WORDS] {
+    let mut words = [0; DESIGN_WORDS];
+    let count = |parts: usize| u32::try_from(parts).unwrap_or(u32::MAX);
+    words[0] = count(design.tables.len());
+    words[1] = count(design.constraints.len());
+    words[2] = count(design.fillings.len());
+    for (table, place) in design.tables.iter().zip(words[3..19].chunks_exact_mut(2)) {
+        place.copy_from_slice(&[table.columns, table.unique].map(u32::from));
+    }
+    let constraints = words[19..83].chunks_exact_mut(4);
+    for (constraint, place) in design.constraints.iter().zip(constraints) {
+        let Constraint { source, target } = constraint;
+        let ends = [source.table, source.column, target.table, target.column];
+        place.copy_from_slice(&ends.map(u32::from));
+    }
+    for (filling, place) in design.fillings.iter().zip(words[83..].chunks_exact_mut(4)) {
+        let Filling { column, low, high } = *filling;
+        place.copy_from_slice(&[column.table.into(), column.column.into(), low, high]);
+    }
+    words
 }
 
 pub(crate) fn held_in(memory: &Memory) -> Vec<Held> {

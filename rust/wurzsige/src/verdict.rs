@@ -6,6 +6,8 @@ use wurzsige_sys::{VERDICT_WORDS, verdict};
 
 use crate::desk::Desk;
 use crate::operand::{Column, Row};
+use crate::parts::{Design, words_of};
+use crate::refusal::{Cause, Refusal};
 
 /// What can come of probes of a column, whatever the rows are.
 ///
@@ -18,14 +20,14 @@ use crate::operand::{Column, Row};
 /// let recordings = builder.constraint(subject, of);
 /// builder.filling(ward, 1..=99);
 ///
-/// let verdicts = builder.open()?.verdicts();
+/// let verdicts = builder.design().verdicts()?;
 /// let of_column = |column| verdicts.iter().find(|verdict| verdict.column == column).unwrap();
 /// assert!(of_column(ward).fetches && of_column(ward).seeing_is_enough);
 /// assert!(of_column(subject).once_unique);
 /// assert_eq!(of_column(of).once_linked, Some(recordings));
 /// // The numbers of recordings: nothing ever says that all rows with one are there.
 /// assert!(verdicts[2].never());
-/// # Ok::<(), wurzsige::DesignRefusal>(())
+/// # Ok::<(), wurzsige::Refusal>(())
 /// ```
 #[derive(Clone, Copy, Debug, PartialEq, Eq)]
 #[non_exhaustive]
@@ -74,7 +76,7 @@ impl Verdict {
 }
 
 /// The verdicts on the columns that there are, rising by table and column.
-pub(crate) fn verdicts_in(words: &[u32; VERDICT_WORDS]) -> Vec<Verdict> {
+fn verdicts_in(words: &[u32; VERDICT_WORDS]) -> Vec<Verdict> {
     let there = words.iter().enumerate().filter(|&(_, &word)| word != 0);
     let verdict = |(place, &word): (usize, &u32)| {
         let column = Column::new((place / Row::CELLS) as u8, (place % Row::CELLS) as u8);
@@ -83,23 +85,51 @@ pub(crate) fn verdicts_in(words: &[u32; VERDICT_WORDS]) -> Vec<Verdict> {
     there.map(verdict).collect()
 }
 
-impl Desk {
-    /// What the design decides of each column, rising by table and column.
+impl Design {
+    /// What the design decides of each column, rising by table and column, whatever rows a
+    /// desk of it will have. No desk is needed: [`Builder::design`](crate::Builder::design)
+    /// has the parts that were put together so far.
+    ///
+    /// Refused: parts that no script gives (12). [`Builder::open`](crate::Builder::open) says
+    /// which one isn't right.
     ///
     /// ```
-    /// use wurzsige::{Builder, Named::Plain};
+    /// use wurzsige::{Builder, Cause, Named::Plain};
     ///
     /// let mut builder = Builder::new();
     /// let [ward] = builder.table("wards", [Plain("ward")]);
-    /// assert!(builder.open()?.verdicts()[0].never());
+    /// assert!(builder.design().verdicts()?[0].never());
     /// builder.filling(ward, 1..=99);
-    /// assert!(builder.open()?.verdicts()[0].fetches);
-    /// # Ok::<(), wurzsige::DesignRefusal>(())
+    /// assert!(builder.design().verdicts()?[0].fetches);
+    ///
+    /// builder.filling(ward, 1..=99);
+    /// let refusal = builder.design().verdicts().unwrap_err();
+    /// assert_eq!(refusal.cause, Cause::Unlawful);
+    /// # Ok::<(), wurzsige::Refusal>(())
+    /// ```
+    pub fn verdicts(&self) -> Result<Vec<Verdict>, Refusal> {
+        let words = wurzsige_sys::verdicts(&words_of(self));
+        let refusal = |cause| Refusal {
+            cause: Cause::with_number(cause).expect("a cause that there is"),
+            place: None,
+            operand: None,
+        };
+        Ok(verdicts_in(&words.map_err(refusal)?))
+    }
+}
+
+impl Desk {
+    /// The verdicts of its design.
+    ///
+    /// ```
+    /// use wurzsige::Desk;
+    ///
+    /// let desk = Desk::open(&[0x01, 2, 1, 0x05])?;
+    /// assert_eq!(desk.verdicts(), desk.design().verdicts()?);
+    /// # Ok::<(), wurzsige::Refusal>(())
     /// ```
     pub fn verdicts(&self) -> Vec<Verdict> {
-        match self.look(|memory| memory.verdicts()) {
-            Ok(words) => verdicts_in(&words),
-            Err(cause) => unreachable!("a desk's design is refused for cause {cause}"),
-        }
+        let verdicts = self.design().verdicts();
+        verdicts.unwrap_or_else(|refusal| unreachable!("a desk's design: {refusal}"))
     }
 }

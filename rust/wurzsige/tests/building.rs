@@ -72,6 +72,8 @@ fn hold_to_open(script: &[u8]) -> Option<Cause> {
     match (builder.open(), Desk::open(&bytes)) {
         (Ok(desk), Ok(other)) => {
             assert_eq!(desk.to_memory(), other.to_memory());
+            assert_eq!(*builder.design(), desk.design());
+            assert_eq!(builder.design().verdicts(), Ok(desk.verdicts()));
             None
         }
         (Err(refused), Err(refusal)) => {
@@ -81,6 +83,13 @@ fn hold_to_open(script: &[u8]) -> Option<Cause> {
             assert_eq!(refused.part, there.map(|&(_, part)| part), "{refused}");
             let operand = matches!(refusal.cause, Cause::WrongOperand | Cause::ValueTwice);
             assert_eq!(refused.refusal.operand.is_some(), operand, "{refused}");
+            // rows are no part of the design
+            let of_a_row = matches!(refused.part, Some(Part::Row(_)) | None);
+            let verdicts = builder.design().verdicts().map_err(|refusal| refusal.cause);
+            match of_a_row {
+                true => assert!(verdicts.is_ok(), "{refused}"),
+                false => assert_eq!(verdicts, Err(Cause::Unlawful), "{refused}"),
+            }
             Some(refusal.cause)
         }
         (builder, bytes) => panic!("{builder:?} by the builder, {bytes:?} by its bytes"),

@@ -1,5 +1,5 @@
-//! What a desk says is missing, and its verdicts, beside the second implementation: on the
-//! desks that the examples and generated scripts leave, with lists of fetches that grow.
+//! What a desk says is missing, and its design's verdicts, beside the second implementation:
+//! on the desks that the examples and generated scripts leave, with lists of fetches that grow.
 
 mod common;
 
@@ -42,7 +42,8 @@ fn asked(desk: &Desk, replay: &Replay) -> usize {
 
 fn same_verdicts(desk: &Desk, replay: &Replay) {
     let design = replay.desk().design();
-    let mut verdicts = desk.verdicts().into_iter();
+    let verdicts = desk.design().verdicts().expect("a desk's design");
+    let mut verdicts = verdicts.into_iter();
     for (table, of) in design.tables.iter().enumerate() {
         for column in 0..of.columns {
             let expected = design.verdict(Place { table, column }).expect("a column");

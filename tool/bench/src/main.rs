@@ -1,21 +1,24 @@
 //! How fast a session answers what is cached, keys and labels included, beside SQLite's own answer in process and PostgreSQL's over a local socket; and what a load
 //! costs beside its SELECTs. Prints the tables of docs/BENCHMARKS.md.
 //!
+//! A session's answer lends its keys and labels, as a result of PostgreSQL's library does. SQLite lends a row's values until the next row, so that they are copied.
+//!
 //! In process it is the processor time of this thread, and of many runs the fastest. A server works in a process of its own: there it is the time until
 //! the answer is there, as `psql` tells it, and of many runs the fastest.
 
 mod laboratory;
-mod recorded;
 
+use std::borrow::Cow;
+use std::hint::black_box;
 use std::time::Duration;
 
 use bench::clock::thread_time;
 use design::{Design, Word};
 use laboratory::Laboratory;
-use recorded::Recorded;
 use rusqlite::Statement;
 use session::{Answered, Session, Wanted};
-use source::Source;
+use source::{Condition, Source};
+use testing::Recorded;
 
 /// How often each is measured, and how many runs in a row.
 const RUNS: usize = 20_000;
@@ -90,22 +93,24 @@ fn load(session: &mut Session, design: &Design, name: &str, value: &str) -> usiz
     session.cached().count()
 }
 
-/// An answer's keys and labels in a text, and how many lists it has.
-fn written(session: &Session, answered: &Answered, text: &mut String) -> usize {
+/// An answer's keys and labels.
+fn texts<'a>(session: &'a Session, answered: &'a Answered) -> Vec<[Cow<'a, str>; 2]> {
     match answered {
         Answered::Lists(lists) => {
-            for &row in lists.lists.iter().flatten() {
-                let row = session.row(row).expect("a row of the slice");
-                text.push_str(&row.key);
-                text.push_str(&row.label);
-            }
-            lists.lists.len()
+            let rows = session.rows_of(lists);
+            rows.map(|row| [row.key.as_str().into(), row.label.as_str().into()])
+                .collect()
         }
-        Answered::Total(total) => {
-            text.push_str(&total.to_string());
-            1
-        }
+        Answered::Total(total) => vec![[total.to_string().into(), "".into()]],
         Answered::Sent => panic!("it isn't cached"),
+    }
+}
+
+/// How many lists an answer has.
+fn count(answered: &Answered) -> usize {
+    match answered {
+        Answered::Lists(lists) => lists.lists.len(),
+        _ => 1,
     }
 }
 
@@ -153,20 +158,19 @@ fn question(
         .expect(value);
     let connection = laboratory.connection();
     let mut statement = connection.prepare(sql).expect(sql);
-    let (mut ours, mut theirs) = (String::new(), String::new());
+    let mut theirs = String::new();
     let answered = session.ask(question, &issued).expect("it is cached");
-    let lists = written(session, &answered, &mut ours);
+    let (ours, lists) = (texts(session, &answered), count(&answered));
     assert_eq!(
         lists,
         selected(&mut statement, value, &mut theirs),
         "{text}"
     );
-    assert_eq!(sorted(&ours), sorted(&theirs), "{text}");
+    assert_eq!(sorted(&ours.concat().concat()), sorted(&theirs), "{text}");
     let mut buffer = String::with_capacity(1 << 20);
     let here = fastest(RUNS, || {
-        buffer.clear();
         let answered = session.ask(question, &issued).expect("it is cached");
-        written(session, &answered, &mut buffer);
+        black_box(texts(session, &answered));
     });
     let sqlite = fastest(RUNS, || {
         buffer.clear();
@@ -183,9 +187,17 @@ fn question(
     );
 }
 
-fn cost(source: &mut dyn Source, design: &Design, name: &str, value: &str) {
+/// The SELECTs of a load on an empty desk.
+fn selects(source: &mut dyn Source, design: &Design, name: &str, value: &str) -> Vec<Condition> {
     let mut recorded = Recorded::new(source);
     let mut session = Session::open(design, &mut recorded).expect("a session");
+    load(&mut session, design, name, value);
+    recorded.fetched().take()
+}
+
+fn cost(source: &mut dyn Source, design: &Design, name: &str, value: &str) {
+    let conditions = selects(source, design, name, value);
+    let mut session = Session::open(design, source).expect("a session");
     let rows = load(&mut session, design, name, value);
     let (number, wanted) = wanted(&mut session, design, name, value);
     let whole = fastest(RUNS / 20, || {
@@ -194,7 +206,6 @@ fn cost(source: &mut dyn Source, design: &Design, name: &str, value: &str) {
     });
     let clearing = fastest(RUNS / 20, || session.clear().expect("an empty desk"));
     drop(session);
-    let conditions = recorded.once();
     let selects = fastest(RUNS / 20, || {
         for condition in &conditions {
             source.fetch(condition).expect("it can be read");

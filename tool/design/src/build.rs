@@ -3,7 +3,7 @@
 
 use std::collections::HashSet;
 
-use crate::design::{Column, Design, Place, Role, Source, Table, Type};
+use crate::design::{Column, Design, Place, Role, Single, Source, Table, Type};
 use crate::item::{
     ColumnItem, Dotted, LinkItem, LoadItem, Name, QuestionItem, SourceItem, TableItem, TypeItem,
 };
@@ -57,8 +57,6 @@ pub(crate) struct Builder<'a> {
     labels: Vec<(usize, Name)>,
     /// The issues' columns with the columns that they are for.
     issues: Vec<(Place, Name)>,
-    title: Option<Span>,
-    source: Option<Span>,
     open: Open,
 }
 
@@ -81,8 +79,6 @@ impl<'a> Builder<'a> {
             lost_names: HashSet::new(),
             labels: Vec::new(),
             issues: Vec::new(),
-            title: None,
-            source: None,
             open: Open::None,
         }
     }
@@ -153,7 +149,7 @@ impl<'a> Builder<'a> {
         let column = Column {
             name: name.text,
             role: Role::Plain,
-            kind: Type::Text,
+            kind: Single::Text.into(),
             issue: None,
         };
         let place = self.add_column(table, column, name.span);
@@ -161,17 +157,17 @@ impl<'a> Builder<'a> {
     }
 
     pub(crate) fn title(&mut self, title: Name, word: &Span) {
-        if let Some(first) = &self.title {
+        if let Some(first) = &self.spans.title {
             let problem = Problem::new(Code::E061, word.clone(), "a file is one design");
             let problem = problem.also(first.clone(), "it has its title here");
             return self.problem(problem);
         }
-        self.title = Some(word.start..title.span.end);
+        self.spans.title = Some(word.start..title.span.end);
         self.design.title = title.text;
     }
 
     pub(crate) fn source(&mut self, source: SourceItem) {
-        if let Some(first) = &self.source {
+        if let Some(first) = &self.spans.source {
             let message = "a design has one source";
             let problem = Problem::new(Code::E061, source.span, message);
             let problem = problem.also(first.clone(), "it is named here");
@@ -179,7 +175,7 @@ impl<'a> Builder<'a> {
                 problem.help("`--source` on the command line names another one for once"),
             );
         }
-        self.source = Some(source.span);
+        self.spans.source = Some(source.span);
         self.design.source = Some(Source {
             kind: source.kind,
             place: source.place,
@@ -256,10 +252,10 @@ impl<'a> Builder<'a> {
                 if is_tuple {
                     self.lost_names.insert(table);
                 }
-                (Type::Text, false)
+                (Single::Text.into(), false)
             }
         };
-        if typed && item.role == Role::Measure && kind != Type::Integer {
+        if typed && item.role == Role::Measure && kind != Single::Integer.into() {
             self.problem(types::no_measure(&item.role_span, &kind));
         }
         self.one_key(table, item.role, &item.role_span);
@@ -389,7 +385,8 @@ impl<'a> Builder<'a> {
         loads::resolve(&mut self);
         questions::resolve(&mut self);
         limits::check(&mut self);
-        let title = self.title.as_ref().map(|_| self.design.title.clone());
+        let title = self.spans.title.is_some();
+        let title = title.then(|| self.design.title.clone());
         if title.is_none() && !self.lost_title {
             let problem = Problem::new(Code::E060, 0..0, "the design has no title");
             self.problem(problem.help("begin with a line: design \"TITLE\""));
@@ -439,8 +436,7 @@ impl<'a> Builder<'a> {
         let columns = &self.design.tables[table].columns;
         let column = columns.iter().position(|column| column.name == name)?;
         let kind = &columns[column].kind;
-        let is_number = matches!(kind, Type::Integer | Type::Bigint);
-        (!is_number && !self.untyped.contains(&Place { table, column })).then_some(kind)
+        (!kind.is_number() && !self.untyped.contains(&Place { table, column })).then_some(kind)
     }
 
     fn check_tables(&mut self) {
@@ -461,7 +457,7 @@ impl<'a> Builder<'a> {
                 self.problems.push(
                     problem.help("each column stands on an indented line below it, with its type"),
                 );
-            } else if self.source.is_some()
+            } else if self.spans.source.is_some()
                 && !table.columns.iter().any(|column| column.role == Role::Key)
                 && !(0..table.columns.len()).any(untyped)
             {

@@ -107,6 +107,15 @@ impl Role {
 /// A column's type.
 #[derive(Clone, Debug, PartialEq, Eq)]
 pub enum Type {
+    /// That of one column of the database.
+    Single(Single),
+    /// Several columns of the database in one cell.
+    Tuple(Vec<String>),
+}
+
+/// The type of one column of the database.
+#[derive(Clone, Copy, Debug, PartialEq, Eq)]
+pub enum Single {
     /// A whole number from 1 to 4,294,967,295, which stands for itself.
     Integer,
     /// Another whole number.
@@ -121,40 +130,53 @@ pub enum Type {
     Timestamp,
     /// Yes or no.
     Boolean,
-    /// Several columns of the database in one cell.
-    Tuple(Vec<String>),
+}
+
+impl Single {
+    /// All of them.
+    pub const ALL: [Single; 7] = [
+        Single::Integer,
+        Single::Bigint,
+        Single::Text,
+        Single::Uuid,
+        Single::Date,
+        Single::Timestamp,
+        Single::Boolean,
+    ];
+
+    /// The type's name, which is PostgreSQL's too.
+    pub const fn name(self) -> &'static str {
+        match self {
+            Single::Integer => "integer",
+            Single::Bigint => "bigint",
+            Single::Text => "text",
+            Single::Uuid => "uuid",
+            Single::Date => "date",
+            Single::Timestamp => "timestamp",
+            Single::Boolean => "boolean",
+        }
+    }
+
+    /// Whether its values are whole numbers.
+    pub fn is_number(self) -> bool {
+        matches!(self, Single::Integer | Single::Bigint)
+    }
+
+    pub(crate) fn named(name: &str) -> Option<Single> {
+        Single::ALL.into_iter().find(|single| single.name() == name)
+    }
 }
 
 impl Type {
-    /// Every type but tuples.
-    pub const NAMED: [Type; 7] = [
-        Type::Integer,
-        Type::Bigint,
-        Type::Text,
-        Type::Uuid,
-        Type::Date,
-        Type::Timestamp,
-        Type::Boolean,
-    ];
-
-    /// The type's name; a tuple has none.
-    pub fn name(&self) -> Option<&'static str> {
-        Some(match self {
-            Type::Integer => "integer",
-            Type::Bigint => "bigint",
-            Type::Text => "text",
-            Type::Uuid => "uuid",
-            Type::Date => "date",
-            Type::Timestamp => "timestamp",
-            Type::Boolean => "boolean",
-            Type::Tuple(_) => return None,
-        })
+    /// Whether its values are whole numbers.
+    pub fn is_number(&self) -> bool {
+        matches!(self, Type::Single(single) if single.is_number())
     }
+}
 
-    pub(crate) fn named(name: &str) -> Option<Type> {
-        Type::NAMED
-            .into_iter()
-            .find(|kind| kind.name() == Some(name))
+impl From<Single> for Type {
+    fn from(single: Single) -> Type {
+        Type::Single(single)
     }
 }
 
@@ -162,8 +184,8 @@ impl Type {
 impl fmt::Display for Type {
     fn fmt(&self, out: &mut fmt::Formatter<'_>) -> fmt::Result {
         match self {
+            Type::Single(single) => out.write_str(single.name()),
             Type::Tuple(parts) => write!(out, "({})", print::names(parts)),
-            named => out.write_str(named.name().unwrap_or_default()),
         }
     }
 }

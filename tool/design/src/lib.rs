@@ -40,13 +40,17 @@ mod word;
 pub use asked::{asked, Asked};
 pub use cells::{Cells, MOST_CELLS};
 pub use design::{
-    Column, Design, Join, Link, Load, Place, Question, Role, Source, SourceKind, Table, Total, Type,
+    Column, Design, Join, Link, Load, Place, Question, Role, Single, Source, SourceKind, Table,
+    Total, Type,
 };
 pub use labels::{pieces, Piece};
 pub use limits::{MOST_LINKS, MOST_LOADS, MOST_TABLES};
 pub use nearest::nearest;
 pub use pages::Page;
-pub use print::{column_kind, link_line, load_line, name, print, question_line, table_line};
+pub use print::{
+    column_kind, link_line, load_line, name, print, question_line, source_line, table_line,
+    title_line,
+};
 pub use problem::{Code, Label, Problem, Severity};
 pub use questions::{ways, MOST_JOINS};
 pub use read::{read, Reading, Spans};

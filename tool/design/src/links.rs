@@ -1,7 +1,7 @@
 //! Links: their columns, the classes that they make, and none twice.
 
 use crate::build::Builder;
-use crate::design::{Link, Place, Role, Type};
+use crate::design::{Link, Place, Role};
 use crate::item::LinkItem;
 use crate::problem::{Code, Problem};
 use crate::span::Span;
@@ -86,11 +86,11 @@ fn different(
     };
     let problem = Problem::new(Code::E021, spans.0.clone(), message);
     let problem = problem.also(spans.1.clone(), "");
-    match (&left.kind, &right.kind) {
-        (Type::Integer, Type::Bigint) | (Type::Bigint, Type::Integer) => problem.help(
+    match left.kind.is_number() && right.kind.is_number() && left.kind != right.kind {
+        true => problem.help(
             "write the same for both: `integer` for numbers from 1 to 4,294,967,295, `bigint` for others",
         ),
-        _ => problem.help("columns that links connect, directly or through others, have one type"),
+        false => problem.help("columns that links connect, directly or through others, have one type"),
     }
 }
 

@@ -1,7 +1,7 @@
 //! Loads: their columns, what can be loaded, and none twice.
 
 use crate::build::Builder;
-use crate::design::{Load, Place, Type};
+use crate::design::{Load, Place, Single};
 use crate::item::{LoadItem, Name, ValuesItem};
 use crate::links::measure;
 use crate::problem::{Code, Problem};
@@ -47,7 +47,7 @@ fn add(builder: &mut Builder, item: LoadItem, column: Place, values: Option<(u32
     if let Some(values) = &item.values {
         let typed = !builder.untyped.contains(&column);
         let kind = &builder.design.column(column).kind;
-        if typed && *kind != Type::Integer {
+        if typed && *kind != Single::Integer.into() {
             let span = joined(&values.low.span, &values.high.span);
             let message = format!(
                 "{} is {kind}: only `integer` columns are loaded by `values`",

@@ -1,6 +1,6 @@
 //! A design as text, in one form for each design: [`crate::read`] gives the same design for it.
 
-use crate::design::{Column, Design, Link, Load, Question, Role, Table};
+use crate::design::{Column, Design, Link, Load, Question, Role, Source, Table};
 use crate::token::is_word;
 
 /// The text of a design.
@@ -45,12 +45,18 @@ fn lines(lines: impl Iterator<Item = String>) -> String {
 }
 
 fn head(design: &Design) -> String {
-    let mut head = format!("design {}\n", string(&design.title));
-    if let Some(source) = &design.source {
-        let kind = source.kind.name();
-        head += &format!("source {kind} {}\n", string(&source.place));
-    }
-    head
+    let source = design.source.iter().map(source_line);
+    lines([title_line(design)].into_iter().chain(source))
+}
+
+/// The title's line.
+pub fn title_line(design: &Design) -> String {
+    format!("design {}", string(&design.title))
+}
+
+/// A source's line.
+pub fn source_line(source: &Source) -> String {
+    format!("source {} {}", source.kind.name(), string(&source.place))
 }
 
 /// A table's own line.

@@ -24,6 +24,10 @@ pub struct Reading {
 /// Where a design's parts stand in its text, each kind in the design's order.
 #[derive(Clone, Debug, Default)]
 pub struct Spans {
+    /// The title, with the word before it.
+    pub title: Option<Span>,
+    /// The source's kind and place.
+    pub source: Option<Span>,
     /// The tables' names.
     pub tables: Vec<Span>,
     /// The columns' names, table by table.

@@ -1,7 +1,7 @@
 //! Types of columns, and of the classes that links make of them.
 
 use crate::build::Builder;
-use crate::design::{Place, Type};
+use crate::design::{Place, Single, Type};
 use crate::item::Name;
 use crate::nearest::nearest;
 use crate::problem::{Code, Problem};
@@ -37,8 +37,8 @@ const FRACTIONS: [&str; 6] = ["real", "float", "double", "numeric", "decimal", "
 
 /// The type with a name.
 pub(crate) fn named(name: &Name) -> Result<Type, Problem> {
-    if let Some(kind) = Type::named(&name.text) {
-        return Ok(kind);
+    if let Some(single) = Single::named(&name.text) {
+        return Ok(single.into());
     }
     let message = format!("`{}` is no type", name.text);
     let problem = Problem::new(Code::E020, name.span.clone(), message);
@@ -49,7 +49,7 @@ pub(crate) fn named(name: &Name) -> Result<Type, Problem> {
     if FRACTIONS.contains(&folded.as_str()) {
         return Err(problem.help("cells are whole numbers: let a column of the database, or of a view, have it in tenths or hundredths"));
     }
-    let names = Type::NAMED.iter().filter_map(Type::name);
+    let names = Single::ALL.iter().map(|single| single.name());
     match nearest(&name.text, names) {
         Some(near) => Err(problem.label(format!("did you mean `{near}`?"))),
         None => Err(problem.help("the types are integer, bigint, text, uuid, date, timestamp, boolean, and tuples: (A, B)")),
@@ -77,7 +77,7 @@ pub(crate) fn tuple(parts: &[Name], span: Span) -> Result<Type, Problem> {
 pub(crate) fn no_measure(span: &Span, kind: &Type) -> Problem {
     let message = format!("a measure is a whole number, and `{kind}` is none");
     let message = match kind {
-        Type::Bigint => "a measure is written `measure integer`".to_string(),
+        Type::Single(Single::Bigint) => "a measure is written `measure integer`".to_string(),
         _ => message,
     };
     let problem = Problem::new(Code::E026, span.clone(), message);
@@ -88,7 +88,7 @@ pub(crate) fn no_measure(span: &Span, kind: &Type) -> Problem {
 #[derive(Clone, Debug, PartialEq, Eq)]
 enum Shape {
     Unknown,
-    Named(Type),
+    Single(Single),
     Tuple(Vec<Shape>),
 }
 
@@ -101,7 +101,7 @@ fn shape(builder: &Builder, place: Place) -> Shape {
             let part = |part: &String| part_shape(builder, place.table, part);
             Shape::Tuple(parts.iter().map(part).collect())
         }
-        named => Shape::Named(named.clone()),
+        Type::Single(single) => Shape::Single(*single),
     }
 }
 
@@ -110,8 +110,8 @@ fn part_shape(builder: &Builder, table: usize, part: &str) -> Shape {
     let declared = columns.iter().position(|column| column.name == part);
     let typed = declared.filter(|&column| !builder.untyped.contains(&Place { table, column }));
     match typed.map(|column| &columns[column].kind) {
+        Some(Type::Single(single)) => Shape::Single(*single),
         Some(Type::Tuple(_)) | None => Shape::Unknown,
-        Some(named) => Shape::Named(named.clone()),
     }
 }
 

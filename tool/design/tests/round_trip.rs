@@ -2,7 +2,7 @@
 
 mod generate;
 
-use design::{print, read, Cells, Type, MOST_CELLS};
+use design::{print, read, Cells, Single, MOST_CELLS};
 use generate::{design, Random};
 
 const DESIGNS: u64 = 3_000;
@@ -72,7 +72,7 @@ fn the_designs_are_of_all_kinds() {
     ] {
         assert!(texts.iter().any(|text| text.contains(words)), "{words}");
     }
-    for kind in Type::NAMED.iter().filter_map(Type::name) {
+    for kind in Single::ALL.map(Single::name) {
         let of_kind = |text: &String| text.contains(&format!(" {kind}\n"));
         assert!(texts.iter().any(of_kind), "{kind}");
     }

@@ -1,6 +1,6 @@
 //! Names to numbers and back: a database's values as cells, its rows as rows of the desk, and what the desk asks for as conditions on the database.
 
-use design::{Cells, Design, Place, Role, Type};
+use design::{Cells, Design, Place, Role, Single, Type};
 use source::{Condition, Failure, Record, Value};
 use wurzsige::{Column, Fetch, Row};
 
@@ -57,7 +57,7 @@ impl<'d> Coder<'d> {
             return Ok(number.into());
         }
         let number = match column.kind {
-            Type::Integer => self.whole(place, value, 1)?,
+            Type::Single(Single::Integer) => self.whole(place, value, 1)?,
             _ => self.number(place, value)?,
         };
         Ok((number, issue).into())
@@ -93,7 +93,7 @@ impl<'d> Coder<'d> {
             return None;
         }
         let value = match self.design.column(place).kind {
-            Type::Integer => Value::Number(cell.number.into()),
+            Type::Single(Single::Integer) => Value::Number(cell.number.into()),
             _ => {
                 let dictionary = &self.dictionaries[self.classes.class(place)];
                 dictionary.value(cell.number)?.clone()

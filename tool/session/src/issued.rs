@@ -124,7 +124,7 @@ fn split(text: &str, names: &[String]) -> Result<Vec<String>, String> {
 
 #[cfg(test)]
 mod tests {
-    use design::{words, Column, Role, Type, Word};
+    use design::{words, Column, Role, Single, Type, Word};
     use source::Value;
 
     use super::{texts, Issued};
@@ -138,6 +138,10 @@ mod tests {
         }
     }
 
+    fn text() -> Type {
+        Single::Text.into()
+    }
+
     fn pair() -> Type {
         Type::Tuple(vec!["recording_id".into(), "label".into()])
     }
@@ -148,7 +152,7 @@ mod tests {
 
     #[test]
     fn an_issue_stands_behind_a_value_of_a_column_that_has_issues() {
-        let (plain, issued) = (column(Type::Text, None), column(Type::Text, Some("n")));
+        let (plain, issued) = (column(text(), None), column(text(), Some("n")));
         let one = |text: &str| vec![text.to_string()];
         assert_eq!(texts(&plain, &word("7#1")), Ok((one("7#1"), 0)));
         assert_eq!(texts(&issued, &word("7#1")), Ok((one("7"), 1)));
@@ -163,7 +167,7 @@ mod tests {
 
     #[test]
     fn a_value_is_a_word_or_stands_in_quotes() {
-        let issued = column(Type::Text, Some("n"));
+        let issued = column(text(), Some("n"));
         for (text, issue, written) in [
             ("W-NORD", 0, "W-NORD"),
             ("", 0, "\"\""),

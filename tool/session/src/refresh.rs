@@ -2,7 +2,7 @@
 //!
 //! What was fetched of the old snapshot is fetched of the new one, whole. The rows that are here are held against that by their keys: so a row whose value
 //! has changed goes, unless another fetch has it, and one that a change has brought to a fetched value comes. After that the list of fetches is true of the new
-//! snapshot, and the loop goes on from there.
+//! snapshot, and the loop goes on from there. If there is no room for rows that nothing needs any more beside those that come, it goes on from nothing.
 
 use std::collections::HashMap;
 use std::rc::Rc;
@@ -12,9 +12,9 @@ use wurzsige::{Fetch, Row};
 
 use crate::answers::Held;
 use crate::rows::{Entry, Identity, MOST_ROWS};
-use crate::session::Session;
-use crate::slice::{fetched, put, remove, Slice, Stopped};
-use crate::trouble::Trouble;
+use crate::session::{empty, Session};
+use crate::slice::{fetched, put, remove, Slice};
+use crate::trouble::{TooLarge, Trouble};
 
 /// What a new snapshot has changed.
 #[derive(Clone, Debug, PartialEq, Eq)]
@@ -53,25 +53,48 @@ impl Session<'_> {
         slice.shrink();
         self.source.refresh()?;
         let before = self.cached_rows(&self.slice);
-        match self.renewed(&mut slice) {
-            Ok(()) => {
+        let renewed = match self.renewed(slice) {
+            Err(Trouble::TooLarge(_)) => self.anew(),
+            renewed => renewed,
+        };
+        match renewed {
+            Ok(slice) => {
                 let after = self.cached_rows(&slice);
                 self.slice = slice;
                 Ok(compared(&before, &after))
             }
-            Err(Stopped::Failed(failure)) => Err(failure),
-            Err(Stopped::Full { rows, .. }) => {
+            Err(Trouble::TooLarge(large)) => {
                 let dropped = self.held();
-                self.clear()
-                    .map_err(|trouble| Failure::Unfit(trouble.to_string()))?;
+                self.clear().map_err(failure)?;
+                let rows = large.rows;
                 Ok(Refreshed::TooLarge { rows, dropped })
             }
+            Err(trouble) => Err(failure(trouble)),
         }
     }
 
-    /// Brings a slice, all of whose rows are cached, to the source's snapshot.
-    fn renewed(&mut self, slice: &mut Slice) -> Result<(), Stopped> {
-        let mut found = self.found(slice)?;
+    /// What is held, on a slice that has nothing else.
+    fn anew(&mut self) -> Result<Slice, Trouble> {
+        let mut held = Vec::new();
+        for one in self.held() {
+            held.push((one.desk, self.holding(one.load, &one.wanted)?));
+        }
+        let named = self.named_desk();
+        let mut slice = empty(self.design)?;
+        let performed = slice.perform(&mut self.feed(), &|desk| {
+            for (number, holding) in &held {
+                desk.name_desk(*number)?;
+                holding.hold(desk)?;
+            }
+            desk.name_desk(named)
+        });
+        performed??;
+        Ok(slice)
+    }
+
+    /// A slice, all of whose rows are cached, in the source's snapshot.
+    fn renewed(&mut self, mut slice: Slice) -> Result<Slice, Trouble> {
+        let mut found = self.found(&slice)?;
         let numbers: Vec<u16> = slice.rows.iter().map(|(number, _)| number).collect();
         let mut stayed = Vec::new();
         for number in numbers {
@@ -94,9 +117,9 @@ impl Session<'_> {
             put(self.design, slice.desk_mut(), number, &entry, &row)?;
             slice.rows.put(number, entry);
         }
-        self.come(slice, found)?;
-        let unchanged = slice.perform(&mut self.feed(), &|_| Ok(()))?;
-        unchanged.map_err(|refusal| Stopped::Failed(Failure::Unfit(refusal.to_string())))
+        self.come(&mut slice, found)?;
+        slice.perform(&mut self.feed(), &|_| Ok(()))??;
+        Ok(slice)
     }
 
     /// All rows of the new snapshot that a slice's fetches ask for.
@@ -113,14 +136,11 @@ impl Session<'_> {
     }
 
     /// Puts in the rows that have come, by table and key.
-    fn come(&mut self, slice: &mut Slice, found: Found) -> Result<(), Stopped> {
+    fn come(&mut self, slice: &mut Slice, found: Found) -> Result<(), Trouble> {
         let rows = slice.rows.len() + found.len();
         if rows > MOST_ROWS {
-            return Err(Stopped::Full {
-                rows,
-                brought: Vec::new(),
-                last: None,
-            });
+            let brought = Vec::new();
+            return Err(Trouble::TooLarge(TooLarge { rows, brought }));
         }
         let mut come: Vec<(Entry, Row)> = found.into_values().collect();
         come.sort_by(|(left, _), (right, _)| left.identity.cmp(&right.identity));
@@ -140,6 +160,14 @@ impl Session<'_> {
         cached
             .map(|(_, entry)| (entry.identity.clone(), Rc::clone(entry)))
             .collect()
+    }
+}
+
+/// What keeps a new snapshot from being read.
+fn failure(trouble: Trouble) -> Failure {
+    match trouble {
+        Trouble::Failed(failure) => failure,
+        other => Failure::Unfit(other.to_string()),
     }
 }
 

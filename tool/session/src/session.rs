@@ -2,7 +2,7 @@
 
 use std::rc::Rc;
 
-use design::{script, Design, Place, Question, Role, Total, Type, Word};
+use design::{script, Design, Place, Question, Role, Single, Total, Type, Word};
 use source::{Condition, Failure, Source};
 use wurzsige::{Column, Desk, Dropped, Join, Probed, Query, Range, Referred, Refusal, Totalled};
 
@@ -10,8 +10,8 @@ use crate::answers::{Answered, Lists, Wanted};
 use crate::coder::Coder;
 use crate::issued::{texts, Issued};
 use crate::rows::{Entry, Identity};
-use crate::slice::{Feed, Slice, Stopped};
-use crate::trouble::{TooLarge, Trouble};
+use crate::slice::{Feed, Slice};
+use crate::trouble::Trouble;
 
 /// A desk over a slice of a database. Each of its operations is carried out whole, with an answer that the whole database would give too, or is in [`Trouble`]
 /// and has changed nothing.
@@ -84,7 +84,9 @@ impl<'s> Session<'s> {
     pub fn wanted(&mut self, load: usize, word: &Word) -> Result<Wanted, Trouble> {
         let column = self.design.loads[load].column;
         let ends = word.text.split_once("..");
-        let (Type::Integer, Some((low, high))) = (&self.design.column(column).kind, ends) else {
+        let (Type::Single(Single::Integer), Some((low, high))) =
+            (&self.design.column(column).kind, ends)
+        else {
             return Ok(Wanted::Value(self.read(column, word)?));
         };
         match (low.parse(), high.parse()) {
@@ -127,10 +129,8 @@ impl<'s> Session<'s> {
 
     /// Loads a value, or a range of numbers.
     pub fn load(&mut self, load: usize, wanted: &Wanted) -> Result<Referred, Trouble> {
-        match self.holding(load, wanted)? {
-            Holding::Value(filling, value) => self.perform(&|desk| desk.refer(filling, value)),
-            Holding::Range(range) => self.perform(&|desk| desk.hold_range(range)),
-        }
+        let holding = self.holding(load, wanted)?;
+        self.perform(&|desk| holding.hold(desk))
     }
 
     /// Drops what was loaded. The numbers of rows that nothing needs any more are for later rows.
@@ -198,6 +198,13 @@ impl<'s> Session<'s> {
         self.slice.rows.get(number)
     }
 
+    /// The rows of an answer, one list after another: their keys and labels are lent, and not copied.
+    pub fn rows_of<'a>(&'a self, lists: &'a Lists) -> impl ExactSizeIterator<Item = &'a Entry> {
+        let rows = &self.slice.rows;
+        let row = |&number: &u16| rows.get(number).expect("a row of the slice").as_ref();
+        lists.lists.rows().iter().map(row)
+    }
+
     /// The number of a row, if it is cached.
     pub fn number(&self, identity: &Identity) -> Option<u16> {
         let number = self.slice.rows.number(identity)?;
@@ -223,26 +230,18 @@ impl<'s> Session<'s> {
     ) -> Result<T, Trouble> {
         self.usable()?;
         let mut slice = self.slice.clone();
-        let mut performed = self.performed(&mut slice, operation);
-        if matches!(performed, Err(Stopped::Full { .. })) {
+        let mut performed = slice.perform(&mut self.feed(), operation);
+        if matches!(performed, Err(Trouble::TooLarge(_))) {
             let read = self.slice.rows.len();
             slice = self.slice.clone();
             slice.shrink();
             if slice.rows.len() < read {
-                performed = self.performed(&mut slice, operation);
+                performed = slice.perform(&mut self.feed(), operation);
             }
         }
-        let answer = performed.map_err(trouble)?;
+        let answer = performed?;
         self.slice = slice;
         Ok(answer?)
-    }
-
-    fn performed<T>(
-        &mut self,
-        slice: &mut Slice,
-        operation: &dyn Fn(&mut Desk) -> Result<T, Refusal>,
-    ) -> Result<Result<T, Refusal>, Stopped> {
-        slice.perform(&mut self.feed(), operation)
     }
 
     pub(crate) fn feed(&mut self) -> Feed<'_, 's> {
@@ -299,7 +298,7 @@ impl<'s> Session<'s> {
         Ok(self.coder.cell(place, Some(&value.value), value.issue)?)
     }
 
-    fn holding(&mut self, load: usize, wanted: &Wanted) -> Result<Holding, Trouble> {
+    pub(crate) fn holding(&mut self, load: usize, wanted: &Wanted) -> Result<Holding, Trouble> {
         let filling = byte(load);
         match wanted {
             Wanted::Value(value) => {
@@ -322,9 +321,18 @@ impl<'s> Session<'s> {
 }
 
 /// What is loaded or dropped, in numbers.
-enum Holding {
+pub(crate) enum Holding {
     Value(u8, wurzsige::Value),
     Range(Range),
+}
+
+impl Holding {
+    pub(crate) fn hold(&self, desk: &mut Desk) -> Result<Referred, Refusal> {
+        match *self {
+            Holding::Value(filling, value) => desk.refer(filling, value),
+            Holding::Range(range) => desk.hold_range(range),
+        }
+    }
 }
 
 fn has_key(table: &design::Table) -> bool {
@@ -332,23 +340,8 @@ fn has_key(table: &design::Table) -> bool {
 }
 
 /// A slice without rows.
-fn empty(design: &Design) -> Result<Slice, Refusal> {
+pub(crate) fn empty(design: &Design) -> Result<Slice, Refusal> {
     Ok(Slice::new(Desk::open(&script(design))?))
-}
-
-fn trouble(stopped: Stopped) -> Trouble {
-    match stopped {
-        Stopped::Failed(failure) => Trouble::Failed(failure),
-        Stopped::Full {
-            rows,
-            brought,
-            last,
-        } => Trouble::TooLarge(TooLarge {
-            rows,
-            brought,
-            last,
-        }),
-    }
 }
 
 fn join(join: &design::Join) -> Join {

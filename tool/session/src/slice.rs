@@ -4,14 +4,15 @@
 use std::collections::HashSet;
 use std::rc::Rc;
 
-use design::{Design, Place};
+use design::Design;
 use source::{Failure, Record, Source};
 use wurzsige::{Cause, Desk, Fetch, Fetches, Refusal, Row};
 
 use crate::ahead::Ahead;
-use crate::brought::{brought, Brought};
+use crate::brought::brought_with;
 use crate::coder::Coder;
 use crate::rows::{Entry, Rows, MOST_ROWS};
+use crate::trouble::{TooLarge, Trouble};
 
 /// The desk, the fetches that were made, and which row of the database has which number. Between operations nothing is missing.
 #[derive(Clone)]
@@ -29,16 +30,14 @@ pub(crate) struct Feed<'f, 'd> {
     pub(crate) coder: &'f mut Coder<'d>,
 }
 
-/// Why the loop was broken off.
+/// Why rows aren't fetched.
 pub(crate) enum Stopped {
-    /// No number is free for a row.
+    /// There are fewer free numbers than rows of a fetch that aren't here yet.
     Full {
-        /// The rows that were known to be needed.
-        rows: usize,
-        /// What brought those that have numbers.
-        brought: Vec<Brought>,
-        /// The column whose value was fetched last, and the rows that it would have added.
-        last: Option<(Place, usize)>,
+        /// The fetch.
+        fetch: Fetch,
+        /// The rows.
+        more: usize,
     },
     /// The database can't be read, or has what no desk can have.
     Failed(Failure),
@@ -72,7 +71,7 @@ impl Slice {
         &mut self,
         feed: &mut Feed,
         operation: &dyn Fn(&mut Desk) -> Result<T, Refusal>,
-    ) -> Result<Result<T, Refusal>, Stopped> {
+    ) -> Result<Result<T, Refusal>, Trouble> {
         loop {
             let mut copy = Desk::clone(&self.desk);
             let answer = operation(&mut copy);
@@ -82,29 +81,19 @@ impl Slice {
                 return Ok(answer);
             }
             let ahead = Ahead::new(&self.desk, &self.fetches, &lacking);
-            if let Err(stopped) = self.fetch_all(feed, ahead) {
-                return Err(self.broken_off(stopped, operation));
+            match self.fetch_all(feed, ahead) {
+                Ok(()) => {}
+                Err(Stopped::Failed(failure)) => return Err(failure.into()),
+                Err(Stopped::Full { fetch, more }) => {
+                    // refused or not, the rows that are cached after it have reasons
+                    let mut copy = Desk::clone(&self.desk);
+                    let _ = operation(&mut copy);
+                    return Err(Trouble::TooLarge(TooLarge {
+                        rows: self.rows.len() + more,
+                        brought: brought_with(&copy, fetch, more)?,
+                    }));
+                }
             }
-        }
-    }
-
-    /// An operation that needs more rows than there are numbers was broken off: with what brought those that have numbers.
-    fn broken_off<T>(
-        &self,
-        stopped: Stopped,
-        operation: &dyn Fn(&mut Desk) -> Result<T, Refusal>,
-    ) -> Stopped {
-        let Stopped::Full { rows, last, .. } = stopped else {
-            return stopped;
-        };
-        let mut copy = Desk::clone(&self.desk);
-        // refused or not, the rows that are cached after it have reasons
-        let _ = operation(&mut copy);
-        let brought = brought(&copy, copy.cached()).unwrap_or_default();
-        Stopped::Full {
-            rows,
-            brought,
-            last,
         }
     }
 
@@ -145,14 +134,10 @@ impl Slice {
         new: &mut Vec<(u16, Row)>,
     ) -> Result<(), Stopped> {
         let found = fetched(feed, fetch)?;
-        let here = |(entry, _): &&(Entry, Row)| self.rows.number(&entry.identity).is_some();
-        let rows = self.rows.len() + found.len() - found.iter().filter(here).count();
-        if rows > MOST_ROWS {
-            return Err(Stopped::Full {
-                rows,
-                brought: Vec::new(),
-                last: Some((feed.coder.place(fetch.column()), rows - self.rows.len())),
-            });
+        let is_new = |(entry, _): &&(Entry, Row)| self.rows.number(&entry.identity).is_none();
+        let more = found.iter().filter(is_new).count();
+        if self.rows.len() + more > MOST_ROWS {
+            return Err(Stopped::Full { fetch, more });
         }
         for (entry, row) in found {
             if let Some(number) = self.rows.number(&entry.identity) {

@@ -2,7 +2,6 @@
 
 use std::fmt;
 
-use design::Place;
 use source::Failure;
 use wurzsige::{Operand, Refusal};
 
@@ -27,12 +26,10 @@ pub enum Trouble {
 /// What is known of an operation that needs more rows than a desk can have.
 #[derive(Clone, Debug, PartialEq, Eq)]
 pub struct TooLarge {
-    /// The rows that it was known to need when it was broken off; it may need more.
+    /// The rows that it was known to need, with all that is held beside it, when it was broken off; it may need more.
     pub rows: usize,
-    /// What brought them, as far as there were numbers for them.
+    /// What brought them.
     pub brought: Vec<Brought>,
-    /// The column whose value was fetched when there were no numbers left, and the rows that it would have added.
-    pub last: Option<(Place, usize)>,
 }
 
 impl From<Refusal> for Trouble {

@@ -5,10 +5,12 @@ mod support;
 use std::rc::Rc;
 
 use session::{
-    Answered, Ground, Held, Identity, Issued, Probed, Referred, Refreshed, Session, Trouble,
+    Answered, Ground, Held, Identity, Issued, Probed, Referred, Refreshed, Session, Trouble, Wanted,
 };
 use source::{Failure, Value};
-use support::laboratory::{event, issued, laboratory, place, question, recording, subject, value};
+use support::laboratory::{
+    event, issued, laboratory, place, question, recording, subject, text, value,
+};
 use support::memory::Memory;
 
 #[test]
@@ -118,6 +120,49 @@ fn after_a_failed_refresh_nothing_is_answered_until_one_succeeds() {
     assert_eq!(total, Answered::Total(43));
 }
 
+/// A subject of 300 nights leaves the ward, and another one comes. The nights of the first are still fetched, and there is no room for both; but nothing needs them.
+#[test]
+fn a_refresh_has_room_for_what_is_needed() {
+    let (design, rows) = laboratory();
+    let ill = |ward: &str, id: &str| subject(id, 0, ward, "");
+    let nights = |from: i64, id: &'static str| {
+        (from..from + 300).map(move |night| recording(night, Some((id, 0))))
+    };
+    rows.borrow_mut()
+        .extend([ill("sued", "a"), ill("ost", "b")]);
+    rows.borrow_mut()
+        .extend(nights(1_000, "a").chain(nights(2_000, "b")));
+    let mut memory = Memory::new(&design, &rows);
+    let mut session = Session::open(&design, &mut memory).expect("a session");
+    session.load(0, &value("sued")).expect("it fits");
+    session.name_desk(3).expect("a desk");
+    let range = Wanted::Range { low: 10, high: 11 };
+    session.load(1, &range).expect("it fits");
+    let held = session.held();
+    rows.borrow_mut()
+        .retain(|row| !(row.table == 0 && ["a", "b"].iter().any(|id| row.values[0] == text(id))));
+    rows.borrow_mut()
+        .extend([ill("ost", "a"), ill("sued", "b")]);
+    let refreshed = session.refresh().expect("it can be read");
+    let kept = Refreshed::Kept {
+        came: 301,
+        went: 301,
+        changed: 0,
+    };
+    assert_eq!(refreshed, kept);
+    assert_eq!((session.held(), session.named_desk()), (held, 3));
+    let of = place(&design, "recording.subject");
+    let certain = Probed::Ground {
+        ground: Ground::Linked,
+        rows: 300,
+    };
+    assert_eq!(session.probe(of, &issued("b")).expect("a probe"), certain);
+    assert_eq!(
+        session.probe(of, &issued("a")).expect("a probe"),
+        Probed::Sent
+    );
+}
+
 #[test]
 fn a_refresh_past_512_rows_drops_all_and_says_so() {
     let (design, rows) = laboratory();
@@ -133,7 +178,7 @@ fn a_refresh_past_512_rows_drops_all_and_says_so() {
         load: 0,
         wanted: value("nord"),
     }];
-    assert_eq!(refreshed, Refreshed::TooLarge { rows: 609, dropped });
+    assert_eq!(refreshed, Refreshed::TooLarge { rows: 608, dropped });
     assert_eq!(
         (
             session.cached().count(),

@@ -12,6 +12,7 @@ use session::{
 use source::{Failure, Value};
 use support::laboratory::{issued, keys, laboratory, place, question, subject, value};
 use support::memory::Memory;
+use testing::Recorded;
 
 #[test]
 fn a_ward_is_loaded_with_all_that_it_brings() {
@@ -269,8 +270,9 @@ fn a_failure_changes_nothing() {
 fn a_drop_gives_numbers_back_and_no_fetch_is_made_twice() {
     let (design, rows) = laboratory();
     let mut memory = Memory::new(&design, &rows);
-    let fetched = Rc::clone(&memory.fetched);
-    let mut session = Session::open(&design, &mut memory).expect("a session");
+    let mut recorded = Recorded::new(&mut memory);
+    let fetched = recorded.fetched();
+    let mut session = Session::open(&design, &mut recorded).expect("a session");
     session.load(0, &value("nord")).expect("it fits");
     let made = fetched.borrow().len();
     session.drop_load(0, &value("nord")).expect("it is held");
@@ -306,7 +308,7 @@ fn past_512_rows_nothing_is_loaded() {
             table: 0,
             by: By::Load(0),
             round: 0,
-            rows: 300
+            rows: 600
         }]
     );
     assert_eq!((session.cached().count(), session.held().len()), (300, 1));

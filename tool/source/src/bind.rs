@@ -237,7 +237,7 @@ impl Binder<'_> {
         }
         let column = self.find(table, relation, name, span.clone())?;
         match self.database.natural(&column) {
-            Some(kind) => self.part(table, relation, name, kind, span),
+            Some(kind) => self.part(table, relation, name, Kind::Of(kind), span),
             None => {
                 let misfit = Misfit {
                     code: Code::E072,

@@ -1,6 +1,8 @@
 //! What a kind of database has to be able to do. What is the same for all of them stands in the files beside this one, so that a third kind is one file
 //! more.
 
+use design::Single;
+
 use crate::catalog::{Column, Misfit, Relation, TableName};
 use crate::kind::Kind;
 use crate::{Failure, Value};
@@ -50,8 +52,8 @@ pub(crate) trait Database {
     /// Whether a column serves as one of a kind.
     fn fit(&self, column: &Column, kind: Kind) -> Result<Fit, Misfit>;
 
-    /// The kind that a column's type stands for by itself.
-    fn natural(&self, column: &Column) -> Option<Kind>;
+    /// The type that a column's own stands for by itself.
+    fn natural(&self, column: &Column) -> Option<Single>;
 
     /// The name of a column in the catalog's spelling, for one that SQL would find.
     fn spelling<'a>(&self, columns: &'a [Column], name: &str) -> Option<&'a Column>;

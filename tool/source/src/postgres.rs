@@ -2,7 +2,7 @@
 
 use std::collections::HashMap;
 
-use design::Code;
+use design::{Code, Single};
 
 use crate::catalog::{quoted, Column, Misfit, Relation, TableName};
 use crate::database::{Cell, Database, Fit};
@@ -19,6 +19,9 @@ const SETTINGS: &str = "
     SET row_security = off;
     SET default_transaction_read_only = on;
     SELECT set_config(name, '1000', false) FROM pg_settings WHERE name = 'client_connection_check_interval'";
+
+/// How texts are compared.
+const TEXT: &str = Single::Text.name();
 
 /// The numbers of types whose values are whole numbers, and of booleans.
 const NUMBERS: [u32; 3] = [20, 21, 23];
@@ -121,26 +124,21 @@ fn one_text(rows: &[Vec<Cell>]) -> String {
 
 /// What a type of PostgreSQL's is compared as: by types with the same word, values are equal alike.
 fn equality(base: &str) -> Option<&'static str> {
-    Some(match base {
-        "int2" | "int4" | "int8" => "bigint",
-        "text" | "varchar" => "text",
-        "uuid" => "uuid",
-        "date" => "date",
-        "timestamp" => "timestamp",
-        "timestamptz" => "timestamptz",
-        "bool" => "boolean",
-        _ => return None,
-    })
+    match base {
+        "timestamptz" => Some("timestamptz"),
+        _ => natural(base).map(Single::name),
+    }
 }
 
-fn natural(base: &str) -> Option<Kind> {
-    Some(match equality(base)? {
-        "bigint" => Kind::Bigint,
-        "text" => Kind::Text,
-        "uuid" => Kind::Uuid,
-        "date" => Kind::Date,
-        "boolean" => Kind::Boolean,
-        _ => Kind::Timestamp,
+fn natural(base: &str) -> Option<Single> {
+    Some(match base {
+        "int2" | "int4" | "int8" => Single::Bigint,
+        "text" | "varchar" => Single::Text,
+        "uuid" => Single::Uuid,
+        "date" => Single::Date,
+        "timestamp" | "timestamptz" => Single::Timestamp,
+        "bool" => Single::Boolean,
+        _ => return None,
     })
 }
 
@@ -208,7 +206,8 @@ impl Database for Postgres {
 
     fn fit(&self, column: &Column, kind: Kind) -> Result<Fit, Misfit> {
         let own = natural(&column.base);
-        let fits = own.is_some_and(|own| own == kind || own.is_number() && kind.is_number());
+        let fits =
+            own.is_some_and(|own| Kind::Of(own) == kind || own.is_number() && kind.is_number());
         let Some(equality) = equality(&column.base).filter(|_| fits) else {
             return Err(misfit(column, kind));
         };
@@ -225,7 +224,7 @@ impl Database for Postgres {
         })
     }
 
-    fn natural(&self, column: &Column) -> Option<Kind> {
+    fn natural(&self, column: &Column) -> Option<Single> {
         natural(&column.base)
     }
 
@@ -235,14 +234,14 @@ impl Database for Postgres {
 
     fn parameter(&self, column: &Column, number: usize) -> String {
         // a number is compared as the widest, so that none is out of range
-        let kind = equality(&column.base).unwrap_or("text");
+        let kind = equality(&column.base).unwrap_or(TEXT);
         format!("${number}::{kind}")
     }
 
     fn order(&self, column: &Column) -> String {
         let name = quoted(&column.name);
         match equality(&column.base) {
-            Some("text") => format!("t.{name} COLLATE \"C\""),
+            Some(TEXT) => format!("t.{name} COLLATE \"C\""),
             _ => format!("t.{name}"),
         }
     }
@@ -257,7 +256,7 @@ impl Database for Postgres {
 
     fn may_have(&self, kind: Kind, text: &str) -> bool {
         match kind {
-            Kind::Uuid => forms::is_uuid(text),
+            Kind::Of(Single::Uuid) => forms::is_uuid(text),
             _ => !text.contains('\0'),
         }
     }
@@ -269,9 +268,9 @@ impl Database for Postgres {
         text: &str,
     ) -> Result<Option<String>, Failure> {
         let written = match kind {
-            Kind::Uuid => return Ok(forms::is_uuid(text).then(|| text.to_lowercase())),
-            Kind::Date => forms::is_date(text),
-            Kind::Timestamp => forms::is_timestamp(text),
+            Kind::Of(Single::Uuid) => return Ok(forms::is_uuid(text).then(|| text.to_lowercase())),
+            Kind::Of(Single::Date) => forms::is_date(text),
+            Kind::Of(Single::Timestamp) => forms::is_timestamp(text),
             _ => return Ok(self.may_have(kind, text).then(|| text.to_string())),
         };
         if !written && !matches!(text, "infinity" | "-infinity") {

@@ -1,6 +1,6 @@
 //! Statements for the rows of a design's tables, and what they give as records, each value held to its column.
 
-use design::{Design, Place};
+use design::{Design, Place, Single};
 
 use crate::bind::{Binding, BoundColumn, BoundTable, Part};
 use crate::catalog::quoted;
@@ -122,7 +122,7 @@ fn equal(
 fn are_of_kind(database: &dyn Database, column: &BoundColumn, values: &[Value]) -> bool {
     let fits = |(part, value): (&Part, &Value)| match value {
         Value::Number(_) => part.kind.is_number(),
-        Value::Boolean(_) => part.kind == Kind::Boolean,
+        Value::Boolean(_) => part.kind == Kind::Of(Single::Boolean),
         Value::Text(text) => part.kind.is_text() && database.may_have(part.kind, text),
         Value::Tuple(_) => false,
     };
@@ -140,7 +140,7 @@ fn between(database: &dyn Database, binding: &Binding, place: Place, low: u32, h
     let [part] = &column.parts[..] else {
         return Terms::Senseless;
     };
-    if part.kind != Kind::Integer {
+    if part.kind != Kind::Of(Single::Integer) {
         return Terms::Senseless;
     }
     let mut values = vec![Value::Number(low.into()), Value::Number(high.into())];

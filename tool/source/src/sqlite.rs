@@ -4,7 +4,7 @@
 use std::path::Path;
 use std::time::Duration;
 
-use design::Code;
+use design::{Code, Single};
 use rusqlite::types::ValueRef;
 use rusqlite::{Connection, ErrorCode, OpenFlags};
 
@@ -177,9 +177,9 @@ impl Affinity {
     /// like a number isn't by NUMERIC, and UUIDs, dates and timestamps never look so.
     fn suits(self, kind: Kind) -> bool {
         match self {
-            Affinity::Integer => kind.is_number() || kind == Kind::Boolean,
+            Affinity::Integer => kind.is_number() || kind == Kind::Of(Single::Boolean),
             Affinity::Text => kind.is_text(),
-            Affinity::Numeric => kind != Kind::Text,
+            Affinity::Numeric => kind != Kind::Of(Single::Text),
             Affinity::None | Affinity::Real | Affinity::Any => false,
         }
     }
@@ -212,7 +212,7 @@ fn unsuited(column: &Column, kind: Kind, affinity: Affinity) -> Misfit {
         "" => "has no type in the database".to_string(),
         written => format!("has the type {written} in the database"),
     };
-    let trap = kind == Kind::Text && affinity == Affinity::Numeric;
+    let trap = kind == Kind::Of(Single::Text) && affinity == Affinity::Numeric;
     if trap || matches!(affinity, Affinity::None | Affinity::Any) {
         return Misfit {
             code: Code::E075,
@@ -262,7 +262,7 @@ impl Database for Sqlite {
         }
         // 1 is a number and yes, which are no one value of a tuple
         let equality = match kind {
-            Kind::Boolean => "boolean",
+            Kind::Of(single @ Single::Boolean) => single.name(),
             _ => storage(kind),
         };
         let affinity = Affinity::of(&column.base);
@@ -283,16 +283,16 @@ impl Database for Sqlite {
         }
     }
 
-    fn natural(&self, column: &Column) -> Option<Kind> {
+    fn natural(&self, column: &Column) -> Option<Single> {
         let declared = column.base.to_uppercase();
         let has = |word: &str| declared.contains(word);
         match Affinity::of(&declared) {
-            Affinity::Integer => Some(Kind::Bigint),
-            Affinity::Text => Some(Kind::Text),
-            Affinity::Numeric if has("UUID") || has("GUID") => Some(Kind::Uuid),
-            Affinity::Numeric if has("TIMESTAMP") || has("DATETIME") => Some(Kind::Timestamp),
-            Affinity::Numeric if has("DATE") => Some(Kind::Date),
-            Affinity::Numeric if has("BOOL") => Some(Kind::Boolean),
+            Affinity::Integer => Some(Single::Bigint),
+            Affinity::Text => Some(Single::Text),
+            Affinity::Numeric if has("UUID") || has("GUID") => Some(Single::Uuid),
+            Affinity::Numeric if has("TIMESTAMP") || has("DATETIME") => Some(Single::Timestamp),
+            Affinity::Numeric if has("DATE") => Some(Single::Date),
+            Affinity::Numeric if has("BOOL") => Some(Single::Boolean),
             _ => None,
         }
     }
@@ -317,9 +317,9 @@ impl Database for Sqlite {
 
     fn has_form(&self, kind: Kind, text: &str) -> bool {
         match kind {
-            Kind::Uuid => forms::is_uuid(text),
-            Kind::Date => forms::is_date(text),
-            Kind::Timestamp => forms::is_timestamp(text),
+            Kind::Of(Single::Uuid) => forms::is_uuid(text),
+            Kind::Of(Single::Date) => forms::is_date(text),
+            Kind::Of(Single::Timestamp) => forms::is_timestamp(text),
             _ => true,
         }
     }

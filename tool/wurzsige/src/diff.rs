@@ -1,7 +1,11 @@
-//! `diff`: what came and went between two designs, by names; knots before and after; and which questions are answered more or less often.
+//! `diff`: what came and went between two designs, title and source included, by names; knots before and after; and which questions are answered more or
+//! less often.
 
 use codespan_reporting::term::termcolor::Color;
-use design::{column_kind, link_line, load_line, name, question_line, table_line, Design, Place};
+use design::{
+    column_kind, link_line, load_line, name, question_line, source_line, table_line, title_line,
+    Design, Place,
+};
 use serde::Serialize;
 
 use crate::cost::{self, Costs};
@@ -48,6 +52,8 @@ pub struct Changed {
 /// All changes.
 #[derive(Debug, Serialize)]
 pub struct Changes {
+    /// The title and the source.
+    head: CameAndWent,
     tables: CameAndWent,
     links: CameAndWent,
     loads: CameAndWent,
@@ -69,6 +75,7 @@ impl Changes {
         };
         let (old_facts, new_facts) = (Facts::of(before)?, Facts::of(after)?);
         Ok(Changes {
+            head: came_and_went(&head(old, before), &head(new, after)),
             tables: came_and_went(&tables(old, before), &tables(new, after)),
             links: came_and_went(&links(old, before), &links(new, after)),
             loads: came_and_went(&loads(old, before), &loads(new, after)),
@@ -98,11 +105,22 @@ impl Changes {
         }
     }
 
+    /// What came and went, in the order of a design.
+    fn kinds(&self) -> [&CameAndWent; 5] {
+        let Changes {
+            head,
+            tables,
+            links,
+            loads,
+            questions,
+            ..
+        } = self;
+        [head, tables, links, loads, questions]
+    }
+
     fn is_empty(&self) -> bool {
-        let kinds = [&self.tables, &self.links, &self.loads, &self.questions];
-        kinds
-            .iter()
-            .all(|kind| kind.came.is_empty() && kind.went.is_empty())
+        let mut kinds = self.kinds().into_iter();
+        kinds.all(|kind| kind.came.is_empty() && kind.went.is_empty())
     }
 }
 
@@ -115,6 +133,17 @@ fn came_and_went(before: &[Line], after: &[Line]) -> CameAndWent {
         came: without(after, before),
         went: without(before, after),
     }
+}
+
+/// The lines of the title and of the source.
+fn head(file: &File, design: &Design) -> Vec<Line> {
+    let spans = &file.reading.spans;
+    let title = spans.title.iter().map(|span| (title_line(design), span));
+    let source = design.source.iter().map(source_line).zip(&spans.source);
+    let lines = title.chain(source);
+    lines
+        .map(|(text, span)| line(text, file.line(span)))
+        .collect()
 }
 
 /// A table's own line, and one for each of its columns and of what it shows.
@@ -209,14 +238,9 @@ fn never(before: &Design, after: &Design, new: &Facts) -> Vec<String> {
 /// The report for people.
 pub fn report(page: &mut Page, old: &File, new: &File, changes: &Changes) {
     if changes.is_empty() {
-        page.text("no table, link, load or question came or went\n");
+        page.text("title, source, tables, links, loads and questions are as before\n");
     }
-    for kind in [
-        &changes.tables,
-        &changes.links,
-        &changes.loads,
-        &changes.questions,
-    ] {
+    for kind in changes.kinds() {
         let went = kind.went.iter().map(|line| (Color::Red, '-', line));
         let came = kind.came.iter().map(|line| (Color::Green, '+', line));
         for (color, sign, Line { text, number }) in went.chain(came) {

@@ -209,10 +209,9 @@ fn row(design: &Design, place: Place, takes_cell: bool, seen: bool) -> String {
 /// A column's type, tuples as such.
 fn kind(design: &Design, place: Place) -> String {
     let column = design.column(place);
-    match (column.role, column.kind.name()) {
-        (design::Role::Measure, _) => "measure".into(),
-        (_, Some(name)) => name.into(),
-        (_, None) => column.kind.to_string(),
+    match column.role {
+        design::Role::Measure => "measure".into(),
+        _ => column.kind.to_string(),
     }
 }
 
@@ -222,9 +221,14 @@ fn edge(design: &Design, number: usize, in_knot: bool) -> String {
     let look = look(design, link, in_knot);
     let end = |place: Place| format!("t{}:c{}", place.table, place.column);
     let (source, target) = (end(link.source), end(link.target));
-    match link.source.table == link.target.table {
-        true => turning(number, link, &source, &target, &look),
-        false => format!("  {source} -> {target} [{look}];\n"),
+    let turned = |other: &Link| (other.source, other.target) == (link.target, link.source);
+    if link.source.table == link.target.table {
+        turning(number, link, &source, &target, &look)
+    } else if design.links[..number].iter().any(turned) {
+        // `dot` draws two lines between the same ends beside each other only if both start at one end
+        format!("  {target} -> {source} [dir=back, {look}];\n")
+    } else {
+        format!("  {source} -> {target} [{look}];\n")
     }
 }
 

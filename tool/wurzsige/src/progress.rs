@@ -1,12 +1,14 @@
 //! Shows on a terminal that a fetch is under way, where it takes longer than a second.
 
 use std::io::{self, IsTerminal, Write};
-use std::sync::mpsc::{channel, RecvTimeoutError, Sender};
+use std::sync::{Arc, Condvar, Mutex, MutexGuard, PoisonError};
 use std::thread::{spawn, JoinHandle};
 use std::time::{Duration, Instant};
 
 use design::Place;
 use source::{Condition, Failure, Record, Source, Value};
+
+use crate::try_load::counted;
 
 /// After how long a fetch is shown, and shown anew.
 const PATIENCE: Duration = Duration::from_secs(1);
@@ -32,9 +34,8 @@ impl Watched {
 
     /// Reads, and shows it if that takes long.
     fn watch<T>(&mut self, read: impl FnOnce(&mut dyn Source) -> T) -> T {
-        let Watched { rows, fetches, .. } = self;
         if let Some(watcher) = &self.watcher {
-            watcher.begin(format!("{rows} rows in {fetches} fetches so far"));
+            watcher.begin(so_far(self.rows, self.fetches));
         }
         let read = read(&mut *self.source);
         if let Some(watcher) = &self.watcher {
@@ -42,6 +43,15 @@ impl Watched {
         }
         read
     }
+}
+
+/// What was read before.
+fn so_far(rows: usize, fetches: usize) -> String {
+    let fetches = match fetches {
+        1 => "1 fetch".to_string(),
+        _ => format!("{fetches} fetches"),
+    };
+    format!("{} in {fetches} so far", counted(rows, "row"))
 }
 
 impl Source for Watched {
@@ -77,55 +87,83 @@ impl Source for Watched {
     }
 }
 
-/// The thread that shows what takes long. Its messages: what has begun, or that it has ended.
+/// The thread that shows what takes long.
 struct Watcher {
-    sender: Option<Sender<Option<String>>>,
+    shared: Arc<Shared>,
     thread: Option<JoinHandle<()>>,
+}
+
+/// What both threads know. Whoever writes to the terminal has it locked, so that nothing is shown of a reading that has ended.
+#[derive(Default)]
+struct Shared {
+    reading: Mutex<Reading>,
+    changed: Condvar,
+}
+
+#[derive(Default)]
+struct Reading {
+    /// When it began, and what was read before; none if nothing is being read.
+    begun: Option<(Instant, String)>,
+    /// For how many seconds it was shown to last.
+    shown: u32,
+    /// Nothing will be read any more.
+    over: bool,
+}
+
+impl Shared {
+    fn lock(&self) -> MutexGuard<'_, Reading> {
+        self.reading.lock().unwrap_or_else(PoisonError::into_inner)
+    }
+
+    /// Shows readings that last until nothing is read any more.
+    fn watch(&self) {
+        let mut reading = self.lock();
+        while !reading.over {
+            let wait = match &reading.begun {
+                None => Duration::MAX,
+                Some((begun, _)) => {
+                    (PATIENCE * (reading.shown + 1)).saturating_sub(begun.elapsed())
+                }
+            };
+            if !wait.is_zero() {
+                let waited = self.changed.wait_timeout(reading, wait);
+                reading = waited.unwrap_or_else(PoisonError::into_inner).0;
+                continue;
+            }
+            reading.shown += 1;
+            if let Some((_, what)) = &reading.begun {
+                show(&format!("reading for {} s; {what}", reading.shown));
+            }
+        }
+    }
 }
 
 impl Watcher {
     fn new() -> Watcher {
-        let (sender, receiver) = channel::<Option<String>>();
-        let thread = spawn(move || {
-            while let Ok(message) = receiver.recv() {
-                let Some(what) = message else { continue };
-                let begun = Instant::now();
-                let mut shown = false;
-                while receiver.recv_timeout(PATIENCE) == Err(RecvTimeoutError::Timeout) {
-                    shown = true;
-                    show(&format!(
-                        "reading for {} s; {what}",
-                        begun.elapsed().as_secs()
-                    ));
-                }
-                if shown {
-                    show("");
-                }
-            }
-        });
-        Watcher {
-            sender: Some(sender),
-            thread: Some(thread),
-        }
+        let shared = Arc::<Shared>::default();
+        let watching = Arc::clone(&shared);
+        let thread = Some(spawn(move || watching.watch()));
+        Watcher { shared, thread }
     }
 
     fn begin(&self, what: String) {
-        self.send(Some(what));
+        self.shared.lock().begun = Some((Instant::now(), what));
+        self.shared.changed.notify_one();
     }
 
     fn end(&self) {
-        self.send(None);
-    }
-
-    fn send(&self, message: Option<String>) {
-        // without the thread nothing is shown
-        let _ = self.sender.as_ref().map(|sender| sender.send(message));
+        let mut reading = self.shared.lock();
+        reading.begun = None;
+        if std::mem::take(&mut reading.shown) > 0 {
+            show("");
+        }
     }
 }
 
 impl Drop for Watcher {
     fn drop(&mut self) {
-        self.sender = None;
+        self.shared.lock().over = true;
+        self.shared.changed.notify_one();
         let _ = self.thread.take().map(JoinHandle::join);
     }
 }

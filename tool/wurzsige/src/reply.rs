@@ -49,7 +49,7 @@ pub fn text(page: &mut Page, session: &Session, line: &str, reply: &Reply) {
         Reply::Loaded(Referred::Held) => page.text("it is held already\n"),
         Reply::Loaded(Referred::NoCandidate) => page.text("the load's `values` don't have it\n"),
         Reply::Dropped(rows) => page.text(&format!("{} gone\n", counted(*rows, "row"))),
-        Reply::TooLarge(large) => too_large(page, design, large),
+        Reply::TooLarge(large) => too_large(page, session, large),
         Reply::Complete(ground, rows) => page.text(&format!(
             "complete: {}; {} it\n",
             because(*ground),
@@ -90,13 +90,17 @@ fn because(ground: Ground) -> &'static str {
     }
 }
 
-fn too_large(page: &mut Page, design: &Design, large: &TooLarge) {
+fn too_large(page: &mut Page, session: &Session, large: &TooLarge) {
+    let beside = match session.held().is_empty() {
+        true => "",
+        false => "with what is held ",
+    };
     page.coloured(Color::Red, "too large");
     page.text(&format!(
-        ": it needs at least {} rows, and a desk has {MOST_ROWS}; nothing has changed\n",
+        ": {beside}it needs at least {} rows, and a desk has {MOST_ROWS}; nothing has changed\n",
         large.rows
     ));
-    page.text(&format!("{}\n", most(design, large)));
+    page.text(&format!("{}\n", most(session.design(), large)));
 }
 
 fn sent(page: &mut Page, design: &Design, opener: &Opener) {

@@ -1,6 +1,8 @@
 //! `try`: what a load drags in, link by link, from the real database.
 
+use std::cmp::Reverse;
 use std::collections::BTreeMap;
+use std::slice;
 
 use codespan_reporting::term::termcolor::Color;
 use design::{Code, Design};
@@ -13,6 +15,9 @@ use crate::loads::Asked;
 use crate::output::Page;
 use crate::status::Status;
 
+/// A load by its number, with what of it.
+type Load = (usize, Wanted);
+
 /// What came of a load.
 pub enum Tried {
     /// It was loaded, or was held, or is no candidate.
@@ -24,13 +29,24 @@ pub enum Tried {
     },
     /// It needs more rows than a desk can have.
     TooLarge {
-        /// What is known of it.
+        /// What is known of it, with all that was loaded before.
         large: TooLarge,
-        /// The link without which it would fit, and the rows that it has then.
+        /// Whether something was loaded before; then the rows that it has alone, if it fits.
+        beside: Option<Option<usize>>,
+        /// The link without which all of them would fit, and the rows that they have then.
         without: Option<(usize, usize)>,
     },
     /// It isn't carried out for another reason.
     Trouble(Trouble),
+}
+
+impl Tried {
+    fn is_loaded(&self) -> bool {
+        let Tried::Answered { answer, .. } = self else {
+            return false;
+        };
+        matches!(answer, Referred::Loaded { .. })
+    }
 }
 
 /// Loads values one after the other, and tells of each. Gives the rows of the database that were read.
@@ -46,29 +62,44 @@ pub fn try_all(
     let mut wanted = Vec::new();
     let mut session = Session::open(design, source)?;
     for asked in loads {
-        wanted.push((asked.load, asked.wanted(&mut session)?));
-        let (load, value) = &wanted[wanted.len() - 1];
-        let mut tried = try_load(&mut session, *load, value);
-        if let Tried::TooLarge { large, without } = &mut tried {
-            *without = session.over(|source| fits_without(design, source, &wanted, large));
-            wanted.pop();
-        }
+        let next = (asked.load, asked.wanted(&mut session)?);
+        let tried = match try_load(&mut session, &next) {
+            Tried::Trouble(Trouble::TooLarge(large)) => {
+                too_large(&mut session, &wanted, &next, large)
+            }
+            tried => {
+                if tried.is_loaded() {
+                    wanted.push(next);
+                }
+                tried
+            }
+        };
         tell(&session, asked, &tried);
     }
     Ok(session.rows_read())
 }
 
+/// What is told of a load that is too large beside those before it.
+fn too_large(session: &mut Session, before: &[Load], next: &Load, large: TooLarge) -> Tried {
+    let design = session.design();
+    let all = [before, slice::from_ref(next)].concat();
+    let (beside, without) = session.over(|source| {
+        let alone = |source| rows_of(design, source, slice::from_ref(next));
+        let beside = (!before.is_empty()).then(|| alone(source));
+        (beside, fits_without(design, source, &all, &large))
+    });
+    Tried::TooLarge {
+        large,
+        beside,
+        without,
+    }
+}
+
 /// Loads a value, and tells what came of it.
-fn try_load(session: &mut Session, load: usize, wanted: &Wanted) -> Tried {
+fn try_load(session: &mut Session, (load, wanted): &Load) -> Tried {
     let before: Vec<u16> = session.cached().collect();
-    let answer = match session.load(load, wanted) {
+    let answer = match session.load(*load, wanted) {
         Ok(answer) => answer,
-        Err(Trouble::TooLarge(large)) => {
-            return Tried::TooLarge {
-                large,
-                without: None,
-            }
-        }
         Err(trouble) => return Tried::Trouble(trouble),
     };
     let new = session.cached().filter(|row| !before.contains(row));
@@ -82,7 +113,7 @@ fn try_load(session: &mut Session, load: usize, wanted: &Wanted) -> Tried {
 fn fits_without(
     design: &Design,
     source: &mut dyn Source,
-    loads: &[(usize, Wanted)],
+    loads: &[Load],
     large: &TooLarge,
 ) -> Option<(usize, usize)> {
     let rows = |link: &usize| {
@@ -91,7 +122,7 @@ fn fits_without(
         by.map(|brought| brought.rows).sum::<usize>()
     };
     let mut links: Vec<usize> = (0..design.links.len()).collect();
-    links.sort_by_key(|link| std::cmp::Reverse(rows(link)));
+    links.sort_by_key(|link| Reverse(rows(link)));
     for link in links {
         let mut design = design.clone();
         design.links.remove(link);
@@ -104,7 +135,7 @@ fn fits_without(
 }
 
 /// How many rows some loads have together, if they fit.
-fn rows_of(design: &Design, source: &mut dyn Source, loads: &[(usize, Wanted)]) -> Option<usize> {
+fn rows_of(design: &Design, source: &mut dyn Source, loads: &[Load]) -> Option<usize> {
     let mut session = Session::open(design, source).ok()?;
     for (load, wanted) in loads {
         session.load(*load, wanted).ok()?;
@@ -147,10 +178,34 @@ pub fn report(page: &mut Page, file: &File, session: &Session, asked: &Asked, tr
                 _ => ": the load's `values` don't have it\n",
             });
         }
-        Tried::TooLarge { large, without } => {
+        Tried::TooLarge {
+            large,
+            beside,
+            without,
+        } => {
             page.coloured(Color::Red, &format!("error[{}]", Code::E004.name()));
-            page.text(&format!(": {name} needs more than {MOST_ROWS} rows\n"));
-            too_large(page, file, design, large, *without);
+            page.text(&format!(": {name} needs more than {MOST_ROWS} rows"));
+            let (they_need, loaded, they_have) = match beside {
+                None => ("it needs", "nothing was loaded", "it has"),
+                Some(alone) => {
+                    let alone = by_itself(*alone);
+                    page.text(&format!(" with what was loaded before\n   = {alone}"));
+                    (
+                        "together they need",
+                        "it was not loaded",
+                        "together they have",
+                    )
+                }
+            };
+            let (rows, most) = (large.rows, most(design, large));
+            page.text(&format!("\n   = {they_need} at least {rows}; {most}\n"));
+            page.text(&format!("   = {loaded}: a desk with a part of these rows would call wrong answers complete\n"));
+            if let Some((link, rows)) = without {
+                let (line, rows) = (file.link_line(*link), counted(*rows, "row"));
+                page.text(&format!(
+                    "   = help: without link line {line} {they_have} {rows}\n"
+                ));
+            }
         }
         Tried::Trouble(trouble) => {
             page.coloured(Color::Red, "refused");
@@ -206,42 +261,32 @@ fn rows_by_link(page: &mut Page, design: &Design, asked: &Asked, brought: &[Brou
     }
 }
 
-fn too_large(
-    page: &mut Page,
-    file: &File,
-    design: &Design,
-    large: &TooLarge,
-    without: Option<(usize, usize)>,
-) {
-    page.text(&format!("   = it needs at least {}", large.rows));
-    page.text(&format!("; {}\n", most(design, large)));
-    page.text("   = nothing was loaded: a desk with a part of these rows would call wrong answers complete\n");
-    if let Some((link, rows)) = without {
-        page.text(&format!(
-            "   = help: without link line {} it has {}\n",
-            file.link_line(link),
-            counted(rows, "row")
-        ));
+/// What a load has where nothing else is held.
+fn by_itself(rows: Option<usize>) -> String {
+    match rows {
+        Some(rows) => format!("by itself it has {}", counted(rows, "row")),
+        None => format!("by itself it needs more than {MOST_ROWS} rows too"),
     }
 }
 
-/// What brought most of the rows of a load that is too large, as far as they were read.
+/// What brings most of the rows that are known to be needed.
 pub fn most(design: &Design, large: &TooLarge) -> String {
-    let links = large.brought.iter().filter_map(|brought| match brought.by {
-        By::Link(link) => Some((brought.rows, link)),
-        By::Load(_) => None,
-    });
-    let most = links.max_by_key(|(rows, _)| *rows);
-    match (most, large.last) {
-        (Some((rows, link)), last) if last.is_none_or(|(_, more)| more <= rows) => format!(
-            "{} brought most of those that were read, {rows}",
-            design.link_name(&design.links[link])
-        ),
-        (_, Some((place, more))) => format!(
-            "{more} of them have one value of {}",
-            design.column_name(place)
-        ),
-        _ => "they have the value itself".into(),
+    let most = large
+        .brought
+        .iter()
+        .min_by_key(|brought| Reverse(brought.rows));
+    let Some(&Brought { by, rows, .. }) = most else {
+        return "what brings them isn't known".into();
+    };
+    match by {
+        By::Link(link) => {
+            let link = design.link_name(&design.links[link]);
+            format!("{link} brings most of these, {rows}")
+        }
+        By::Load(load) => {
+            let load = &design.loads[load].name;
+            format!("most of these, {rows}, have what is loaded as {load}")
+        }
     }
 }
 

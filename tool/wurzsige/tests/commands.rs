@@ -148,6 +148,32 @@ fn diff_tells_what_came_and_went() {
 }
 
 /// What is shown is told by the line on which it stands.
+/// A title and a source come and go as lines do.
+#[test]
+fn diff_tells_another_title_and_source() {
+    let old = "design \"Sleep\"\nsource sqlite \"lab.db\"\ntable ward\n    code key text\n";
+    let new = "design \"Sleep, new\"\n# no longer a file\nsource postgres \"service=agnes\"\ntable ward\n    code key text\n";
+    let path = program::scratch("head.design");
+    std::fs::write(&path, old).expect("a file");
+    let path = path.to_str().expect("a name");
+    let ran = program::wurzsige_reading(&["diff", path, "-"], new.as_bytes());
+    let told = [
+        "- design \"Sleep\"  (line 1)",
+        "- source sqlite \"lab.db\"  (line 2)",
+        "+ design \"Sleep, new\"  (line 1)",
+        "+ source postgres \"service=agnes\"  (line 3)",
+        "  knots      none, as before\n",
+    ];
+    assert_eq!(ran.output, told.join("\n"));
+    assert_eq!((ran.errors.as_str(), ran.status), ("", 0));
+    let without = new.replace("source postgres \"service=agnes\"\n", "");
+    let ran =
+        program::wurzsige_reading(&["diff", path, "-", "--format", "json"], without.as_bytes());
+    let head = r#"{"head":{"came":["design \"Sleep, new\""],"went":["design \"Sleep\"","source sqlite \"lab.db\""]},"tables":{"came":[],"went":[]},"#;
+    assert!(ran.output.starts_with(head), "{}", ran.output);
+    assert_eq!(ran.status, 0);
+}
+
 #[test]
 fn diff_tells_the_lines_of_what_is_shown() {
     let table = "design \"Wards\"\ntable ward\n    code key text\n";

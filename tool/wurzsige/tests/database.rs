@@ -104,6 +104,20 @@ fn try_loads_nothing_past_512_rows() {
     assert_eq!((lines.len(), ran.status), (2, 2));
 }
 
+/// Beside loads that fitted, a load is told with what it has by itself.
+#[test]
+fn try_tells_loads_that_do_not_fit_together() {
+    let (_lab, source) = laboratory();
+    let loads = ["ward=W-NORD", "ward=W-WEST", "night=50001..50100"];
+    let ran = wurzsige(&[&["try", SLEEP], &loads[..], &["--source", &source]].concat());
+    let (_, behind) = ran
+        .output
+        .split_once("error")
+        .expect("a load that is too large");
+    assert_eq!(format!("error{behind}"), expected("try-together.txt"));
+    assert_eq!(ran.status, 2);
+}
+
 /// The page of E004: its database and designs.
 #[test]
 fn the_page_on_what_is_too_large_holds() {

@@ -28,7 +28,7 @@ fn the_page_for_users_is_whole() {
     {
         assert!(page.contains(&format!("`wurzsige {command}")), "{command}");
     }
-    for kind in design::Type::NAMED.iter().filter_map(design::Type::name) {
+    for kind in design::Single::ALL.map(design::Single::name) {
         assert!(page.contains(&format!("`{kind}`")), "{kind}");
     }
 }

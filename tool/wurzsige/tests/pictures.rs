@@ -89,6 +89,45 @@ fn a_link_within_a_table_turns_beside_it() {
     assert_eq!(lines, [first, second].concat());
 }
 
+/// Two links between the same columns, one each way, are two lines: both start at one end, with an arrow at the end that each leads to.
+#[test]
+fn links_there_and_back_are_two_lines() {
+    let text = "design \"Nights\"\ntable subject\n    id key text\n    ward text\ntable night\n    subject text\n    ward text\nlink subject.id -> night.subject \"of\"\nlink night.subject -> subject.id \"slept\"\nlink night.ward -> subject.ward\n";
+    let dot = program::wurzsige_reading(&["draw", "-"], text.as_bytes()).output;
+    let lines: Vec<&str> = dot.lines().filter(|line| line.contains(" -> t")).collect();
+    for (line, begins, tooltip) in [
+        (
+            0,
+            "  t0:c0 -> t1:c0 [tooltip=",
+            "subject.id -> night.subject: of",
+        ),
+        (
+            1,
+            "  t0:c0 -> t1:c0 [dir=back, tooltip=",
+            "night.subject -> subject.id: slept",
+        ),
+        (
+            2,
+            "  t1:c1 -> t0:c1 [tooltip=",
+            "night.ward -> subject.ward",
+        ),
+    ] {
+        assert!(lines[line].starts_with(begins), "{dot}");
+        assert!(lines[line].contains(tooltip), "{dot}");
+    }
+    assert_eq!(lines.len(), 3);
+    // each of the three is drawn on a way of its own
+    let path = scratch("back.svg");
+    let arguments = ["draw", "-", "-o", path.to_str().expect("a name")];
+    let ran = program::wurzsige_reading(&arguments, text.as_bytes());
+    assert_eq!((ran.errors.as_str(), ran.status), ("", 0));
+    let svg = std::fs::read_to_string(&path).expect("a picture");
+    let ways = svg.split("<path ").skip(1);
+    let ways = ways.filter_map(|piece| piece.split_once(" d=\"")?.1.split_once('"'));
+    let ways: std::collections::HashSet<&str> = ways.map(|(way, _)| way).collect();
+    assert_eq!(ways.len(), 3, "{svg}");
+}
+
 /// Names are only names, whatever characters they have.
 #[test]
 fn names_are_escaped() {

@@ -4,8 +4,8 @@
 use std::collections::HashSet;
 
 use design::{
-    ways, Cells, Column, Design, Join, Link, Load, Place, Question, Role, Source, SourceKind,
-    Table, Total, Type, MOST_CELLS, MOST_JOINS, MOST_LINKS, MOST_LOADS, MOST_TABLES,
+    ways, Cells, Column, Design, Join, Link, Load, Place, Question, Role, Single, Source,
+    SourceKind, Table, Total, Type, MOST_CELLS, MOST_JOINS, MOST_LINKS, MOST_LOADS, MOST_TABLES,
 };
 
 /// Numbers that follow from a seed (splitmix64).
@@ -147,13 +147,13 @@ fn table(random: &mut Random, name: String) -> Table {
 
 fn column(random: &mut Random, name: String, role: Role) -> Column {
     let kind = match (role, random.below(4)) {
-        (Role::Measure, _) => Type::Integer,
+        (Role::Measure, _) => Single::Integer.into(),
         (_, 0) => Type::Tuple(
             vec!["part one".into(), "label".into(), "unknown".into()][random.below(2)..].to_vec(),
         ),
         // mostly of few types, so that columns can be linked
-        (_, 1) => random.pick(&Type::NAMED).clone(),
-        _ => random.pick(&Type::NAMED[..2]).clone(),
+        (_, 1) => (*random.pick(&Single::ALL)).into(),
+        _ => (*random.pick(&Single::ALL[..2])).into(),
     };
     let issued = role != Role::Measure && !matches!(kind, Type::Tuple(_)) && random.one_in(6);
     Column {
@@ -187,13 +187,13 @@ fn fits(design: &Design) -> bool {
 }
 
 /// The kind of a column, as links compare it: tuples by their lengths, since nothing else is known of these.
-fn comparable(design: &Design, place: Place) -> Option<(Option<&'static str>, usize)> {
+fn comparable(design: &Design, place: Place) -> Option<(Option<Single>, usize)> {
     let column = design.column(place);
-    let parts = match &column.kind {
-        Type::Tuple(parts) => parts.len(),
-        _ => 0,
+    let kind = match &column.kind {
+        Type::Single(single) => (Some(*single), 0),
+        Type::Tuple(parts) => (None, parts.len()),
     };
-    (column.role != Role::Measure).then(|| (column.kind.name(), parts))
+    (column.role != Role::Measure).then_some(kind)
 }
 
 fn add_link(random: &mut Random, design: &mut Design) {
@@ -224,7 +224,7 @@ fn add_load(random: &mut Random, design: &mut Design) {
         return;
     }
     let low = 1 + random.below(9) as u32;
-    let ranged = design.column(column).kind == Type::Integer && random.one_in(2);
+    let ranged = design.column(column).kind == Single::Integer.into() && random.one_in(2);
     let high = *random.pick(&[low, low + 7, u32::MAX]);
     let name = format!("{} {}", random.pick(&NAMES), design.loads.len());
     design.loads.push(Load {

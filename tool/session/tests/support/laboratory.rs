@@ -122,10 +122,8 @@ pub fn keys(session: &Session, answered: &Answered) -> Vec<Vec<String>> {
     let Answered::Lists(lists) = answered else {
         panic!("no lists: {answered:?}");
     };
-    let key = |row: &u16| session.row(*row).expect("a row").key.clone();
-    lists
-        .lists
-        .iter()
-        .map(|list| list.iter().map(key).collect())
+    let keys: Vec<String> = session.rows_of(lists).map(|row| row.key.clone()).collect();
+    keys.chunks(lists.tables.len())
+        .map(<[String]>::to_vec)
         .collect()
 }

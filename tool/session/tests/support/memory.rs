@@ -3,7 +3,7 @@
 use std::cell::{Cell, RefCell};
 use std::rc::Rc;
 
-use design::{Design, Place, Role, Type};
+use design::{Design, Place, Role, Single, Type};
 use source::{Condition, Failure, Record, Source, Value};
 
 /// The rows of all tables, which a test changes while a session is open.
@@ -16,8 +16,6 @@ pub struct Memory {
     snapshot: Vec<Record>,
     /// How many fetches are made before the database goes away.
     pub left: Rc<Cell<usize>>,
-    /// The conditions that were fetched.
-    pub fetched: Rc<RefCell<Vec<Condition>>>,
 }
 
 impl Memory {
@@ -27,7 +25,6 @@ impl Memory {
             now: Rc::clone(now),
             snapshot: now.borrow().clone(),
             left: Rc::new(Cell::new(usize::MAX)),
-            fetched: Rc::default(),
         }
     }
 
@@ -78,7 +75,6 @@ impl Source for Memory {
 
     fn fetch(&mut self, condition: &Condition) -> Result<Vec<Record>, Failure> {
         self.goes_on()?;
-        self.fetched.borrow_mut().push(condition.clone());
         let rows = self.snapshot.iter();
         let mut found: Vec<Record> = rows
             .filter(|record| meets(record, condition))
@@ -121,11 +117,11 @@ impl Source for Memory {
             return Ok(Value::Tuple(parts.collect()));
         }
         match kind {
-            Type::Integer | Type::Bigint => match texts[0].parse() {
+            Type::Single(Single::Integer | Single::Bigint) => match texts[0].parse() {
                 Ok(number) => Ok(Value::Number(number)),
                 Err(_) => Err(Failure::Unfit(format!("`{}` is no whole number", texts[0]))),
             },
-            Type::Boolean => Ok(Value::Boolean(texts[0] == "true")),
+            Type::Single(Single::Boolean) => Ok(Value::Boolean(texts[0] == "true")),
             _ => Ok(Value::Text(texts[0].into())),
         }
     }

@@ -1,7 +1,7 @@
 //! Questions, reasons and openers of a session, beside the whole database.
 
 use design::{Cells, Join, Place, Question, Total};
-use session::{Answered, Cause, Identity, Opener, Trouble, Wanted, MOST_ROWS};
+use session::{Answered, Cause, Identity, Opener, Trouble, Wanted};
 
 use crate::oracle::{is, Holding, Key, What};
 use crate::play::{same, Compared, Play, PLACES};
@@ -105,18 +105,12 @@ impl Play<'_, '_> {
                     .count("lists of joins", rows.iter().any(|list| list.len() > 1));
                 self.tally.count("lists over 50", keys.len() > 50);
             }
-            Err(Trouble::TooLarge(_)) => {
+            Err(Trouble::TooLarge(large)) => {
                 let Some(load) = refers else {
                     return Err(format!("{told} is too large without a load"));
                 };
-                let needed = self
-                    .oracle
-                    .follow(&self.held_with(load, What::Value(value)));
-                same!(
-                    needed.is_none_or(|rows| rows > MOST_ROWS),
-                    true,
-                    "{told} is too large"
-                );
+                let held = self.held_with(load, What::Value(value));
+                self.needs(&held, large.rows)?;
                 self.tally.count("question too large", true);
             }
             Err(Trouble::Refused(refusal)) if refusal.cause == Cause::AnswerTooLong => {

@@ -1,7 +1,7 @@
 //! Databases that change beside a session, and new snapshots.
 
 use design::Place;
-use session::{Refreshed, MOST_ROWS};
+use session::Refreshed;
 
 use crate::oracle::is;
 use crate::play::{same, Compared, Play};
@@ -107,14 +107,9 @@ impl Play<'_, '_> {
                 self.tally
                     .count("refreshed without changes", came + went + changed == 0);
             }
-            Ok(Refreshed::TooLarge { .. }) => {
-                let needed = self.oracle.follow(&self.oracle.held);
-                same!(
-                    needed.is_none_or(|rows| rows > MOST_ROWS),
-                    true,
-                    "too large after a refresh"
-                );
-                self.oracle.held.clear();
+            Ok(Refreshed::TooLarge { rows, .. }) => {
+                let held = std::mem::take(&mut self.oracle.held);
+                self.needs(&held, rows)?;
                 self.tally.count("refresh too large", true);
             }
             Err(trouble) => return Err(format!("refresh: {trouble:?}")),

@@ -161,6 +161,17 @@ impl<'w> Oracle<'w> {
 
     /// Finds the rows that a desk with all rows would have cached, and gives how many they are; none if they are far too many.
     pub fn follow(&self, held: &[Holding]) -> Option<usize> {
+        let count = self.follow_to(held, ENOUGH);
+        (count <= ENOUGH).then_some(count)
+    }
+
+    /// Whether a desk with all rows would have so many cached, or more.
+    pub fn needs(&self, held: &[Holding], rows: usize) -> bool {
+        self.follow_to(held, rows) >= rows
+    }
+
+    /// Finds the rows that a desk with all rows would have cached, until they are more than enough, and gives how many were found.
+    fn follow_to(&self, held: &[Holding], enough: usize) -> usize {
         for table in &self.world.tables {
             self.run(&format!("DELETE FROM here_{}", table.name));
         }
@@ -196,12 +207,12 @@ impl<'w> Oracle<'w> {
                 count += self.run(&format!(
                     "INSERT OR IGNORE INTO here_{target} SELECT t.rowid FROM here_{source} h CROSS JOIN {source} s ON s.rowid = h.k CROSS JOIN {target} t ON {equal}"
                 ));
-                if count > ENOUGH {
-                    return None;
+                if count > enough {
+                    return count;
                 }
             }
             if count == before {
-                return Some(count);
+                return count;
             }
         }
     }

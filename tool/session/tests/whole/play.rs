@@ -4,7 +4,9 @@ use std::collections::BTreeSet;
 
 use compare::random::Random;
 use design::{Cells, Place};
-use session::{Cause, Dropped, Issued, Probed, Referred, Session, Trouble, Wanted, MOST_ROWS};
+use session::{
+    Cause, Dropped, Issued, Probed, Referred, Session, TooLarge, Trouble, Wanted, MOST_ROWS,
+};
 use source::Source;
 
 use crate::changes::Database;
@@ -250,15 +252,11 @@ impl<'w, 'd> Play<'w, 'd> {
                     what_is(&answer)
                 );
             }
-            Err(Trouble::TooLarge(_)) => {
+            Err(Trouble::TooLarge(large)) => {
                 self.tally.count("too large", true);
-                let needed = self.oracle.follow(&after);
-                same!(
-                    needed.is_none_or(|rows| rows > MOST_ROWS),
-                    true,
-                    "{}, {needed:?}",
-                    what_is(&answer)
-                );
+                self.tally
+                    .count("too large beside others", !self.oracle.held.is_empty());
+                self.too_large(&after, large)?;
             }
             &Ok(Referred::Loaded { rows, rounds }) => {
                 same!(
@@ -280,6 +278,24 @@ impl<'w, 'd> Play<'w, 'd> {
             _ => return Err(what_is(&answer)),
         }
         self.same_rows()
+    }
+
+    /// A desk with all rows would need as many rows as is told, and more than it can have; and it is told what brings all of them.
+    pub fn too_large(&mut self, held: &[Holding], large: &TooLarge) -> Compared {
+        let brought: usize = large.brought.iter().map(|brought| brought.rows).sum();
+        same!(brought, large.rows, "{large:?}");
+        self.needs(held, large.rows)
+    }
+
+    /// A desk with all rows would need so many, and more than it can have.
+    pub fn needs(&mut self, held: &[Holding], rows: usize) -> Compared {
+        same!(rows > MOST_ROWS, true, "{rows} rows are too many");
+        same!(
+            self.oracle.needs(held, rows),
+            true,
+            "{rows} rows are needed"
+        );
+        Ok(())
     }
 
     /// The cached rows are those of a desk with all rows.

@@ -4,7 +4,7 @@ use std::collections::BTreeMap;
 use std::fmt;
 
 /// All that has to be reached.
-const ALL: [&str; 33] = [
+const ALL: [&str; 34] = [
     "loaded",
     "loaded without a row",
     "loaded over 100 rows",
@@ -12,6 +12,7 @@ const ALL: [&str; 33] = [
     "held",
     "no candidate",
     "too large",
+    "too large beside others",
     "no place free",
     "range loaded",
     "range dropped",

@@ -1,6 +1,6 @@
 //! The tables of a database that a design can have, and the foreign keys between them.
 
-use design::{Code, MOST_TABLES};
+use design::{Code, Single, MOST_TABLES};
 
 use crate::catalog::{Column, Relation, TableName, Unique};
 use crate::database::Database;
@@ -114,7 +114,9 @@ pub(crate) fn unusable(database: &dyn Database, column: &Column) -> Option<Strin
         return Some("has a name that no design can write".into());
     }
     let kind = database.natural(column);
-    let misfit = database.fit(column, kind.unwrap_or(Kind::Text)).err()?;
+    let misfit = database
+        .fit(column, Kind::Of(kind.unwrap_or(Single::Text)))
+        .err()?;
     // a type that isn't like any of a design's is just that, and no mistaken text
     Some(match (kind, misfit.code, column.written.as_str()) {
         (None, Code::E072 | Code::E075, "") => "has no type in the database".into(),

@@ -2,12 +2,11 @@
 
 use std::collections::BTreeSet;
 
-use design::{Column, Role, Table, Type, MOST_CELLS, MOST_TABLES};
+use design::{Column, Role, Single, Table, Type, MOST_CELLS, MOST_TABLES};
 
 use super::entries::{is_writable, Entry, Reference};
 use super::Drafter;
 use crate::catalog::{TableName, Unique};
-use crate::kind::Kind;
 
 impl Drafter<'_> {
     /// Drafts the tables.
@@ -40,7 +39,7 @@ impl Drafter<'_> {
         names.find(|name| !taken(name)).unwrap_or_default()
     }
 
-    pub(super) fn kind(&self, table: usize, column: &str) -> Option<Kind> {
+    pub(super) fn kind(&self, table: usize, column: &str) -> Option<Single> {
         self.typing.kind(&self.entries[table].name, column)
     }
 
@@ -76,7 +75,7 @@ impl Drafter<'_> {
                 Some(kind) => columns.push(Column {
                     name: column.name.clone(),
                     role: self.role(number, &column.name),
-                    kind: type_of(kind),
+                    kind: kind.into(),
                     issue: None,
                 }),
                 None if kind.is_some() && self.is_part(number, &column.name) => {}
@@ -106,8 +105,8 @@ impl Drafter<'_> {
         let entry = &self.entries[number];
         let (name, kind) = match &entry.key[..] {
             [only] => {
-                let kind = self.kind(number, only).unwrap_or(Kind::Text);
-                (only.clone(), type_of(kind))
+                let kind = self.kind(number, only).unwrap_or(Single::Text);
+                (only.clone(), kind.into())
             }
             parts => (
                 self.tuple_name(number, parts, &[]),
@@ -228,16 +227,4 @@ fn label(table: &str, key: &[String]) -> Option<String> {
     let values: Vec<String> = key.iter().map(|part| format!("{{{part}}}")).collect();
     let writable = plain(table) && key.iter().all(|part| plain(part));
     writable.then(|| format!("{table} {}", values.join(" ")))
-}
-
-fn type_of(kind: Kind) -> Type {
-    match kind {
-        Kind::Integer | Kind::Measure | Kind::Issue => Type::Integer,
-        Kind::Bigint => Type::Bigint,
-        Kind::Text => Type::Text,
-        Kind::Uuid => Type::Uuid,
-        Kind::Date => Type::Date,
-        Kind::Timestamp => Type::Timestamp,
-        Kind::Boolean => Type::Boolean,
-    }
 }

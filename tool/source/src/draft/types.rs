@@ -2,17 +2,19 @@
 
 use std::collections::HashMap;
 
+use design::Single;
+
 use super::entries::{unusable, Entry, Reference};
 use crate::catalog::{Column, TableName};
 use crate::database::{Cell, Database};
 use crate::kind::Kind;
 use crate::Failure;
 
-/// The kinds of columns, by table and name, each with how the database compares it.
+/// The types of columns, by table and name, each with how the database compares it.
 pub(crate) struct Typing(HashMap<(String, String), Typed>);
 
-/// A kind, and how the database compares values of it.
-type Typed = (Kind, &'static str);
+/// A type, and how the database compares values of it.
+type Typed = (Single, &'static str);
 
 /// A column by the number of its table and its name.
 type Member = (usize, String);
@@ -53,8 +55,8 @@ impl Typing {
         typed(left).is_some() && typed(left) == typed(right)
     }
 
-    /// The kind of a column; none if it can only be shown.
-    pub(crate) fn kind(&self, table: &TableName, column: &str) -> Option<Kind> {
+    /// The type of a column; none if it can only be shown.
+    pub(crate) fn kind(&self, table: &TableName, column: &str) -> Option<Single> {
         let typed = self.0.get(&(table.to_string(), column.to_string()));
         typed.map(|(kind, _)| *kind)
     }
@@ -98,20 +100,20 @@ fn classes(entries: &[Entry], references: &[Reference]) -> Vec<Vec<Member>> {
     classes
 }
 
-/// The kinds of a class's columns: one that all of them can have, or else for each its own.
+/// The types of a class's columns: one that all of them can have, or else for each its own.
 fn kinds_of(
     database: &mut dyn Database,
     entries: &[Entry],
     class: &[Member],
 ) -> Result<Vec<(Member, Typed)>, Failure> {
-    let naturals: Vec<Kind> = class
+    let naturals: Vec<Single> = class
         .iter()
         .filter_map(|member| database.natural(column(entries, member)))
         .collect();
-    let equalities = |kind: Kind| -> Option<Vec<&'static str>> {
+    let equalities = |kind: Single| -> Option<Vec<&'static str>> {
         let fits = class
             .iter()
-            .map(|member| database.fit(column(entries, member), kind).ok());
+            .map(|member| database.fit(column(entries, member), Kind::Of(kind)).ok());
         fits.map(|fit| fit.map(|fit| fit.equality)).collect()
     };
     let is_one = |equalities: &Vec<&str>| equalities.windows(2).all(|pair| pair[0] == pair[1]);
@@ -121,13 +123,13 @@ fn kinds_of(
     let Some((mut kind, all)) = common else {
         let own = class.iter().filter_map(|member| {
             let kind = database.natural(column(entries, member))?;
-            let fit = database.fit(column(entries, member), kind).ok()?;
+            let fit = database.fit(column(entries, member), Kind::Of(kind)).ok()?;
             Some((member.clone(), (kind, fit.equality)))
         });
         return Ok(own.collect());
     };
-    if kind == Kind::Bigint && is_small(database, entries, class)? {
-        kind = Kind::Integer;
+    if kind == Single::Bigint && is_small(database, entries, class)? {
+        kind = Single::Integer;
     }
     let typed = class.iter().cloned().zip(all);
     Ok(typed

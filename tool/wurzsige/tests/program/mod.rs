@@ -1,6 +1,8 @@
 //! Runs the program.
 #![allow(dead_code)] // each test file uses some of it
 
+pub mod terminal;
+
 use std::io::Write;
 use std::path::PathBuf;
 use std::process::{Command, Stdio};

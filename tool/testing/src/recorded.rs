@@ -1,30 +1,30 @@
 //! A source that remembers what was fetched of it.
 
+use std::cell::RefCell;
+use std::rc::Rc;
+
 use design::Place;
 use source::{Condition, Failure, Record, Source, Value};
+
+/// The conditions that were fetched, in their order.
+pub type Fetched = Rc<RefCell<Vec<Condition>>>;
 
 /// A source with the conditions that were fetched.
 pub struct Recorded<'s> {
     source: &'s mut dyn Source,
-    conditions: Vec<Condition>,
+    fetched: Fetched,
 }
 
 impl<'s> Recorded<'s> {
     /// Nothing was fetched yet.
     pub fn new(source: &'s mut dyn Source) -> Recorded<'s> {
-        let conditions = Vec::new();
-        Recorded { source, conditions }
+        let fetched = Fetched::default();
+        Recorded { source, fetched }
     }
 
-    /// Each condition once.
-    pub fn once(self) -> Vec<Condition> {
-        let mut once: Vec<Condition> = Vec::new();
-        for condition in self.conditions {
-            if !once.contains(&condition) {
-                once.push(condition);
-            }
-        }
-        once
+    /// What was fetched, and will be.
+    pub fn fetched(&self) -> Fetched {
+        Rc::clone(&self.fetched)
     }
 }
 
@@ -34,10 +34,7 @@ impl Source for Recorded<'_> {
     }
 
     fn fetch(&mut self, condition: &Condition) -> Result<Vec<Record>, Failure> {
-        // what the first load fetched, all later ones fetch too
-        if self.conditions.len() < 1_000 {
-            self.conditions.push(condition.clone());
-        }
+        self.fetched.borrow_mut().push(condition.clone());
         self.source.fetch(condition)
     }
 
