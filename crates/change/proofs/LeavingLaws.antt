@@ -35,7 +35,7 @@ use Rattle.lawful.proofs.SoundState.{parts}
 use Rattle.mend.specs.Changing.{Without}
 use Rattle.change.specs.Replacing.{Marking, Leaving, Remarked}
 use Rattle.change.proofs.SmallestLaws.{but, but-has, but-says, goes-smallest}
-use Rattle.change.proofs.ReplaceLaws.{remarked-by}
+use Rattle.change.proofs.ReplaceLaws.{remarked-by, marks-at}
 use Rattle.change.proofs.BesideLaws.{freed-without}
 
 -- a row is marked exactly if it is cached
@@ -47,7 +47,7 @@ marking-marked {S} {D} {h} x s l = ap (λ (n : ℕ). eqb n 1) (x .at s l) ∙ go
     go true = refl
     go false = refl
 
-not-both : (b : Bool) → b && not b ≡ false
+pub not-both : (b : Bool) → b && not b ≡ false
 not-both true = refl
 not-both false = refl
 
@@ -93,7 +93,8 @@ module _ {S : Scheme} {E F : Database} {h : Held} {r : ℕ} {on : Bool} {m : Lis
   pub leaving-uncached : (getD m r 0 ≡ 1 → ⊥) → Remarked S E h m (changed 0 0) m
   leaving-uncached n =
       remarked-by (x .without .size-without) (smallest (λ c. absurd (n (x .marking .at r (x .without .bound) ∙ cond-true (X r) 1 0 c)))) (sym none-came)
-      (sym (count-none 512 _ (λ s l. went s l (same-number s r)))) long (λ s l. x .marking .at s l ∙ ap (λ (b : Bool). cond b 1 0) (sym (all s (same-number s r)))) refl
+      (sym (count-none 512 _ (λ s l. went s l (same-number s r))))
+      (marks-at Y m m long (λ s l. x .marking .at s l ∙ ap (λ (b : Bool). cond b 1 0) (sym (all s (same-number s r)))) refl)
     where
       off : X r ≡ false
       off = refute (X r) (λ c. n (x .marking .at r (x .without .bound) ∙ cond-true (X r) 1 0 c))
@@ -112,7 +113,7 @@ module _ {S : Scheme} {E F : Database} {h : Held} {r : ℕ} {on : Bool} {m : Lis
   leaving-last c o =
       remarked-by (x .without .size-without) (smallest (λ _. o)) (sym none-came)
       (sym (count-one 512 (λ _. false) (λ s. marked m s && not (Y s)) r (x .without .bound) refl (both marks-r (ap not gone)) (λ s l ne. sym (others-stay s l ne)) ∙ ap (λ (n : ℕ). n + 1) (count-none 512 _ (λ s l. refl))))
-      (omega (arith, long, length-set m r 0)) (λ s l. at s l (same-number s r)) (drop-set-lt 512 m r 0 (x .without .bound))
+      (marks-at Y m (set m r 0) (omega (arith, long, length-set m r 0)) (λ s l. at s l (same-number s r)) (drop-set-lt 512 m r 0 (x .without .bound)))
     where
       marks-r : marked m r ≡ true
       marks-r = eq-eqb (getD m r 0) 1 c

@@ -8,7 +8,7 @@ use lib.ListN.{length, getD, take, drop, take-append-drop}
 use lib.Seq.{getD-take, length-take-le}
 use Rattle.finite.specs.Finite.{count, tab}
 use Rattle.finite.proofs.Counting.{count-same}
-use Rattle.finite.proofs.Tables.{tab-of}
+use Rattle.finite.proofs.Tables.{tab-of, tab-same}
 use Rattle.model.specs.Scheme.{Scheme}
 use Rattle.model.specs.Database.{Database}
 use Rattle.model.specs.Rounds.{reached}
@@ -57,24 +57,28 @@ remarked S D z h m K m′ came went e f g k =
 -- the same of any row set Y that is the smallest: there is no other
 pub remarked-by : {S : Scheme} {D : Database} → D .size ≡ 512 → {h : Held} {m m′ : List ℕ} {Y : RowSet} → Smallest S D (heldIn S (holdingOf h)) Y → {came went : ℕ} →
     came ≡ count 512 (λ r. Y r && not (marked m r)) → went ≡ count 512 (λ r. marked m r && not (Y r)) →
-    512 ≤ length m′ → ((r : ℕ) → r < 512 → getD m′ r 0 ≡ cond (Y r) 1 0) → drop 512 m′ ≡ drop 512 m → Remarked S D h m (changed came went) m′
+    m′ ≡ tab 512 (λ r. cond (Y r) 1 0) ++ drop 512 m → Remarked S D h m (changed came went) m′
 unfolding changedAnswer marks
-remarked-by {S} {D} z {h} {m} {m′} {Y} s f g l at past =
+remarked-by {S} {D} z {h} {m} {m′} {Y} s f g k =
     record {
       answer =
           ap₂ changed
-          (f ∙ count-same 512 _ _ (λ r k. ap₂ (λ (a b : Bool). a && not b) (same r) (marked-take m r k)))
-          (g ∙ count-same 512 _ _ (λ r k. ap₂ (λ (a b : Bool). b && not a) (same r) (marked-take m r k)));
+          (f ∙ count-same 512 _ _ (λ r l. ap₂ (λ (a b : Bool). a && not b) (same r) (marked-take m r l)))
+          (g ∙ count-same 512 _ _ (λ r l. ap₂ (λ (a b : Bool). b && not a) (same r) (marked-take m r l)));
       marks =
-          sym (take-append-drop 512 m′) ∙
-          ap₂ (λ (xs ys : List ℕ). xs ++ ys)
-          (tab-of 0 512 (λ r. cond (cachedFor S D (holdingOf h) r) 1 0) (take 512 m′) (length-take-le 512 m′ l)
-          (λ r k. getD-take 512 m′ r 0 k ∙ at r k ∙ ap (λ (b : Bool). cond b 1 0) (same r))) past ∙
+          k ∙ ap (λ (xs : List ℕ). xs ++ drop 512 m) (tab-same 512 _ _ (λ r l. ap (λ (b : Bool). cond b 1 0) (same r))) ∙
           ap (λ (n : ℕ). tab n (λ r. cond (cachedFor S D (holdingOf h) r) 1 0) ++ drop 512 m) (sym z);
     }
   where
     same : (r : ℕ) → Y r ≡ cachedFor S D (holdingOf h) r
     same r = one-smallest s (held-smallest S D (holdingOf h)) r
+
+-- marks, one by one
+pub marks-at : (Y : RowSet) (m m′ : List ℕ) → 512 ≤ length m′ → ((r : ℕ) → r < 512 → getD m′ r 0 ≡ cond (Y r) 1 0) → drop 512 m′ ≡ drop 512 m →
+    m′ ≡ tab 512 (λ r. cond (Y r) 1 0) ++ drop 512 m
+marks-at Y m m′ l at past =
+    sym (take-append-drop 512 m′) ∙
+    ap₂ (λ (xs ys : List ℕ). xs ++ ys) (tab-of 0 512 (λ r. cond (Y r) 1 0) (take 512 m′) (length-take-le 512 m′ l) (λ r k. getD-take 512 m′ r 0 k ∙ at r k)) past
 
 -- the rows with one stored, and marked anew
 pub replaced : (d : Design) (R R′ : Rows) (h : Held) (m m′ : List ℕ) (r : ℕ) (x : Row) (a : Answer) → R′ ≡ stored R r x →

@@ -5,13 +5,16 @@ use mathlib.Core.Logic.{_⊎_, inl, inr, ⊎-elim}
 use mathlib.Core.Bool.{Bool, true, false, not, _&&_, _||_, and-eq-true-iff, or-true}
 use borrow.Author.Tests.{eq-eqb}
 use lib.Dec.{eqb}
-use Rattle.finite.proofs.Bools.{both, clash, eq-not, ne-not, or-cases, or-left, same-number}
+use Rattle.finite.proofs.Bools.{both, clash, dec, eq-not, ne-not, or-cases, or-left, refute, same-number}
 use Rattle.model.specs.Cell.{Cell, equal}
 use Rattle.model.specs.Scheme.{Column, Scheme}
 use Rattle.model.specs.Database.{Database, Has}
 use Rattle.model.specs.Cache.{RowSet, Inside, Held, Complete, Meets, Smallest}
 use Rattle.model.proofs.Closed.{Demand, Closed, closed-constraints, constraints-closed}
+use Rattle.finite.proofs.Bools.{or-second}
+use Rattle.model.proofs.RoundsLaws.{load-closed, load-starts, load-least}
 use Rattle.mend.specs.Changing.{Without}
+use Rattle.change.proofs.OtherRows.{others, newOf, none-closed, reach}
 
 -- row set X without row r
 unfoldable pub but : RowSet → ℕ → RowSet
@@ -116,3 +119,132 @@ module _ {E F : Database} {r : ℕ} (w : Without E F r) where
                   });
                   values = λ k v e s h. value k v e s h (m .meets .values k v e s h) (same-number s r);
                 }
+
+    -- ---- row r comes: X is the smallest row set without it
+
+    module _ (m : Smallest S E H X) where
+      not-r : {s : ℕ} → X s ≡ true → s ≡ r → ⊥
+      not-r {s} x = other (m .meets .rows s x)
+
+      -- a row set that meets everything with row r has those rows
+      pub comes-below : (Y : RowSet) → Meets S F H Y → Inside X Y
+      unfolding Complete
+      comes-below Y n s x = but-says Y r s (m .least (but Y r) meets s x) .0
+        where
+          rows : Inside (but Y r) (E .live)
+          rows s t = let a = but-says Y r s t in w .live s (a .1) ∙ n .rows s (a .0)
+
+          meets : Meets S E H (but Y r)
+          meets =
+              record {
+                rows = rows;
+                constraints = closed-constraints (record {
+                  rows = rows;
+                  demanded = λ s t y d. but-has Y r t (meets-closed n .demanded s t (but-says Y r s y .0) (demand-with d)) (other (d .target .live));
+                });
+                values = λ k v e s h. but-has Y r s (n .values k v e s (has-with h)) (other (h .live));
+              }
+
+      live-with : Inside X (F .live)
+      live-with s x = sym (w .live s (not-r x)) ∙ m .meets .rows s x
+
+      -- what one of its rows demands is row r or one of its rows, and so is a row that has a held value
+      demanded-with : (s t : ℕ) → X s ≡ true → Demand S F s t → (t ≡ r) ⊎ (t ≡ r → ⊥) → (t ≡ r) ⊎ (X t ≡ true)
+      demanded-with s t x d (inl e) = inl e
+      demanded-with s t x d (inr ne) = inr (meets-closed (m .meets) .demanded s t x (demand-without (not-r x) ne d))
+
+      valued-with : (k : Column) (v : Cell) → H k v ≡ true → (s : ℕ) → Has F k v s → (s ≡ r) ⊎ (s ≡ r → ⊥) → (s ≡ r) ⊎ (X s ≡ true)
+      unfolding Complete
+      valued-with k v e s h (inl q) = inl q
+      valued-with k v e s h (inr ne) = inr (m .meets .values k v e s (has-without ne h))
+
+      -- nothing calls for it
+      pub comes-uncalled : ((k : Column) (v : Cell) → H k v ≡ true → Has F k v r → ⊥) → ((s : ℕ) → X s ≡ true → Demand S F s r → ⊥) → Smallest S F H X
+      unfolding Complete
+      comes-uncalled no-value no-demand =
+          record {
+            meets = record {
+              rows = live-with;
+              constraints = closed-constraints (record {
+                rows = live-with;
+                demanded = λ s t x d. ⊎-elim (λ e. absurd (no-demand s x (subst (λ (i : ℕ). Demand S F s i) e d))) (λ y. y) (demanded-with s t x d (same-number t r));
+              });
+              values = λ k v e s h. ⊎-elim (λ q. absurd (no-value k v e (subst (λ (i : ℕ). Has F k v i) q h))) (λ y. y) (valued-with k v e s h (same-number s r));
+            };
+            least = comes-below;
+          }
+
+      -- it is called for: what it leads to comes too
+      module _ (seed : RowSet) (lives : F .live r ≡ true) (starts : seed r ≡ true) (seeds : (s : ℕ) → seed s ≡ true → (s ≡ r) ⊎ (X s ≡ true))
+          (called : (Y : RowSet) → Meets S F H Y → Inside X Y → Y r ≡ true) where
+        off : X r ≡ false
+        off = refute (X r) (λ x. not-r x refl)
+
+        -- the seed's new row is row r
+        new-is : (s : ℕ) → newOf X seed s ≡ true → s ≡ r
+        new-is s t =
+            let a = and-eq-true-iff (seed s) (not (X s)) .0 t in
+            ⊎-elim (λ e. e) (λ x. clash (a .1) (ap not x)) (seeds s (a .0))
+
+        pub new-live : Inside (newOf X seed) (others F X .live)
+        new-live s t = subst (λ (i : ℕ). others F X .live i ≡ true) (sym (new-is s t)) (both lives (ap not off))
+
+        C : Closed S (others F X) (reach S F X seed)
+        C = load-closed S (others F X) (λ _. false) (newOf X seed) (none-closed S (others F X)) new-live
+
+        abbrev with-others : RowSet
+        with-others s = X s || reach S F X seed s
+
+        r-in : with-others r ≡ true
+        r-in = or-second (X r) _ (load-starts S (others F X) (λ _. false) (newOf X seed) (none-closed S (others F X)) new-live r (inr (both starts (ap not off))))
+
+        rows : Inside with-others (F .live)
+        rows s t = ⊎-elim (live-with s) (λ z. and-eq-true-iff (F .live s) (not (X s)) .0 (C .rows s z) .0) (or-cases (X s) (reach S F X seed s) t)
+
+        -- a row of X, or row r
+        one-of : (s : ℕ) → (s ≡ r) ⊎ (X s ≡ true) → with-others s ≡ true
+        one-of s (inl e) = subst (λ (i : ℕ). with-others i ≡ true) (sym e) r-in
+        one-of s (inr x) = sym (or-left (X s) (reach S F X seed s) x)
+
+        further : (s t : ℕ) → reach S F X seed s ≡ true → Demand S F s t → (X t ≡ true) ⊎ (X t ≡ false) → with-others t ≡ true
+        further s t z d (inl x) = one-of t (inr x)
+        further s t z d (inr f) =
+            or-second (X t) _ (C .demanded s t z (record {
+              number = d .number;
+              exists = d .exists;
+              value = d .value;
+              source = record { live = C .rows s z; table = d .source .table; value = d .source .value };
+              target = record { live = both (d .target .live) (ap not f); table = d .target .table; value = d .target .value };
+            }))
+
+        pub comes-called : Smallest S F H with-others
+        unfolding Complete
+        comes-called =
+            record {
+              meets = record {
+                rows = rows;
+                constraints = closed-constraints (record {
+                  rows = rows;
+                  demanded = λ s t y d. ⊎-elim (λ x. one-of t (demanded-with s t x d (same-number t r))) (λ z. further s t z d (dec (X t)))
+                      (or-cases (X s) (reach S F X seed s) y);
+                });
+                values = λ k v e s h. one-of s (valued-with k v e s h (same-number s r));
+              };
+              least = λ Y n s t. ⊎-elim (comes-below Y n s) (λ z. and-eq-true-iff (Y s) (others F X .live s) .0 (inside Y n s z) .0) (or-cases (X s) (reach S F X seed s) t);
+            }
+          where
+            inside : (Y : RowSet) → Meets S F H Y → Inside (reach S F X seed) (λ s. Y s && others F X .live s)
+            inside Y n =
+                load-least S (others F X) (λ _. false) (newOf X seed) (none-closed S (others F X)) new-live (λ s. Y s && others F X .live s)
+                (record {
+                  rows = λ s t. and-eq-true-iff (Y s) (others F X .live s) .0 t .1;
+                  demanded = λ s t y d. both (meets-closed n .demanded s t (and-eq-true-iff (Y s) (others F X .live s) .0 y .0) (record {
+                    number = d .number;
+                    exists = d .exists;
+                    value = d .value;
+                    source = record { live = and-eq-true-iff (F .live s) (not (X s)) .0 (d .source .live) .0; table = d .source .table; value = d .source .value };
+                    target = record { live = and-eq-true-iff (F .live t) (not (X t)) .0 (d .target .live) .0; table = d .target .table; value = d .target .value };
+                  })) (d .target .live);
+                })
+                (λ s e. clash e refl)
+                (λ s t. both (subst (λ (i : ℕ). Y i ≡ true) (sym (new-is s t)) (called Y n (comes-below Y n))) (new-live s t))

@@ -7,6 +7,7 @@ use Rattle.state.proofs.HeldWords.{words-sized}
 use Rattle.lawful.proofs.Asked.{sound-range, sound-backed}
 use Rattle.change.proofs.ReplaceLaws.{changed-refused, replace-asked, changed-well}
 use Rattle.change.proofs.BesideLaws.{put-asked}
+use Rattle.change.proofs.LeavingLaws.{sound-marking}
 use Rattle.change.proofs.changing.put_lawful.Statement.{statement}
 use Rattle.change.proofs.changing.put_lawful.Tie as tie
 
@@ -30,7 +31,7 @@ come-requires c κs =
     let z = c .before .before .before .before .before .before .if1 .left in
     let p = replace-asked _ (s .pre .0) (put (s .args .r) (s .args .x)) _ f z (sized (s .args .design) _ (s .good .0)) (words-sized (now (s .args .held))) in
     let q = put-asked _ (s .pre .0) (p .1) (s .args .r) _ z (s .args .x) f in
-    (p, (q .0, q .1, s .pre .1))
+    (p, (q .0, q .1, sound-marking _ (s .pre .0), s .pre .1))
 
 same-length-2 : tie.Need-same-length-2
 same-length-2 c = search needs
