@@ -11,6 +11,10 @@ use Rattle.model.specs.Cell.{Cell, issued, numbered}
 use Rattle.model.specs.Scheme.{Column, Scheme, isColumn}
 use Rattle.model.specs.Database.{Database}
 use Rattle.model.specs.Missing as Model
+use Rattle.state.specs.declared.design.Constraint.{Constraint}
+use Rattle.state.specs.declared.design.Design.{Design}
+use Rattle.state.specs.Design.{constraintAt}
+use Rattle.state.specs.Meaning.{columnOf, schemeOf}
 use Rattle.slice.specs.declared.fetch.Fetch.{Fetch}
 use Rattle.slice.specs.declared.fetch.Lack.{Lack}
 
@@ -101,3 +105,10 @@ pub record Shut (S : Scheme) (D : Database) (fs : List Model.Fetch) (k : Column)
   pub order : x ≤ y
   pub shut : (z : ℕ) → x ≤ z → z < y → Model.isOpen S D fs k (numbered z) ≡ false
   pub first : y ≤ x → Model.isOpen S D fs k (numbered x) ≡ true
+
+-- ---- constraints
+
+-- the constraints of a design, and whether each ends at a unique column
+pub record Ends (d : Design) (cs : List Constraint) (soles : List Bool) : Type 0 where
+  pub same : cs ≡ d .constraint
+  pub sole : (i : ℕ) → i < 16 → getD soles i false ≡ schemeOf d .unique (columnOf (constraintAt d i .target))

@@ -1,37 +1,38 @@
-// Whether a value that a constraint demands of a row must still be fetched. Values mostly come in the order of the fetches, or again and again, so each is first looked for
-// where the constraint's last one was found.
-ghost use Prim.Native.Nat.{_<_, _≤_};
+// Whether a value that a constraint demands of a row must still be fetched. Values mostly come in the order of the fetches, or again and again, or their numbers have few
+// gaps, so each is first looked for where the constraint's last one was found, behind it, and as far from it as the numbers are apart.
+ghost use Prim.Native.Nat.{_*_, _<_, _≤_};
 ghost use mathlib.Core.Bool.{_&&_};
 ghost use mathlib.Core.Path.{_≡_};
 ghost use lib.Dec.{ltb};
+ghost use lib.ListN.{length};
 ghost use Rattle.finite.specs.Finite.{any, firstFrom};
 ghost use Rattle.model.specs.Database.{Database, has};
 ghost use Rattle.model.specs.Missing as Model;
 ghost use Rattle.model.specs.Missing.{isFetched};
 ghost use Rattle.model.specs.Rounds.{leads};
 ghost use Rattle.model.specs.Scheme.{Scheme};
-ghost use Rattle.state.specs.Meaning.{cellOf, columnOf, schemeOf};
+ghost use Rattle.state.specs.Meaning.{cellOf, columnOf};
 ghost use Rattle.catalog.specs.Catalog.{Demands};
 ghost use Rattle.slice.specs.Fetches.{fetchesIn, asLack, Ordered};
 use crate::fetch::Lack;
+use crate::fetch::fetch_at;
 use crate::fetch::span_fetch;
 use crate::fetch::value_fetch;
 use crate::fetched::covers_at;
 use crate::fetched::seek;
 use catalog::first_row;
-use lawful::is_unique;
 use state::Cell;
 use state::Column;
 use state::Design;
 use state::is_blank;
 
-// Whether column k, where constraint i ends, is unique and has a row that the constraint demands of row r: then the database has no other. Constant time.
-pub(crate) fn others_whole(d: Design, catalog: &[u16; 16449], k: Column, r: usize, i: usize) -> bool
+// Whether constraint i, which ends at a unique column if `sole`, does so and demands a row of row r: then the database has no other. Constant time.
+pub(crate) fn others_whole(sole: bool, catalog: &[u16; 16449], r: usize, i: usize) -> bool
     requires { ⌜ (r < 512) × (i < 16) ⌝ }
-    ensures { λ b. ⌜ ((D : Database) → Demands (schemeOf d) D (now (catalog .entry)) → i < schemeOf d .constraints
-        → b ≡ schemeOf d .unique (columnOf k) && ltb (firstFrom 512 (leads D (schemeOf d .constraint i) r) 0) 512) ⌝ }
+    ensures { λ b. ⌜ ((S : Scheme) (D : Database) → Demands S D (now (catalog .entry)) → i < S .constraints
+        → b ≡ sole && ltb (firstFrom 512 (leads D (S .constraint i) r) 0) 512) ⌝ }
 {
-    if !is_unique(d, k) {
+    if !sole {
         return false;
     }
     first_row(catalog, i, r) < Design::ROWS
@@ -47,8 +48,31 @@ fn next_place(h: usize, n: usize) -> usize
     0
 }
 
+// Where a value of this number would stand if the numbers between it and the one at place h had no gaps. Constant time.
+fn guessed_place(words: &[u32], n: usize, h: usize, number: u32) -> usize
+    requires { ⌜ 5 * n ≤ length (now words) ⌝ }
+    ensures { λ g. ⌜ g ≤ n ⌝ }
+{
+    if n <= h {
+        return 0;
+    }
+    let f = fetch_at(words, h);
+    if number < f.number {
+        let back = (f.number - number) as usize;
+        if h < back {
+            return 0;
+        }
+        return h - back;
+    }
+    let on = (number - f.number) as usize;
+    if n - h < on {
+        return n;
+    }
+    h + on
+}
+
 // Whether one of the first n fetches has the value v of column k, which constraint i demands. `places[i]` is where its last one was found, and what stands there decides
-// the cost alone: a look there and at the next, else a search by halves, which is noted.
+// the cost alone: a look there, at the next and at the place that the numbers make likely, else a search by halves. Where it was found is noted.
 fn is_fetched_near(
     words: &[u32],
     n: usize,
@@ -67,6 +91,11 @@ fn is_fetched_near(
     let g = next_place(h, n);
     if covers_at(words, n, g, k, v) {
         places[i] = g;
+        return true;
+    }
+    let e = guessed_place(words, n, h, v.number);
+    if covers_at(words, n, e, k, v) {
+        places[i] = e;
         return true;
     }
     let a = seek(words, n, value_fetch(k, v));

@@ -32,11 +32,11 @@ element-write-places c = search needs
 returns-2 : tie.Need-returns-2
 returns-2 c = sym (fetched-hit _ _ _ _ _ (sym (c .before .covers-at2 .ensures) ∙ c .if2 .taken))
 
-value-fetch-requires : tie.Need-value-fetch-requires
-value-fetch-requires c κs = search needs
+guessed-place-requires : tie.Need-guessed-place-requires
+guessed-place-requires c κs = search needs
 
-seek-requires : tie.Need-seek-requires
-seek-requires c κs = search needs
+covers-at-requires-3 : tie.Need-covers-at-requires-3
+covers-at-requires-3 c κs = search needs
 
 mul-places-2 : tie.Need-mul-places-2
 mul-places-2 c = search needs
@@ -44,23 +44,40 @@ mul-places-2 c = search needs
 element-write-places-2 : tie.Need-element-write-places-2
 element-write-places-2 c = search needs
 
-covers-at-requires-3 : tie.Need-covers-at-requires-3
-covers-at-requires-3 c κs = search needs
-
 returns-3 : tie.Need-returns-3
 returns-3 c = sym (fetched-hit _ _ _ _ _ (sym (c .before .covers-at3 .ensures) ∙ c .if3 .taken))
+
+value-fetch-requires : tie.Need-value-fetch-requires
+value-fetch-requires c κs = search needs
+
+seek-requires : tie.Need-seek-requires
+seek-requires c κs = search needs
+
+mul-places-3 : tie.Need-mul-places-3
+mul-places-3 c = search needs
+
+element-write-places-3 : tie.Need-element-write-places-3
+element-write-places-3 c = search needs
+
+covers-at-requires-4 : tie.Need-covers-at-requires-4
+covers-at-requires-4 c κs = search needs
+
+returns-4 : tie.Need-returns-4
+returns-4 c = sym (fetched-hit _ _ _ _ _ (sym (c .before .covers-at4 .ensures) ∙ c .if4 .taken))
 
 span-fetch-requires : tie.Need-span-fetch-requires
 span-fetch-requires c κs = search needs
 
 seek-requires-2 : tie.Need-seek-requires-2
-seek-requires-2 c κs = search needs
+seek-requires-2 c κs = c .before .before .before .before .before .before .before .before .before .before .before .before .before .before .before .pre .0 .long
 
-covers-at-requires-4 : tie.Need-covers-at-requires-4
-covers-at-requires-4 c κs = c .before .before .before .before .before .before .before .before .before .before .before .before .before .pre .0 .long
+covers-at-requires-5 : tie.Need-covers-at-requires-5
+covers-at-requires-5 c κs = c .before .before .before .before .before .before .before .before .before .before .before .before .before .before .before .before .pre .0 .long
 
-returns-4 : tie.Need-returns-4
-returns-4 c = let o = c .before .before .before .before .before .before .before .before .before .before .before .before .before .before .pre .0 in fetched-by _ _ o _ _ _ _ _ _ (c .before .before .before .before .before .before .value-fetch .ensures) (c .before .before .span-fetch .ensures) (c .before .before .before .before .before .seek .ensures o) (c .before .seek2 .ensures o) (c .before .before .before .before .covers-at3 .ensures) (c .before .before .before .if3 .left) (c .covers-at4 .ensures)
+returns-5 : tie.Need-returns-5
+returns-5 c =
+    let o = c .before .before .before .before .before .before .before .before .before .before .before .before .before .before .before .before .before .pre .0 in
+    fetched-by _ _ o _ _ _ _ _ _ (c .before .before .before .before .before .before .value-fetch .ensures) (c .before .before .span-fetch .ensures) (c .before .before .before .before .before .seek .ensures o) (c .before .seek2 .ensures o) (c .before .before .before .before .covers-at4 .ensures) (c .before .before .before .if4 .left) (c .covers-at5 .ensures)
 
 pub is-fetched-near-spec : {M : Type 1} → statement M
 is-fetched-near-spec =
@@ -75,13 +92,18 @@ is-fetched-near-spec =
     mul-places
     element-write-places
     returns-2
-    value-fetch-requires
-    seek-requires
+    guessed-place-requires
+    covers-at-requires-3
     mul-places-2
     element-write-places-2
-    covers-at-requires-3
     returns-3
+    value-fetch-requires
+    seek-requires
+    mul-places-3
+    element-write-places-3
+    covers-at-requires-4
+    returns-4
     span-fetch-requires
     seek-requires-2
-    covers-at-requires-4
-    returns-4)
+    covers-at-requires-5
+    returns-5)
