@@ -49,8 +49,8 @@ impl Fed {
 
 /// Columns that are linked to the next one and to the third one after it, in one table of
 /// eight, so that a value brings in all rows. From row to row values rise by `stride`, an
-/// odd number.
-fn linked(rows: usize, unique: u8, stride: u32) -> Design {
+/// odd number; `value` is what stands for each of the numbers 0 to `rows` less 1.
+fn linked(rows: usize, unique: u8, stride: u32, value: impl Fn(u32) -> u32) -> Design {
     let mut design = Design {
         tables: vec![table(8, unique)],
         fillings: vec![filling(column(0, 0))],
@@ -67,7 +67,7 @@ fn linked(rows: usize, unique: u8, stride: u32) -> Design {
     let rows = rows as u32;
     for number in 0..rows {
         let first = number * stride;
-        let cells: Vec<u32> = (0..8).map(|place| 1 + (first + place) % rows).collect();
+        let cells: Vec<u32> = (0..8).map(|place| value((first + place) % rows)).collect();
         design.add_row(0, &cells);
     }
     design
@@ -95,6 +95,15 @@ fn scattered(rows: usize) -> Design {
     design
 }
 
+/// Numbers without gaps, and with gaps of any size.
+fn dense(number: u32) -> u32 {
+    1 + number
+}
+
+fn gapped(number: u32) -> u32 {
+    1 + number * 1000 + number * 7919 % 991
+}
+
 /// What is asked of: the largest designs, and an everyday one.
 fn works(rows: usize) -> Vec<(&'static str, Fed)> {
     let half = WARDS.min(rows as u32 / 8) / 2;
@@ -113,17 +122,27 @@ fn works(rows: usize) -> Vec<(&'static str, Fed)> {
         ),
         (
             "16 constraints, unique columns",
-            linked(rows, 0xff, 1),
+            linked(rows, 0xff, 1, dense),
             one(),
         ),
         (
             "16 constraints, values that rise",
-            linked(rows, 0, 1),
+            linked(rows, 0, 1, dense),
             one(),
         ),
         (
             "16 constraints, values in no order",
-            linked(rows, 0, 197),
+            linked(rows, 0, 197, dense),
+            one(),
+        ),
+        (
+            "16 constraints, values with gaps that rise",
+            linked(rows, 0, 1, gapped),
+            one(),
+        ),
+        (
+            "16 constraints, values with gaps in no order",
+            linked(rows, 0, 197, gapped),
             one(),
         ),
         (
@@ -185,7 +204,7 @@ mod tests {
         // of unique columns nothing; eight columns of as many values; sixteen, and the range
         assert_eq!(
             made.collect::<Vec<_>>(),
-            [0, 8 * rows, 8 * rows, 16 * rows + 1]
+            [0, 8 * rows, 8 * rows, 8 * rows, 8 * rows, 16 * rows + 1]
         );
     }
 }
