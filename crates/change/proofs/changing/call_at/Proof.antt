@@ -27,11 +27,11 @@ loop-holds : tie.Need-loop-holds Inv-loop μ-loop
 loop-holds c = (omega arith, λ D i. refl)
 
 is-called-requires : tie.Need-is-called-requires Inv-loop μ-loop
-is-called-requires c κs = let p = c .before .before .before .pre in ((p .0 .0, c .loop-test .taken, p .0 .1, p .0 .2, p .0 .3), p .1)
+is-called-requires c κs = let p = c .before .before .before .pre in ((p .0 .0, omega (arith, c .loop-test .taken), p .0 .1, p .0 .2, p .0 .3), p .1)
 
 returns : tie.Need-returns Inv-loop μ-loop
 returns c D i =
-    sym (first-here 8 (calledAt (schemeOf (c .before .before .before .before .before .args .design)) D _ _ (c .before .before .before .before .before .args .x)) _ (c .before .before .loop-test .taken) (sym (c .before .is-called .ensures D i) ∙ c .if1 .taken)) ∙ c .before .before .before .loop .inv .1 D i
+    sym (first-here 8 (calledAt (schemeOf (c .before .before .before .before .before .args .design)) D _ _ (c .before .before .before .before .before .args .x)) _ (omega (arith, c .before .before .loop-test .taken)) (sym (c .before .is-called .ensures D i) ∙ c .if1 .taken)) ∙ c .before .before .before .loop .inv .1 D i
 
 add-c : tie.Need-add-c Inv-loop μ-loop
 add-c c = omega arith

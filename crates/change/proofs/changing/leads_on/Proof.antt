@@ -34,7 +34,7 @@ unfolding schemeOf
 returns c D x =
     let s = c .before .before .before .before in
     any-hit _ _ _ (c .before .before .loop-test .taken)
-    (ap (λ n. ltb n 512) (sym (c .before .first-row .ensures (schemeOf (s .args .d)) D x (c .before .before .loop-test .taken))) ∙ lt-ltb _ 512 (c .if1 .taken))
+    (ap (λ n. ltb n 512) (sym (c .before .first-row .ensures (schemeOf (s .args .d)) D x (c .before .before .loop-test .taken))) ∙ lt-ltb (c .before .first-row .result) 512 (omega (arith, c .if1 .taken)))
 
 add-i : tie.Need-add-i Inv-loop μ-loop
 add-i c = omega (arith, c .before .before .loop-test .taken, c .before .before .before .before .pre .0 .constraints)
