@@ -25,11 +25,11 @@ use state::first_words;
 use state::store_words;
 
 // The operation on a state known sound, with the catalog of its rows: no test for causes 7 and 12. The last two arrays are working memory, whatever
-// stands in them. REFER and the holding of a range cost one load, DROP and the dropping of a range one reload, PROBE a look for the value for each constraint that
-// ends at the column, QUERY the probe of its first position, a load if that has no ground and its value is taken, the counting of its lists and the writing of
-// their words, and a total the same with a sum by weights in place of the lists, or three where that passes 62 bits. The value that would open a
-// query costs its probe and, without a ground, a search of the directory for each constraint and row, one load, and a pass over the rows for each filling; a
-// reason a reload and its own links.
+// stands in them. REFER and the holding of a range cost one load, DROP and the dropping of a range one reload unless no row has the value, PROBE a look
+// for the value for each constraint that ends at the column, QUERY the probe of its first position, a load if that has no ground and its value is taken,
+// the counting of its lists and the writing of their words, and a total the same with a sum by weights in place of the lists, or three where that passes
+// 62 bits. The value that would open a query costs its probe and, without a ground, a pass over the rows for each constraint, one load, and a pass over
+// the rows for each filling; a reason a reload and its own links.
 pub fn perform_lawful(
     op: Operation,
     design: Design,

@@ -22,6 +22,13 @@ fn shell(design: &str, lab: &Lab, home: &Folder) -> Terminal {
     terminal
 }
 
+/// A command at the prompt, its reply, and the next prompt.
+fn replies(terminal: &mut Terminal, command: &str, reply: &str) {
+    terminal.types(&format!("{command}{ENTER}"));
+    terminal.shows(reply);
+    terminal.shows(PROMPT);
+}
+
 fn laboratory() -> Lab {
     Lab::sqlite(&program::text("examples/lab.sql"))
 }
@@ -36,9 +43,7 @@ fn the_shell_replies_and_goes_on() {
         ("laod ward W-OST", "did you mean `load`?"),
         ("ask subject.wrd = x", "table `subject` has no column `wrd`"),
     ] {
-        terminal.types(&format!("{command}{ENTER}"));
-        terminal.shows(reply);
-        terminal.shows(PROMPT);
+        replies(&mut terminal, command, reply);
     }
     terminal.types(&format!("desk 2{ENTER}"));
     terminal.shows("desk 2> ");
@@ -59,9 +64,7 @@ fn the_shell_knows_the_usual_keys() {
     terminal.shows("W-OS");
     terminal.types(CONTROL_C);
     terminal.shows(PROMPT);
-    terminal.types(&format!("held{ENTER}"));
-    terminal.shows("nothing is held\r\n");
-    terminal.shows(PROMPT);
+    replies(&mut terminal, "held", "nothing is held\r\n");
     terminal.types(CONTROL_D);
     assert_eq!(terminal.ends().1, 0);
 }
@@ -75,9 +78,7 @@ fn the_history_lasts_as_long_as_the_shell() {
         ("held", "nothing is held\r\n"),
         ("rows", "0 rows of 512\r\n"),
     ] {
-        terminal.types(&format!("{command}{ENTER}"));
-        terminal.shows(reply);
-        terminal.shows(PROMPT);
+        replies(&mut terminal, command, reply);
     }
     terminal.types(&format!("{UP}{UP}"));
     terminal.shows("held");
@@ -103,14 +104,10 @@ fn names_are_completed() {
     terminal.shows("load ");
     terminal.types(&format!("w{TAB}"));
     terminal.shows("ward ");
-    terminal.types(&format!("W-OST{ENTER}"));
-    terminal.shows("158 rows in 3 rounds\r\n");
-    terminal.shows(PROMPT);
+    replies(&mut terminal, "W-OST", "158 rows in 3 rounds\r\n");
     terminal.types(&format!("ask \"Apn{TAB}"));
     terminal.shows("\"Apnoea seconds of a ward\" ");
-    terminal.types(&format!("W-OST{ENTER}"));
-    terminal.shows("660\r\n");
-    terminal.shows(PROMPT);
+    replies(&mut terminal, "W-OST", "660\r\n");
     // where there are several, one after the other
     for table in ["staff", "subject", "scoring"] {
         let piece = if table == "staff" { "why s" } else { "" };
@@ -199,9 +196,7 @@ impl Guarded {
 fn a_long_fetch_is_shown() {
     let (mut guarded, folder, home) = (Guarded::make(), Folder::make(), Folder::make());
     let mut terminal = shell(&written(&folder), &guarded.lab, &home);
-    terminal.types(&format!("load ward N{ENTER}"));
-    terminal.shows("1 row in 0 rounds\r\n");
-    terminal.shows(PROMPT);
+    replies(&mut terminal, "load ward N", "1 row in 0 rounds\r\n");
     guarded.close();
     terminal.types(&format!("load ward W{ENTER}"));
     let before = terminal.shows("reading for ");
@@ -256,9 +251,7 @@ fn an_interrupted_fetch_leaves_nothing_in_a_file() {
 fn a_server_that_goes_away_in_the_middle() {
     let (mut guarded, folder, home) = (Guarded::make(), Folder::make(), Folder::make());
     let mut terminal = shell(&written(&folder), &guarded.lab, &home);
-    terminal.types(&format!("load ward N{ENTER}"));
-    terminal.shows("1 row in 0 rounds\r\n");
-    terminal.shows(PROMPT);
+    replies(&mut terminal, "load ward N", "1 row in 0 rounds\r\n");
     guarded.close();
     terminal.types(&format!("load ward W{ENTER}"));
     guarded.wait_for_a_fetch();
@@ -281,9 +274,7 @@ fn a_server_that_goes_away_in_the_middle() {
         ("refresh", gone),
         ("held", "nothing is answered since the last refresh failed"),
     ] {
-        terminal.types(&format!("{command}{ENTER}"));
-        terminal.shows(reply);
-        terminal.shows(PROMPT);
+        replies(&mut terminal, command, reply);
     }
     terminal.types(CONTROL_D);
     assert_eq!(terminal.ends().1, 0);
