@@ -1,4 +1,6 @@
 // REFER, DROP, PROBE, the naming of a desk, and holding and dropping a range over a sound state.
+#![tactic(auto)]
+
 mod dropping;
 mod loads;
 mod naming;

@@ -3,6 +3,8 @@
 // It is two arrays. `catalog` has four parts: for each cell the next row that has the same value in the same column, for each constraint and row the first
 // row that the constraint demands of it, and of the directory the first row of each value and where each column's values begin; `keys` has the keys of the
 // directory's values, falling in each column. They are read by `next_row`, `first_row`, `find`, `find_range` and `first_of` alone; the rest of what is public here is for `mend` and `demanding`.
+#![tactic(auto)]
+
 mod columns;
 mod finding;
 mod firsts;

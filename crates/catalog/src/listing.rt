@@ -24,7 +24,7 @@ pub fn make_room(keys: &mut [u64; 4096], heads: &mut [u16; 4096], a: usize, m: u
 }
 
 // Where the column's values end after one is entered, and the value's first row before.
-#[derive(Drop)]
+#[derive(Clone, Copy)]
 pub(crate) struct Entry {
     pub to: usize,
     pub next: u16,

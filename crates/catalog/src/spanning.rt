@@ -13,7 +13,7 @@ use crate::reading::{head_at, start_at};
 use state::{Cell, Column, Design, Range};
 
 // Some places of the directory: from which on, and how many.
-#[derive(Drop)]
+#[derive(Clone, Copy)]
 pub struct Span {
     pub from: usize,
     pub count: usize,

@@ -10,7 +10,7 @@ use state::{
 };
 
 // The cells and issues of a ROW and of a Put are read from the bytes by place (an enum holds no array).
-#[derive(Drop)]
+#[derive(Clone, Copy)]
 pub enum Command {
     Table(Table),
     Constraint(Constraint),

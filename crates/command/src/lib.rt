@@ -1,4 +1,6 @@
 // Scripts as bytes: the command at a place, with its operands.
+#![tactic(auto)]
+
 mod bytes;
 mod command;
 mod reader;

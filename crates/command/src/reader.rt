@@ -5,7 +5,7 @@ ghost use Rattle.command.specs.Commands.{command_at};
 
 use crate::command::{Command, read_at};
 
-#[derive(Drop)]
+#[derive(Clone, Copy)]
 pub struct ScriptReader<'a> {
     pub bytes: &'a [u8],
     pub at: usize,

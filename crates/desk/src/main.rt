@@ -3,6 +3,8 @@
 // since no contract can say it, is that the C functions below `io` read standard input and write standard output. A script of more than 65,536 bytes
 // is read only so far that it is known to be too long. The first read or write that fails ends the program, with a line on standard error; a program
 // in Rattle cannot set its exit status.
+#![tactic(auto)]
+
 ghost use Rattle.std.specs.Prelude.{◌+◌, ◌*◌, ◌≤◌, cond, ◌≡◌, length, take};
 ghost use Rattle.desk.specs.Parts.{desk_report, Stands, HandedOver};
 
@@ -14,7 +16,7 @@ use crate::parts::{begin, next_part};
 // ---- writing
 
 // How many bytes of the report have been handed over, and whether all went well.
-#[derive(Drop)]
+#[derive(Clone, Copy)]
 pub struct Handed {
     pub bytes: usize,
     pub well: bool,
@@ -101,7 +103,7 @@ fn write_report(script: &[u8]) -> Handed
 // ---- reading
 
 // How many bytes have been read, and whether all went well.
-#[derive(Drop)]
+#[derive(Clone, Copy)]
 pub struct Input {
     pub bytes: usize,
     pub well: bool,

@@ -16,7 +16,7 @@ use script::step_lawful;
 use state::{Answer, Design, Shown, has_lists, show};
 
 // How far the desk has come with a design: the place of the next command and its number, whether there is one, and where the buffer's text ends.
-#[derive(Drop)]
+#[derive(Clone, Copy)]
 pub struct Progress {
     pub design: Design,
     pub at: usize,

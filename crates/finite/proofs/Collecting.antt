@@ -45,8 +45,8 @@ chosen false xs m = absurd (Memᴰ.not-nil m)
 pub collect-from : {A : Type 0} {x : A} (n : ℕ) (p : ℕ → Bool) (f : ℕ → List A) → Memᴰ x (collect n p f) → (i : ℕ) × (i < n) × (p i ≡ true) × Memᴰ x (f i)
 unfolding collect
 collect-from zero p f m = absurd (Memᴰ.not-nil m)
-collect-from (suc n) p f m =
-    ⊎_elim (λ a. let q = collect-from n p f a in (q.0, omega (arith, q.1), q.2, q.3)) (λ b. let q = chosen (p n) (f n) b in (n, omega arith, q.0, q.1))
+collect-from {A = A} {x = x} (suc n) p f m =
+    ⊎_elim (λ a. let q = collect-from {A = A} {x = x} n p f a in (q.0, omega (arith, q.1), q.2, q.3)) (λ b. let q = chosen (p n) (f n) b in (n, omega arith, q.0, q.1))
     (Memᴰ.append_cases (collect n p f) m)
 
 -- whatever comes from a number that passes is collected

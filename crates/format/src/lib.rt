@@ -1,4 +1,6 @@
 // Reading a design with its rows from a script. What it is written as is in specs/Writing.antt: an accepted script is that, up to its END.
+#![tactic(auto)]
+
 mod kinds;
 mod opening;
 mod places;

@@ -18,7 +18,7 @@ use command::{Command, command_at, row_cell, row_issue, width_of};
 use state::{Constraint, Design, Filling, Table};
 
 // What a command gives: the reading goes on, the design is complete, or the command is refused, with its cause.
-#[derive(Drop)]
+#[derive(Clone, Copy)]
 pub enum Outcome {
     On,
     Complete,
@@ -26,7 +26,7 @@ pub enum Outcome {
 }
 
 // The outcome with the design and the number of rows afterwards.
-#[derive(Drop)]
+#[derive(Clone, Copy)]
 pub struct Advance {
     pub outcome: Outcome,
     pub design: Design,
@@ -35,7 +35,7 @@ pub struct Advance {
 
 // Where the first pass stops: at the END, or at the first command that is refused. The verdict holds if no row read repeats a value; with it the
 // design read so far, and how many rows.
-#[derive(Drop)]
+#[derive(Clone, Copy)]
 pub struct Stop {
     pub verdict: Verdict,
     pub design: Design,

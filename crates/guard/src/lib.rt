@@ -1,4 +1,6 @@
 // The guard of every entry point: causes 7 and 12, whatever is lent.
+#![tactic(auto)]
+
 mod causes;
 mod distinct;
 

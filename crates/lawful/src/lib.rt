@@ -1,6 +1,8 @@
 // The tests behind causes 5, 6 and 12: whether a table, a constraint, a filling, a row, a held value or range can stand where it is put, whether a whole design
 // and its held values are lawful, and its rows, but for the values of unique columns. Each function decides a definition of state's specs/Lawful.antt, or
 // a part of one (specs/Parts.antt).
+#![tactic(auto)]
+
 mod constraints;
 mod designs;
 mod fillings;

@@ -4,6 +4,8 @@
 // next row that has the same value. Beside the levels it keeps a queue of the rows that it has added, from round 0 on, so that a row is looked at once for
 // each constraint, and which values it has walked, and walks none again: a load costs one step for each added row and constraint, and one walk for each
 // value and target column. It may stop before its rounds do, once as many rows are reached as can be.
+#![tactic(auto)]
+
 mod expanding;
 mod loading;
 mod outcome;

@@ -5,7 +5,7 @@ ghost use Rattle.model.specs.Rounds.{reached};
 ghost use Rattle.model.specs.Runs.{marked};
 
 // How many rows a load added, and how many of its later rounds added one.
-#[derive(Drop)]
+#[derive(Clone, Copy)]
 pub struct Growth {
     pub rows: usize,
     pub rounds: usize,

@@ -193,4 +193,5 @@ unfolding gives cases a1 a2 a3 a4 a5 a6 a7 b1 b2 b3 b4 b5
     Probe.probe Probe.cached_rows Probe.demanded Probe.uniquely_seen Probe.seen has same_column is_column is_blank numberless equal
     query_answer query_words query_ground is_answered full_answer filling_for output_fits within_limit answerable refers full_lists written_with has_lists shown operands_fit joins_fit unused fitting extend join_value words_of
     any count tab collect first_of first_from
-all_pass = refl and refl and refl and refl and refl and refl and refl and refl and refl and refl and refl and refl and end
+all_pass =
+    ◌and◌ {c = a1} refl (◌and◌ {c = a2} refl (◌and◌ {c = a3} refl (◌and◌ {c = a4} refl (◌and◌ {c = a5} refl (◌and◌ {c = a6} refl (◌and◌ {c = a7} refl (◌and◌ {c = b1} refl (◌and◌ {c = b2} refl (◌and◌ {c = b3} refl (◌and◌ {c = b4} refl (◌and◌ {c = b5} refl end)))))))))))

@@ -30,7 +30,7 @@ pub record Found-in (S T : Scheme) (f : ℕ → ℕ) : Type 0 where
   pub is : (i : ℕ) → i < S.constraints → T.constraint (f i) ≡ S.constraint i
 
 module _ {S T : Scheme} {f : ℕ → ℕ} (m : Found-in S T f) where
-  reach-in : {t u : ℕ} → Reaches S u t → Reaches T u t
+  reach-in : {u t : ℕ} → Reaches S u t → Reaches T u t
   reach-in (here e) = here e
   reach-in {u = u} (along i l e r) =
       along (f i) (m.there i l) (e ∙ sym (ap (λ (c : Constraint). c.source.table) (m.is i l)))

@@ -316,7 +316,7 @@ module _ {at : ℕ → ℕ} {D B : Database} (P : Slice at D B) {S : Scheme} (w 
       Mirrors at D (cache_from S D c os) (cache_from S B b os)
   unfolding cache_from EnoughAlong
   mirror-run s t M [] n = M
-  mirror-run {c} {b} s t M (o ∷ os) n = mirror-run (step-sound c o s) (step-sound b o t) (mirror-step s t M o n.0) os n.1
+  mirror-run {c} {b} s t M (o ∷ os) n = mirror-run {c = cache_after S D c o} {b = cache_after S B b o} (step-sound c o s) (step-sound b o t) (mirror-step s t M o n.0) os n.1
 
   -- nothing is cached at first
   empty-mirrors : Mirrors at D (empty_cache D) (empty_cache B)

@@ -17,7 +17,7 @@ or_right : (a b : Bool) → b ≡ true → a || b ≡ true
 or_right a b e = ap (λ (x : Bool). a || x) e ∙ or-true a
 
 module _ {S : Scheme} where
-  pub reach-join : {t u w : ℕ} → Reaches S u t → Reaches S w u → Reaches S w t
+  pub reach-join : {u t w : ℕ} → Reaches S u t → Reaches S w u → Reaches S w t
   reach-join {w = w} (here e) q = subst (λ (n : ℕ). Reaches S w n) (sym e) q
   reach-join (along i l e p) q = along i l e (reach-join p q)
 
@@ -100,7 +100,10 @@ module _ (S : Scheme) where
       (any-true S.constraints (λ j. eqb (S.constraint j).source.table t && eqb (S.constraint j).target.table (S.constraint i).target.table) i l
       (both (eq-eqb (S.constraint i).source.table t (sym e)) (eq-eqb (S.constraint i).target.table (S.constraint i).target.table refl)))
 
-  pub Reaches-reaches : ((i : ℕ) → i < S.constraints → (S.constraint i).target.table < 8) → (t u : ℕ) → Reaches S u t → reaches S t u ≡ true
+  found : ((i : ℕ) → i < S.constraints → (S.constraint i).target.table < 8) → (u t : ℕ) → Reaches S u t → reaches S t u ≡ true
   unfolding reaches
-  Reaches-reaches few t u (here e) = all-kept 8 t u (self t u e)
-  Reaches-reaches few t u (along i l e p) = joined 8 (S.constraint i).target.table t u (few i l) (all-kept 8 t _ (step t i l e)) (Reaches-reaches few _ u p)
+  found few u t (here e) = all-kept 8 t u (self t u e)
+  found few u t (along i l e p) = joined 8 (S.constraint i).target.table t u (few i l) (all-kept 8 t _ (step t i l e)) (found few u _ p)
+
+  pub Reaches-reaches : ((i : ℕ) → i < S.constraints → (S.constraint i).target.table < 8) → (t u : ℕ) → Reaches S u t → reaches S t u ≡ true
+  Reaches-reaches few t u = found few u t

@@ -238,7 +238,7 @@ module _ {at : ℕ → ℕ} {D B : Database} (P : Slice at D B) where
           let f = joins-fit S ts j js w in
           ap (λ (u : Cell). collect B.size (choose B (in_full at D X) (target S j) u) (on_there (map at rs) js)) (value_there c j f.0) ∙
           collect-there up (map at) (target S j) (join_value S D rs j) (on_there (map at rs) js) (λ r. extend S D X (rs ++ (r ∷ [])) js)
-          (λ r x. ap (λ (l : List ℕ). extend S B (in_full at D X) l js) (sym (map-append at rs (r ∷ []))) ∙ extend-there up (picked_more (target S j).table c x) js f.1)
+          (λ r x. ap (λ (l : List ℕ). extend S B (in_full at D X) l js) (sym (map-append at rs (r ∷ []))) ∙ extend-there up {ts = ts ++ ((target S j).table ∷ [])} {rs = rs ++ (r ∷ [])} (picked_more (target S j).table c x) js f.1)
 
       extend-sum : (w : List ℕ → ℕ) {ts rs : List ℕ} → Picked X ts rs → (js : List Join) → joins_fit S ts js ≡ true →
           sum_over w (extend S B (in_full at D X) (map at rs) js) ≡ sum_over (λ ys. w (map at ys)) (extend S D X rs js)
@@ -248,7 +248,7 @@ module _ {at : ℕ → ℕ} {D B : Database} (P : Slice at D B) where
           let f = joins-fit S ts j js q in
           ap (λ (u : Cell). sum_over w (collect B.size (choose B (in_full at D X) (target S j) u) (on_there (map at rs) js))) (value_there c j f.0) ∙
           sum-there w (λ ys. w (map at ys)) (target S j) (join_value S D rs j) (on_there (map at rs) js) (λ r. extend S D X (rs ++ (r ∷ [])) js)
-          (λ r x. ap (λ (l : List ℕ). sum_over w (extend S B (in_full at D X) l js)) (sym (map-append at rs (r ∷ []))) ∙ extend-sum w (picked_more (target S j).table c x) js f.1)
+          (λ r x. ap (λ (l : List ℕ). sum_over w (extend S B (in_full at D X) l js)) (sym (map-append at rs (r ∷ []))) ∙ extend-sum w {ts = ts ++ ((target S j).table ∷ [])} {rs = rs ++ (r ∷ [])} (picked_more (target S j).table c x) js f.1)
 
       -- where the rows stand in the same order, the lists of the cached rows are the same lists in the same order
       fitting-there : InOrder at D → (k : Column) (v : Cell) (js : List Join) → joins_fit S (k.table ∷ []) js ≡ true →

@@ -260,7 +260,7 @@ module _ {S : Scheme} (proper : Proper S) (f : ℕ) (below : f < S.fillings) whe
   unfolding Complete
   start = sound.meets.values (S.filling f).column w held (S.filling f).column.table (row (S.filling f).column (proper.filling f below))
 
-  reached : {t u : ℕ} → Reaches S u t → marked c.marks t ≡ true → marked c.marks u ≡ true
+  reached : {u t : ℕ} → Reaches S u t → marked c.marks t ≡ true → marked c.marks u ≡ true
   unfolding Holds Complete
   reached (here e) x = subst (λ (n : ℕ). marked c.marks n ≡ true) e x
   reached (along i l e p) x =

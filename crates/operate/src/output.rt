@@ -13,7 +13,7 @@ use query::{list_fitting, operands_fit, position_fits, total_fitting};
 use state::{Answer, Design, Query};
 
 // Its lists, or the total of a position and a column.
-#[derive(Drop)]
+#[derive(Clone, Copy)]
 pub enum Output {
     Lists,
     Total(u8, u8),

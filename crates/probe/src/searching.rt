@@ -15,7 +15,7 @@ use crate::grounds::ground;
 use state::{Cell, Column, Design};
 
 // The lowest ground, 0 if none applies; and how many cached rows of the column's table have the value there, 0 if no ground applies.
-#[derive(Drop)]
+#[derive(Clone, Copy)]
 pub struct Found {
     pub ground: u8,
     pub rows: usize,

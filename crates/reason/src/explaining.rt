@@ -26,7 +26,7 @@ use state::{Answer, Design, is_live};
 use text::{put_bytes, put_spaced};
 
 // The row that the links lead back to, and where the text ends.
-#[derive(Drop)]
+#[derive(Clone, Copy)]
 struct Traced {
     row: usize,
     at: usize,

@@ -2,6 +2,8 @@
 // (crates/model/specs/Reason.antt), as a sentence (crates/model/specs/Sentence.antt). One reload gives each row's distance from what is held; one pass over the
 // constraints and rows gives the nearest row that demands each; then the chain is followed backwards, link by link, and written as it is found, into memory of
 // its own; the lent text is written last, if it is long enough.
+#![tactic(auto)]
+
 mod explaining;
 mod linking;
 mod lowest;

@@ -12,7 +12,7 @@ use crate::nearing::wide;
 use state::{Constraint, Design, cell_at, is_live, row_has};
 
 // A constraint's number, and the row that it demands another of.
-#[derive(Drop)]
+#[derive(Clone, Copy)]
 pub(crate) struct Link {
     pub constraint: usize,
     pub row: usize,

@@ -15,14 +15,14 @@ use state::{
 };
 
 // What a chain ends with.
-#[derive(Drop)]
+#[derive(Clone, Copy)]
 pub(crate) enum Origin {
     Value(HeldValue),
     Range(Range),
 }
 
 // Whether one was found, and the lowest so far.
-#[derive(Drop)]
+#[derive(Clone, Copy)]
 pub(crate) struct Lowest {
     pub found: bool,
     pub origin: Origin,

@@ -2,7 +2,7 @@
 use state::{Answer, Held};
 
 // The held values afterwards, and the answer.
-#[derive(Drop)]
+#[derive(Clone, Copy)]
 pub struct Outcome {
     pub held: Held,
     pub answer: Answer,

@@ -1,4 +1,6 @@
 // A whole run of a script, and a probe behind one. What a run leaves is in specs/Runs.antt.
+#![tactic(auto)]
+
 mod outcome;
 mod runs;
 

@@ -3,7 +3,7 @@ use state::Answer;
 
 // What a step gives: the answer, the place of a refusal (0 with any other answer), the place after the command, and whether
 // reading goes on.
-#[derive(Drop)]
+#[derive(Clone, Copy)]
 pub struct Step {
     pub answer: Answer,
     pub place: usize,

@@ -21,7 +21,7 @@ use reason::reason_lawful;
 use state::{Answer, Design, HeldValue, Operation, Query, copy_bytes, is_numberless, show};
 
 // The answer words and the bytes of text that an operation takes.
-#[derive(Drop)]
+#[derive(Clone, Copy)]
 pub struct Sizes {
     pub words: u64,
     pub text: usize,

@@ -8,7 +8,7 @@ use state::{Cell, Column};
 
 // All rows with a value in a column (kind 0), or with a number of a span there, at issue 0 (kind 1): `number` and `end` are the value's number and issue, or the
 // span's first and last number.
-#[derive(Drop)]
+#[derive(Clone, Copy)]
 pub struct Fetch {
     pub kind: u32,
     pub table: u32,
@@ -18,7 +18,7 @@ pub struct Fetch {
 }
 
 // A fetch that lacks, or none.
-#[derive(Drop)]
+#[derive(Clone, Copy)]
 pub struct Lack {
     pub found: bool,
     pub fetch: Fetch,

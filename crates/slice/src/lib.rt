@@ -1,4 +1,6 @@
 // What a slice of a larger database lacks: the fetch that must be made next, from the slice, what is held, the cached rows and the fetches that were made.
+#![tactic(auto)]
+
 mod accepted;
 mod fetch;
 mod fetched;

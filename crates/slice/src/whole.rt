@@ -17,7 +17,7 @@ use guard::cause;
 use state::{Design, first_words};
 
 // What must be fetched next: nothing, this, or it isn't said since what is lent is refused.
-#[derive(Drop)]
+#[derive(Clone, Copy)]
 pub enum Next {
     Nothing,
     Lacks(Fetch),

@@ -5,7 +5,7 @@ ghost use Rattle.state.specs.Meaning.{answer_of, bit, mask_members, shown_of, si
 
 use crate::design::Design;
 
-#[derive(Drop)]
+#[derive(Clone, Copy)]
 pub enum Answer {
     // rows added, later rounds that added a row
     Loaded(usize, usize),
@@ -42,7 +42,7 @@ pub enum Answer {
 }
 
 // An answer as the report shows it: its word, by number, how many numbers stand behind it, and these, 0 behind the last.
-#[derive(Drop)]
+#[derive(Clone, Copy)]
 pub struct Shown {
     pub word: u8,
     pub count: u8,

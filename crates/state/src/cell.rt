@@ -5,7 +5,7 @@ ghost use Rattle.model.specs.Cell.{amount, equal, is_blank, lower_cell, numberle
 ghost use Rattle.state.specs.Cells.{cells_in};
 ghost use Rattle.state.specs.Meaning.{cell_at, cell_of};
 
-#[derive(Drop)]
+#[derive(Clone, Copy)]
 pub struct Cell {
     pub number: u32,
     pub issue: u8,

@@ -4,34 +4,34 @@ ghost use Rattle.std.specs.Prelude.{◌≡◌};
 ghost use Rattle.state.specs.Design.{empty_design};
 
 // A table's number of columns, and its unique columns: bit i for column i.
-#[derive(Drop)]
+#[derive(Clone, Copy)]
 pub struct Table {
     pub columns: u8,
     pub unique: u8,
 }
 
-#[derive(Drop)]
+#[derive(Clone, Copy)]
 pub struct Column {
     pub table: u8,
     pub place: u8,
 }
 
 // A referential cache constraint, source to target.
-#[derive(Drop)]
+#[derive(Clone, Copy)]
 pub struct Constraint {
     pub source: Column,
     pub target: Column,
 }
 
 // A filling column and its candidates, low to high.
-#[derive(Drop)]
+#[derive(Clone, Copy)]
 pub struct Filling {
     pub column: Column,
     pub low: u32,
     pub high: u32,
 }
 
-#[derive(Drop)]
+#[derive(Clone, Copy)]
 pub struct Design {
     pub tables: usize,
     pub table: [Table; 8],

@@ -6,21 +6,21 @@ ghost use Rattle.state.specs.Held.{empty_ranges, none_held};
 use crate::cell::Cell;
 
 // A filling's number and a value.
-#[derive(Drop)]
+#[derive(Clone, Copy)]
 pub struct HeldValue {
     pub filling: u8,
     pub value: Cell,
 }
 
 // A held value with the desk that it belongs to.
-#[derive(Drop)]
+#[derive(Clone, Copy)]
 pub struct OwnedValue {
     pub desk: u8,
     pub pair: HeldValue,
 }
 
 // A range of a filling's values, both ends counted.
-#[derive(Drop)]
+#[derive(Clone, Copy)]
 pub struct Range {
     pub filling: u8,
     pub low: u32,
@@ -28,7 +28,7 @@ pub struct Range {
 }
 
 // A desk's ranges: how many, and these.
-#[derive(Drop)]
+#[derive(Clone, Copy)]
 pub struct DeskRanges {
     pub count: usize,
     pub list: [Range; 8],
@@ -50,7 +50,7 @@ impl DeskRanges {
     }
 }
 
-#[derive(Drop)]
+#[derive(Clone, Copy)]
 pub struct Held {
     pub desk: u8,
     pub count: usize,

@@ -2,6 +2,8 @@
 // read their places and lent rows.
 // What they mean as the model's scheme, database and cache is in specs/Meaning.antt, when a lent state is lawful in specs/Lawful.antt, and what
 // an operation answers and leaves in specs/Lent.antt.
+#![tactic(auto)]
+
 mod answer;
 mod cell;
 mod copying;

@@ -4,14 +4,14 @@ use crate::design::Column;
 use crate::held::{HeldValue, Range};
 
 // An earlier position of a query, and the constraint by which a row is joined to it.
-#[derive(Drop)]
+#[derive(Clone, Copy)]
 pub struct Join {
     pub position: u8,
     pub constraint: u8,
 }
 
 // A query's operands. Of its four pairs the first `joins` are used; an enum holds no array, so they are four fields.
-#[derive(Drop)]
+#[derive(Clone, Copy)]
 pub struct Query {
     pub column: Column,
     pub value: Cell,
@@ -23,14 +23,14 @@ pub struct Query {
 }
 
 // A total's operands: a query's, and the position and the column whose cells are added up.
-#[derive(Drop)]
+#[derive(Clone, Copy)]
 pub struct Total {
     pub query: Query,
     pub position: u8,
     pub column: u8,
 }
 
-#[derive(Drop)]
+#[derive(Clone, Copy)]
 pub enum Operation {
     Refer(HeldValue),
     Drop(HeldValue),

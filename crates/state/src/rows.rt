@@ -10,7 +10,7 @@ use crate::cell::{Cell, cell_at, same_cell};
 use crate::design::{Column, Design};
 
 // A row's table, and the numbers and the issues of its eight cells.
-#[derive(Drop)]
+#[derive(Clone, Copy)]
 pub struct Row {
     pub table: u8,
     pub numbers: [u32; 8],

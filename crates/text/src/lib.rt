@@ -1,5 +1,7 @@
 // Bytes and numbers, written into a lent buffer from an index on; each function gives the index behind what it wrote, and the rest of the buffer is
 // untouched. The report and the reasons for rows are written with these. Each takes time in proportion to the bytes that it writes.
+#![tactic(auto)]
+
 ghost use Rattle.std.specs.Prelude.{◌∷◌, [], ◌+◌, ◌≤◌, ◌<◌, length, take};
 ghost use Rattle.finite.specs.Writing.{Wrote};
 ghost use Rattle.finite.specs.Decimal.{decimal, spaced};

@@ -5,7 +5,7 @@ use operate::perform;
 use state::{Design, HELD_WORDS, Operation};
 
 // The cause of a refusal, 0 for none; and whether what had to stay untouched did.
-#[derive(Drop)]
+#[derive(Clone, Copy)]
 pub struct Outcome {
     pub cause: u8,
     pub is_left: bool,
@@ -121,7 +121,7 @@ fn longer(script: &[u8]) -> Outcome {
 }
 
 // The causes of the seven operations, and whether everything that had to stay untouched did.
-#[derive(Drop)]
+#[derive(Clone, Copy)]
 pub struct Tried {
     pub causes: Causes,
     pub is_left: bool,

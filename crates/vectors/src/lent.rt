@@ -10,7 +10,7 @@ use state::{
 use writing::{Written, write};
 
 // Everything that a caller lends an operation.
-#[derive(Drop)]
+#[derive(Clone, Copy)]
 pub struct State {
     pub design: Design,
     pub cells: [u32; 4096],
@@ -167,7 +167,7 @@ pub(crate) fn changed(mut s: State, kind: usize, i: usize, v: usize) -> State {
 // ---- operations, which a lawful state allows
 
 // The causes of refusal of the seven operations, 0 for none.
-#[derive(Drop)]
+#[derive(Clone, Copy)]
 pub struct Causes {
     pub refer: u8,
     pub drop: u8,

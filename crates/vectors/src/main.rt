@@ -13,6 +13,8 @@
 //   r NAME|CAUSE|KIND    reading the script's design into buffers (buffers.rt): the cause, and whether what had to stay untouched did
 //   b NAME|CAUSES|KIND   the seven operations on buffers of which one is too short, or on longer ones, and the same
 // Any other line is a comment.
+#![tactic(auto)]
+
 mod buffers;
 mod held;
 mod lent;
@@ -24,7 +26,7 @@ use crate::text::{after, byte_at, find, number_at, put_hex};
 use crate::vectors::{Tally, fields_of, say_tally, vector};
 
 // How far the list has been read: the script's length, the words and the bytes of text lent, and the tally.
-#[derive(Drop)]
+#[derive(Clone, Copy)]
 pub struct Progress {
     pub length: usize,
     pub words: usize,

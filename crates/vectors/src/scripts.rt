@@ -7,7 +7,7 @@ use script::{Step, step};
 use state::Design;
 
 // A line, with how many bytes it has without its end.
-#[derive(Drop)]
+#[derive(Clone, Copy)]
 pub struct Line {
     pub bytes: [u8; 1024],
     pub length: usize,
@@ -60,7 +60,7 @@ pub(crate) fn step_of(
 }
 
 // A command's line, and the text behind the command.
-#[derive(Drop)]
+#[derive(Clone, Copy)]
 pub struct Told {
     pub line: Line,
     pub text: [u8; 512],

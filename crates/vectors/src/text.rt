@@ -41,7 +41,7 @@ fn digit(b: u8) -> u8 {
 }
 
 // Where bytes are written next, and the first digit of one that is begun; 16 if none is.
-#[derive(Drop)]
+#[derive(Clone, Copy)]
 struct Begun {
     at: usize,
     high: u8,
@@ -74,7 +74,7 @@ pub(crate) fn put_hex(text: &[u8], from: usize, to: usize, bytes: &mut [u8], at:
 }
 
 // A number in decimal, and where it ends.
-#[derive(Drop)]
+#[derive(Clone, Copy)]
 pub struct Number {
     pub value: usize,
     pub end: usize,

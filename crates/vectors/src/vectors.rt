@@ -5,14 +5,14 @@ use crate::scripts::{Line, bytes_lent, line_at};
 use crate::text::{after, byte_at, find, is_part, number_at, put};
 
 // How many vectors there were, and how many of them were wrong.
-#[derive(Drop)]
+#[derive(Clone, Copy)]
 pub struct Tally {
     pub vectors: u64,
     pub wrong: u64,
 }
 
 // A line's three fields: where each begins, and where the last ends. A bar ends the first and the second.
-#[derive(Drop)]
+#[derive(Clone, Copy)]
 pub struct Fields {
     pub name: usize,
     pub expected: usize,

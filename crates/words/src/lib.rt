@@ -1,5 +1,6 @@
 // A design as u32 words, as it goes across to programs in C and Rust: stored, read back, and tested for being words of one (specs/Words.antt). What is held is
 // lent as words everywhere (state's specs/HeldWords.antt). What these functions ask is that there are enough words; `wurzsige` tests that first.
+#![tactic(auto)]
 
 mod from_words;
 mod to_words;

@@ -1,4 +1,6 @@
 // Writing a design with its rows out, as a script that reads as it, and (in proofs/) that reading and writing undo each other.
+#![tactic(auto)]
+
 mod commands;
 mod lengths;
 mod lent;

@@ -1,7 +1,7 @@
 // What writing a design out gives back.
 
 // How many bytes of a design were written; or the cause of a refusal.
-#[derive(Drop)]
+#[derive(Clone, Copy)]
 pub enum Written {
     Bytes(usize),
     Refused(u8),

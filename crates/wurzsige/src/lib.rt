@@ -5,6 +5,7 @@
 //
 // Functions with a plain name take whatever is lent and test it for causes 7 and 12. Those that end in `_trusted` ask for memory that is ready
 // (specs/Calls.antt `Ready`), which opening and every step leave, and test nothing.
+#![tactic(auto)]
 
 mod causes;
 mod feeding;
