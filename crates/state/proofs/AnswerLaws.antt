@@ -127,3 +127,15 @@ word-is a n e = sym (ap (λ (k : ℕ). eqb k n) (word-tag a) ∙ eq-eqb _ _ e)
 
 pub word-other : (a : Answer) (n : ℕ) (others : List ℕ) → (OneOf others n → ⊥) → OneOf others (tag_of the_type a) → false ≡ eqb (Model.shown (answer_of a)).word n
 word-other a n others m e = sym (ap (λ (k : ℕ). eqb k n) (word-tag a) ∙ ne_eqb _ _ (λ (q : tag_of the_type a ≡ n). m (subst (OneOf others) q e)))
+
+-- ---- the tests of one case, on the others
+
+pub lists-else : (a : Answer) → ((n : ℕ) → a ≡ A.Lists n → ⊥) → Model.has_lists (answer_of a) ≡ false
+unfolding Model.has_lists Model.shown
+lists-else (A.Lists n) h = absurd (h n refl)
+lists-else a h = refl
+
+pub refused-else : (a : Answer) → ((n : ℕ) → a ≡ A.Refused n → ⊥) → Model.is_refusal (answer_of a) ≡ false
+unfolding Model.is_refusal Model.shown
+refused-else (A.Refused n) h = absurd (h n refl)
+refused-else a h = refl

@@ -26,13 +26,13 @@ pub record Sized (d : Design) : Type 0 where
 pub sized : (d : Design) (vs : List Val) → Is (row the_type) d vs → Sized d
 sized d vs g =
     record {
-      table = simp length-map at g.1.1.1.0.1.0.1;
-      constraint = simp length-map at g.1.1.1.1.1.0.1.0.1;
-      filling = simp length-map at g.1.1.1.1.1.1.1.0.1.0.1;
+      table = g.1.1.1.0.1.0.1;
+      constraint = g.1.1.1.1.1.0.1.0.1;
+      filling = g.1.1.1.1.1.1.1.0.1.0.1;
     }
 
 pub ranges-sized : (s : DeskRanges) (vs : List Val) → Is (row R.the_type) s vs → length s.list ≡ 8
-ranges-sized s vs g = simp length-map at g.1.1.1.0.1.0.1
+ranges-sized s vs g = g.1.1.1.0.1.0.1
 
 pub record HeldSized (h : Held) : Type 0 where
   pub values : length h.values ≡ 64
@@ -40,7 +40,7 @@ pub record HeldSized (h : Held) : Type 0 where
   pub list : (e : ℕ) → e < 4 → length (ranges_at h e).list ≡ 8
 
 -- each element of an array of these is as long
-each-sized : (xs : List DeskRanges) (us : List Val) → shadow (each (R.the_field).row.Denot (R.the_field).row.own_val (map (R.the_field).into xs) us) →
+each-sized : (xs : List DeskRanges) (us : List Val) → shadow (each (R.the_row).Denot (R.the_row).own_val xs us) →
     (e : ℕ) → e < length xs → length (get_or xs e no_ranges).list ≡ 8
 each-sized [] us g e l = absurd (omega arith)
 each-sized (x ∷ xs) [] g e l = absurd g
@@ -49,9 +49,9 @@ each-sized (x ∷ xs) (u ∷ us) g (suc e) l = each-sized xs us g.1 e (omega ari
 
 pub held-sized : (h : Held) (vs : List Val) → Is (row H.the_type) h vs → HeldSized h
 held-sized h vs g =
-    let k : length h.ranges ≡ 4 = simp length-map at g.1.1.1.1.1.0.1.0.1 in
+    let k : length h.ranges ≡ 4 = g.1.1.1.1.1.0.1.0.1 in
     record {
-      values = simp length-map at g.1.1.1.1.0.1.0.1;
+      values = g.1.1.1.1.0.1.0.1;
       ranges = k;
       list = λ e l. each-sized h.ranges _ g.1.1.1.1.1.0.1.1 e (omega (arith, k));
     }

@@ -1,0 +1,7 @@
+use mathlib.Core.Path.{refl}
+use Rattle.state.proofs.HeldWords.{range-read}
+use borrow.Author.Rules.{rules}
+use Rattle.state.proofs.held_words.range_at.Goals as goal
+
+pub returns : goal.returns
+returns c = range-read _ _ _ c.requires.0 c.requires.1 _ _ _ c.byte_at-filling.ensures refl refl

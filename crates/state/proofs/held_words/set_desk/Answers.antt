@@ -1,0 +1,7 @@
+use native.Mathlib.Omega.{arith}
+use Rattle.state.proofs.HeldStores.{named-stored}
+use borrow.Author.Rules.{rules}
+use Rattle.state.proofs.held_words.set_desk.Goals as goal
+
+pub returns : goal.returns
+returns c = named-stored c.args.held.now c.requires _ (omega arith)

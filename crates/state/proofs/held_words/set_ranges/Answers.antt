@@ -1,0 +1,25 @@
+use Prim.Native.Nat.{ℕ, ◌+◌, ◌*◌, ◌-◌, ◌<◌}
+use mathlib.Core.Path.{refl}
+use lib.ListN.{get_or}
+use Rattle.state.specs.Held.{no_range}
+use Rattle.state.specs.HeldWords.{range_words}
+use Rattle.state.proofs.Arrays.{ranges-sized}
+use Rattle.state.proofs.WordPlaces.{Storing, storing-start, storing-more, storing-end, below_more}
+use Rattle.state.proofs.HeldWords.{stored-ranges}
+use Rattle.state.proofs.HeldStores.{ranges-stored}
+use lib.ListN.{get_or, length}
+use mathlib.Core.Logic.{⊎_elim}
+use mathlib.Core.Path.{◌≡◌, refl, sym, ap, subst, ◌∙◌}
+use Prim.Native.Nat.{ℕ, ◌≤◌, ◌<◌, ◌-◌}
+use borrow.Author.Rules.{rules}
+use native.Mathlib.Omega.{arith}
+use Rattle.state.proofs.held_words.set_ranges.Goals as goal
+
+pub loop-i-init : goal.loop-i-init
+loop-i-init c = (storing-start, λ j l. absurd (omega arith))
+
+pub loop-i-preserved : goal.loop-i-preserved
+loop-i-preserved c = let v = c.loop-i.invariant in (storing-more v.0 c.loop-i-test.true (λ x. refl) c.put_range.ensures.0, below_more _ _ v.1 c.put_range.ensures.1)
+
+pub returns : goal.returns
+returns c = let s = c in let v = c.loop-i.invariant in ranges-stored s.args.held.now s.requires.2 _ s.requires.0 s.args.s (record { places = ranges-sized s.args.s _ s.well_formed.1.1.0; filling = λ i l. v.1 i (omega (arith, c.loop-i-test.false)) }) _ (stored-ranges s.args.s s.args.held.now _ _ _ refl (storing-end v.0 c.loop-i-test.false))

@@ -1,0 +1,7 @@
+use mathlib.Core.Path.{refl}
+use Rattle.state.proofs.HeldWords.{value_read}
+use borrow.Author.Rules.{rules}
+use Rattle.state.proofs.held_words.value_at.Goals as goal
+
+pub returns : goal.returns
+returns c = value_read _ _ c.requires _ _ _ _ c.byte_at-desk.ensures c.byte_at-filling.ensures refl c.byte_at-issue.ensures

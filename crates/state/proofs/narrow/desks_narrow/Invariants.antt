@@ -1,0 +1,14 @@
+-- What the loops of `state::narrow::desks_narrow` keep.
+use Prim.Native.Nat.{◌+◌, ◌*◌, ◌-◌, ◌≤◌}
+use native.Mathlib.Omega.{arith}
+use mathlib.Core.Bool.{true}
+use mathlib.Core.Path.{◌∙◌, ◌≡◌, sym}
+use borrow.Author.Rules.{rules}
+use borrow.Author.Tests.{not-false, not-true}
+use Rattle.finite.specs.Finite.{all}
+use Rattle.finite.proofs.Search.{all_end, all_more, all_start, all-stop}
+use Rattle.state.specs.HeldWords.{narrow_ranges}
+use Rattle.state.proofs.narrow.desks_narrow.Given as goal
+
+abbrev pub invariant-loop-e : goal.invariant-loop-e
+invariant-loop-e l = (l.e ≤ 4) × (all l.e (λ e. narrow_ranges l.words (258 + 25 * e)) ≡ true)
