@@ -1,0 +1,23 @@
+-- `catalog::columns::add_columns` meets its contract: after n turns the first n columns are listed. Assumes nothing.
+use Prim.Native.Nat.{◌≤◌, ◌-◌}
+use native.Mathlib.Omega.{arith}
+use borrow.Author.Rules.{rules}
+use Rattle.state.specs.Cells.{cells_in}
+use Rattle.state.specs.Meaning.{database_of}
+use Rattle.catalog.specs.Columns.{Columns}
+use Rattle.catalog.proofs.ColumnLaws.{columns-start, columns-room, columns-turn, columns-end}
+use Rattle.catalog.proofs.columns.add_columns.Goals as goal
+
+pub loop-n-init : goal.loop-n-init
+loop-n-init c = let b = c.requires.keys_len in (omega arith, columns-start _ _ _ c.args.starts.now _ b.0 b.1 b.2 b.3)
+
+pub add_column-m-requires : goal.add_column-m-requires
+add_column-m-requires c = let s = c in
+    let x = c.loop-n.invariant.1 in
+    (s.requires.backed, ((omega arith, omega arith, x.keys-long, x.heads-long, x.next-long), columns-room _ _ _ _ _ _ _ x c.loop-n-test.true))
+
+pub loop-n-preserved : goal.loop-n-preserved
+loop-n-preserved c = (omega arith, columns-turn _ _ _ _ _ _ _ c.loop-n.invariant.1 c.loop-n-test.true _ _ _ _ c.add_column-m.ensures)
+
+pub returns : goal.returns
+returns c = (_, columns-end _ _ _ _ _ _ _ c.loop-n.invariant.0 c.loop-n-test.false c.loop-n.invariant.1)

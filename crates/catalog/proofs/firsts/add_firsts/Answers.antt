@@ -1,0 +1,22 @@
+-- `catalog::firsts::add_firsts` meets its contract: a loop that stores a table. Assumes nothing.
+use Prim.Native.Nat.{◌*◌, ◌≤◌, ◌-◌}
+use native.Mathlib.Omega.{arith}
+use borrow.Author.Rules.{rules}
+use Rattle.finite.proofs.Stores.{Tabled, tabled_start, tabled-more, tabled-end}
+use Rattle.model.specs.Rounds.{leads}
+use Rattle.state.specs.Cells.{cells_in}
+use Rattle.state.specs.Meaning.{constraint_of, database_of}
+use Rattle.finite.specs.Finite.{first_from}
+use Rattle.catalog.proofs.firsts.add_firsts.Goals as goal
+
+pub loop-s-init : goal.loop-s-init
+loop-s-init c = (omega arith, tabled_start _ _ _)
+
+pub demanded-requires : goal.demanded-requires
+demanded-requires c = let p = c.requires in (p.0, ((c.loop-s-test.true, p.1.0.1, p.1.0.2, p.1.0.3), p.1.1))
+
+pub loop-s-preserved : goal.loop-s-preserved
+loop-s-preserved c = (omega arith, tabled-more _ _ _ _ _ _ c.loop-s.invariant.1 c.demanded.ensures)
+
+pub returns : goal.returns
+returns c = tabled-end _ _ _ _ 512 _ c.loop-s.invariant.0 c.loop-s-test.false c.loop-s.invariant.1

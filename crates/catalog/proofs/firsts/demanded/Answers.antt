@@ -1,0 +1,19 @@
+-- `catalog::firsts::demanded` meets its contract, test by test. Assumes nothing.
+use native.Mathlib.Omega.{arith}
+use mathlib.Core.Path.{sym, ◌∙◌}
+use borrow.Author.Rules.{rules}
+use borrow.Author.Tests.{not-true, not-false}
+use Rattle.catalog.proofs.HitLaws.{first-hit}
+use Rattle.catalog.proofs.DemandLaws.{demanded-absent, demanded-elsewhere, demanded-value}
+use Rattle.catalog.proofs.firsts.demanded.Goals as goal
+
+pub returns-then-not-is_live : goal.returns-then-not-is_live
+returns-then-not-is_live c = demanded-absent _ _ _ _ (sym (c.is_live.ensures _) ∙ not-true _ c.if-not-is_live.true-raw)
+
+pub returns-then-tables-s : goal.returns-then-tables-s
+returns-then-tables-s c = demanded-elsewhere _ _ _ _ c.if-tables-s.true
+
+pub returns : goal.returns
+returns c = let p = c.requires.s_bound in
+    demanded-value _ _ _ _ (sym (c.is_live.ensures _) ∙ not-false _ c.if-not-is_live.false-raw) p.0.1 c.if-tables-s.false _ c.cell_at-v.ensures _
+    (c.find.ensures _ p.1)

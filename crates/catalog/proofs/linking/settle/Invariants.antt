@@ -1,0 +1,15 @@
+-- What the loops of `catalog::linking::settle` keep.
+use Prim.Native.Nat.{◌/◌, ◌%◌, ◌≤◌, ◌-◌}
+use native.Mathlib.Omega.{arith}
+use mathlib.Core.Path.{◌∙◌}
+use borrow.Author.Rules.{rules}
+use lib.ListN.{get_or}
+use Rattle.finite.proofs.Tables.{Upto, upto-start, upto-set, upto-here, upto-end}
+use Rattle.state.specs.Cells.{cells_in}
+use Rattle.state.specs.Meaning.{database_of}
+use Rattle.catalog.specs.Catalog.{next_of}
+use Rattle.catalog.proofs.LinkLaws.{settled-known}
+use Rattle.catalog.proofs.linking.settle.Given as goal
+
+abbrev pub invariant-loop-x : goal.invariant-loop-x
+invariant-loop-x l = (l.x ≤ 4096) × Upto 0 4096 l.x (λ y. next_of (database_of (cells_in l.cells l.issues) l.tables) (y / 8) (y % 8)) (λ y. get_or l.initial.next y 0) l.next

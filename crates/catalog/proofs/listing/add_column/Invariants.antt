@@ -1,0 +1,16 @@
+-- What the loops of `catalog::listing::add_column` keep.
+use Prim.Native.Nat.{◌≤◌}
+use native.Mathlib.Omega.{arith}
+use mathlib.Core.Path.{◌∙◌}
+use Rattle.state.specs.Cells.{cells_in}
+use Rattle.state.specs.Meaning.{column_of, database_of}
+use Rattle.catalog.specs.Listing.{Added}
+use Rattle.catalog.proofs.PutLaws.{added_none, added-listed, added-room, added-turn, added-end}
+use Rattle.catalog.proofs.Rows.{dead-at}
+use Rattle.catalog.proofs.listing.add_column.Given as goal
+
+abbrev pub invariant-loop-r : goal.invariant-loop-r
+invariant-loop-r l = (l.r ≤ 512) × Added (database_of (cells_in l.cells l.issues) l.tables) (column_of l.k) l.r l.from l.initial.keys l.initial.heads l.initial.next l.m l.keys l.heads l.next
+
+abbrev pub decreases-loop-r : goal.decreases-loop-r
+decreases-loop-r l = l.r

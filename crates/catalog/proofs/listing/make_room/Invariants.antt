@@ -1,0 +1,12 @@
+-- What the loops of `catalog::listing::make_room` keep.
+use Prim.Native.Nat.{◌≤◌}
+use native.Mathlib.Omega.{arith}
+use borrow.Author.Rules.{rules}
+use Rattle.catalog.proofs.Searching.{Moving, moving-start, moving-turn, moving-end}
+use Rattle.catalog.proofs.listing.make_room.Given as goal
+
+abbrev pub invariant-loop-j : goal.invariant-loop-j
+invariant-loop-j l = (l.a ≤ l.j) × (l.j ≤ l.m) × Moving l.j l.m l.initial.keys l.keys × Moving l.j l.m l.initial.heads l.heads
+
+abbrev pub decreases-loop-j : goal.decreases-loop-j
+decreases-loop-j l = l.j

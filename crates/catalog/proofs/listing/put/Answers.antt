@@ -1,0 +1,32 @@
+-- `catalog::listing::put` meets its contract, test by test. Assumes nothing.
+use mathlib.Core.Path.{sym, ◌∙◌}
+use borrow.Author.Rules.{rules}
+use Rattle.state.specs.Cells.{cells_in}
+use Rattle.state.specs.Meaning.{cell_of, database_of}
+use Rattle.catalog.proofs.PutLaws.{put-room, put-elsewhere, put-blank, put-entered}
+use Rattle.catalog.proofs.Rows.{live_in, table-at, elsewhere-at, blank-at, value-at}
+use Rattle.catalog.proofs.listing.put.Goals as goal
+
+pub returns-then-tables-r : goal.returns-then-tables-r
+returns-then-tables-r c = put-elsewhere _ _ _ _ _ _ _ _ _ c.requires.place_bound.1.0 (elsewhere-at _ _ _ _ c.if-tables-r.true)
+
+pub returns-then-is_blank : goal.returns-then-is_blank
+returns-then-is_blank c = let s = c in
+    let b = s.requires.place_bound.0 in
+    put-blank _ _ _ _ _ _ _ _ _ s.requires.place_bound.1.0 b.2 b.0 b.5 (table-at _ _ _ _ c.if-tables-r.false)
+    (blank-at _ _ _ _ b.0 _ c.cell_at-v.ensures (sym c.is_blank.ensures ∙ c.if-is_blank.true))
+
+pub enter-e-requires : goal.enter-e-requires
+enter-e-requires c = let s = c in
+    let b = s.requires.place_bound.0 in
+    let l = s.requires.place_bound.1.0 in
+    let D = database_of (cells_in s.args.cells.now s.args.issues.now) s.args.tables.now in
+    (l.order, put-room D _ _ _ (table-at _ _ _ _ c.if-tables-r.false) s.requires.place_bound.1.1, b.2, b.3, b.4, l.falls)
+
+pub returns : goal.returns
+returns c = let s = c in
+    let b = s.requires.place_bound.0 in
+    put-entered _ _ _ _ _ _ _ _ _ s.requires.place_bound.1.0 b.2 b.0 b.5 (table-at _ _ _ _ c.if-tables-r.false) (cell_of c.cell_at-v.result) _ _ _ _ _
+    c.key_of.ensures
+    (value-at _ _ _ _ b.0 _ c.cell_at-v.ensures _ b.2 (live_in _ _ _ _ b.2 b.1 c.if-tables-r.false) c.if-tables-r.false (sym c.is_blank.ensures ∙ c.if-is_blank.false))
+    s.requires.place_bound.1.1 b.3 b.4 c.enter-e.ensures

@@ -1,0 +1,7 @@
+-- `catalog::reading::first_row` meets its contract: the demanded row that stands there. Assumes nothing.
+use Rattle.catalog.proofs.Entries.{demand-at}
+use borrow.Author.Rules.{rules}
+use Rattle.catalog.proofs.reading.first_row.Goals as goal
+
+pub returns : goal.returns
+returns c = λ S D l. demand-at S D _ l _ _ _ c.requires.0 c.requires.1 c.wide.ensures

@@ -1,0 +1,6 @@
+-- `command::command::range_at` meets its contract. Assumes nothing.
+use borrow.Author.Rules.{rules}
+use Rattle.command.proofs.command.range_at.Goals as goal
+
+pub returns : goal.returns
+returns c = cc

@@ -1,0 +1,6 @@
+-- `command::command::value_at` meets its contract. Assumes nothing.
+use borrow.Author.Rules.{rules}
+use Rattle.command.proofs.command.value_at.Goals as goal
+
+pub returns : goal.returns
+returns c = cc

@@ -1,0 +1,206 @@
+-- `command::reader::command_at` meets its contract: a walk of its MIR, by hand. A `ScriptReader` that one call returns is held in a local and passed to the next. All that the proof knows of `new` and of `next` is that each meets its contract.
+-- The machine value that `new` returns is stored and passed on as it is. In a local of a body MIR erases the lifetime of the struct's type, so the value is shown to have the type at `erased`: what the struct owns does not say the lifetime's name.
+-- Assumes nothing.
+use mathlib.Core.Path.{◌≡◌, refl, ap, ◌∙◌}
+use Prim.Native.Nat.{ℕ, ◌<◌, ◌^◌}
+use mathlib.Core.List.{List, [], ◌∷◌}
+use lib.ListN.{length}
+use seplogic.Ra.Ura.{Ura}
+use mir.Syntax.{named, erased, w64}
+use mir.Val.{Val, vint}
+use base.Logic.{SProp, ent, sep, emp, via, fst∗, snd∗, ex_e, id⊢}
+use base.Fml.{Lft, Share, Fml, ftrue, flft}
+use prog.Memory.{Memory}
+use prog.Routine.{Routine}
+use prog.Wp.{Calls, Loops, WpFn, Tables}
+use types.Logic.{Logic, sem}
+use contract.Lifetimes.{Lfts}
+use contract.Monad.{Fun, fact}
+use contract.Running.{tables, tables_of}
+use types.Kit.{‵, raw, ◌⊛◌, ⋆, some, later, ◌$◌, ◌∵◌, !, qed, by, move, drop, use1, use2, split, join, pick, fsplit, fjoin, suffices, frame, await, done}
+use types.Run.{look, init, forget, stop, from, load, and_then, no_more, land, returns, enter, alloc1, alloc0, params1, pass1, pass0, free1, free0}
+use sound.WpLaws.{FmC, fm_of, WpFn-mono}
+use denote.RattleType.{RattleType, owns}
+use denote.Laws.{Is, shows}
+use denote.Plain.{uint_vals, uint_Tells, uint_Makes}
+use denote.Builtin.{u8, usize}
+use denote.Ref.{Bor, NamedLft}
+use denote.Signature.{plain, named_lft}
+use denote.Slice.{slice_val, ShrSlice, shr_slice_vals, shr_slice_Tells, shr_slice_Lawful, shr_slice_copy}
+use denote.Steps.{owned, peeks, heard, nothing}
+use denote.Enum.Laws as EL
+use denote.Struct.Laws as LL
+use denote.Triple.Statement.{Contract, Triple}
+use denote.Triple.Call.{calls_at}
+use denote.Triple.Entry.{Vals, on_entry}
+use denote.Triple.Spec.{Meets, triple_of}
+use denote.Triple.Table.{entered, cited}
+use denote.Triple.Walked.{says, Stays, stay_none, stay_none_slice, walk_of, Goes-none, Goes-none_slice, Walks, ends_at, walked, walk_Meets}
+use denote.Exit.{yes}
+use denote.Triple.Clauses.{ensured, lasts}
+use Rattle.command.specs.Commands.{command_at}
+use Rattle.command.specs.declared.reader.ScriptReader.{ScriptReader}
+use Rattle.command.specs.declared.command.Command.{Command}
+use Rattle.command.specs.contracts.reader.ScriptReader as T
+use Rattle.command.proofs.reader.ScriptReader.TheLaws as T'
+use Rattle.command.specs.contracts.command.Command as S
+use Rattle.command.proofs.command.Command.TheLaws as S'
+use Rattle.command.specs.contracts.reader.new as new
+use Rattle.command.proofs.reader.new.Symbol as new-def
+use Rattle.command.proofs.reader.new.Symbol.{name as #command·new}
+use Rattle.command.proofs.reader.new.Met as new-thm
+use Rattle.command.specs.contracts.reader.moved as moved
+use Rattle.command.proofs.reader.moved.Symbol as moved-def
+use Rattle.command.proofs.reader.moved.Symbol.{name as #command·moved}
+use Rattle.command.proofs.reader.moved.Met as moved-thm
+use Rattle.command.specs.contracts.reader.next as next
+use Rattle.command.proofs.reader.next.Symbol as next-def
+use Rattle.command.proofs.reader.next.Symbol.{name as #command·next}
+use Rattle.command.proofs.reader.next.Met as next-thm
+use Rattle.command.specs.contracts.reader.command_at.Key.{name as #command·command-at}
+use Rattle.command.specs.contracts.reader.command_at as command-at
+use Rattle.command.proofs.reader.command_at.Statement as stated
+use Rattle.command.proofs.reader.command_at.Code as code
+use Rattle.command.proofs.reader.command_at.Goals as goal
+
+-- the struct's type, over the signature's lifetimes
+abbrev B : Lfts 1 → RattleType
+B κs = T.the_row (named_lft 1 0 tt κs)
+
+abbrev stayed : Stays (command-at.ended).signature.params (command-at.ended).kept
+stayed = (stay_none_slice (0 ∷ []) tt (plain (λ _. u8)) yes, (stay_none (λ _. usize) yes, tt))
+
+module _ {M : Type 1} {𝓤 : Ura M} (𝓛 : Logic 𝓤) (mem : Memory → SProp 𝓤) (run : Routine → Fun 𝓤) where
+  -- the contracts that the proof cites
+  abbrev New : Contract 𝓤
+  New = triple_of 𝓛 new.signature (new.spec 𝓛 mem run)
+
+  abbrev Moved : Contract 𝓤
+  Moved = triple_of 𝓛 moved.signature (moved.spec 𝓛 mem run)
+
+  abbrev Next : Contract 𝓤
+  Next = triple_of 𝓛 next.signature (next.spec 𝓛 mem run)
+
+module _ {M : Type 1} {𝓤 : Ura M} (𝓛 : Logic 𝓤) (mem : Memory → SProp 𝓤) (run : Routine → Fun 𝓤) (κ : Lft) (q : Share) (s : Bor (List ℕ)) (n : ℕ) (ok : n < 2 ^ 64) where
+  -- the machine value that s has
+  open 𝓛 use {H}
+
+  abbrev v : Val
+  v = slice_val s.ref_ptr (length s.now)
+
+  abbrev found : Command
+  found = command_at s.now n
+
+  -- the struct's type as a local of a body has it
+  abbrev αᵉ : NamedLft
+  αᵉ = record { mir = erased; lft = κ }
+
+  -- what the function is passed
+  abbrev at : Vals command-at.signature (κ, tt)
+  at = (v ∷ [], (vint w64 n ∷ [], tt))
+
+  abbrev Post : Val → SProp 𝓤
+  Post = (walk_of 𝓛 command-at.ended stayed (command-at.clauses 𝓛 mem run)).post (((κ, tt), (q, tt), tt, (s, (n, tt)), at), tt)
+
+  abbrev Own : Fml
+  Own = (ShrSlice (named 0) κ u8).own_val s (v ∷ [])
+
+  -- the call of `new`: what it is passed, what it asks, and what is known of its result
+  abbrev to-new : (New 𝓛 mem run).Ghost
+  to-new = (((κ, tt), (q, tt), tt, (s, tt), (v ∷ [], tt)), tt)
+
+  goes-new : ent 𝓤 (on_entry 𝓛 command-at.signature (κ, tt) (q, tt) (s, (n, tt)) at) (sep 𝓤 ((New 𝓛 mem run).pre to-new) (sem 𝓛 Own))
+  goes-new =
+      qed 𝓛 ((‵ (flft κ q) ⊛ ‵ ftrue) ∷ ‵ (owns (ShrSlice (named 0) κ u8 ∷ usize ∷ []) (s, (n, tt)) at) ∷ []) ∵
+      move ! (1 ∷ []) $ fsplit ! $ use1 𝓛 (‵ Own ⊛ ‵ Own) ((shr_slice_copy 𝓛 (named 0) κ u8).twice s (v ∷ [])) $ split ! $
+      -- [what s owns; the same; what at owns; the token]
+      move ! (2 ∷ []) $ fsplit ! $ drop ! $ move ! (1 ∷ 0 ∷ []) $ fjoin ! $ move ! (2 ∷ 0 ∷ []) $
+      use2 𝓛 (raw ((New 𝓛 mem run).pre to-new)) (qed 𝓛 ((‵ (flft κ q) ⊛ ‵ ftrue) ∷ ‵ (owns (ShrSlice (named 0) κ u8 ∷ []) (s, tt) (v ∷ [], tt)) ∷ []) ∵ join ! $ frame ! $ done !) $ frame ! $ done !
+
+  new-said : (r : ScriptReader) → ent 𝓤 (ensured 𝓛 new.ended (new.clauses 𝓛 mem run) (κ, tt) (s, tt) tt r) (fact 𝓤 ((r.bytes ≡ s) × (r.at ≡ 0)))
+  new-said r = ex_e 𝓤 _ (λ ws. snd∗ 𝓤 (sem 𝓛 (lasts new.ended (κ, tt) (s, tt) ws)) (fact 𝓤 ((r.bytes ≡ s) × (r.at ≡ 0))))
+
+  -- the call of `moved`, at the struct r with the machine value u
+  abbrev to-moved : ScriptReader → Val → (Moved 𝓛 mem run).Ghost
+  to-moved r u = (((κ, tt), (q, tt), tt, (r, (n, tt)), (u ∷ [], (vint w64 n ∷ [], tt))), tt)
+
+  goes_moved : (r : ScriptReader) (u : Val) → ent 𝓤 (⋆ 𝓛 (‵ ((B (κ, tt)).own r (u ∷ [])) ∷ (‵ (flft κ q) ⊛ ‵ ftrue) ∷ [])) ((Moved 𝓛 mem run).pre (to-moved r u))
+  goes_moved r u =
+      qed 𝓛 (‵ ((B (κ, tt)).own r (u ∷ [])) ∷ (‵ (flft κ q) ⊛ ‵ ftrue) ∷ []) ∵ nothing ! $ owned ! usize (Is usize) (uint_Makes 𝓛 w64) n _ (refl, ok) $ fjoin ! $ move ! (1 ∷ 0 ∷ []) $ fjoin ! $ move ! (1 ∷ 0 ∷ []) $ join ! $ frame ! $ done !
+
+  moved-said : (r p : ScriptReader) → ent 𝓤 (ensured 𝓛 moved.ended (moved.clauses 𝓛 mem run) (κ, tt) (r, (n, tt)) tt p) (fact 𝓤 ((p.bytes ≡ r.bytes) × (p.at ≡ n)))
+  moved-said r p = ex_e 𝓤 _ (λ ws. snd∗ 𝓤 (sem 𝓛 (lasts moved.ended (κ, tt) (r, (n, tt)) ws)) (fact 𝓤 ((p.bytes ≡ r.bytes) × (p.at ≡ n))))
+
+  -- the call of `next`, at the struct r with the machine value u
+  abbrev to-next : ScriptReader → Val → (Next 𝓛 mem run).Ghost
+  to-next r u = (((κ, tt), (q, tt), tt, (r, tt), (u ∷ [], tt)), tt)
+
+  goes-next : (r : ScriptReader) (u : Val) → ent 𝓤 (⋆ 𝓛 (‵ ((B (κ, tt)).own r (u ∷ [])) ∷ (‵ (flft κ q) ⊛ ‵ ftrue) ∷ [])) ((Next 𝓛 mem run).pre (to-next r u))
+  goes-next r u = qed 𝓛 (‵ ((B (κ, tt)).own r (u ∷ [])) ∷ (‵ (flft κ q) ⊛ ‵ ftrue) ∷ []) ∵ nothing ! $ move ! (1 ∷ 0 ∷ []) $ fjoin ! $ move ! (1 ∷ 0 ∷ []) $ join ! $ frame ! $ done !
+
+  next-said : (r : ScriptReader) (t : Command) → ent 𝓤 (ensured 𝓛 next.ended (next.clauses 𝓛 mem run) (κ, tt) (r, tt) tt t) (fact 𝓤 (t ≡ command_at r.bytes.now r.at))
+  next-said r t = ex_e 𝓤 _ (λ ws. snd∗ 𝓤 (sem 𝓛 (lasts next.ended (κ, tt) (r, tt) ws)) (fact 𝓤 (t ≡ command_at r.bytes.now r.at)))
+
+  exits : (t : Command) (u : Val) → t ≡ found → ent 𝓤 (⋆ 𝓛 (‵ ((S.the_row).own_val t (u ∷ [])) ∷ (‵ (flft κ q) ⊛ ‵ ftrue) ∷ ‵ Own ∷ [])) (Post u)
+  exits t u e =
+      qed 𝓛 (‵ ((S.the_row).own_val t (u ∷ [])) ∷ (‵ (flft κ q) ⊛ ‵ ftrue) ∷ ‵ Own ∷ []) ∵
+      suffices ! _ (ends_at 𝓛 command-at.ended stayed (command-at.clauses 𝓛 mem run) (((κ, tt), (q, tt), tt, (s, (n, tt)), at), tt) u t (tt, (tt, tt)) (tt, (tt, tt))) $ says ! e $
+      move ! (1 ∷ []) $ frame ! $ nothing ! $ owned ! usize (Is usize) (uint_Makes 𝓛 w64) n _ (refl, ok) $ fjoin ! $ move ! (2 ∷ 0 ∷ []) $ fjoin ! $ frame ! $ done !
+
+  module _ (C : Calls 𝓤 H) (Λ : Loops 𝓤 H) (fm : FmC 𝓤 H 𝓛.laws C) (known-new : Triple 𝓤 (C #command·new) (New 𝓛 mem run)) (known-moved : Triple 𝓤 (C #command·moved) (Moved 𝓛 mem run)) (known_next : Triple 𝓤 (C #command·next) (Next 𝓛 mem run)) where
+    walk : Is (ShrSlice (named 0) κ u8) s (v ∷ []) → ent 𝓤 (on_entry 𝓛 command-at.signature (κ, tt) (q, tt) (s, (n, tt)) at) (WpFn 𝓤 H C Λ code.function (v ∷ vint w64 n ∷ []) Post)
+    walk p =
+        qed 𝓛 (raw (on_entry 𝓛 command-at.signature (κ, tt) (q, tt) (s, (n, tt)) at) ∷ []) ∵ enter ! C Λ code.function (v ∷ vint w64 n ∷ []) _ $
+        alloc1 ! (λ l₀. alloc1 ! (λ l₁. alloc1 ! (λ l₂. alloc1 ! (λ l₃. alloc1 ! (λ l₄. alloc0 ! $ params1 ! $ pass1 ! (init ! 6 refl ((shr_slice_Lawful 𝓛 (named 0) κ u8).typed s (v ∷ []) p).0) $ pass1 ! (init ! 4 refl (tt, record { fits = ok })) $ pass0 ! $
+        -- `new`
+        move ! (10 ∷ []) $ use1 𝓛 (raw ((New 𝓛 mem run).pre to-new) ⊛ ‵ Own) goes-new $ split ! $
+        calls_at ! fm (New 𝓛 mem run) known-new to-new (and_then ! (load ! (from ! (stop !)) (look ! 8 refl)) (no_more !)) (λ u.
+        use1 𝓛 (later (some (λ (r : ScriptReader). ((‵ (flft κ q) ⊛ ‵ ftrue) ⊛ ‵ ((B (κ, tt)).own r (u ∷ []))) ⊛ raw (ensured 𝓛 new.ended (new.clauses 𝓛 mem run) (κ, tt) (s, tt) tt r)))) (id⊢ 𝓤 _) $ await ! tt $ pick ! (λ r.
+        split ! $ move ! (1 ∷ []) $ use1 𝓛 (raw (fact 𝓤 ((r.bytes ≡ s) × (r.at ≡ 0)))) (new-said r) $ heard ! ((r.bytes ≡ s) × (r.at ≡ 0)) (λ e. split ! $ move ! (1 ∷ []) $
+        -- [what the struct owns; the token; what s owns; room for _4; …; room for _3; …; _2; …; _1; …; room for _0; …]
+        peeks ! (B (κ, tt)) (Is (B (κ, tt))) (shows 𝓛 (B (κ, tt))) r (u ∷ []) (λ is.
+        land ! (from ! (stop !)) (init ! 3 refl ((LL.lawful (T.the_type αᵉ) (T'.the_laws αᵉ) 𝓛).typed r _ is).0) $
+        -- `moved`
+        use2 𝓛 (raw ((Moved 𝓛 mem run).pre (to-moved r u))) (goes_moved r u) $
+        calls_at ! fm (Moved 𝓛 mem run) known-moved (to-moved r u) (and_then ! (load ! (from ! (stop !)) (look ! 2 refl)) (and_then ! (load ! (from ! (stop !)) (look ! 6 refl)) (no_more !))) (λ u₁.
+        use1 𝓛 (later (some (λ (r₁ : ScriptReader). ((‵ (flft κ q) ⊛ ‵ ftrue) ⊛ ‵ ((B (κ, tt)).own r₁ (u₁ ∷ []))) ⊛ raw (ensured 𝓛 moved.ended (moved.clauses 𝓛 mem run) (κ, tt) (r, (n, tt)) tt r₁)))) (id⊢ 𝓤 _) $ await ! tt $ pick ! (λ r₁.
+        split ! $ move ! (1 ∷ []) $ use1 𝓛 (raw (fact 𝓤 ((r₁.bytes ≡ r.bytes) × (r₁.at ≡ n)))) (moved-said r r₁) $ heard ! ((r₁.bytes ≡ r.bytes) × (r₁.at ≡ n)) (λ e₁. split ! $ move ! (1 ∷ []) $
+        peeks ! (B (κ, tt)) (Is (B (κ, tt))) (shows 𝓛 (B (κ, tt))) r₁ (u₁ ∷ []) (λ is₁.
+        land ! (from ! (stop !)) (init ! 5 refl ((LL.lawful (T.the_type αᵉ) (T'.the_laws αᵉ) 𝓛).typed r₁ _ is₁).0) $
+        -- `next`
+        use2 𝓛 (raw ((Next 𝓛 mem run).pre (to-next r₁ u₁))) (goes-next r₁ u₁) $
+        calls_at ! fm (Next 𝓛 mem run) known_next (to-next r₁ u₁) (and_then ! (load ! (from ! (stop !)) (look ! 4 refl)) (no_more !)) (λ u'.
+        use1 𝓛 (later (some (λ (t : Command). ((‵ (flft κ q) ⊛ ‵ ftrue) ⊛ ‵ ((S.the_row).own_val t (u' ∷ []))) ⊛ raw (ensured 𝓛 next.ended (next.clauses 𝓛 mem run) (κ, tt) (r₁, tt) tt t)))) (id⊢ 𝓤 _) $ await ! tt $ pick ! (λ t.
+        split ! $ move ! (1 ∷ []) $ use1 𝓛 (raw (fact 𝓤 (t ≡ command_at r₁.bytes.now r₁.at))) (next-said r₁ t) $ heard ! (t ≡ command_at r₁.bytes.now r₁.at) (λ e'. split ! $ move ! (1 ∷ []) $
+        -- [the result; the token; what s owns; _4; …; _3; …; _2; …; _1; …; room for _0; …]
+        peeks ! S.the_row (Is S.the_row) (shows 𝓛 S.the_row) t (u' ∷ []) (λ is'.
+        land ! (from ! (stop !)) (init ! 11 refl ((EL.lawful S.the_type S'.the_laws 𝓛 tt).typed t _ is').0) $
+        returns ! (look ! 11 refl) $ forget ! 3 refl $ forget ! 5 refl $ forget ! 7 refl $ forget ! 9 refl $ forget ! 11 refl $
+        move ! (11 ∷ 12 ∷ []) $ free1 ! $ move ! (9 ∷ 10 ∷ []) $ free1 ! $ move ! (7 ∷ 8 ∷ []) $ free1 ! $ move ! (5 ∷ 6 ∷ []) $ free1 ! $ move ! (3 ∷ 4 ∷ []) $ free1 ! $ free0 ! $
+        by ! (exits t u' (e' ∙ (ap (λ (x : Bor (List ℕ)). command_at x.now r₁.at) (e₁.0 ∙ e.0) ∙ ap (command_at s.now) e₁.1))))))))))))))))))))
+
+module _ {M : Type 1} {𝓤 : Ura M} (𝓛 : Logic 𝓤) (mem : Memory → SProp 𝓤) (run : Routine → Fun 𝓤) where
+  open 𝓛 use {H}
+
+  command-at-walks : (C : Calls 𝓤 H) (Λ : Loops 𝓤 H) → FmC 𝓤 H 𝓛.laws C → Triple 𝓤 (C #command·new) (New 𝓛 mem run) → Triple 𝓤 (C #command·moved) (Moved 𝓛 mem run) → Triple 𝓤 (C #command·next) (Next 𝓛 mem run)
+      → Walks 𝓛 command-at.ended stayed (WpFn 𝓤 H C Λ code.function) (command-at.clauses 𝓛 mem run)
+  command-at-walks C Λ fm known-new known-moved known_next = walked 𝓛 command-at.ended stayed (command-at.clauses 𝓛 mem run) (WpFn 𝓤 H C Λ code.function) (λ κs. (shr_slice_vals, (uint_vals w64, tt))) (λ κs. (shr_slice_Tells (named 0) κs.0 u8, (uint_Tells w64, tt)))
+      (λ κs qs bounds a g are. via 𝓤 _ (fst∗ 𝓤 _ (emp 𝓤)) (walk 𝓛 mem run κs.0 qs.0 a.0 a.1.0 are.1.0.1 C Λ fm known-new known-moved known_next are.0))
+
+command-at-meets : {M : Type 1} {𝓤 : Ura M} (𝓛 : Logic 𝓤) (mem : Memory → SProp 𝓤) (run : Routine → Fun 𝓤) (𝓣 : Tables 𝓤 𝓛.H)
+    → Triple 𝓤 (𝓣.C #command·new) (New 𝓛 mem run) → Triple 𝓤 (𝓣.C #command·moved) (Moved 𝓛 mem run) → Triple 𝓤 (𝓣.C #command·next) (Next 𝓛 mem run)
+    → Meets 𝓛 command-at.signature (WpFn 𝓤 𝓛.H 𝓣.C 𝓣.Λ code.function) (command-at.spec 𝓛 mem run)
+command-at-meets {𝓤 = 𝓤} 𝓛 mem run 𝓣 known-new known-moved known_next =
+    walk_Meets 𝓛 command-at.ended stayed (Goes-none_slice 𝓛 1 (0 ∷ []) tt (plain (λ _. u8)) yes, (Goes-none 𝓛 1 (λ _. usize) yes (λ κs x f. refl), tt)) (command-at.clauses 𝓛 mem run) (WpFn 𝓤 𝓛.H 𝓣.C 𝓣.Λ code.function) (WpFn-mono 𝓤 𝓛.H 𝓛.laws 𝓣 code.function)
+    (command-at-walks 𝓛 mem run 𝓣.C 𝓣.Λ (fm_of 𝓤 𝓛.H 𝓛.laws 𝓣) known-new known-moved known_next)
+
+-- TODO
+pub command-at-spec : {M : Type 1} → stated.statement M
+unfolding code.routine tables_of
+command-at-spec 𝓤 𝓛 𝓜 𝓡 =
+    entered 𝓤 𝓛.H (triple_of 𝓛 command-at.signature (command-at.spec 𝓛 𝓜.mem 𝓡.run))
+    (tables 𝓤 𝓛.H 𝓜 𝓡 code.env).C (tables 𝓤 𝓛.H 𝓜 𝓡 code.env).Λ #command·command-at code.function (code.unfolded 𝓤 𝓛.H 𝓜 𝓡)
+    (command-at-meets 𝓛 𝓜.mem 𝓡.run (tables_of 𝓤 𝓛.H 𝓜 (tables 𝓤 𝓛.H 𝓜 𝓡 code.env))
+    (cited 𝓤 𝓛.H (New 𝓛 𝓜.mem 𝓡.run) 𝓜 𝓡 code.env #command·new new-def.routine code.calls-command::reader::new (new-thm.met 𝓤 𝓛 𝓜 𝓡))
+    (cited 𝓤 𝓛.H (Moved 𝓛 𝓜.mem 𝓡.run) 𝓜 𝓡 code.env #command·moved moved-def.routine code.calls-command::reader::moved (moved-thm.met 𝓤 𝓛 𝓜 𝓡))
+    (cited 𝓤 𝓛.H (Next 𝓛 𝓜.mem 𝓡.run) 𝓜 𝓡 code.env #command·next next-def.routine code.calls-command::reader::next (next-thm.met 𝓤 𝓛 𝓜 𝓡)))

@@ -1,0 +1,19 @@
+-- `even::knots::weight_with` meets its contract. Assumes nothing.
+use Rattle.even.proofs.KnotCode.{turn-none, turn-same, turn-off, pair_fits}
+use Rattle.state.specs.Meaning.{constraint_of}
+use Prim.Native.Nat.{◌+◌}
+use mathlib.Core.Path.{ap}
+use mathlib.Core.Path.{ap}
+use Prim.Native.Nat.{◌-◌}
+use native.Mathlib.Omega.{arith}
+use borrow.Author.Rules.{rules}
+use Rattle.even.proofs.knots.weight_with.Goals as goal
+
+pub returns-then-a-b : goal.returns-then-a-b
+returns-then-a-b c = turn-none (constraint_of c.args.a) (constraint_of c.args.b) _ c.if-a-b.true
+
+pub returns-then-a-b-2 : goal.returns-then-a-b-2
+returns-then-a-b-2 c = turn-same (constraint_of c.args.a) (constraint_of c.args.b) _ c.if-a-b-2.true
+
+pub returns : goal.returns
+returns c = turn-off (constraint_of c.args.a) (constraint_of c.args.b) _ c.if-a-b.false c.if-a-b-2.false _ (ap (λ x. x + c.args.back) c.pair_weight.ensures)

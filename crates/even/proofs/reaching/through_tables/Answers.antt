@@ -1,0 +1,26 @@
+-- `even::reaching::through_tables` meets its contract. Assumes nothing.
+use Rattle.even.specs.Reading.{through_at}
+use Rattle.finite.proofs.Tables.{Upto, upto-start, upto-set, upto-end}
+use Rattle.finite.specs.Finite.{tab}
+use lib.ListN.{get_or}
+use mathlib.Core.Path.{refl}
+use mathlib.Core.List.{[]}
+use Prim.Native.Nat.{◌≤◌, ◌-◌}
+use lib.ListN.{get_or}
+use mathlib.Core.Path.{refl}
+use Prim.Native.Nat.{◌≤◌, ◌-◌}
+use borrow.Author.Rules.{rules}
+use native.Mathlib.Omega.{arith}
+use Rattle.even.proofs.reaching.through_tables.Goals as goal
+
+pub loop-t-init : goal.loop-t-init
+loop-t-init c = (omega arith, upto-start [] 8 _ _ refl)
+
+pub through_row-row-requires : goal.through_row-row-requires
+through_row-row-requires c = c.requires
+
+pub loop-t-preserved : goal.loop-t-preserved
+loop-t-preserved c = (omega arith, upto-set _ _ _ _ _ _ c.loop-t.invariant.1 c.loop-t-test.true _ c.through_row-row.ensures)
+
+pub returns : goal.returns
+returns c = upto-end _ _ _ _ _ _ c.loop-t.invariant.1 c.loop-t.invariant.0 c.loop-t-test.false

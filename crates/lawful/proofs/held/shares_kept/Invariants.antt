@@ -1,0 +1,17 @@
+-- What the loops of `lawful::held::shares_kept` keep.
+use Prim.Native.Nat.{ℕ, ◌-◌, ◌≤◌}
+use native.Mathlib.Omega.{arith}
+use mathlib.Core.Bool.{true}
+use mathlib.Core.Path.{◌∙◌, ◌≡◌, ap, sym}
+use borrow.Author.Rules.{rules}
+use borrow.Author.Tests.{le-leb, lt-leb}
+use lib.Dec.{leb}
+use Rattle.finite.proofs.Search.{all_end, all_more, all_start, all-stop}
+use Rattle.finite.specs.Finite.{all}
+use Rattle.model.specs.Holding.{desks, places}
+use Rattle.state.specs.HeldWords.{words_held}
+use Rattle.state.specs.Lawful.{own_count}
+use Rattle.lawful.proofs.held.shares_kept.Given as goal
+
+abbrev pub invariant-loop-desk : goal.invariant-loop-desk
+invariant-loop-desk l = (l.desk ≤ desks) × (all l.desk (λ e. leb (own_count (words_held l.held) e) places) ≡ true)

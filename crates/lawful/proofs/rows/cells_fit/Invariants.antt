@@ -1,0 +1,15 @@
+-- What the loops of `lawful::rows::cells_fit` keep.
+use Prim.Native.Nat.{◌-◌, ◌≤◌}
+use native.Mathlib.Omega.{arith}
+use mathlib.Core.Bool.{true}
+use mathlib.Core.Path.{◌∙◌, ◌≡◌, sym}
+use borrow.Author.Rules.{rules}
+use borrow.Author.Tests.{not-false, not-true}
+use Rattle.state.specs.Cells.{cells_in}
+use Rattle.finite.proofs.Search.{all_end, all_more, all_start, all-stop}
+use Rattle.finite.specs.Finite.{all}
+use Rattle.lawful.specs.Parts.{cell_fits_at}
+use Rattle.lawful.proofs.rows.cells_fit.Given as goal
+
+abbrev pub invariant-loop-c : goal.invariant-loop-c
+invariant-loop-c l = (l.c ≤ 8) × (all l.c (cell_fits_at (cells_in l.cells l.issues) l.r l.n) ≡ true)
