@@ -42,7 +42,7 @@ pub record RowSized (x : Row) : Type 0 where
   pub issues : length x.issues ≡ 8
 
 pub row_sized : (x : Row) (vs : List Val) → Is (row the_type) x vs → RowSized x
-row_sized x vs g = record { numbers = simp length-map at g.1.1.1.0.1.0.1; issues = simp length-map at g.1.1.1.1.0.1.0.1 }
+row_sized x vs g = record { numbers = g.1.1.1.0.1.0.1; issues = g.1.1.1.1.0.1.0.1 }
 
 -- what stands at a free number
 pub free-sized : RowSized free_row

@@ -9,12 +9,15 @@ use Rattle.catalog.proofs.ColumnLaws.{columns-start, columns-room, columns-turn,
 use Rattle.catalog.proofs.columns.add_columns.Goals as goal
 
 pub loop-n-init : goal.loop-n-init
-loop-n-init c = let b = c.requires.keys_len in (omega arith, columns-start _ _ _ c.args.starts.now _ b.0 b.1 b.2 b.3)
+loop-n-init c = (omega arith, columns-start _ _ _ c.args.starts.now _ c.requires.keys_len.0 c.requires.keys_len.1 c.requires.keys_len.2 c.requires.keys_len.3)
 
 pub add_column-m-requires : goal.add_column-m-requires
 add_column-m-requires c = let s = c in
     let x = c.loop-n.invariant.1 in
-    (s.requires.backed, ((omega arith, omega arith, x.keys-long, x.heads-long, x.next-long), columns-room _ _ _ _ _ _ _ x c.loop-n-test.true))
+    record { backed = s.requires.backed; place_bound = (omega arith, omega arith, x.keys-long, x.heads-long, x.next-long); table_bound = columns-room _ _ _ _ _ _ _ x c.loop-n-test.true }
+
+pub overflow_cast-starts : goal.overflow_cast-starts
+overflow_cast-starts c = omega (arith, c.add_column-m.ensures.listed.bound)
 
 pub loop-n-preserved : goal.loop-n-preserved
 loop-n-preserved c = (omega arith, columns-turn _ _ _ _ _ _ _ c.loop-n.invariant.1 c.loop-n-test.true _ _ _ _ c.add_column-m.ensures)

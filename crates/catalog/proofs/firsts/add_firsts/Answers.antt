@@ -13,7 +13,7 @@ pub loop-s-init : goal.loop-s-init
 loop-s-init c = (omega arith, tabled_start _ _ _)
 
 pub demanded-requires : goal.demanded-requires
-demanded-requires c = let p = c.requires in (p.0, ((c.loop-s-test.true, p.1.0.1, p.1.0.2, p.1.0.3), p.1.1))
+demanded-requires c = record { backed = c.requires.backed; s_bound = (c.loop-s-test.true, c.requires.i_bound.1, c.requires.i_bound.2, c.requires.i_bound.3); directory = c.requires.directory }
 
 pub loop-s-preserved : goal.loop-s-preserved
 loop-s-preserved c = (omega arith, tabled-more _ _ _ _ _ _ c.loop-s.invariant.1 c.demanded.ensures)

@@ -13,7 +13,9 @@ returns-then-not-is_live c = demanded-absent _ _ _ _ (sym (c.is_live.ensures _) 
 pub returns-then-tables-s : goal.returns-then-tables-s
 returns-then-tables-s c = demanded-elsewhere _ _ _ _ c.if-tables-s.true
 
+pub overflow_cast-result : goal.overflow_cast-result
+overflow_cast-result c = omega (arith, (first-hit _ 0 c.find.result (c.find.ensures _ c.requires.directory)).bound)
+
 pub returns : goal.returns
-returns c = let p = c.requires.s_bound in
-    demanded-value _ _ _ _ (sym (c.is_live.ensures _) ∙ not-false _ c.if-not-is_live.false-raw) p.0.1 c.if-tables-s.false _ c.cell_at-v.ensures _
-    (c.find.ensures _ p.1)
+returns c = demanded-value _ _ _ _ (sym (c.is_live.ensures _) ∙ not-false _ c.if-not-is_live.false-raw) c.requires.s_bound.1 c.if-tables-s.false _ c.cell_at-v.ensures _
+    (c.find.ensures _ c.requires.directory)

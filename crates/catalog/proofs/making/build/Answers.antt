@@ -21,12 +21,9 @@ pub store-requires-3 : goal.store-requires-3
 store-requires-3 c = (omega (arith, c.add_columns.ensures.1.starts-long), c.store-2.ensures.long ∙ c.store.ensures.long)
 
 pub make_firsts-requires : goal.make_firsts-requires
-make_firsts-requires c = let p = c.requires in
-    let k = c.add_columns.ensures.1 in
-    let x = indexed-made _ _ _ _ _ _ _ refl (ap length c.settle.ensures ∙ length-tab 4096 _) k.heads-long k.starts-long c.store.ensures c.store-2.ensures c.store-3.ensures _ _ (size-lent _ _) c.settle.ensures (columns-directory _ _ _ _ _ _ k) in
-    ((p.0, p.1, c.store-3.ensures.long ∙ c.store-2.ensures.long ∙ c.store.ensures.long), x.directory)
+make_firsts-requires c = let x = indexed-made _ _ _ _ _ _ _ refl (ap length c.settle.ensures ∙ length-tab 4096 _) c.add_columns.ensures.1.heads-long c.add_columns.ensures.1.starts-long c.store.ensures c.store-2.ensures c.store-3.ensures _ _ (size-lent _ _) c.settle.ensures (columns-directory _ _ _ _ _ _ c.add_columns.ensures.1) in
+    record { in_range = (c.requires.0, c.requires.1, c.store-3.ensures.long ∙ c.store-2.ensures.long ∙ c.store.ensures.long); directory = x.directory }
 
 pub returns : goal.returns
-returns c = let k = c.add_columns.ensures.1 in
-    let x = indexed-made _ _ _ _ _ _ _ refl (ap length c.settle.ensures ∙ length-tab 4096 _) k.heads-long k.starts-long c.store.ensures c.store-2.ensures c.store-3.ensures _ _ (size-lent _ _) c.settle.ensures (columns-directory _ _ _ _ _ _ k) in
+returns c = let x = indexed-made _ _ _ _ _ _ _ refl (ap length c.settle.ensures ∙ length-tab 4096 _) c.add_columns.ensures.1.heads-long c.add_columns.ensures.1.starts-long c.store.ensures c.store-2.ensures c.store-3.ensures _ _ (size-lent _ _) c.settle.ensures (columns-directory _ _ _ _ _ _ c.add_columns.ensures.1) in
     catalogued-made _ _ _ _ c.make_firsts.ensures _ x

@@ -22,6 +22,9 @@ bounds-constraint-j c = let s = c in omega (arith, c.loop-j-test.true, s.require
 pub cost_at-at-requires : goal.cost_at-at-requires
 cost_at-at-requires c = let s = c in (s.requires.0.target-table _, s.requires.0.source-table _)
 
+pub offset_bounds-costs-at : goal.offset_bounds-costs-at
+offset_bounds-costs-at c = let s = c in omega (arith, c.cost_at-at.ensures, s.requires.0.target-table c.loop-j.j, s.requires.0.source-table s.args.i)
+
 pub bounds-costs-at : goal.bounds-costs-at
 bounds-costs-at c = let s = c in omega (arith, c.cost_at-at.ensures, s.requires.0.target-table c.loop-j.j, s.requires.0.source-table s.args.i)
 

@@ -20,6 +20,14 @@ pub uneven_from-j-requires : goal.uneven_from-j-requires
 uneven_from-j-requires c = let s = c in
     (s.requires, omega (arith, c.loop-i-test.true, c.loop-i.invariant.1, s.requires.constraints), c.loop-i.invariant.2)
 
+pub overflow_cast-result : goal.overflow_cast-result
+overflow_cast-result c = let s = c in
+    omega (arith, c.loop-i-test.true, c.loop-i.invariant.1, s.requires.constraints)
+
+pub overflow_cast-result-then-j-n : goal.overflow_cast-result-then-j-n
+overflow_cast-result-then-j-n c = let s = c in
+    omega (arith, c.if-j-n.true, c.loop-i.invariant.1, s.requires.constraints)
+
 pub returns-then-j-n : goal.returns-then-j-n
 returns-then-j-n c = let v = c.loop-i.invariant in
     lowest-here _ _ _ c.uneven_from-j.ensures v.3 c.loop-i-test.true c.if-j-n.true

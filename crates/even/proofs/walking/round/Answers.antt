@@ -11,7 +11,7 @@ use native.Mathlib.Omega.{arith}
 use Rattle.even.proofs.walking.round.Goals as goal
 
 pub loop-e-init : goal.loop-e-init
-loop-e-init c = let x = c.requires.1 in (omega arith, λ S l. round-start S _ x.1.long (cheap-far _ _ _ x.1))
+loop-e-init c = (omega arith, λ S l. round-start S _ c.requires.1.1.long (cheap-far _ _ _ c.requires.1.1))
 
 pub bounds-constraint-e : goal.bounds-constraint-e
 bounds-constraint-e c = let s = c in omega (arith, c.loop-e-test.true, s.requires.0.constraints)
@@ -21,8 +21,7 @@ weight_of-w-requires c = let s = c in omega (arith, c.loop-e-test.true, s.requir
 
 pub step_to-requires : goal.step_to-requires
 step_to-requires c = let s = c in
-    let x = s.requires.1 in
-    (s.requires.0.source-table _, s.requires.0.target-table _, omega (arith, c.weight_of-w.ensures), x.1.long, (c.loop-e.invariant.1 (scheme_of s.args.d) (laid s.args.d)).long, cheap-far _ _ _ x.1)
+    (s.requires.0.source-table _, s.requires.0.target-table _, omega (arith, c.weight_of-w.ensures), s.requires.1.1.long, (c.loop-e.invariant.1 (scheme_of s.args.d) (laid s.args.d)).long, cheap-far _ _ _ s.requires.1.1)
 
 pub loop-e-preserved : goal.loop-e-preserved
 loop-e-preserved c = (omega arith, λ S l. round-read S _ _ l _ _ _ _ _ (c.loop-e.invariant.1 S l) c.weight_of-w.ensures c.step_to.ensures)

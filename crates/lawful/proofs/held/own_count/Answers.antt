@@ -15,6 +15,7 @@ use Prim.Native.Nat.{ℕ, ◌≤◌, ◌<◌, ◌-◌}
 use borrow.Author.Rules.{rules}
 use native.Mathlib.Omega.{arith}
 use Rattle.lawful.proofs.held.own_count.Goals as goal
+use Rattle.lawful.proofs.held.own_count.Goals.{then-v-desk, else-v-desk}
 
 pub loop-i-init : goal.loop-i-init
 loop-i-init c = (omega arith, omega arith, count-start _)
@@ -23,7 +24,13 @@ pub value_at-v-requires : goal.value_at-v-requires
 value_at-v-requires c = omega (arith, c.value_count-count.ensures, c.requires)
 
 pub loop-i-preserved : goal.loop-i-preserved
-loop-i-preserved c = let e = c.loop-i.invariant.2 in let k = sym (ap (λ (o : OwnedValue). eqb o.desk c.args.desk) c.value_at-v.ensures) in ⊎_elim (λ w. (omega arith, omega (arith, w.1), w.1 ∙ count-hit _ _ _ e (k ∙ eq-eqb _ _ w.0.taken))) (λ w. (omega arith, omega (arith, w.1), w.1 ∙ count-miss _ _ _ e (k ∙ ne_eqb _ _ w.0.left))) c.if-v-desk.branch
+loop-i-preserved c =
+    let e = c.loop-i.invariant.2 in
+    let k = sym (ap (λ (o : OwnedValue). eqb o.desk c.args.desk) c.value_at-v.ensures) in
+    elim c.if-v-desk.branch [
+      | then-v-desk w ↦ (omega arith, omega (arith, w.n-is), w.n-is ∙ count-hit _ _ _ e (k ∙ eq-eqb _ _ w.if-v-desk.true))
+      | else-v-desk w ↦ (omega arith, omega (arith, w.n-is), w.n-is ∙ count-miss _ _ _ e (k ∙ ne_eqb _ _ w.if-v-desk.false))
+    ]
 
 pub returns : goal.returns
 unfolding own_count
