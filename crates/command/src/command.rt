@@ -31,6 +31,7 @@ pub enum Command {
 
 // ---- widths: how many bytes the command with this byte takes, 0 if there is none. Constant time, as everything in this file.
 
+#[tactic(auto, unfolding(crate::specs::Commands::design_width))]
 fn design_width(b: u8) -> usize
     ensures { result ≡ design_width b }
 {
@@ -45,6 +46,7 @@ fn design_width(b: u8) -> usize
     }
 }
 
+#[tactic(auto, unfolding(crate::specs::Commands::operation_width))]
 fn operation_width(b: u8) -> usize
     ensures { result ≡ operation_width b }
 {
@@ -273,6 +275,7 @@ fn design_operands(b: u8, script: &[u8], i: usize) -> Command
 }
 
 // The operation of a byte below 0x20, whose value has this issue; 0x19 has one of its own behind PROBE's operands.
+#[tactic(auto, unfolding(crate::specs::Commands::operation_width, crate::specs::Commands::issued_at))]
 fn issued_at(b: u8, script: &[u8], issue: u8, i: usize) -> Operation
     requires { (operation_width b ≡ 0 → ⊥) × (b < 0x20) × (i + operation_width b ≤ length script.now) }
     ensures { result ≡ issued_at b script.now issue i }

@@ -1,5 +1,5 @@
-// A script reader: the lent bytes and the place reached so far. `new`, `moved` and `next` are thin and proved by hand, as is `command_at`, which has
-// plain parameters and which everything else calls. The work is `read_at`'s.
+// A script reader: the lent bytes and the place reached so far. `new`, `moved` and `next` are thin, as is `command_at`, which has plain parameters and which
+// everything else calls. The work is `read_at`'s.
 ghost use Rattle.std.specs.Prelude.{◌≡◌};
 ghost use Rattle.command.specs.Commands.{command_at};
 

@@ -5,12 +5,10 @@ use Prim.Native.Nat.{ℕ, suc, ◌+◌, ◌-◌, ◌*◌, ◌≤◌, ◌<◌}
 use native.Mathlib.Omega.{arith}
 use mathlib.Core.Path.{◌≡◌, refl, sym, ap, ap₂, subst, ◌∙◌}
 use mathlib.Core.Bool.{Bool, true, false, not}
-use mathlib.Core.List.{List, [], ◌∷◌}
+use mathlib.Core.List.{List}
 use mathlib.Core.Logic.{⊎_elim}
 use lib.Dec.{eqb}
 use lib.ListN.{length, set}
-use types.Run.{OneOf}
-use denote.Enum.Declared.{tag_of}
 use Rattle.finite.proofs.Search.{below_suc, any_same}
 use Rattle.finite.proofs.Counting.{count_same}
 use Rattle.model.specs.Scheme.{Scheme}
@@ -36,7 +34,6 @@ use Rattle.format.specs.Reading.Advanced.{on, complete, refused}
 use Rattle.format.specs.Reading.DesignRead.{accepted, refused_at}
 use Rattle.format.specs.Admitting.{admitted, outcome_of, cause_of, Kept, Advances, again, None, Earliest, read_as, Stopped}
 use Rattle.format.specs.Writing.{is_issued, place_after, row_place}
-use Rattle.format.specs.contracts.reading.Outcome.{the_type}
 use Rattle.command.proofs.CommandLaws.{RowByte}
 use Rattle.format.proofs.RowText.{row_width, width-tells}
 use Rattle.format.proofs.Lengths.{place-first, place-more}
@@ -209,16 +206,16 @@ along-admitted s w p i a q e = go (seen s i)
 
 -- ---- one turn of the loop: the command c at place i, read into the draft p, with the answer r
 
-pub no-cause : (o : Outcome) → OneOf (0 ∷ 1 ∷ []) (tag_of the_type o) → 0 ≡ cause_of o
-no-cause On e = refl
-no-cause Complete e = refl
-no-cause (Cause n) e = absurd (⊎_elim (λ z. omega arith) (λ z. omega arith) e)
+pub no-cause : (o : Outcome) → ((n : ℕ) → o ≡ Cause n → ⊥) → 0 ≡ cause_of o
+no-cause On h = refl
+no-cause Complete h = refl
+no-cause (Cause n) h = absurd (h n refl)
 
 -- neither complete nor going on
-pub is-cause : (o : Outcome) → OneOf (0 ∷ 2 ∷ []) (tag_of the_type o) → OneOf (1 ∷ 2 ∷ []) (tag_of the_type o) → o ≡ Cause (cause_of o)
-is-cause On e f = absurd (⊎_elim (λ z. omega arith) (λ z. omega arith) f)
-is-cause Complete e f = absurd (⊎_elim (λ z. omega arith) (λ z. omega arith) e)
-is-cause (Cause n) e f = refl
+pub is-cause : (o : Outcome) → (o ≡ Complete → ⊥) → (o ≡ On → ⊥) → o ≡ Cause (cause_of o)
+is-cause On h g = absurd (g refl)
+is-cause Complete h g = absurd (h refl)
+is-cause (Cause n) h g = refl
 
 on-is : (t : Advanced) → outcome_of t ≡ On → (q : Draft) × (t ≡ on q)
 on-is (on q) e = (q, refl)

@@ -26,7 +26,6 @@ use Rattle.state.specs.Meaning.{cell_of, cell_in, free_table, database_of}
 use Rattle.state.specs.Lawful.{table_fits, zero_table, zero_column, constraint_fits, zero_constraint, filling_fits, zero_filling, blank_row, lawful_design, lawful_rows}
 use Rattle.state.proofs.Places.{unused-is}
 use Rattle.state.proofs.RowLaws.{cell-at}
-use Rattle.command.specs.declared.command.Command.TheVariants.{Table, Constraint, Filling}
 use Rattle.command.specs.Bytes.{byte_at}
 use Rattle.command.specs.Commands.{width_of, command_at, row_cell_at, row_issue_at}
 use Rattle.format.specs.Reading.{Draft, draft, empty_draft, Advanced, advanced, redesigned, with_table, with_constraint, with_filling, with_row, DesignRead, read_on, read_from, read_design, most_bytes}

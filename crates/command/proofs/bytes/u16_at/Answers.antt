@@ -1,6 +1,5 @@
 -- `command::bytes::u16_at` meets its contract. Assumes nothing.
 use native.Mathlib.Omega.{arith}
-use borrow.Author.Rules.{rules}
 use Rattle.command.specs.Bytes.{u16_at}
 use Rattle.command.proofs.bytes.u16_at.Goals as goal
 

@@ -1,6 +1,5 @@
 -- `command::bytes::u32_at` meets its contract. Assumes nothing.
 use native.Mathlib.Omega.{arith}
-use borrow.Author.Rules.{rules}
 use Rattle.command.specs.Bytes.{u32_at}
 use Rattle.command.proofs.bytes.u32_at.Goals as goal
 

@@ -1,7 +1,6 @@
 -- `command::command::design_operands` meets its contract: the byte tells the command and its width. Assumes nothing.
 use native.Mathlib.Omega.{arith}
 use mathlib.Core.Path.{ap}
-use borrow.Author.Rules.{rules}
 use Rattle.command.proofs.CommandLaws.{command-table, command-constraint, command-filling, command-row, command-end, row-width, is_row}
 use Rattle.command.specs.Commands.{design_width}
 use Rattle.command.proofs.command.design_operands.Goals as goal

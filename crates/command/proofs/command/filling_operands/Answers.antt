@@ -1,5 +1,4 @@
 -- `command::command::filling_operands` meets its contract. Assumes nothing.
-use borrow.Author.Rules.{rules}
 use Rattle.command.proofs.command.filling_operands.Goals as goal
 
 pub returns : goal.returns

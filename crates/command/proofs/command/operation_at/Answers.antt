@@ -1,6 +1,5 @@
 -- `command::command::operation_at` meets its contract: below 0x20 with issue 0, from there on with the last byte. Assumes nothing.
 use mathlib.Core.Path.{◌∙◌}
-use borrow.Author.Rules.{rules}
 use Rattle.command.proofs.CommandLaws.{plain_fits, plain-operation}
 use Rattle.command.proofs.command.operation_at.Goals as goal
 

@@ -1,10 +1,9 @@
 -- `command::command::put_issues` meets its contract: a loop that stores. Assumes nothing.
-use Prim.Native.Nat.{ℕ, ◌+◌, ◌-◌, ◌≤◌}
+use Prim.Native.Nat.{ℕ}
 use native.Mathlib.Omega.{arith}
 use mathlib.Core.Path.{refl}
-use lib.ListN.{get_or, length-replicate}
-use Rattle.finite.proofs.Tables.{Upto, upto-end, upto-set, upto-start}
-use Rattle.command.specs.Bytes.{byte_at}
+use lib.ListN.{length-replicate}
+use Rattle.finite.proofs.Tables.{upto-end, upto-set, upto-start}
 use Rattle.command.specs.Commands.{put_row_at}
 use Rattle.command.proofs.command.put_issues.Goals as goal
 

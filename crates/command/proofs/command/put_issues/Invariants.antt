@@ -1,11 +1,8 @@
 -- What the loops of `command::command::put_issues` keep.
-use Prim.Native.Nat.{ℕ, ◌+◌, ◌-◌, ◌≤◌}
-use native.Mathlib.Omega.{arith}
-use mathlib.Core.Path.{refl}
-use lib.ListN.{get_or, length-replicate}
-use Rattle.finite.proofs.Tables.{Upto, upto-end, upto-set, upto-start}
+use Prim.Native.Nat.{◌+◌, ◌≤◌}
+use lib.ListN.{get_or}
+use Rattle.finite.proofs.Tables.{Upto}
 use Rattle.command.specs.Bytes.{byte_at}
-use Rattle.command.specs.Commands.{put_row_at}
 use Rattle.command.proofs.command.put_issues.Given as goal
 
 abbrev pub invariant-loop-c : goal.invariant-loop-c

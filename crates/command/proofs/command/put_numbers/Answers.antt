@@ -1,10 +1,8 @@
 -- `command::command::put_numbers` meets its contract: a loop that stores. Assumes nothing.
-use Prim.Native.Nat.{ℕ, ◌+◌, ◌*◌, ◌-◌, ◌≤◌}
+use Prim.Native.Nat.{ℕ}
 use native.Mathlib.Omega.{arith}
-use borrow.Author.Rules.{rules}
-use lib.ListN.{get_or, length-replicate}
-use Rattle.finite.proofs.Tables.{Upto, upto-end, upto-set, upto-start}
-use Rattle.command.specs.Bytes.{u32_at}
+use lib.ListN.{length-replicate}
+use Rattle.finite.proofs.Tables.{upto-end, upto-set, upto-start}
 use Rattle.command.specs.Commands.{put_row_at}
 use Rattle.command.proofs.command.put_numbers.Goals as goal
 

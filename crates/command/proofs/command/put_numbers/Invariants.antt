@@ -1,11 +1,8 @@
 -- What the loops of `command::command::put_numbers` keep.
-use Prim.Native.Nat.{ℕ, ◌+◌, ◌*◌, ◌-◌, ◌≤◌}
-use native.Mathlib.Omega.{arith}
-use borrow.Author.Rules.{rules}
-use lib.ListN.{get_or, length-replicate}
-use Rattle.finite.proofs.Tables.{Upto, upto-end, upto-set, upto-start}
+use Prim.Native.Nat.{◌+◌, ◌*◌, ◌≤◌}
+use lib.ListN.{get_or}
+use Rattle.finite.proofs.Tables.{Upto}
 use Rattle.command.specs.Bytes.{u32_at}
-use Rattle.command.specs.Commands.{put_row_at}
 use Rattle.command.proofs.command.put_numbers.Given as goal
 
 abbrev pub invariant-loop-c : goal.invariant-loop-c

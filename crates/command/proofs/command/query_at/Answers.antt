@@ -1,5 +1,4 @@
 -- `command::command::query_at` meets its contract. Assumes nothing.
-use borrow.Author.Rules.{rules}
 use Rattle.command.proofs.command.query_at.Goals as goal
 
 pub returns : goal.returns

@@ -1,5 +1,4 @@
 -- `command::command::range_at` meets its contract. Assumes nothing.
-use borrow.Author.Rules.{rules}
 use Rattle.command.proofs.command.range_at.Goals as goal
 
 pub returns : goal.returns

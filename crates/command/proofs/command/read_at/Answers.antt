@@ -1,7 +1,6 @@
 -- `command::command::read_at` meets its contract: each early return is one test of `commandAt`. Assumes nothing.
 use native.Mathlib.Omega.{arith}
 use mathlib.Core.Path.{refl, sym, ap, ◌∙◌}
-use borrow.Author.Rules.{rules}
 use Rattle.command.specs.declared.command.Command.TheVariants.{Operate}
 use Rattle.command.proofs.CommandLaws.{at-end, at-unknown, at-short, at-whole, width-put, width-remove, design-room, operation-room, operands-design, operands-put, operands-remove, operands-operation}
 use Rattle.command.proofs.command.read_at.Goals as goal

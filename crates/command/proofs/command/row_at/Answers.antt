@@ -1,5 +1,4 @@
 -- `command::command::row_at` meets its contract. Assumes nothing.
-use borrow.Author.Rules.{rules}
 use Rattle.command.proofs.CommandLaws.{put-row}
 use Rattle.command.proofs.command.row_at.Goals as goal
 

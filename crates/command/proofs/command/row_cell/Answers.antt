@@ -1,5 +1,4 @@
 -- `command::command::row_cell` meets its contract. Assumes nothing.
-use borrow.Author.Rules.{rules}
 use Rattle.command.specs.Commands.{row_cell_at}
 use Rattle.command.proofs.command.row_cell.Goals as goal
 

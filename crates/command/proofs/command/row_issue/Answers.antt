@@ -1,7 +1,6 @@
 -- `command::command::row_issue` meets its contract. Assumes nothing.
 use native.Mathlib.Omega.{arith}
 use mathlib.Core.Path.{sym}
-use borrow.Author.Rules.{rules}
 use Rattle.command.proofs.CommandLaws.{issue-plain, issue-read}
 use Rattle.command.proofs.command.row_issue.Goals as goal
 

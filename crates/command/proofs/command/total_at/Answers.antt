@@ -1,5 +1,4 @@
 -- `command::command::total_at` meets its contract: a query's operands, then two bytes. Assumes nothing.
-use borrow.Author.Rules.{rules}
 use Rattle.command.proofs.command.total_at.Goals as goal
 
 pub returns : goal.returns

@@ -1,5 +1,4 @@
 -- `command::command::value_at` meets its contract. Assumes nothing.
-use borrow.Author.Rules.{rules}
 use Rattle.command.proofs.command.value_at.Goals as goal
 
 pub returns : goal.returns

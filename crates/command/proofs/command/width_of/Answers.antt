@@ -1,6 +1,5 @@
 -- `command::command::width_of` meets its contract. Assumes nothing.
 use mathlib.Core.Path.{sym, ◌∙◌}
-use borrow.Author.Rules.{rules}
 use Rattle.command.proofs.CommandLaws.{width-design, width-put, width-remove, width-operation}
 use Rattle.command.proofs.command.width_of.Goals as goal
 

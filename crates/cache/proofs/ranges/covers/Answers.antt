@@ -1,0 +1,26 @@
+-- `cache::ranges::covers` meets its contract: a search for the first of the desk's ranges that passes the test. Assumes nothing.
+use Prim.Native.Nat.{◌≤◌, ◌-◌}
+use native.Mathlib.Omega.{arith}
+use mathlib.Core.Path.{◌≡◌, sym, ◌∙◌}
+use mathlib.Core.Bool.{false}
+use borrow.Author.Rules.{rules}
+use lib.ListN.{get_or}
+use Rattle.finite.specs.Finite.{any}
+use Rattle.finite.proofs.Search.{any-start, any-more, any-hit, any-end}
+use Rattle.model.specs.Ranges.{contains}
+use Rattle.state.specs.Held.{no_range}
+use Rattle.state.specs.Meaning.{range_of}
+use Rattle.cache.proofs.RangeRecord.{listed-any}
+use Rattle.cache.proofs.ranges.covers.Goals as goal
+
+pub loop-i-init : goal.loop-i-init
+loop-i-init c = (omega arith, any-start _)
+
+pub returns-then-contains : goal.returns-then-contains
+returns-then-contains c = any-hit _ _ _ c.loop-i-test.true (sym c.contains.ensures ∙ c.if-contains.true) ∙ listed-any contains _ c.args.s
+
+pub loop-i-preserved : goal.loop-i-preserved
+loop-i-preserved c = (omega arith, any-more _ _ c.loop-i.invariant.1 (sym c.contains.ensures ∙ c.if-contains.false))
+
+pub returns : goal.returns
+returns c = any-end _ _ _ c.loop-i.invariant.0 c.loop-i-test.false c.loop-i.invariant.1 ∙ listed-any contains _ c.args.s

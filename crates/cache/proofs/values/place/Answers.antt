@@ -1,0 +1,38 @@
+use Prim.Native.Nat.{◌≤◌, ◌-◌}
+use mathlib.Core.Path.{◌≡◌, sym, ◌∙◌}
+use mathlib.Core.Bool.{false}
+use Rattle.finite.specs.Finite.{any}
+use Rattle.finite.proofs.Search.{any-start, any-more}
+use Rattle.model.specs.Holding.{same_owned}
+use Rattle.state.specs.Held.{held_at}
+use Rattle.state.specs.HeldWords.{words_held}
+use Rattle.state.specs.Meaning.{owned_of}
+use Rattle.cache.proofs.HeldShifts.{place_at, place_end}
+use lib.ListN.{get_or, length}
+use mathlib.Core.Logic.{⊎_elim}
+use mathlib.Core.Path.{◌≡◌, refl, sym, ap, subst, ◌∙◌}
+use Prim.Native.Nat.{ℕ, ◌≤◌, ◌<◌, ◌-◌}
+use borrow.Author.Rules.{rules}
+use native.Mathlib.Omega.{arith}
+use Rattle.cache.proofs.values.place.Goals as goal
+
+pub loop-i-init : goal.loop-i-init
+loop-i-init c = (omega arith, any-start _)
+
+pub value_at-requires : goal.value_at-requires
+value_at-requires c = omega (arith, c.requires, c.value_count-n.ensures, c.loop-i-test.true)
+
+pub returns-then-same_owned : goal.returns-then-same_owned
+returns-then-same_owned c = place_at (words_held c.args.held.now) c.args.v _ c.named_desk.ensures _ c.loop-i.invariant.1 (omega (arith, c.value_count-n.ensures, c.loop-i-test.true)) (sym (rw c.value_at.ensures at c.same_owned.ensures) ∙ c.if-same_owned.true)
+
+pub overflow_step-i : goal.overflow_step-i
+overflow_step-i c = omega (arith, c.requires, c.value_count-n.ensures, c.loop-i-test.true)
+
+pub loop-i-smaller : goal.loop-i-smaller
+loop-i-smaller c = omega (arith, c.loop-i-test.true)
+
+pub loop-i-preserved : goal.loop-i-preserved
+loop-i-preserved c = (omega (arith, c.loop-i-test.true), any-more _ _ c.loop-i.invariant.1 (sym (rw c.value_at.ensures at c.same_owned.ensures) ∙ c.if-same_owned.false))
+
+pub returns : goal.returns
+returns c = place_end (words_held c.args.held.now) c.args.v _ c.named_desk.ensures _ c.loop-i.invariant.1 _ c.value_count-n.ensures c.loop-i-test.false

@@ -1,0 +1,12 @@
+-- What the loops of `load::expanding::target_places` keep.
+use Prim.Native.Nat.{◌-◌, ◌≤◌, ℕ}
+use native.Mathlib.Omega.{arith}
+use mathlib.Core.Path.{refl}
+use borrow.Author.Rules.{rules}
+use lib.ListN.{get_or, length-replicate}
+use Rattle.finite.proofs.Tables.{Upto, upto-end, upto-set, upto-start}
+use Rattle.state.specs.Design.{no_constraint}
+use Rattle.load.proofs.expanding.target_places.Given as goal
+
+abbrev pub invariant-loop-i : goal.invariant-loop-i
+invariant-loop-i l = (l.i ≤ 16) × Upto 0 16 l.i (λ j. (get_or l.constraint j no_constraint).target.place) (λ j. get_or l.initial.places j 0) l.places

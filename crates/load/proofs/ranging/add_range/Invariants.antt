@@ -1,0 +1,20 @@
+-- What the loops of `load::ranging::add_range` keep.
+use Rattle.catalog.specs.Catalog.{Indexed}
+use Prim.Native.Nat.{◌+◌, ◌-◌, ◌≤◌}
+use native.Mathlib.Omega.{arith}
+use mathlib.Core.Path.{sym}
+use borrow.Author.Rules.{rules}
+use lib.ListN.{get_or}
+use Rattle.catalog.specs.Spans.{plain_value}
+use Rattle.finite.proofs.Search.{any-start}
+use Rattle.finite.specs.Finite.{any}
+use Rattle.load.proofs.AlongLaws.{along-has, begins-has}
+use Rattle.load.proofs.QueueLaws.{grown-end, grown-same, grown-start, grown-turn}
+use Rattle.load.specs.Queue.{Grown}
+use Rattle.model.specs.Database.{Database, has}
+use Rattle.state.specs.Meaning.{column_of}
+use Rattle.load.proofs.ranging.add_range.Given as goal
+
+abbrev pub invariant-loop-j : goal.invariant-loop-j
+invariant-loop-j l = (l.j ≤ l.n) ×
+    ((D : Database) → Indexed D l.catalog l.keys → Grown 2 (λ r. any l.j (λ x. has D (column_of l.k) (plain_value (get_or l.keys (l.from + x) 0)) r)) l.initial.levels l.initial.queue l.end l.levels l.queue l.e)

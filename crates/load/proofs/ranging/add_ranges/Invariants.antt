@@ -1,0 +1,26 @@
+-- What the loops of `load::ranging::add_ranges` keep.
+use Prim.Native.Nat.{◌-◌, ◌≤◌}
+use native.Mathlib.Omega.{arith}
+use mathlib.Core.Path.{ap}
+use borrow.Author.Rules.{rules}
+use lib.ListN.{get_or}
+use Rattle.finite.proofs.Search.{any-start}
+use Rattle.finite.specs.Finite.{any}
+use Rattle.model.specs.Database.{Database}
+use Rattle.model.specs.Ranges.{has_range}
+use Rattle.state.specs.declared.held.Range.{Range}
+use Rattle.state.specs.Design.{no_filling}
+use Rattle.state.specs.Held.{range_at, ranges_at}
+use Rattle.state.specs.HeldWords.{words_held}
+use Rattle.state.specs.Meaning.{column_of, range_of, scheme_of}
+use Rattle.catalog.specs.Catalog.{Indexed}
+use Rattle.load.proofs.QueueLaws.{grown-end, grown-start, grown-turn}
+use Rattle.load.specs.Queue.{Grown}
+use Rattle.load.proofs.ranging.add_ranges.Given as goal
+
+abbrev pub invariant-loop-i : goal.invariant-loop-i
+invariant-loop-i l = (l.i ≤ l.n) ×
+    ((D : Database) → Indexed D l.catalog l.keys →
+    Grown 2
+    (λ r. any l.i (λ j. has_range D (column_of (get_or l.filling (range_at (ranges_at (words_held l.held) l.desk) j).filling no_filling).column) (range_of (range_at (ranges_at (words_held l.held) l.desk) j)) r))
+    l.initial.levels l.initial.queue l.end l.levels l.queue l.e)

@@ -1,0 +1,12 @@
+-- What the loops of `mend::redirecting::fetch_heads` keep.
+use Prim.Native.Nat.{◌+◌, ◌-◌, ◌≤◌}
+use native.Mathlib.Omega.{arith}
+use mathlib.Core.Path.{refl}
+use lib.ListN.{get_or}
+use borrow.Author.Rules.{rules}
+use Rattle.finite.proofs.Tables.{Upto, upto-start, upto-set, upto-end}
+use Rattle.catalog.specs.Catalog.{part}
+use Rattle.mend.proofs.redirecting.fetch_heads.Given as goal
+
+abbrev pub invariant-loop-i : goal.invariant-loop-i
+invariant-loop-i l = (l.i ≤ 4096) × Upto 0 4096 l.i (λ x. get_or l.catalog (12288 + x) 0) (λ x. get_or l.initial.heads x 0) l.heads

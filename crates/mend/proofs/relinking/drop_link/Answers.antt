@@ -1,0 +1,17 @@
+use mathlib.Core.Path.{sym, ◌∙◌}
+use Rattle.mend.proofs.ChainLaws.{place_same}
+use Rattle.mend.proofs.RelinkLaws.{blank-goes, linking}
+use borrow.Author.Rules.{rules}
+use Rattle.mend.proofs.relinking.drop_link.Goals as goal
+
+pub returns-then-is_blank : goal.returns-then-is_blank
+returns-then-is_blank c = let p = c.requires.r_bound in
+    (place_same _ _, λ E w d y. blank-goes _ _ _ _ p.0 p.1 p.3 _ c.cell_at-v.ensures (sym c.is_blank.ensures ∙ c.if-is_blank.true) E w _ y)
+
+pub link_out-requires : goal.link_out-requires
+link_out-requires c = let p = c.requires.r_bound in
+    record { r_bound = (p.0, p.3, p.1, p.4); linking = (c.requires.without.0, _, linking _ _ _ _ p.0 p.1 p.3 _ c.cell_at-v.ensures (sym c.is_blank.ensures ∙ c.if-is_blank.false) _ _ _ _ c.requires.without.1 c.requires.without.2 c.requires.without.3) }
+
+pub returns : goal.returns
+returns c = let p = c.requires.r_bound in
+    (c.link_out.ensures.0, λ E w d y. c.link_out.ensures.1 E _ (linking _ _ _ _ p.0 p.1 p.3 _ c.cell_at-v.ensures (sym c.is_blank.ensures ∙ c.if-is_blank.false) _ _ _ _ w d y))

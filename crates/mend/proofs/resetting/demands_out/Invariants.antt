@@ -1,0 +1,16 @@
+-- What the loops of `mend::resetting::demands_out` keep.
+use Prim.Native.Nat.{◌-◌, ◌≤◌, ◌<◌}
+use native.Mathlib.Omega.{arith}
+use mathlib.Core.Path.{◌≡◌}
+use borrow.Author.Rules.{rules}
+use Rattle.model.specs.Database.{Database}
+use Rattle.state.specs.Cells.{cells_in}
+use Rattle.state.specs.Meaning.{database_of, scheme_of}
+use Rattle.catalog.specs.Catalog.{firsts, first_in, Indexed}
+use Rattle.mend.specs.Changing.{Without}
+use Rattle.mend.proofs.ResetLaws.{Turning, Beside, beside-start, beside-turn, beside-indexed, turning-start, turning-firsts, turning-turn, turning-end}
+use Rattle.mend.proofs.resetting.demands_out.Given as goal
+
+abbrev pub invariant-loop-i : goal.invariant-loop-i
+invariant-loop-i l = (l.i ≤ l.d.constraints) × Beside l.initial.catalog l.catalog
+    × ((E : Database) → Without E (database_of (cells_in l.cells l.issues) l.tables) l.r → Indexed E l.initial.catalog l.keys → first_in l.initial.catalog ≡ firsts (scheme_of l.d) (database_of (cells_in l.cells l.issues) l.tables) → Turning (scheme_of l.d) (database_of (cells_in l.cells l.issues) l.tables) E l.i l.catalog)

@@ -1,0 +1,19 @@
+-- What the loops of `mend::revaluing::put_cells` keep.
+use Prim.Native.Nat.{ℕ, ◌+◌, ◌*◌, ◌-◌, ◌≤◌, ◌<◌}
+use native.Mathlib.Omega.{arith}
+use mathlib.Core.Path.{◌∙◌}
+use lib.ListN.{get_or}
+use borrow.Author.Rules.{rules}
+use Rattle.model.specs.Database.{Database}
+use Rattle.state.specs.Cells.{cells_in}
+use Rattle.state.specs.Meaning.{database_of}
+use Rattle.catalog.specs.Catalog.{Directory}
+use Rattle.mend.specs.Changing.{Without}
+use Rattle.mend.specs.Values.{Changing}
+use Rattle.catalog.proofs.Rows.{table_is}
+use Rattle.mend.proofs.DirectoryLaws.{comes-start, comes-end}
+use Rattle.mend.proofs.revaluing.put_cells.Given as goal
+
+abbrev pub invariant-loop-c : goal.invariant-loop-c
+invariant-loop-c l = (l.c ≤ 8) × (get_or l.starts 64 0 ≤ get_or l.initial.starts 64 0 + l.c)
+    × ((E : Database) → Without E (database_of (cells_in l.cells l.issues) l.tables) l.r → Directory E l.initial.keys l.initial.heads l.initial.starts → Changing E (database_of (cells_in l.cells l.issues) l.tables) (8 * get_or l.tables l.r 0 + l.c) l.keys l.heads l.starts)

@@ -1,0 +1,45 @@
+-- `opener::giving::source_rows` meets its contract. Assumes nothing.
+use Rattle.opener.proofs.MarkingLaws.{mark-start, mark-next, mark-last}
+use Rattle.catalog.specs.Catalog.{Indexed}
+use Rattle.state.specs.Meaning.{cell_of, column_of, constraint_of}
+use Rattle.state.specs.Design.{constraint_at}
+use Rattle.model.specs.Database.{Database, has}
+use Rattle.model.specs.Scheme.{same_column}
+use Rattle.finite.specs.Finite.{any}
+use lib.ListN.{length, get_or, length-replicate}
+use mathlib.Core.Bool.{Bool, false, ◌&&◌}
+use mathlib.Core.Path.{◌≡◌, refl, ◌∙◌}
+use Prim.Native.Nat.{ℕ, ◌≤◌, ◌<◌, ◌-◌}
+use native.Mathlib.Omega.{arith}
+use borrow.Author.Rules.{rules}
+use Rattle.opener.proofs.giving.source_rows.Goals as goal
+
+pub loop-i-init : goal.loop-i-init
+loop-i-init c = let a = c.args in
+    (omega arith, refl, length-replicate {A = Bool} 512 false, λ D x. mark-start (λ i r. same_column (constraint_of (constraint_at a.d i)).target (column_of a.k) && has D (constraint_of (constraint_at a.d i)).source (cell_of a.v) r))
+
+pub bounds-d-i : goal.bounds-d-i
+bounds-d-i c = let s = c in omega (arith, c.loop-i-test.true, c.loop-i.invariant.1, s.requires.0.constraints)
+
+pub mark_sources-requires : goal.mark_sources-requires
+mark_sources-requires c = (c.requires.0.source-table _, c.requires.0.source _, c.requires.1)
+
+pub loop-i-preserved : goal.loop-i-preserved
+loop-i-preserved c = let a = c.args in
+    let v = c.loop-i.invariant in (
+      omega arith,
+      v.1,
+      (c.mark_sources.ensures c.requires.1.0 c.requires.1.1 v.2).long ∙ v.2,
+      λ D y.
+          mark-next _ (λ i r. same_column (constraint_of (constraint_at a.d i)).target (column_of a.k) && has D (constraint_of (constraint_at a.d i)).source (cell_of a.v) r) _ _
+          (v.3 D y) (c.mark_sources.ensures D y v.2),
+    )
+
+pub returns : goal.returns
+returns c = let a = c.args in
+    let v = c.loop-i.invariant in (
+      v.2,
+      λ D y.
+          mark-last _ _ (λ i r. same_column (constraint_of (constraint_at a.d i)).target (column_of a.k) && has D (constraint_of (constraint_at a.d i)).source (cell_of a.v) r) c.loop-i.seed
+          (omega (arith, v.0, v.1)) (omega (arith, c.loop-i-test.false, v.1)) (v.3 D y),
+    )

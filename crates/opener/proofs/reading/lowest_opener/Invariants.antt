@@ -1,0 +1,20 @@
+-- What the loops of `opener::reading::lowest_opener` keep.
+use Prim.Native.Nat.{◌≤◌, ◌-◌}
+use native.Mathlib.Omega.{arith}
+use mathlib.Core.Path.{◌≡◌, refl, sym, ◌∙◌}
+use borrow.Author.Rules.{rules}
+use borrow.Author.Tests.{not-true, not-false}
+use Rattle.finite.specs.Finite.{first_from}
+use Rattle.model.specs.Rounds.{reached}
+use Rattle.state.specs.Cells.{cells_in}
+use Rattle.state.specs.Meaning.{cell_of, column_of, database_of}
+use Rattle.opener.proofs.FillingLaws.{passes, filling-here, filling_skip, filling-none}
+use Rattle.opener.proofs.reading.lowest_opener.Given as goal
+
+abbrev pub invariant-loop-i : goal.invariant-loop-i
+invariant-loop-i l = (l.i ≤ l.n) ×
+    (let p = passes l.filling (database_of (cells_in l.cells l.issues) l.tables) (reached l.levels) (column_of l.k) (cell_of l.v) in
+    first_from l.n p 0 ≡ first_from l.n p l.i)
+
+abbrev pub decreases-loop-i : goal.decreases-loop-i
+decreases-loop-i l = l.n - l.i

@@ -1,0 +1,15 @@
+-- `opener::reading::value_in` meets its contract, test by test. Assumes nothing.
+use native.Mathlib.Nat.{pos_of_ne-zero}
+use Rattle.model.proofs.RoundsLaws.{zero-unreached, level-reached}
+use Rattle.opener.proofs.ValueLaws.{value-unled, value-elsewhere, value_there}
+use borrow.Author.Rules.{rules}
+use Rattle.opener.proofs.reading.value_in.Goals as goal
+
+pub returns-then-levels-r-eq0 : goal.returns-then-levels-r-eq0
+returns-then-levels-r-eq0 c = value-unled _ _ _ _ _ c.requires.1 (zero-unreached _ _ c.if-levels-r-eq0.true)
+
+pub returns-then-tables-r : goal.returns-then-tables-r
+returns-then-tables-r c = value-elsewhere _ _ _ _ _ c.requires.1 c.if-tables-r.true
+
+pub returns : goal.returns
+returns c = value_there _ _ _ _ _ c.requires.1 (level-reached _ _ (pos_of_ne-zero c.if-levels-r-eq0.false)) c.if-tables-r.false _ c.cell_at-w.ensures _ c.if_candidate.ensures

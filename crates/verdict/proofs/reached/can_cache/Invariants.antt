@@ -1,0 +1,16 @@
+-- What the loops of `verdict::reached::can_cache` keep.
+use Prim.Native.Nat.{◌-◌, ◌≤◌}
+use mathlib.Core.Path.{◌≡◌, sym, ◌∙◌}
+use mathlib.Core.Bool.{false}
+use Rattle.finite.specs.Finite.{any}
+use Rattle.finite.proofs.Search.{any-start, any-more, any-hit, any-end}
+use Rattle.model.specs.Even.{reaches}
+use Rattle.model.specs.Verdict.{can_cache}
+use Rattle.state.specs.Meaning.{scheme_of}
+use Rattle.verdict.proofs.ColumnLaws.{reach-at}
+use borrow.Author.Rules.{rules}
+use native.Mathlib.Omega.{arith}
+use Rattle.verdict.proofs.reached.can_cache.Given as goal
+
+abbrev pub invariant-loop-i : goal.invariant-loop-i
+invariant-loop-i l = (l.i ≤ l.n) × (any l.i (λ j. reaches (scheme_of l.d) ((scheme_of l.d).filling j).column.table l.t) ≡ false)

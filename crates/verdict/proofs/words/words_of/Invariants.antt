@@ -1,0 +1,13 @@
+-- What the loops of `verdict::words::words_of` keep.
+use Prim.Native.Nat.{◌-◌, ◌≤◌}
+use mathlib.Core.Path.{refl}
+use lib.ListN.{get_or}
+use Rattle.finite.proofs.Tables.{Upto, upto-start, upto-set, upto-end}
+use Rattle.state.specs.Meaning.{scheme_of}
+use Rattle.verdict.specs.Words.{verdict_of, column_at, verdict_words}
+use borrow.Author.Rules.{rules}
+use native.Mathlib.Omega.{arith}
+use Rattle.verdict.proofs.words.words_of.Given as goal
+
+abbrev pub invariant-loop-i : goal.invariant-loop-i
+invariant-loop-i l = (l.i ≤ 64) × Upto 0 64 l.i (λ j. verdict_of (scheme_of l.d) (column_at j)) (λ x. get_or l.initial.words x 0) l.words

@@ -1,0 +1,18 @@
+-- `words::to_words::put_fillings` meets its contract: the places passed are stored. Assumes nothing.
+use Prim.Native.Nat.{◌-◌}
+use native.Mathlib.Omega.{arith}
+use mathlib.Core.Path.{refl}
+use borrow.Author.Rules.{rules}
+use Rattle.state.specs.Design.{no_filling}
+use Rattle.words.specs.Words.{filling_words}
+use Rattle.state.proofs.WordPlaces.{Storing, storing-start, storing-more, storing-end}
+use Rattle.words.proofs.to_words.put_fillings.Goals as goal
+
+pub loop-i-init : goal.loop-i-init
+loop-i-init c = storing-start
+
+pub loop-i-preserved : goal.loop-i-preserved
+loop-i-preserved c = storing-more c.loop-i.invariant (omega arith) (λ x. refl) c.put_filling.ensures
+
+pub returns : goal.returns
+returns c = storing-end c.loop-i.invariant c.loop-i-test.false

@@ -1,0 +1,12 @@
+-- What the loops of `words::to_words::put_tables` keep.
+use Prim.Native.Nat.{◌-◌}
+use native.Mathlib.Omega.{arith}
+use mathlib.Core.Path.{refl}
+use borrow.Author.Rules.{rules}
+use Rattle.state.specs.Design.{no_table}
+use Rattle.words.specs.Words.{table_words}
+use Rattle.state.proofs.WordPlaces.{Storing, storing-start, storing-more, storing-end}
+use Rattle.words.proofs.to_words.put_tables.Given as goal
+
+abbrev pub invariant-loop-i : goal.invariant-loop-i
+invariant-loop-i l = Storing 8 3 2 no_table table_words l.ts l.initial.words l.words l.i

@@ -1,0 +1,14 @@
+-- What the loops of `words::word_tests::fillings_narrow` keep.
+use Prim.Native.Nat.{◌+◌, ◌*◌, ◌-◌, ◌≤◌}
+use native.Mathlib.Omega.{arith}
+use mathlib.Core.Bool.{true}
+use mathlib.Core.Path.{◌∙◌, ◌≡◌, sym}
+use borrow.Author.Rules.{rules}
+use borrow.Author.Tests.{not-false, not-true}
+use Rattle.finite.specs.Finite.{all}
+use Rattle.finite.proofs.Search.{all_end, all_more, all_start, all-stop}
+use Rattle.state.specs.HeldWords.{narrow_two}
+use Rattle.words.proofs.word_tests.fillings_narrow.Given as goal
+
+abbrev pub invariant-loop-i : goal.invariant-loop-i
+invariant-loop-i l = (l.i ≤ 8) × (all l.i (λ i. narrow_two l.words (83 + 4 * i)) ≡ true)

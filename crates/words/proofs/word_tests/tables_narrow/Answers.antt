@@ -1,0 +1,23 @@
+-- `words::word_tests::tables_narrow` meets its contract. The invariant: the tables passed are words of one. Assumes nothing.
+use Prim.Native.Nat.{◌+◌, ◌*◌, ◌-◌, ◌≤◌}
+use native.Mathlib.Omega.{arith}
+use mathlib.Core.Bool.{true}
+use mathlib.Core.Path.{◌∙◌, ◌≡◌, sym}
+use borrow.Author.Rules.{rules}
+use borrow.Author.Tests.{not-false, not-true}
+use Rattle.finite.specs.Finite.{all}
+use Rattle.finite.proofs.Search.{all_end, all_more, all_start, all-stop}
+use Rattle.state.specs.HeldWords.{narrow_two}
+use Rattle.words.proofs.word_tests.tables_narrow.Goals as goal
+
+pub loop-i-init : goal.loop-i-init
+loop-i-init c = (omega arith, all_start _)
+
+pub returns-then-not-two_narrow : goal.returns-then-not-two_narrow
+returns-then-not-two_narrow c = all-stop 8 c.loop-i.i _ (omega arith) (sym c.two_narrow.ensures ∙ not-true _ c.if-not-two_narrow.true-raw)
+
+pub loop-i-preserved : goal.loop-i-preserved
+loop-i-preserved c = (omega arith, all_more _ _ c.loop-i.invariant.1 (sym c.two_narrow.ensures ∙ not-false _ c.if-not-two_narrow.false-raw))
+
+pub returns : goal.returns
+returns c = all_end _ _ _ c.loop-i.invariant.0 c.loop-i-test.false c.loop-i.invariant.1
