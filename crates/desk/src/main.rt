@@ -1,17 +1,20 @@
 // The desk program: reads a script on standard input and writes its report on standard output, a full buffer at a time. Each part that is handed to
 // standard output is proved to be the report's bytes behind those handed over before it, and where every write goes well all of them are. Not proved,
-// since no contract can say it, is that the C functions below `io` read standard input and write standard output. A script of more than 65,536 bytes
-// is read only so far that it is known to be too long. The first read or write that fails ends the program, with a line on standard error; a program
-// in Rattle cannot set its exit status.
+// since no contract can say it, is that the C functions below `std::io` read standard input and write standard output. A script of more than 65,536 bytes
+// is read only so far that it is known to be too long. The first read or write that fails ends the program, with a line on standard error and exit
+// status 1.
 #![tactic(auto)]
 
-ghost use Rattle.std.specs.Prelude.{◌+◌, ◌*◌, ◌≤◌, cond, ◌≡◌, length, take};
+ghost use Rattle.std.specs.Prelude.{◌+◌, ◌*◌, ◌≤◌, cond, ◌≡◌, length, take, IfOk};
 ghost use Rattle.desk.specs.Parts.{desk_report, Stands, HandedOver};
 
 mod parts;
 mod reporting;
 
 use crate::parts::{begin, next_part};
+use std::io;
+use std::io::{Read, Stdin, Stdout, Write};
+use std::process::ExitCode;
 
 // ---- writing
 
@@ -24,26 +27,26 @@ pub struct Handed {
 
 // Hands the part of the script's report that stands from byte `done` on to standard output. Its bytes count only where all of them were taken. The
 // script is there for the contract alone, and so is the bound, of 65,540 full buffers: a sum below it fits.
-fn write_part(script: &[u8], done: usize, part: &[u8]) -> Handed
+fn write_part(mut output: Stdout, script: &[u8], done: usize, part: &[u8]) -> Handed
     requires stands { Stands (desk_report script.now) done part.now }
     requires done_bound { done ≤ 81920 * 65540 }
     ensures { result.bytes ≡ cond result.well (done + length part.now) done }
 {
-    if !io::write_all(1, part) {
-        return Handed {
+    match output.write_all(part) {
+        Ok(()) => Handed {
+            bytes: done + part.len(),
+            well: true,
+        },
+        Err(_) => Handed {
             bytes: done,
             well: false,
-        };
-    }
-    Handed {
-        bytes: done + part.len(),
-        well: true,
+        },
     }
 }
 
 // Lends the buffers, the catalog's arrays and the working memory, and hands the script's report over, part by part, up to the first write that fails.
 // The cost of reading the design, of the operations, and of the text.
-fn write_report(script: &[u8]) -> Handed
+fn write_report(output: Stdout, script: &[u8]) -> Handed
     requires { length script.now ≤ 65537 }
     ensures { HandedOver (desk_report script.now) result }
 {
@@ -72,7 +75,7 @@ fn write_report(script: &[u8]) -> Handed
     let mut done: usize = 0;
     loop {
         let n = p.end;
-        let handed = write_part(script, done, &out[..n]);
+        let handed = write_part(output, script, done, &out[..n]);
         if !handed.well {
             return handed;
         }
@@ -109,32 +112,31 @@ pub struct Input {
     pub well: bool,
 }
 
-// One read of standard input into the room behind the first n bytes, which stay. What C's read answers.
-fn read_behind(input: &mut [u8], n: usize) -> isize
+// One read of standard input into the room behind the first n bytes, which stay. How many bytes came, which fit that room; 0 where the input ends.
+fn read_behind(mut from: Stdin, input: &mut [u8], n: usize) -> io::Result<usize>
     requires { n ≤ length input.old }
-    ensures { take n input.new ≡ take n input.old }
+    ensures stays { take n input.new ≡ take n input.old }
+    ensures fits { IfOk result (λ k. n + k ≤ length input.new) }
 {
-    libc::read(0, &mut input[n..])
+    from.read(&mut input[n..])
 }
 
 // Reads standard input until it ends or the buffer is full, or up to the first read that fails.
-fn read_script(input: &mut [u8]) -> Input
+fn read_script(from: Stdin, input: &mut [u8]) -> Input
     ensures { result.bytes ≤ length input.new }
 {
     let mut n: usize = 0;
     while n < input.len() {
-        let got = read_behind(input, n);
-        if got < 0 {
-            return Input {
-                bytes: n,
-                well: false,
-            };
+        match read_behind(from, input, n) {
+            Ok(0) => break,
+            Ok(k) => n += k,
+            Err(_) => {
+                return Input {
+                    bytes: n,
+                    well: false,
+                };
+            }
         }
-        let k = io::count(got, &input[n..]);
-        if k == 0 {
-            break;
-        }
-        n += k;
     }
     Input {
         bytes: n,
@@ -142,16 +144,22 @@ fn read_script(input: &mut [u8]) -> Input
     }
 }
 
-fn main() {
+fn main(rt: HostRuntime) -> ExitCode {
     let mut input = [0u8; 65537];
-    let script = read_script(&mut input);
+    let script = read_script(rt.stdin(), &mut input);
     if !script.well {
-        io::write_all(2, b"desk: standard input could not be read\n");
-        return;
+        let _ = rt
+            .stderr()
+            .write_all(b"desk: standard input could not be read\n");
+        return ExitCode::FAILURE;
     }
     let n = script.bytes;
-    let report = write_report(&input[..n]);
+    let report = write_report(rt.stdout(), &input[..n]);
     if !report.well {
-        io::write_all(2, b"desk: standard output could not be written\n");
+        let _ = rt
+            .stderr()
+            .write_all(b"desk: standard output could not be written\n");
+        return ExitCode::FAILURE;
     }
+    ExitCode::SUCCESS
 }

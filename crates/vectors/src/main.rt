@@ -15,6 +15,8 @@
 // Any other line is a comment.
 #![tactic(auto)]
 
+ghost use Rattle.std.specs.Prelude.{◌≤◌, length, IfOk};
+
 mod buffers;
 mod held;
 mod lent;
@@ -24,6 +26,8 @@ mod vectors;
 
 use crate::text::{after, byte_at, find, number_at, put_hex};
 use crate::vectors::{Tally, fields_of, say_tally, vector};
+use std::io;
+use std::io::{Read, Stdin, Stdout};
 
 // How far the list has been read: the script's length, the words and the bytes of text lent, and the tally.
 #[derive(Clone, Copy)]
@@ -53,7 +57,14 @@ fn append(text: &[u8], from: usize, to: usize, script: &mut [u8], at: usize) -> 
 }
 
 // One line of the list, whose first byte is at `from`.
-fn read_line(text: &[u8], from: usize, to: usize, script: &mut [u8], mut p: Progress) -> Progress {
+fn read_line(
+    output: Stdout,
+    text: &[u8],
+    from: usize,
+    to: usize,
+    script: &mut [u8],
+    mut p: Progress,
+) -> io::Result<Progress> {
     let next = after(from, to);
     let kind = byte_at(text, from);
     match kind {
@@ -63,15 +74,17 @@ fn read_line(text: &[u8], from: usize, to: usize, script: &mut [u8], mut p: Prog
         b'x' => p.bytes = number_at(text, next, to).value,
         b'?' | b'a' | b't' | b'!' | b'r' | b'b' => {
             let f = fields_of(text, next, to);
-            p.tally = vector(text, kind, f, script, p.length, p.words, p.bytes, p.tally);
+            p.tally = vector(
+                output, text, kind, f, script, p.length, p.words, p.bytes, p.tally,
+            )?;
         }
         _ => {}
     }
-    p
+    Ok(p)
 }
 
 // All lines; there are fewer than 4,096.
-fn read_lines(text: &[u8], script: &mut [u8]) -> Tally {
+fn read_lines(output: Stdout, text: &[u8], script: &mut [u8]) -> io::Result<Tally> {
     let mut p = Progress {
         length: 0,
         words: 4096,
@@ -85,17 +98,33 @@ fn read_lines(text: &[u8], script: &mut [u8]) -> Tally {
     let mut i: usize = 0;
     while i < 4096 {
         let end = find(text, at, text.len(), b'\n');
-        let q = read_line(text, at, end, script, p);
+        let q = read_line(output, text, at, end, script, p)?;
         p = q;
         at = after(end, text.len());
         i += 1;
     }
-    p.tally
+    Ok(p.tally)
 }
 
-fn main() {
-    let mut text = io::large_buffer();
+// Reads standard input until it ends or the buffer is full, and gives how many bytes there were.
+fn read_all(mut from: Stdin, text: &mut [u8]) -> io::Result<usize>
+    ensures { IfOk result (λ n. n ≤ length text.new) }
+{
+    let mut n: usize = 0;
+    while n < text.len() {
+        let k = from.read(&mut text[n..])?;
+        if k == 0 {
+            break;
+        }
+        n += k;
+    }
+    Ok(n)
+}
+
+fn main(rt: HostRuntime) -> io::Result<()> {
+    let mut text = [0u8; 65536];
     let mut script = [0u8; 65600];
-    let n = io::read_full(0, &mut text);
-    say_tally(read_lines(&text[..n], &mut script));
+    let n = read_all(rt.stdin(), &mut text)?;
+    let tally = read_lines(rt.stdout(), &text[..n], &mut script)?;
+    say_tally(rt.stdout(), tally)
 }

@@ -1,8 +1,12 @@
 // One vector: what it gives, beside what was expected.
+ghost use Rattle.std.specs.Prelude.{◌≡◌, length, min};
+
 use crate::buffers::{are_bytes_left, are_cells_left, are_same_words, operations, reading};
 use crate::lent::{Causes, State, changed, operated, state_after};
 use crate::scripts::{Line, bytes_lent, line_at};
 use crate::text::{after, byte_at, find, is_part, number_at, put};
+use std::io;
+use std::io::{Stdout, Write};
 
 // How many vectors there were, and how many of them were wrong.
 #[derive(Clone, Copy)]
@@ -97,9 +101,9 @@ fn state_line(s: State) -> Line {
         &mut out,
     );
     let is_left = are_same_words(&cells, &cells_before)
-        && check::same(&issues, &issues_before)
-        && check::same(&tables, &tables_before)
-        && check::same(&marks, &marks_before)
+        && issues == issues_before
+        && tables == tables_before
+        && marks == marks_before
         && are_same_words(&held, &held_before)
         && are_cells_left(&words, 0)
         && are_bytes_left(&text, 0)
@@ -207,8 +211,15 @@ fn line_of(text: &[u8], kind: u8, f: Fields, script: &[u8], words: usize, room: 
 
 // ---- the line that is printed
 
-fn say(text: &[u8]) {
-    io::write_all(1, text);
+fn say(mut output: Stdout, text: &[u8]) -> io::Result<()> {
+    output.write_all(text)
+}
+
+// How many of the first n bytes there are. Constant time.
+fn within(n: usize, bytes: &[u8]) -> usize
+    ensures { result ≡ min n (length bytes.now) }
+{
+    if n < bytes.len() { n } else { bytes.len() }
 }
 
 // Copies a part of a text, as far as there is room. One step for each byte.
@@ -222,17 +233,17 @@ fn copy(text: &[u8], from: usize, to: usize, part: &mut [u8]) -> usize {
     n
 }
 
-fn say_part(text: &[u8], from: usize, to: usize) {
+fn say_part(output: Stdout, text: &[u8], from: usize, to: usize) -> io::Result<()> {
     let mut part = [0u8; 256];
     let n = copy(text, from, to, &mut part);
-    let k = io::count((n % 65536) as isize, &part);
-    say(&part[..k]);
+    let k = within(n, &part);
+    say(output, &part[..k])
 }
 
-fn say_line(line: Line) {
+fn say_line(output: Stdout, line: Line) -> io::Result<()> {
     let bytes = line.bytes;
-    say_part(&bytes, 0, line.length);
-    say(b"\n");
+    say_part(output, &bytes, 0, line.length)?;
+    say(output, b"\n")
 }
 
 // Whether the line is the part of the text. Its bytes.
@@ -242,8 +253,8 @@ fn is_line(text: &[u8], from: usize, to: usize, line: Line) -> bool {
 }
 
 fn counted(t: Tally, is_right: bool) -> Tally {
-    let vectors = std::num::wrapping_add_u64(t.vectors, 1);
-    let wrong = std::num::wrapping_add_u64(t.wrong, (!is_right) as u64);
+    let vectors = t.vectors.wrapping_add(1);
+    let wrong = t.wrong.wrapping_add((!is_right) as u64);
     Tally { vectors, wrong }
 }
 
@@ -254,6 +265,7 @@ fn end_of_expected(text: &[u8], f: Fields) -> usize {
 
 // A vector: prints what was expected and what was got.
 pub(crate) fn vector(
+    output: Stdout,
     text: &[u8],
     kind: u8,
     f: Fields,
@@ -262,22 +274,21 @@ pub(crate) fn vector(
     words: usize,
     room: usize,
     t: Tally,
-) -> Tally {
-    let n = io::count((length % 131072) as isize, script);
+) -> io::Result<Tally> {
+    let n = within(length, script);
     let got = line_of(text, kind, f, &script[..n], words, room);
     let end = end_of_expected(text, f);
-    say_part(text, f.name, find(text, f.name, f.end, b'|'));
-    say(b": expected ");
-    say_part(text, f.expected, end);
-    say(b", got ");
-    say_line(got);
-    counted(t, is_line(text, f.expected, end, got))
+    say_part(output, text, f.name, find(text, f.name, f.end, b'|'))?;
+    say(output, b": expected ")?;
+    say_part(output, text, f.expected, end)?;
+    say(output, b", got ")?;
+    say_line(output, got)?;
+    Ok(counted(t, is_line(text, f.expected, end, got)))
 }
 
 // The last line.
-pub(crate) fn say_tally(t: Tally) {
-    io::print_decimal(1, t.vectors);
-    say(b" vectors, ");
-    io::print_decimal(1, t.wrong);
-    say(b" wrong\n");
+pub(crate) fn say_tally(mut output: Stdout, t: Tally) -> io::Result<()> {
+    let vectors = t.vectors;
+    let wrong = t.wrong;
+    writeln!(output, "{vectors} vectors, {wrong} wrong")
 }

@@ -36,8 +36,7 @@ fn tell_next(next: Next, fetch: &mut [u32; 5]) -> u8
 
 // What must be fetched next for a desk that is ready, of which `fetches` has the `count` fetches that were made: told as `tell_next` does; too few words are cause 7, and
 // words of no fetch, or out of order, cause 5. Nothing else changes. The cost of `missing_lawful`, and one look at each fetch.
-#[unsafe(no_mangle)]
-pub extern "C" fn wurzsige_parts_missing_trusted(
+pub fn wurzsige_parts_missing_trusted(
     cells: &[u32],
     issues: &[u8],
     tables: &[u8],
@@ -65,8 +64,7 @@ pub extern "C" fn wurzsige_parts_missing_trusted(
 }
 
 // The same for whatever is lent: causes 7 and 12 of the memory first. The cost of `memory_cause`, besides.
-#[unsafe(no_mangle)]
-pub extern "C" fn wurzsige_parts_missing(
+pub fn wurzsige_parts_missing(
     cells: &[u32],
     issues: &[u8],
     tables: &[u8],
@@ -96,8 +94,7 @@ pub extern "C" fn wurzsige_parts_missing(
 
 // Stores the verdicts on the columns of a design, one word for each of the 64 that there can be: 0, or cause 7 or 12 of the design's words, which leaves `out` as it
 // was. The cost of `verdicts`, and a look at each word of the design.
-#[unsafe(no_mangle)]
-pub extern "C" fn wurzsige_parts_verdicts(design: &[u32], out: &mut [u32; 64]) -> u8
+pub fn wurzsige_parts_verdicts(design: &[u32], out: &mut [u32; 64]) -> u8
     ensures { VerdictsTold design.now result out.old out.new }
 {
     if design.len() < DESIGN_WORDS {

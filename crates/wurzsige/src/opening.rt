@@ -61,8 +61,7 @@ fn open_memory(
 
 // Opens the design at the start of a script and tells of it: the number of the word, 19 with the counts of an accepted design and the place behind END, or 7
 // with the cause of a refusal and its place, which leaves all memory as it was. What stood in the memory before is free. The cost of `read_catalogued`.
-#[unsafe(no_mangle)]
-pub extern "C" fn wurzsige_parts_open(
+pub fn wurzsige_parts_open(
     script: &[u8],
     cells: &mut [u32],
     issues: &mut [u8],

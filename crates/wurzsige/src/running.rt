@@ -10,8 +10,7 @@ use words::lawful_design_from;
 
 // The steps from place `at` on, until the script ends or cause 1, 2 or 4 stops it; no answer is told, the answer words are the last query's, and the text is
 // the last reason's. The arrays behind `text` are working memory. The cost of the operations, and one copy of the design's words.
-#[unsafe(no_mangle)]
-pub extern "C" fn wurzsige_parts_run_trusted(
+pub fn wurzsige_parts_run_trusted(
     script: &[u8],
     at: usize,
     cells: &mut [u32],

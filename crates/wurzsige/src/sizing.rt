@@ -10,8 +10,7 @@ use writing::design_length;
 
 // Stores the three numbers: 0, or cause 7 or 12, which leaves them as they were; nothing else changes. The cost of `memory_cause`, of counting a query's lists
 // without writing them, or of composing a reason, and of a look at each row.
-#[unsafe(no_mangle)]
-pub extern "C" fn wurzsige_parts_sizes(
+pub fn wurzsige_parts_sizes(
     script: &[u8],
     at: usize,
     cells: &[u32],

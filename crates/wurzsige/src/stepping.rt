@@ -13,8 +13,7 @@ use words::lawful_design_from;
 // The step at place `at` of a script on memory that is ready: the number of the answer's word, with what is told beside it; the arrays behind `text` are
 // working memory, whatever stands in them before, and nothing is said of them after. A reason's sentence stands in `text`, from its first byte on. The cost of
 // the command's operation, and a copy of the design's words.
-#[unsafe(no_mangle)]
-pub extern "C" fn wurzsige_parts_step_trusted(
+pub fn wurzsige_parts_step_trusted(
     script: &[u8],
     at: usize,
     cells: &mut [u32],
@@ -56,8 +55,7 @@ pub extern "C" fn wurzsige_parts_step_trusted(
 
 // The same on whatever is lent: causes 7 and 12 first. A refusal leaves everything as it was; with any other answer the arrays get the catalog of the rows, so
 // that the memory is ready afterwards. The cost of `memory_cause`, and of the step.
-#[unsafe(no_mangle)]
-pub extern "C" fn wurzsige_parts_step(
+pub fn wurzsige_parts_step(
     script: &[u8],
     at: usize,
     cells: &mut [u32],

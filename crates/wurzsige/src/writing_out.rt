@@ -8,8 +8,7 @@ use writing::{design_length, write_design};
 
 // Writes the design with its rows from the first byte of `out` on, and how many bytes it has: 0, or cause 7 or 12 of the memory, or cause 7 for `out`, which
 // write nothing. The cost of `memory_cause`, then one step for each table, constraint and filling and eight for each row.
-#[unsafe(no_mangle)]
-pub extern "C" fn wurzsige_parts_write(
+pub fn wurzsige_parts_write(
     cells: &[u32],
     issues: &[u8],
     tables: &[u8],

@@ -5,7 +5,7 @@
 //! with one line on standard error, unless a signal ends it before, and what was
 //! written is the front of the report. A read that fails gives no report and one
 //! line on standard error. Reads and writes in pieces change nothing. The exit
-//! status is free in these cases, since a program in Rattle can't set it.
+//! status is free in these cases.
 
 mod situations;
 
