@@ -8,45 +8,25 @@ use mir.Val.{has_key}
 use types.Run.{OneOf, miss}
 use denote.Enum.Declared.{tag_of}
 use Rattle.finite.proofs.Bools.{clash}
+use Rattle.state.specs.declared.cell.Cell.{Cell}
+use Rattle.state.specs.declared.design.Column.{Column}
 use Rattle.state.specs.declared.operation.Operation.{Operation}
 use Rattle.state.specs.declared.operation.Operation.TheVariants as O
 use Rattle.state.specs.contracts.operation.Operation.{the_type}
 use Rattle.operate.specs.Inspecting.{inspects}
 
--- the numbers of these cases, and of the others
-abbrev pub inspecting : List ℕ
-inspecting = 4 ∷ 6 ∷ 8 ∷ 9 ∷ []
-
-abbrev pub others : List ℕ
-others = 0 ∷ 1 ∷ 2 ∷ 3 ∷ 5 ∷ 7 ∷ 10 ∷ 11 ∷ []
-
-tag-inspects : (o : Operation) → inspects o ≡ has_key inspecting (tag_of the_type o)
-tag-inspects (O.Refer v) = refl
-tag-inspects (O.Drop v) = refl
-tag-inspects (O.Probe k v) = refl
-tag-inspects (O.Query q) = refl
-tag-inspects O.Evenness = refl
-tag-inspects (O.Total t) = refl
-tag-inspects O.SmallestKnot = refl
-tag-inspects (O.Name d) = refl
-tag-inspects (O.Opener k v) = refl
-tag-inspects (O.Reason r) = refl
-tag-inspects (O.ReferRange r) = refl
-tag-inspects (O.DropRange r) = refl
-
-pub is-inspecting : (n : ℕ) (o : Operation) → has_key inspecting n ≡ true → OneOf (n ∷ []) (tag_of the_type o) → inspects o ≡ true
-is-inspecting n o h e = tag-inspects o ∙ ap (has_key inspecting) e ∙ h
-
-pub not-inspecting : (o : Operation) → OneOf others (tag_of the_type o) → inspects o ≡ true → ⊥
-not-inspecting (O.Refer v) e h = clash h refl
-not-inspecting (O.Drop v) e h = clash h refl
-not-inspecting (O.Probe k v) e h = clash h refl
-not-inspecting (O.Query q) e h = clash h refl
-not-inspecting O.Evenness e h = miss others 4 tt e
-not-inspecting (O.Total t) e h = clash h refl
-not-inspecting O.SmallestKnot e h = miss others 6 tt e
-not-inspecting (O.Name d) e h = clash h refl
-not-inspecting (O.Opener k v) e h = miss others 8 tt e
-not-inspecting (O.Reason r) e h = miss others 9 tt e
-not-inspecting (O.ReferRange r) e h = clash h refl
-not-inspecting (O.DropRange r) e h = clash h refl
+-- an operation that inspects is one of four cases
+pub not-inspecting : (o : Operation) → (o ≡ O.Evenness → ⊥) → (o ≡ O.SmallestKnot → ⊥) → ((k : Column) (v : Cell) → o ≡ O.Opener k v → ⊥) →
+    ((r : ℕ) → o ≡ O.Reason r → ⊥) → inspects o ≡ true → ⊥
+not-inspecting (O.Refer v) e s p r h = clash h refl
+not-inspecting (O.Drop v) e s p r h = clash h refl
+not-inspecting (O.Probe k v) e s p r h = clash h refl
+not-inspecting (O.Query q) e s p r h = clash h refl
+not-inspecting O.Evenness e s p r h = e refl
+not-inspecting (O.Total t) e s p r h = clash h refl
+not-inspecting O.SmallestKnot e s p r h = s refl
+not-inspecting (O.Name d) e s p r h = clash h refl
+not-inspecting (O.Opener k v) e s p r h = p k v refl
+not-inspecting (O.Reason x) e s p r h = r x refl
+not-inspecting (O.ReferRange x) e s p r h = clash h refl
+not-inspecting (O.DropRange x) e s p r h = clash h refl

@@ -1,0 +1,19 @@
+-- `change::lending::remove_row` meets its contract: causes 7 and 12, then the change of a sound state. Assumes nothing.
+use mathlib.Core.Path.{sym, ◌∙◌}
+use borrow.Author.Rules.{rules}
+use Rattle.state.specs.Changes.{remove}
+use Rattle.guard.proofs.CauseWords.{cause-clear, own-sound}
+use Rattle.change.proofs.LendingLaws.{refused-words, changed-words}
+use Rattle.change.proofs.lending.remove_row.Goals as goal
+
+pub returns-then-why-ne0 : goal.returns-then-why-ne0
+returns-then-why-ne0 c = let s = c in refused-words _ s.args.held.now (remove s.args.r) _ c.cause-why.ensures.0 c.if-why-ne0.true
+
+pub first_words-own-requires : goal.first_words-own-requires
+first_words-own-requires c = (cause-clear _ _ (sym c.cause-why.ensures.0 ∙ c.if-why-ne0.false)).long
+
+pub remove_lawful-requires : goal.remove_lawful-requires
+remove_lawful-requires c = (own-sound _ _ _ _ _ _ c.first_words-own.ensures _ c.cause-why.ensures.0 c.if-why-ne0.false, c.cause-why.ensures.1 c.if-why-ne0.false)
+
+pub returns : goal.returns
+returns c = let s = c in changed-words _ _ _ _ s.args.held.now _ c.first_words-own.ensures _ c.cause-why.ensures.0 c.if-why-ne0.false (remove s.args.r) _ _ _ _ c.remove_lawful.ensures.changed

@@ -1,0 +1,91 @@
+-- `operate::performing::perform_lawful` meets its contract: what the operation's own function gives. Assumes nothing.
+use mathlib.Core.Path.{refl}
+use borrow.Author.Rules.{rules}
+use Rattle.model.specs.Effects.{reply}
+use Rattle.state.proofs.HeldWords.{words-sized}
+use Rattle.operate.proofs.ReadyLaws.{ready}
+use Rattle.operate.specs.Inspecting.{inspects}
+use Rattle.std.proofs.Common.{ap}
+use Rattle.operate.proofs.Performed.{refer-performs, drop-performs, name-performs, range-performs, drop-range-performs, query-performs, ask-performs, in-case}
+use Rattle.operate.proofs.performing.perform_lawful.Goals as goal
+
+pub refer_lawful-requires : goal.refer_lawful-requires
+refer_lawful-requires c = let b = c in record { whole = b.requires.2; by_index = (_, _, (ready _ _ _ _ _ _ _ b.requires.0 b.requires.1)) }
+
+pub drop_lawful-requires : goal.drop_lawful-requires
+drop_lawful-requires c = let b = c in record { whole = b.requires.2; by_index = (_, _, (ready _ _ _ _ _ _ _ b.requires.0 b.requires.1)) }
+
+pub probe_lawful-requires : goal.probe_lawful-requires
+probe_lawful-requires c = let b = c in (_, _, b.requires.0, b.requires.1.index)
+
+pub query_lawful-requires : goal.query_lawful-requires
+query_lawful-requires c = let b = c in (b.requires.0, b.requires.1, b.requires.2)
+
+pub inspect_lawful-requires : goal.inspect_lawful-requires
+inspect_lawful-requires c = (c.requires.0, c.requires.1)
+
+pub query_lawful-requires-in-Total : goal.query_lawful-requires-in-Total
+query_lawful-requires-in-Total c = let b = c in (b.requires.0, b.requires.1, b.requires.2)
+
+pub inspect_lawful-requires-in-SmallestKnot : goal.inspect_lawful-requires-in-SmallestKnot
+inspect_lawful-requires-in-SmallestKnot c = (c.requires.0, c.requires.1)
+
+pub name_lawful-requires : goal.name_lawful-requires
+name_lawful-requires c = let b = c in b.requires.2
+
+pub inspect_lawful-requires-in-Opener : goal.inspect_lawful-requires-in-Opener
+inspect_lawful-requires-in-Opener c = (c.requires.0, c.requires.1)
+
+pub inspect_lawful-requires-in-Reason : goal.inspect_lawful-requires-in-Reason
+inspect_lawful-requires-in-Reason c = (c.requires.0, c.requires.1)
+
+pub refer_range_lawful-requires : goal.refer_range_lawful-requires
+refer_range_lawful-requires c = let b = c in record { whole = b.requires.2; by_index = (_, _, (ready _ _ _ _ _ _ _ b.requires.0 b.requires.1)) }
+
+pub drop_range_lawful-requires : goal.drop_range_lawful-requires
+drop_range_lawful-requires c = let b = c in record { whole = b.requires.2; by_index = (_, _, (ready _ _ _ _ _ _ _ b.requires.0 b.requires.1)) }
+
+pub returns-in-Refer : goal.returns-in-Refer
+returns-in-Refer c = let b = c in
+    (in-case _ _ _ _ _ _ _ _ _ _ _ c.in-Refer.is (refer-performs _ b.requires.0 _ _ _ _ _ (c.refer_lawful.ensures.1 _ _ (ready _ _ _ _ _ _ _ b.requires.0 b.requires.1))), c.refer_lawful.ensures.0)
+
+pub returns-in-Drop : goal.returns-in-Drop
+returns-in-Drop c = let b = c in
+    (in-case _ _ _ _ _ _ _ _ _ _ _ c.in-Drop.is (drop-performs _ b.requires.0 _ _ _ _ _ (c.drop_lawful.ensures.1 _ _ (ready _ _ _ _ _ _ _ b.requires.0 b.requires.1))), c.drop_lawful.ensures.0)
+
+pub returns-in-Probe : goal.returns-in-Probe
+unfolding reply
+returns-in-Probe c = let b = c in
+    (in-case _ _ _ _ _ _ _ _ _ _ _ c.in-Probe.is (ask-performs _ b.requires.0 _ _ (words-sized b.args.held.now) _ refl _ (c.probe_lawful.ensures _ _ b.requires.0 b.requires.1.index)), b.requires.2)
+
+pub returns-in-Query : goal.returns-in-Query
+returns-in-Query c = let b = c in
+    (in-case _ _ _ _ _ _ _ _ _ _ _ c.in-Query.is (query-performs _ b.requires.0 _ _ _ _ _ _ _ c.query_lawful.ensures.0), c.query_lawful.ensures.1)
+
+pub returns-in-Evenness : goal.returns-in-Evenness
+returns-in-Evenness c = (c.inspect_lawful.ensures _ (ap inspects c.in-Evenness.is), c.requires.2)
+
+pub returns-in-Total : goal.returns-in-Total
+returns-in-Total c = let b = c in
+    (in-case _ _ _ _ _ _ _ _ _ _ _ c.in-Total.is (query-performs _ b.requires.0 _ _ _ _ _ _ _ c.query_lawful-in-Total.ensures.0), c.query_lawful-in-Total.ensures.1)
+
+pub returns-in-SmallestKnot : goal.returns-in-SmallestKnot
+returns-in-SmallestKnot c = (c.inspect_lawful-in-SmallestKnot.ensures _ (ap inspects c.in-SmallestKnot.is), c.requires.2)
+
+pub returns-in-Name : goal.returns-in-Name
+returns-in-Name c = let b = c in
+    (in-case _ _ _ _ _ _ _ _ _ _ _ c.in-Name.is (name-performs _ b.requires.0 _ _ _ _ _ (c.name_lawful.ensures.0 _ _ _ _ b.requires.0)), c.name_lawful.ensures.1)
+
+pub returns-in-Opener : goal.returns-in-Opener
+returns-in-Opener c = (c.inspect_lawful-in-Opener.ensures _ (ap inspects c.in-Opener.is), c.requires.2)
+
+pub returns-in-Reason : goal.returns-in-Reason
+returns-in-Reason c = (c.inspect_lawful-in-Reason.ensures _ (ap inspects c.in-Reason.is), c.requires.2)
+
+pub returns-in-ReferRange : goal.returns-in-ReferRange
+returns-in-ReferRange c = let b = c in
+    (in-case _ _ _ _ _ _ _ _ _ _ _ c.in-ReferRange.is (range-performs _ b.requires.0 _ _ _ _ _ (c.refer_range_lawful.ensures.1 _ _ (ready _ _ _ _ _ _ _ b.requires.0 b.requires.1))), c.refer_range_lawful.ensures.0)
+
+pub returns-in-DropRange : goal.returns-in-DropRange
+returns-in-DropRange c = let b = c in
+    (in-case _ _ _ _ _ _ _ _ _ _ _ c.in-DropRange.is (drop-range-performs _ b.requires.0 _ _ _ _ _ (c.drop_range_lawful.ensures.1 _ _ (ready _ _ _ _ _ _ _ b.requires.0 b.requires.1))), c.drop_range_lawful.ensures.0)

@@ -1,0 +1,6 @@
+-- `slice::fetch::span_fetch` meets its contract. Assumes nothing.
+use borrow.Author.Rules.{rules}
+use Rattle.slice.proofs.fetch.span_fetch.Goals as goal
+
+pub returns : goal.returns
+returns c = let s = c in λ i. record { kind = 1; table = c.wide.ensures i; column = c.wide-2.ensures i; number = s.args.low; end = s.args.high }

@@ -1,0 +1,6 @@
+-- `slice::fetch::value_fetch` meets its contract. Assumes nothing.
+use borrow.Author.Rules.{rules}
+use Rattle.slice.proofs.fetch.value_fetch.Goals as goal
+
+pub returns : goal.returns
+returns c = let s = c in λ i. record { kind = 0; table = c.wide.ensures i; column = c.wide-2.ensures i; number = s.args.v.number; end = c.wide-3.ensures i }

@@ -1,0 +1,17 @@
+-- What the loops of `slice::ranges::first_open` keep.
+use Prim.Native.Nat.{◌+◌, ◌-◌}
+use mathlib.Core.Path.{◌≡◌, refl, sym, ◌∙◌}
+use Rattle.model.specs.Database.{Database}
+use Rattle.model.specs.Missing as Model
+use Rattle.state.specs.Meaning.{column_of, scheme_of}
+use Rattle.catalog.specs.Catalog.{Indexed}
+use Rattle.slice.specs.Fetches.{fetches_in}
+use Rattle.slice.proofs.LackLaws.{walk-hit, walk-on, walk_end}
+use native.Mathlib.Omega.{arith}
+use Rattle.slice.proofs.ranges.first_open.Given as goal
+
+abbrev pub invariant-loop-x : goal.invariant-loop-x
+invariant-loop-x l = (D : Database) → Indexed D l.catalog l.keys → Model.first_open (scheme_of l.d) D (fetches_in l.words l.n) (column_of l.k) l.high l.low ≡ Model.first_open (scheme_of l.d) D (fetches_in l.words l.n) (column_of l.k) l.high l.x
+
+abbrev pub decreases-loop-x : goal.decreases-loop-x
+decreases-loop-x l = l.end + 1 - l.x

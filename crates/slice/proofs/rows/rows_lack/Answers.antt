@@ -1,0 +1,31 @@
+-- `slice::rows::rows_lack` meets its contract. Assumes nothing.
+use mathlib.Core.Path.{◌≡◌}
+use lib.ListN.{take}
+use Rattle.model.specs.Missing as Model
+use Rattle.model.specs.Runs.{marked}
+use Rattle.state.specs.Cells.{cells_in}
+use Rattle.state.specs.Meaning.{database_of, scheme_of}
+use Rattle.catalog.specs.Catalog.{Demands}
+use Rattle.model.proofs.MissingLoops.{lack-start}
+use Rattle.slice.specs.Fetches.{fetches_in}
+use Rattle.slice.proofs.LackLaws.{leaves, goes_on, ends}
+use Rattle.slice.proofs.NearLaws.{ends-made}
+use Prim.Native.Nat.{◌≤◌, ◌-◌}
+use borrow.Author.Rules.{rules}
+use native.Mathlib.Omega.{arith}
+use Rattle.slice.proofs.rows.rows_lack.Goals as goal
+
+pub loop-r-init : goal.loop-r-init
+loop-r-init c = (omega arith, λ x. lack-start _)
+
+pub row_lack-l-requires : goal.row_lack-l-requires
+row_lack-l-requires c = (c.requires.0, c.requires.1, c.requires.2, c.requires.3, c.loop-r-test.true, ends-made _ _ c.sole_targets-soles.ensures)
+
+pub returns-then-l : goal.returns-then-l
+returns-then-l c = λ x. leaves _ _ _ _ c.loop-r-test.true (c.loop-r.invariant.1 x) (c.row_lack-l.ensures x) c.if-l.true
+
+pub loop-r-preserved : goal.loop-r-preserved
+loop-r-preserved c = (omega arith, λ x. goes_on _ _ _ (c.loop-r.invariant.1 x) (c.row_lack-l.ensures x) c.if-l.false)
+
+pub returns : goal.returns
+returns c = λ x. ends _ _ _ c.loop-r.invariant.0 c.loop-r-test.false (c.loop-r.invariant.1 x) c.nothing.ensures.0
