@@ -1,0 +1,12 @@
+-- `script::steps::answering` meets its contract. Assumes nothing.
+use borrow.Author.Rules.{rules}
+use mathlib.Core.Bool.{true}
+use Rattle.script.proofs.steps.answering.Goals as goal
+
+pub returns : goal.returns
+returns c = λ i. record {
+  answer = c.args.answer;
+  place = c.place_of-place.ensures i;
+  next = c.args.after;
+  more = true;
+}
