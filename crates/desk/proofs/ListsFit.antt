@@ -21,7 +21,7 @@ use Rattle.model.specs.Sentence.{reason_text}
 use Rattle.model.specs.Runs.{Question, probe, evenness, smallest_knot, opener, reason, as_lists, as_total, refer, drop, name, refer_range, drop_range, output_fits, within_limit, marked, Cache}
 use Rattle.model.specs.Query as Q
 use Rattle.model.specs.Query.{joins_of, operands_fit, words_of, full_lists, full_total, most_joins}
-use Rattle.model.specs.Answers.{Answer, held, no_candidate, ground, sent, lists, even, uneven, knot, named, opened, opened_by, no_opener, absent, even_answer, knot_answer, opener_answer, reason_answer, shown, has_lists, unless, or_answer, is_answered, full_answer, query_answer}
+use Rattle.model.specs.Answers.{Answer, held, no_candidate, ground, sent, even, uneven, knot, named, opened, opened_by, no_opener, absent, even_answer, knot_answer, opener_answer, reason_answer, shown, has_lists, unless, or_answer, is_answered, full_answer, query_answer}
 use Rattle.model.specs.Effects.{effect, reply, answer}
 use Rattle.model.proofs.ListLaws.{fitting-words}
 use Rattle.state.specs.declared.design.Table as State-table

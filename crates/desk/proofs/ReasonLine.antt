@@ -10,7 +10,7 @@ use Rattle.finite.specs.Decimal.{space, decimal}
 use Rattle.model.specs.Runs.{Operation, ask, reason, marked}
 use Rattle.model.specs.Sentence.{reason_text}
 use Rattle.model.specs.Answers.{Answer, explained, shown, has_lists, has_text}
-use Rattle.model.specs.Effects.{effect, answer, text_of}
+use Rattle.model.specs.Effects.{effect}
 use Rattle.model.proofs.ReasonCases.{Replies, reason-given}
 use Rattle.state.specs.declared.operation.Operation.TheVariants.{Reason}
 use Rattle.state.specs.Lent.{State, scheme, database, cache, sound, answer_at, text_at}

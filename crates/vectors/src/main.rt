@@ -20,11 +20,11 @@ ghost use Rattle.std.specs.Prelude.{◌≤◌, length, IfOk};
 mod buffers;
 mod held;
 mod lent;
+mod list;
 mod scripts;
-mod text;
 mod vectors;
 
-use crate::text::{after, byte_at, find, number_at, put_hex};
+use crate::list::{after, byte_at, find, number_at, put_hex};
 use crate::vectors::{Tally, fields_of, say_tally, vector};
 use std::io;
 use std::io::{Read, Stdin, Stdout};

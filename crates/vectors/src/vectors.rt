@@ -3,8 +3,8 @@ ghost use Rattle.std.specs.Prelude.{◌≡◌, length, min};
 
 use crate::buffers::{are_bytes_left, are_cells_left, are_same_words, operations, reading};
 use crate::lent::{Causes, State, changed, operated, state_after};
+use crate::list::{after, byte_at, find, is_part, number_at, put};
 use crate::scripts::{Line, bytes_lent, line_at};
-use crate::text::{after, byte_at, find, is_part, number_at, put};
 use std::io;
 use std::io::{Stdout, Write};
 
