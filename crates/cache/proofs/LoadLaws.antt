@@ -5,7 +5,7 @@ use mathlib.Core.Path.{◌≡◌, refl, sym, ap, ap₂, ◌∙◌}
 use mathlib.Core.Bool.{Bool, true, false, not, cond, ◌&&◌}
 use mathlib.Core.List.{List, ◌++◌}
 use lib.ListN.{length, drop}
-use Rattle.finite.specs.Finite.{all, count, tab}
+use Rattle.finite.specs.Finite.{count, tab}
 use Rattle.finite.proofs.Bools.{clash}
 use Rattle.finite.proofs.Counting.{count_same}
 use Rattle.finite.proofs.Tables.{tab-same}

@@ -10,7 +10,7 @@ use Rattle.finite.proofs.Bools.{cond-true, cond-false}
 use Rattle.model.specs.Holding.{desks}
 use Rattle.model.specs.Runs.{name, Cache, at_desk}
 use Rattle.model.specs.Answers.{named, refused, unless}
-use Rattle.model.specs.Effects.{effect, cache_after, answer}
+use Rattle.model.specs.Effects.{effect}
 use Rattle.state.specs.declared.held.Held.{Held}
 use Rattle.state.specs.Meaning.{held_of}
 use Rattle.state.specs.Lent.{State, lent, cache, sound, Answered}

@@ -7,7 +7,6 @@ use mathlib.Core.List.{List, ◌++◌}
 use borrow.Author.Tests.{le-leb, lt-leb, ltb-true}
 use lib.Dec.{leb, ltb}
 use lib.ListN.{length, set, take, drop as past}
-use Rattle.finite.specs.Finite.{count}
 use Rattle.finite.specs.Sameness.{listed, remove}
 use Rattle.finite.proofs.Bools.{clash, refute}
 use Rattle.finite.proofs.Search.{any-refuted}

@@ -15,7 +15,6 @@ use Rattle.finite.specs.Finite.{count}
 use Rattle.finite.proofs.Bools.{same_number, order}
 use Rattle.finite.proofs.Counting.{count-le, count_none}
 use Rattle.model.specs.Database.{Database}
-use Rattle.model.specs.Scheme as Model
 use Rattle.catalog.specs.Catalog.{next_of, Lists, Directory}
 use Rattle.catalog.specs.Listing.{in_table, Added}
 use Rattle.catalog.specs.Columns.{column_no, size_of, used, Columns}

@@ -5,15 +5,15 @@ use mathlib.Core.Path.{◌≡◌, refl, sym, ap, subst, ◌∙◌}
 use mathlib.Core.Bool.{true, false, not, and-eq-true_iff}
 use mathlib.Core.List.{List}
 use borrow.Author.Tests.{ltb-true, not-true, eq-eqb}
-use lib.Dec.{eqb, ltb}
+use lib.Dec.{ltb}
 use lib.ListN.{get_or}
 use lib.Seq.{get_or-set_same}
 use Rattle.model.specs.Scheme.{Scheme}
 use Rattle.state.specs.declared.rows.Row.{Row}
 use Rattle.state.specs.Design.{InRange, Backed}
-use Rattle.state.specs.Meaning.{free_table, database_of, scheme_of}
+use Rattle.state.specs.Meaning.{free_table, scheme_of}
 use Rattle.state.specs.Lent.{State, scheme, sound}
-use Rattle.state.specs.Changes.{put, remove, Rows, rows, tables_of, row_cell, free_row, stored, is_free, change_cause}
+use Rattle.state.specs.Changes.{put, remove, Rows, rows, tables_of, free_row, stored, is_free, change_cause}
 use Rattle.lawful.proofs.RowsLaws.{lawful-stand, stand-table}
 use Rattle.lawful.proofs.SoundChange.{put-free, remove-live}
 use Rattle.lawful.proofs.SoundState.{parts}

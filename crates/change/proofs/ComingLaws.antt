@@ -8,7 +8,7 @@ use mathlib.Core.Bool.{Bool, true, false, not, cond, ◌&&◌, ◌||◌, and-eq-
 use mathlib.Core.List.{List, ◌++◌}
 use borrow.Author.Tests.{not-true}
 use lib.Dec.{eqb, ltb}
-use lib.ListN.{length, get_or, take, drop}
+use lib.ListN.{length, take, drop}
 use lib.Seq.{get_or-take}
 use Rattle.finite.specs.Finite.{count, tab, first_from}
 use Rattle.finite.proofs.Bools.{both, clash, same_number, and_left, or_cases, or_left, ne-not}
@@ -26,7 +26,7 @@ use Rattle.model.specs.Rounds.{level, reached, load, added_rows}
 use Rattle.model.specs.Runs.{marked, cached_for}
 use Rattle.model.specs.Answers.{changed}
 use Rattle.model.proofs.CellLaws.{blank-is, equal-full, equal-same, equal-self}
-use Rattle.model.proofs.Closed.{Demand, constraints-closed}
+use Rattle.model.proofs.Closed.{constraints-closed}
 use Rattle.model.proofs.DatabaseLaws.{has-Has, Has-has, has-full}
 use Rattle.model.proofs.ProbeLaws.{Demanded, demanded-Demanded, Demanded-demanded}
 use Rattle.finite.proofs.Bools.{or-second}

@@ -7,7 +7,6 @@ use mathlib.Core.Bool.{Bool, true, false, not, cond, ◌&&◌, ◌||◌, and-eq-
 use mathlib.Core.List.{List}
 use borrow.Author.Tests.{eqb-true, lt-ltb}
 use lib.Dec.{eqb, ltb}
-use Rattle.finite.specs.Finite.{any}
 use Rattle.finite.proofs.Bools.{dec, clash, refute, and_left, and_right, cond-true, cond-false}
 use Rattle.finite.proofs.Search.{any_same, any-refuted}
 use Rattle.finite.proofs.Tables.{tab-at}

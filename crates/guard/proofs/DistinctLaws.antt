@@ -18,7 +18,7 @@ use Rattle.model.proofs.DatabaseLaws.{has-Has, Has-has}
 use Rattle.state.specs.Cells.{Cells}
 use Rattle.state.specs.declared.design.Design.{Design}
 use Rattle.state.specs.Design.{table_at}
-use Rattle.state.specs.Meaning.{bit, scheme_of, database_of}
+use Rattle.state.specs.Meaning.{scheme_of, database_of}
 use Rattle.state.specs.Lawful.{lawful_rows}
 use Rattle.lawful.specs.Parts.{rows_stand}
 use Rattle.lawful.proofs.RowsLaws.{cell-past, unique-says, stand-lawful}

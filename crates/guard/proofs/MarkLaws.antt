@@ -7,7 +7,6 @@ use lib.Dec.{eqb}
 use lib.ListN.{get_or}
 use Rattle.finite.specs.Finite.{all}
 use Rattle.finite.proofs.Search.{all_same}
-use Rattle.model.specs.Answers as Answers
 use Rattle.model.specs.Rounds.{reached}
 use Rattle.model.specs.Runs.{reload_levels}
 use Rattle.state.specs.Cells.{Cells}

@@ -14,7 +14,6 @@ use Rattle.finite.proofs.Search.{all-at, all_true, none_before, not-before}
 use Rattle.finite.proofs.Tables.{length-tab, tab-at, tab-past, tab-of}
 use Rattle.model.specs.Cell.{blank, is_blank}
 use Rattle.model.specs.Scheme.{Scheme, candidate}
-use Rattle.model.specs.Ranges as Model
 use Rattle.model.specs.Holding.{desks, places, same_pair, Owned, same_owned, own_among, ranges_of, Holding}
 use Rattle.model.proofs.CellLaws.{is-blank, blank-is, numbered-full, equal-same, equal-self}
 use Rattle.model.proofs.RangesFit.{ListsFit}

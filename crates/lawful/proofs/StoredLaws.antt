@@ -10,7 +10,7 @@ use denote.Struct.Declared.{row}
 use mir.Val.{Val}
 use borrow.Author.Tests.{lt-ltb, ltb-true, ltb-false, ne_eqb}
 use lib.Dec.{eqb, ltb}
-use lib.ListN.{length, get_or, length-set, length-map}
+use lib.ListN.{length, get_or, length-set}
 use lib.Seq.{sets, length-sets, get_or-set_same, get_or-set_other}
 use Rattle.finite.specs.Finite.{all}
 use Rattle.finite.proofs.Bools.{dec, order, same_number, both, clash}

@@ -9,7 +9,7 @@ use lib.ListN.{length, get_or, set, length-set}
 use lib.Seq.{get_or-set_same, get_or-set_other}
 use Rattle.finite.specs.Finite.{first_from}
 use Rattle.finite.proofs.Bools.{same_number}
-use Rattle.finite.proofs.First.{First, first-from, first-after}
+use Rattle.finite.proofs.First.{First, first-from}
 use Rattle.model.specs.Cell.{Cell}
 use Rattle.model.specs.Scheme as Model
 use Rattle.model.specs.Database.{Database, has}

@@ -1,12 +1,11 @@
 -- The whole catalog after a row came or went: the links, the directory and the first demanded rows, one after the other. Assumes nothing.
-use Prim.Native.Nat.{ℕ, ◌+◌, ◌<◌}
+use Prim.Native.Nat.{ℕ, ◌+◌}
 use native.Mathlib.Omega.{arith}
-use mathlib.Core.Path.{◌≡◌, ◌∙◌}
+use mathlib.Core.Path.{◌≡◌}
 use mathlib.Core.List.{List}
-use lib.ListN.{length, get_or}
 use Rattle.model.specs.Scheme.{Scheme}
 use Rattle.model.specs.Database.{Database}
-use Rattle.catalog.specs.Catalog.{firsts, first_in, heads_in, starts_in, Directory, Links, Indexed, Catalogued}
+use Rattle.catalog.specs.Catalog.{first_in, heads_in, starts_in, Directory, Links, Indexed, Catalogued}
 use Rattle.mend.specs.Changing.{Relinked}
 use Rattle.mend.specs.Values.{Redirected}
 use Rattle.mend.specs.Resetting.{Redemanded}

@@ -13,10 +13,10 @@ use Rattle.finite.proofs.Skipping.{onward}
 use Rattle.model.specs.Cell.{Cell}
 use Rattle.model.specs.Scheme as Model
 use Rattle.model.specs.Database.{Database, has}
-use Rattle.catalog.specs.Catalog.{next_of, key_of, value_of, Lists, Directory}
+use Rattle.catalog.specs.Catalog.{next_of, value_of, Lists, Directory}
 use Rattle.catalog.specs.Columns.{column_no}
 use Rattle.mend.specs.Changing.{Without}
-use Rattle.mend.specs.Values.{Changing, Seats, Raised, Stands, Met, Opens, Comes, Stays, Closes, Goes}
+use Rattle.mend.specs.Values.{Changing, Seats, Stands, Met, Opens, Comes, Stays, Closes, Goes}
 use Rattle.catalog.proofs.ListedLaws.{has-own, has_key}
 use Rattle.mend.proofs.ListsLaws.{lists-moved, lists-comes-apart, lists-goes-apart, lists-met, lists-opens, lists-stays, lists-closes}
 use Rattle.catalog.proofs.Rows.{has-elsewhere}

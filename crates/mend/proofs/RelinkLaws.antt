@@ -14,7 +14,7 @@ use Rattle.model.specs.Database.{Database, has}
 use Rattle.state.specs.Cells.{Cells}
 use Rattle.state.specs.declared.cell.Cell as State
 use Rattle.state.specs.Meaning.{cell_of, cell_at, database_of}
-use Rattle.catalog.specs.Catalog.{next_of, nexts, part, next_in, heads_in, starts_in, Directory, Links}
+use Rattle.catalog.specs.Catalog.{next_of, part, next_in, heads_in, starts_in, Directory, Links}
 use Rattle.mend.specs.Changing.{Without, Chained, Linking, Place, Relinked}
 use Rattle.catalog.proofs.Entries.{link_at}
 use Rattle.catalog.proofs.PartLaws.{part_at, part-long}

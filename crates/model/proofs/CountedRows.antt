@@ -16,7 +16,7 @@ use Rattle.model.specs.Cache.{RowSet}
 use Rattle.model.specs.Probe.{cached_rows, rows_behind}
 use Rattle.model.specs.Runs.{as_lists, query, marked, Cache}
 use Rattle.model.specs.Effects.{cache_after}
-use Rattle.model.specs.Query.{Query, joins_of, operands_fit, extend, fitting, full_lists}
+use Rattle.model.specs.Query.{Query, operands_fit, extend, fitting, full_lists}
 use Rattle.model.specs.Answers.{sent, lists, query_ground, full_answer, query_answer}
 use Rattle.model.specs.Demand.{Demand2}
 use Rattle.model.proofs.QueryLaws.{query-lists}

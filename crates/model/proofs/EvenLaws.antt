@@ -9,7 +9,6 @@ use mathlib.Core.Bool.{true, false, not, and-eq-true_iff}
 use borrow.Author.Tests.{eqb-true, eq-eqb, ne_eqb, eqb-false, ltb-true, lt-ltb, le-ltb, not-true}
 use lib.Dec.{eqb, ltb}
 use lib.ListN.{get_or}
-use Rattle.finite.specs.Finite.{first}
 use Rattle.finite.proofs.Bools.{both, clash, dec}
 use Rattle.finite.proofs.First.{First, first-from}
 use Rattle.model.specs.Scheme.{Scheme}

@@ -17,9 +17,9 @@ use Rattle.finite.specs.Sameness.{listed, remove}
 use Rattle.model.specs.Ranges.{some_range}
 use Rattle.model.specs.Holding.{same_pair, same_owned, own_among, all_ranges, one, pairs_hold, pairs_want}
 use Rattle.model.specs.Runs.{probe, as_lists, Operation, refer, drop, ask, query, taken, marks, marked, Cache, empty_cache, refer_levels, reload_levels, filling_for, output_fits, within_limit, answerable, refers}
-use Rattle.model.specs.Query.{Join, Query, joins_fit, unused, operands_fit, join_value, extend, fitting, words_of, full_lists}
+use Rattle.model.specs.Query.{Join, joins_fit, unused, operands_fit, join_value, extend, fitting, words_of, full_lists}
 use Rattle.model.specs.Answers.{Answer, loaded, dropped, ground, sent, lists, query_ground, is_answered, full_answer, query_answer, shown, has_lists, written_with, query_words}
-use Rattle.model.specs.Effects.{effect, reply, answer, written, cache_after, cache_from}
+use Rattle.model.specs.Effects.{effect, reply, answer, written, cache_from}
 
 -- ---- what a case is, and when it passes
 

@@ -21,7 +21,7 @@ use Rattle.finite.proofs.Sameness.{end-length, end-before, end-last, unlisted-at
 use Rattle.model.specs.Cell.{Cell, is_blank}
 use Rattle.model.specs.Scheme.{Column, Scheme, candidate, same_column}
 use Rattle.model.specs.Database.{Database, has}
-use Rattle.model.specs.Holding.{desks, places, Pair, same_pair, Owned, same_owned, own_among, Holding, with_desk, own_of, mine, held_count, held_pair, some_holds, holds, has_room, with_pair, without_pair, holds_range, without_range, all_ranges, range_count, held_range, some_holds_range, one, pairs_hold, pairs_want, ranges_hold, held_in}
+use Rattle.model.specs.Holding.{desks, places, Pair, same_pair, Owned, same_owned, own_among, Holding, own_of, mine, held_count, held_pair, some_holds, holds, has_room, with_pair, without_pair, holds_range, without_range, all_ranges, range_count, held_range, some_holds_range, one, pairs_hold, pairs_want, ranges_hold, held_in}
 pub use Rattle.model.specs.Holding.{no_owned}
 use Rattle.model.specs.Cache.{RowSet}
 use Rattle.model.specs.Ranges.{Range, same_range, range_holds}

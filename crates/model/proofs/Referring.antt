@@ -3,20 +3,19 @@ use Prim.Native.Nat.{ℕ, ◌≤◌, ◌<◌}
 use native.Mathlib.Omega.{arith}
 use mathlib.Core.Path.{◌≡◌, refl, sym, ap, ◌∙◌}
 use mathlib.Core.Logic.{◌≢◌, ◌⊎◌, inl, inr, ⊎_elim}
-use mathlib.Core.Bool.{Bool, true, false, not, cond, ◌&&◌, ◌||◌, and-false, and-eq-true_iff, or-true}
+use mathlib.Core.Bool.{Bool, true, false, not, ◌||◌, and-false, and-eq-true_iff, or-true}
 use mathlib.Core.List.{List, [], ◌∷◌}
-use borrow.Author.Tests.{eqb-true, eq-eqb, ne_eqb, ltb-true, ltb-false, not-true}
-use lib.Dec.{eqb, leb, ltb}
-use lib.ListN.{length}
+use borrow.Author.Tests.{eqb-true, eq-eqb, ne_eqb, ltb-true, ltb-false}
+use lib.Dec.{eqb, ltb}
 use Rattle.finite.specs.Sameness.{listed}
 use Rattle.finite.proofs.Bools.{dec, both, clash, cond-true, cond-false, or_cases, or_left}
 use Rattle.finite.proofs.First.{First, first-from}
-use Rattle.model.specs.Cell.{Cell, numberless, equal}
+use Rattle.model.specs.Cell.{numberless}
 use Rattle.model.specs.Scheme.{Column, same_column, candidate, Scheme}
 use Rattle.model.specs.Database.{Database}
 use Rattle.model.specs.Cache.{Held}
 use Rattle.model.specs.Probe as Probe
-use Rattle.model.specs.Holding.{Pair, same_pair, Owned, same_owned, Holding, mine, holds, has_room, with_pair, one, pairs_hold, held_in}
+use Rattle.model.specs.Holding.{same_pair, Owned, same_owned, Holding, mine, holds, has_room, with_pair, one, pairs_hold, held_in}
 use Rattle.model.specs.Query.{Query}
 use Rattle.model.specs.Runs.{Output, as_lists, as_total, query, taken, filling_for, pair_for, output_fits, within_limit, answerable, refers, marked, Cache, referred}
 use Rattle.model.specs.Effects.{effect, cache_after}

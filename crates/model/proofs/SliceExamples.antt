@@ -17,10 +17,10 @@ use Rattle.model.specs.Rounds.{leads, demands, start, reached_from, next, levels
 use Rattle.model.specs.Even.{linked, reached_by, reaches}
 use Rattle.model.specs.Ranges.{some_range}
 use Rattle.model.specs.Holding.{same_pair, same_owned, own_among, all_ranges, one, pairs_hold, pairs_want}
-use Rattle.model.specs.Runs.{probe, as_lists, Operation, refer, query, taken, marks, marked, Cache, empty_cache, refer_levels, reload_levels, filling_for, output_fits, within_limit, answerable, refers}
+use Rattle.model.specs.Runs.{as_lists, Operation, refer, query, taken, marks, marked, Cache, empty_cache, refer_levels, reload_levels, filling_for, output_fits, within_limit, answerable, refers}
 use Rattle.model.specs.Query.{Join, joins_fit, unused, operands_fit, join_value, extend, fitting, words_of, full_lists}
 use Rattle.model.specs.Answers.{lists, query_ground, is_answered, full_answer, query_answer, shown, has_lists, written_with, query_words}
-use Rattle.model.specs.Effects.{effect, reply, answer, written, cache_after, cache_from}
+use Rattle.model.specs.Effects.{effect, reply, answer, written, cache_from}
 use Rattle.model.specs.Missing.{Fetch, value, span, covers, spans, some_fetch, known, Lack, nothing, lacks, is_open, lack_of, lack_in, lack_below, pair_lack, first_open, gap_end, gap_lack, range_lack, link_lack, row_lack, missing}
 use Rattle.model.specs.Verdict.{fetches, can_cache, links_to, once_linked, once_unique, once_here, never, elsewhere_or, is_one_column}
 

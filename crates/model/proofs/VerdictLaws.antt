@@ -15,7 +15,7 @@ use Rattle.finite.proofs.Tables.{length-tab, tab-at}
 use Rattle.finite.proofs.Search.{any-true, any_found, all-at, all_true}
 use Rattle.model.specs.Cell.{Cell, Fits, numbered, blank, is_blank, equal}
 use Rattle.model.specs.Scheme.{Column, same_column, Scheme, ColumnOf, candidate}
-use Rattle.model.specs.Database.{Database, Has, has, Lawful}
+use Rattle.model.specs.Database.{Database, Has, Lawful}
 use Rattle.model.specs.Cache.{RowSet, Complete, Holds, Meets, Smallest}
 use Rattle.model.specs.Even.{Reaches, here, along, reaches}
 use Rattle.model.specs.Probe as Probe

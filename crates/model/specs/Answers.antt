@@ -10,7 +10,7 @@ use Rattle.model.specs.Knot.{is_uneven_scheme, knot_of}
 use Rattle.model.specs.Holding.{held_in}
 use Rattle.model.specs.Opener.{is_open, lowest_filling, lowest_number, lowest_issue}
 use Rattle.model.specs.Sentence.{reason_text}
-use Rattle.model.specs.Runs.{probe, Output, as_lists, as_total, taken, pair_for, output_fits, within_limit, marked, Cache}
+use Rattle.model.specs.Runs.{Output, as_lists, as_total, taken, pair_for, output_fits, within_limit, marked, Cache}
 use Rattle.model.specs.Query.{Query, words_of, full_lists, full_total}
 
 -- `loaded` rows rounds, `held`, `no candidate`, `dropped` rows, `ground` g rows, `sent`, `answer` lists, `refused` number; `even`, `uneven` i j (02, Req 01);

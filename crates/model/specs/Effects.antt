@@ -1,6 +1,6 @@
 -- What each operation does, by cases: its answer, the cache that it leaves, and the answer words and the text that it writes (01, "What the operations do"; 02).
 -- Assumes nothing.
-use Rattle.std.specs.Prelude.{ℕ, Bool, not, cond, ◌&&◌, List, [], ◌∷◌, ltb}
+use Rattle.std.specs.Prelude.{ℕ, not, cond, ◌&&◌, List, [], ◌∷◌, ltb}
 use Rattle.finite.specs.Finite.{count}
 use Rattle.model.specs.Cell.{numberless}
 use Rattle.model.specs.Scheme.{candidate, Scheme, is_column}

@@ -18,7 +18,7 @@ use Rattle.model.specs.Probe as Probe
 use Rattle.model.specs.Opener.{is_open}
 use Rattle.model.specs.Turned.{turned, gives, leads_on}
 use Rattle.model.specs.Answers.{Answer, opened, refused, unless, opener_answer}
-use Rattle.model.specs.Effects.{effect, reply, answer}
+use Rattle.model.specs.Effects.{effect, reply}
 use Rattle.model.proofs.OpenerLaws.{open-answer}
 use Rattle.state.specs.declared.cell.Cell as State
 use Rattle.state.specs.contracts.cell.Cell.{the_type}

@@ -2,20 +2,20 @@
 use Prim.Native.Nat.{ℕ, ◌^◌, ◌≤◌, ◌<◌}
 use native.Mathlib.Decide.{dec_lt}
 use native.Mathlib.Omega.{arith}
-use mathlib.Core.Path.{◌≡◌, refl, sym, ap, subst, ◌∙◌}
-use mathlib.Core.Bool.{Bool, true, false, not, ◌&&◌, and-eq-true_iff}
+use mathlib.Core.Path.{◌≡◌, refl, sym, ap, ◌∙◌}
+use mathlib.Core.Bool.{Bool, true, false, not, and-eq-true_iff}
 use mathlib.Core.List.{List, []}
 use borrow.Author.Tests.{ltb-true}
 use lib.Dec.{ltb}
 use lib.ListN.{length, get_or, get_or-eq_default}
 use lib.Seq.{sets}
-use Rattle.finite.proofs.Bools.{both, and-go, and-stop}
+use Rattle.finite.proofs.Bools.{and-go, and-stop}
 use Rattle.model.specs.Cell.{Cell}
 use Rattle.model.specs.Scheme.{Column, Scheme}
 use Rattle.model.specs.Database.{Database}
 use Rattle.model.specs.Cache.{RowSet}
-use Rattle.model.specs.Query.{Join, joins_of, operands_fit, fitting, words_of, total_over, position_fits, position_tables}
-use Rattle.model.specs.Runs.{as_lists, as_total, output_fits}
+use Rattle.model.specs.Query.{Join, operands_fit, fitting, words_of, total_over, position_fits, position_tables}
+use Rattle.model.specs.Runs.{output_fits}
 use Rattle.model.specs.Answers.{Answer, total, unless, has_lists, shown, written_with}
 use Rattle.model.proofs.TotalLaws.{position-within}
 use Rattle.state.specs.declared.design.Design.{Design}
@@ -25,7 +25,7 @@ use Rattle.state.specs.Meaning.{scheme_of, query_of}
 use Rattle.state.specs.Lawful.{lawful_design}
 use Rattle.state.proofs.Arrays.{Sized}
 use Rattle.lawful.proofs.DesignLaws.{design-says}
-use Rattle.query.specs.Lists.{listed_answer, totalled_answer, Listed}
+use Rattle.query.specs.Lists.{totalled_answer, Listed}
 use Rattle.query.proofs.PlanLaws.{number-of-joins}
 use Rattle.operate.specs.declared.output.Output.{Output}
 use Rattle.operate.specs.declared.output.Output.TheVariants.{Lists, Total}

@@ -4,7 +4,6 @@ use Prim.Native.Nat.{ℕ}
 use mathlib.Core.Path.{◌≡◌, refl, sym, ap, subst, ◌∙◌}
 use mathlib.Core.Bool.{true}
 use mathlib.Core.List.{List, []}
-use lib.ListN.{length}
 use lib.Seq.{sets}
 use Rattle.finite.proofs.Bools.{clash}
 use Rattle.model.specs.Ranges.{Range}
@@ -12,7 +11,7 @@ use Rattle.model.specs.Holding.{Pair}
 use Rattle.model.specs.Query.{Query}
 use Rattle.model.specs.Runs.{Question, evenness, smallest_knot, Output, Operation, refer, drop, ask, query, name, refer_range, drop_range}
 use Rattle.model.specs.Answers.{Answer, refused, even_answer, knot_answer}
-use Rattle.model.specs.Effects.{effect, cache_after, reply, answer, written, text_of}
+use Rattle.model.specs.Effects.{effect, reply, written, text_of}
 use Rattle.state.specs.declared.operation.Operation as State-operation
 use Rattle.state.specs.Meaning.{operation_of}
 use Rattle.state.specs.Cells.{Cells}

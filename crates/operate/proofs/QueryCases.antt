@@ -15,7 +15,7 @@ use Rattle.model.specs.Database.{Database}
 use Rattle.model.specs.Query.{Query, words_of, full_lists, full_total, total_over}
 use Rattle.model.specs.Runs.{Output, as_lists, as_total, Operation, query, taken, pair_for, output_fits, within_limit, answerable, Cache, referred}
 use Rattle.model.specs.Answers.{Answer, refused, sent, unless, query_ground, is_answered, full_answer, limit_cause, query_answer, query_words, has_lists, is_refusal, shown, written_with}
-use Rattle.model.specs.Effects.{effect, cache_after, answer, written}
+use Rattle.model.specs.Effects.{effect, cache_after}
 use Rattle.model.proofs.Referring.{refused-keeps, ground-keeps, untaken-keeps, refers-pair}
 use Rattle.state.specs.declared.held.Held.{Held}
 use Rattle.state.specs.Meaning.{held_of}

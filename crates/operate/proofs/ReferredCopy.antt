@@ -1,12 +1,12 @@
 -- A REFER on a copy of the marks: the copy makes a sound state, and is left with the marks of the cache that has the pair. The lists of that cache
 -- are those of the full tables. Assumes nothing.
-use Prim.Native.Nat.{ℕ, ◌≤◌}
+use Prim.Native.Nat.{ℕ}
 use native.Mathlib.Omega.{arith}
-use mathlib.Core.Path.{◌≡◌, refl, sym, ap, subst, ◌∙◌}
-use mathlib.Core.Bool.{Bool, true, false, cond, and-eq-true_iff}
+use mathlib.Core.Path.{◌≡◌, ap, subst, ◌∙◌}
+use mathlib.Core.Bool.{true, false, and-eq-true_iff}
 use mathlib.Core.List.{List, [], ◌++◌, append-nil}
 use borrow.Author.Tests.{eq-eqb, eqb-true}
-use lib.ListN.{length, get_or, take, drop as past, drop_of_length-le}
+use lib.ListN.{length, take, drop_of_length-le}
 use lib.Seq.{get_or-take, length-take-le, take-take}
 use Rattle.finite.proofs.Bools.{cond-true}
 use Rattle.finite.proofs.Search.{all-at, all_true}
@@ -16,14 +16,14 @@ use Rattle.model.specs.Holding.{Pair}
 use Rattle.model.specs.Query.{Query, joins_of, operands_fit, fitting, full_lists}
 use Rattle.model.specs.Runs.{refer, taken, pair_for, marked, Cache, referred}
 use Rattle.model.specs.Effects.{effect, cache_after}
-use Rattle.model.specs.Answers.{Answer, query_ground}
+use Rattle.model.specs.Answers.{Answer}
 use Rattle.model.proofs.QueryLaws.{query-lists}
 use Rattle.model.proofs.Referring.{pair-ground}
 use Rattle.model.proofs.RunLaws.{Sound, step-sound}
 use Rattle.state.specs.declared.held.Held.{Held}
 use Rattle.state.specs.Meaning.{holding_of, held_of}
 use Rattle.state.specs.Lawful.{lawful_marks}
-use Rattle.state.specs.Lent.{State, lent, scheme, database, cache, long_enough, lawful, sound, state_after, held_after_at, marks_after_at, Answered}
+use Rattle.state.specs.Lent.{State, lent, scheme, database, cache, long_enough, lawful, sound, Answered}
 use Rattle.lawful.proofs.RowsLaws.{Stored}
 use Rattle.lawful.proofs.LawfulState.{lawful-says}
 use Rattle.lawful.proofs.SoundState.{parts, from_parts, after, held-after, marks-after}

@@ -10,7 +10,7 @@ use lib.Seq.{sets, get_or-take}
 use Rattle.finite.specs.Writing.{Wrote}
 use Rattle.finite.proofs.Bools.{and_left}
 use Rattle.model.specs.Answers.{Answer, refused, absent, explained}
-use Rattle.model.specs.Effects.{effect, answer, text_of}
+use Rattle.model.specs.Effects.{effect}
 use Rattle.model.specs.Rounds.{reached}
 use Rattle.model.specs.Runs.{Question, ask, reason, cached_for, marked, reload_levels}
 use Rattle.model.specs.Sentence.{reason_text}

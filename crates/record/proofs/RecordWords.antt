@@ -2,10 +2,9 @@
 use Prim.Native.Nat.{ℕ, ◌+◌, ◌≤◌, ◌<◌}
 use native.Mathlib.Omega.{arith}
 use mathlib.Core.Path.{◌≡◌, refl, sym, ap, subst, ◌∙◌}
-use mathlib.Core.Bool.{true}
 use mathlib.Core.List.{List}
-use lib.ListN.{length, get_or, set, replicate, length-replicate}
-use Rattle.finite.specs.Finite.{all, tab}
+use lib.ListN.{get_or}
+use Rattle.finite.specs.Finite.{tab}
 use Rattle.finite.proofs.Tables.{Upto, upto-start, upto-set, upto-end, tab-of}
 use Rattle.model.specs.Runs.{Operation}
 use Rattle.model.specs.Answers.{Answer}
@@ -17,9 +16,9 @@ use Rattle.state.specs.declared.held.OwnedValue.{OwnedValue}
 use Rattle.state.specs.declared.held.DeskRanges.{DeskRanges}
 use Rattle.state.specs.declared.held.Held.{Held}
 use Rattle.state.specs.Held.{no_value, no_ranges, held_at, ranges_at}
-use Rattle.state.specs.HeldWords.{words_held, is_byte, narrow_two, narrow_value, narrow_ranges, narrow_held, Whole, Holds, with_named, with_count, with_value_at, with_ranges_at}
+use Rattle.state.specs.HeldWords.{words_held, Whole, Holds, with_named, with_count, with_value_at, with_ranges_at}
 use Rattle.state.proofs.Arrays.{HeldSized}
-use Rattle.state.proofs.HeldWords.{words-sized, whole_words, holds-whole}
+use Rattle.state.proofs.HeldWords.{words-sized, holds-whole}
 
 -- ---- the first i values are stored
 

@@ -3,14 +3,12 @@
 use Prim.Native.Nat.{ℕ, ◌*◌}
 use native.Mathlib.Omega.{arith}
 use mathlib.Core.Path.{◌≡◌, refl, sym, ap, subst, ◌∙◌}
-use mathlib.Core.Logic.{⊎_elim}
 use mathlib.Core.Bool.{Bool, true, false, not, cond}
 use mathlib.Core.List.{List, map}
-use borrow.Author.Tests.{eqb-true, eq-eqb}
+use borrow.Author.Tests.{eqb-true}
 use lib.Dec.{eqb, leb}
 use lib.ListN.{length, take, drop as past}
 use lib.Seq.{take_at}
-use Rattle.finite.proofs.Bools.{clash, dec}
 use Rattle.model.specs.Effects.{effect, answer, written}
 use Rattle.model.specs.Database.{Database}
 use Rattle.model.specs.Mirror.{Mirrors, EnoughFor, from_slice}

@@ -1,8 +1,8 @@
 -- Words of what is held: how long they are, how they are stored part by part, that they read back as what they stand for, that the words of a record are narrow, and that
 -- narrow words are the words of what they stand for. Assumes nothing.
-use Prim.Native.Nat.{ℕ, ◌+◌, ◌*◌, ◌%◌, ◌≤◌, ◌<◌}
+use Prim.Native.Nat.{ℕ, ◌+◌, ◌*◌, ◌≤◌, ◌<◌}
 use native.Mathlib.Omega.{arith}
-use mathlib.Core.Path.{◌≡◌, refl, sym, ap, ap₂, subst, ◌∙◌}
+use mathlib.Core.Path.{◌≡◌, refl, sym, ap, subst, ◌∙◌}
 use mathlib.Core.Bool.{true, and-eq-true_iff}
 use mathlib.Core.List.{List, [], ◌∷◌, ◌++◌, append-nil}
 use lib.ListN.{length, get_or, set, drop, length-append}
@@ -19,7 +19,7 @@ use Rattle.state.specs.declared.held.DeskRanges.{DeskRanges}
 use Rattle.state.specs.declared.held.Held.{Held}
 use Rattle.state.specs.Held.{no_value, no_range, no_ranges, held_at, range_at, ranges_at}
 use Rattle.state.specs.HeldWords.{value_words, range_words, values_words, list_words, ranges_words, desks_words, held_words, word_at, byte_of, value_from, range_from}
-use Rattle.state.specs.HeldWords.{list_from, ranges_from, values_from, desks_from, words_held, is_byte, narrow_two, narrow_value, narrow_ranges, narrow_held, Whole, Holds}
+use Rattle.state.specs.HeldWords.{ranges_from, values_from, desks_from, words_held, is_byte, narrow_two, narrow_value, narrow_ranges, narrow_held, Whole, Holds}
 use Rattle.state.proofs.Arrays.{HeldSized}
 use Rattle.state.proofs.WordPlaces.{length-places, stored-behind, word_back, byte-back, byte-stands, two-stand, places-back, places-narrow}
 use Rattle.state.proofs.WordPlaces.{one_kept, two-kept, three-kept, four-kept, byte-kept, two_bytes, places-kept}

@@ -3,21 +3,17 @@
 use Prim.Native.Nat.{ℕ, ◌+◌, ◌*◌, ◌%◌, ◌≤◌, ◌<◌}
 use native.Mathlib.Omega.{arith}
 use mathlib.Core.Path.{◌≡◌, refl, sym, ap, ap₂, ◌∙◌}
-use mathlib.Core.Bool.{Bool, true, ◌&&◌, and-eq-true_iff}
+use mathlib.Core.Bool.{true, ◌&&◌, and-eq-true_iff}
 use mathlib.Core.List.{List}
 use lib.Dec.{ltb}
-use lib.ListN.{length, get_or, replicate, length-replicate}
+use lib.ListN.{length, replicate, length-replicate}
 use lib.Seq.{sets}
 use Rattle.finite.specs.Finite.{all, tab}
 use Rattle.finite.proofs.Search.{all_same}
 use Rattle.finite.proofs.Stores.{sets-at}
 use Rattle.finite.proofs.Tables.{length-tab, tab-at, tab-same}
-use Rattle.state.specs.declared.held.OwnedValue.{OwnedValue}
-use Rattle.state.specs.declared.held.Range.{Range}
-use Rattle.state.specs.declared.held.DeskRanges.{DeskRanges}
-use Rattle.state.specs.declared.held.Held.{Held}
 use Rattle.state.specs.Held.{none_held}
-use Rattle.state.specs.HeldWords.{held_length, word_at, byte_of, value_from, range_from, ranges_from, held_words, words_held}
+use Rattle.state.specs.HeldWords.{word_at, byte_of, value_from, range_from, ranges_from, held_words, words_held}
 use Rattle.state.specs.HeldWords.{is_byte, narrow_two, narrow_value, narrow_ranges, narrow_held, long_held, record_in, first_words, Whole}
 use Rattle.state.proofs.HeldWords.{same-held-words, whole_words, whole_long}
 

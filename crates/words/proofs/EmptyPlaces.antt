@@ -1,5 +1,5 @@
 -- Places of a design that are read as far as they are in use: the others are empty, as they are in a lawful design. Assumes nothing.
-use Prim.Native.Nat.{ℕ, ◌+◌, ◌*◌, ◌≤◌, ◌<◌}
+use Prim.Native.Nat.{ℕ, ◌+◌, ◌*◌, ◌≤◌}
 use native.Mathlib.Omega.{arith}
 use mathlib.Core.Path.{◌≡◌, sym, ◌∙◌}
 use mathlib.Core.Bool.{true, false}
@@ -7,7 +7,7 @@ use mathlib.Core.List.{List}
 use mathlib.Core.Logic.{⊎_elim}
 use borrow.Author.Tests.{ltb-false}
 use lib.Dec.{ltb}
-use lib.ListN.{get_or, replicate, get_or-replicate}
+use lib.ListN.{replicate, get_or-replicate}
 use Rattle.finite.proofs.Bools.{dec, cond-true, cond-false}
 use Rattle.finite.proofs.Tables.{tab-at, tab-of}
 use Rattle.state.specs.Design.{no_table, no_constraint, no_filling}

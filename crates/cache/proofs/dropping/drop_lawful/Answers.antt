@@ -1,7 +1,6 @@
 -- `cache::dropping::drop_lawful` meets its contract: the causes in their order, then the rows as they are where none has the value, or the reload. Assumes nothing.
 use native.Mathlib.Omega.{arith}
 use mathlib.Core.Path.{sym, ◌∙◌}
-use borrow.Author.Rules.{rules}
 use Rattle.state.specs.HeldWords.{words_held}
 use Rattle.state.proofs.Arrays.{sized}
 use Rattle.state.proofs.HeldWords.{words-sized, holds-whole}

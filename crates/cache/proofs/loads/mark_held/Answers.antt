@@ -1,6 +1,5 @@
 -- `cache::loads::mark_held` meets its contract: the load inside the marked rows, and the marks that it leaves. Assumes nothing.
 use native.Mathlib.Omega.{arith}
-use borrow.Author.Rules.{rules}
 use Rattle.state.specs.HeldWords.{words_held}
 use Rattle.cache.proofs.LoadLaws.{dropped-is, held_same, rows-fewer, settled_is, within_count}
 use Rattle.cache.proofs.loads.mark_held.Goals as goal

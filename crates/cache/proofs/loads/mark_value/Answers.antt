@@ -2,7 +2,6 @@
 use Prim.Native.Nat.{ℕ}
 use mathlib.Core.Path.{ap}
 use mathlib.Core.List.{List}
-use borrow.Author.Rules.{rules}
 use lib.ListN.{length-replicate}
 use Rattle.model.specs.Rounds.{reached}
 use Rattle.cache.proofs.LoadLaws.{load-long, loaded-is, settled_is, value-is}

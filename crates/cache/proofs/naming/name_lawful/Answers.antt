@@ -6,7 +6,6 @@ use Rattle.state.specs.HeldWords.{words_held}
 use Rattle.state.specs.Lent.{lent, Answered}
 use Rattle.state.proofs.HeldWords.{words-sized, holds-whole}
 use Rattle.cache.proofs.NameSteps.{name-5, name-desk}
-use borrow.Author.Rules.{rules}
 use Rattle.cache.proofs.naming.name_lawful.Goals as goal
 
 pub returns-then-desk-ge-DESKS : goal.returns-then-desk-ge-DESKS

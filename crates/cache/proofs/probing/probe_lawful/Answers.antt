@@ -1,6 +1,5 @@
 -- `cache::probing::probe_lawful` meets its contract: the causes in their order, then the ground. Assumes nothing.
 use mathlib.Core.Path.{sym, ◌∙◌}
-use borrow.Author.Rules.{rules}
 use Rattle.state.proofs.HeldWords.{words-sized}
 use borrow.Author.Tests.{not-true, not-false}
 use Rattle.state.proofs.Arrays.{sized}

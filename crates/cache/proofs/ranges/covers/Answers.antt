@@ -1,15 +1,8 @@
 -- `cache::ranges::covers` meets its contract: a search for the first of the desk's ranges that passes the test. Assumes nothing.
-use Prim.Native.Nat.{◌≤◌, ◌-◌}
 use native.Mathlib.Omega.{arith}
-use mathlib.Core.Path.{◌≡◌, sym, ◌∙◌}
-use mathlib.Core.Bool.{false}
-use borrow.Author.Rules.{rules}
-use lib.ListN.{get_or}
-use Rattle.finite.specs.Finite.{any}
+use mathlib.Core.Path.{sym, ◌∙◌}
 use Rattle.finite.proofs.Search.{any-start, any-more, any-hit, any-end}
 use Rattle.model.specs.Ranges.{contains}
-use Rattle.state.specs.Held.{no_range}
-use Rattle.state.specs.Meaning.{range_of}
 use Rattle.cache.proofs.RangeRecord.{listed-any}
 use Rattle.cache.proofs.ranges.covers.Goals as goal
 

@@ -1,16 +1,12 @@
 -- What the loops of `cache::ranges::covers` keep.
-use Prim.Native.Nat.{◌≤◌, ◌-◌}
-use native.Mathlib.Omega.{arith}
-use mathlib.Core.Path.{◌≡◌, sym, ◌∙◌}
+use Prim.Native.Nat.{◌≤◌}
+use mathlib.Core.Path.{◌≡◌}
 use mathlib.Core.Bool.{false}
-use borrow.Author.Rules.{rules}
 use lib.ListN.{get_or}
 use Rattle.finite.specs.Finite.{any}
-use Rattle.finite.proofs.Search.{any-start, any-more, any-hit, any-end}
 use Rattle.model.specs.Ranges.{contains}
 use Rattle.state.specs.Held.{no_range}
 use Rattle.state.specs.Meaning.{range_of}
-use Rattle.cache.proofs.RangeRecord.{listed-any}
 use Rattle.cache.proofs.ranges.covers.Given as goal
 
 abbrev pub invariant-loop-i : goal.invariant-loop-i

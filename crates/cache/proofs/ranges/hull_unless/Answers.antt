@@ -1,6 +1,5 @@
 -- `cache::ranges::hull_unless` meets its contract: the range as it was, or the hull of the two. Assumes nothing.
 use mathlib.Core.Path.{sym, ◌∙◌}
-use borrow.Author.Rules.{rules}
 use Rattle.finite.proofs.Bools.{cond-true, cond-false}
 use Rattle.state.specs.Meaning.{range_of}
 use Rattle.cache.proofs.RangeRecord.{hull-is}

@@ -1,7 +1,6 @@
 -- `cache::ranges::is_behind` meets its contract: each early return is one step along the conjunction. Assumes nothing.
 use mathlib.Core.Bool.{not}
 use mathlib.Core.Path.{ap, sym, ◌∙◌}
-use borrow.Author.Rules.{rules}
 use Rattle.finite.proofs.Bools.{and-go, and-stop}
 use Rattle.cache.proofs.ranges.is_behind.Goals as goal
 

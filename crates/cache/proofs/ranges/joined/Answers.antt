@@ -1,13 +1,10 @@
 -- `cache::ranges::joined` meets its contract: what is put so far, and what joining still makes of the rest, are what joining makes of all. Assumes nothing.
-use Prim.Native.Nat.{◌≤◌, ◌-◌}
 use native.Mathlib.Omega.{arith}
 use mathlib.Core.List.{List, [], ◌∷◌}
 use mathlib.Core.Path.{refl, ap, sym, ◌∙◌}
-use borrow.Author.Rules.{rules}
-use lib.ListN.{drop}
 use Rattle.model.specs.Ranges.{Range, joined}
-use Rattle.state.specs.Meaning.{list_of, range_of}
-use Rattle.cache.proofs.RangeRecord.{none-back, none-few, rest-cons, rest-none, Done, done-start, done-same, done_more, done-out, done-join, join-behind, join-end}
+use Rattle.state.specs.Meaning.{range_of}
+use Rattle.cache.proofs.RangeRecord.{none-back, none-few, rest-cons, rest-none, done-start, done-same, done_more, done-out, done-join, join-behind, join-end}
 use Rattle.cache.proofs.ranges.joined.Goals as goal
 
 pub loop-i-init : goal.loop-i-init

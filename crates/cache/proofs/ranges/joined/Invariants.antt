@@ -1,13 +1,9 @@
 -- What the loops of `cache::ranges::joined` keep.
-use Prim.Native.Nat.{◌≤◌, ◌-◌}
-use native.Mathlib.Omega.{arith}
-use mathlib.Core.List.{List, [], ◌∷◌}
-use mathlib.Core.Path.{refl, ap, sym, ◌∙◌}
-use borrow.Author.Rules.{rules}
+use Prim.Native.Nat.{◌≤◌}
 use lib.ListN.{drop}
-use Rattle.model.specs.Ranges.{Range, joined}
+use Rattle.model.specs.Ranges.{joined}
 use Rattle.state.specs.Meaning.{list_of, range_of}
-use Rattle.cache.proofs.RangeRecord.{none-back, none-few, rest-cons, rest-none, Done, done-start, done-same, done_more, done-out, done-join, join-behind, join-end}
+use Rattle.cache.proofs.RangeRecord.{Done}
 use Rattle.cache.proofs.ranges.joined.Given as goal
 
 abbrev pub invariant-loop-i : goal.invariant-loop-i

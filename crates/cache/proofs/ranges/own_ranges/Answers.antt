@@ -2,7 +2,6 @@ use mathlib.Core.Path.{ap, ◌∙◌}
 use native.Mathlib.Omega.{arith}
 use Rattle.state.specs.Held.{ranges_at}
 use Rattle.state.specs.HeldWords.{words_held}
-use borrow.Author.Rules.{rules}
 use Rattle.cache.proofs.ranges.own_ranges.Goals as goal
 
 pub ranges_at-requires : goal.ranges_at-requires

@@ -1,6 +1,5 @@
 -- `cache::ranges::put` meets its contract: a ninth range is counted, any other has a place. Assumes nothing.
 use mathlib.Core.Path.{refl}
-use borrow.Author.Rules.{rules}
 use Rattle.cache.proofs.RangeRecord.{put-kept, put-counted}
 use Rattle.cache.proofs.ranges.put.Goals as goal
 

@@ -1,14 +1,11 @@
 -- `cache::ranges::removed` meets its contract: the ranges before the one that goes are put one by one, and the others behind them. Assumes nothing.
-use Prim.Native.Nat.{◌≤◌, ◌-◌}
 use native.Mathlib.Omega.{arith}
 use mathlib.Core.List.{[]}
 use mathlib.Core.Path.{ap, sym, ◌∙◌}
-use borrow.Author.Rules.{rules}
-use lib.ListN.{drop}
 use Rattle.finite.specs.Sameness.{remove}
 use Rattle.model.specs.Ranges.{same_range}
-use Rattle.state.specs.Meaning.{list_of, range_of}
-use Rattle.cache.proofs.RangeRecord.{none-back, none-few, rest-cons, rest-none, Done, done-start, done-same, done_more, done-out, done_end, remove-here, remove-later, remove-end}
+use Rattle.state.specs.Meaning.{range_of}
+use Rattle.cache.proofs.RangeRecord.{none-back, none-few, rest-cons, rest-none, done-start, done-same, done_more, done-out, done_end, remove-here, remove-later, remove-end}
 use Rattle.cache.proofs.ranges.removed.Goals as goal
 
 pub loop-i-init : goal.loop-i-init

@@ -3,7 +3,6 @@ use mathlib.Core.Path.{ap}
 use native.Mathlib.Omega.{arith}
 use Rattle.state.specs.HeldWords.{words_held, with_ranges_at}
 use Rattle.state.proofs.HeldWords.{holds_same}
-use borrow.Author.Rules.{rules}
 use Rattle.cache.proofs.ranges.set_own.Goals as goal
 
 pub set_ranges-requires : goal.set_ranges-requires

@@ -1,13 +1,6 @@
 -- `cache::ranges::with_rest` meets its contract: the ranges from a place on are put behind the others one by one. Assumes nothing.
-use Prim.Native.Nat.{◌+◌, ◌≤◌, ◌-◌}
 use native.Mathlib.Omega.{arith}
-use mathlib.Core.List.{List, ◌++◌}
-use mathlib.Core.Path.{◌≡◌}
-use borrow.Author.Rules.{rules}
-use lib.ListN.{drop}
-use Rattle.model.specs.Ranges.{Range}
-use Rattle.state.specs.Meaning.{list_back, list_of}
-use Rattle.cache.proofs.RangeRecord.{Done, done-start, done-same, done_more, done_end, rest-cons, rest-none}
+use Rattle.cache.proofs.RangeRecord.{done-start, done-same, done_more, done_end, rest-cons, rest-none}
 use Rattle.cache.proofs.ranges.with_rest.Goals as goal
 
 pub loop-k-init : goal.loop-k-init

@@ -1,13 +1,11 @@
 -- What the loops of `cache::ranges::with_rest` keep.
-use Prim.Native.Nat.{◌+◌, ◌≤◌, ◌-◌}
-use native.Mathlib.Omega.{arith}
+use Prim.Native.Nat.{◌+◌, ◌≤◌}
 use mathlib.Core.List.{List, ◌++◌}
 use mathlib.Core.Path.{◌≡◌}
-use borrow.Author.Rules.{rules}
 use lib.ListN.{drop}
 use Rattle.model.specs.Ranges.{Range}
 use Rattle.state.specs.Meaning.{list_back, list_of}
-use Rattle.cache.proofs.RangeRecord.{Done, done-start, done-same, done_more, done_end, rest-cons, rest-none}
+use Rattle.cache.proofs.RangeRecord.{Done}
 use Rattle.cache.proofs.ranges.with_rest.Given as goal
 
 abbrev pub invariant-loop-k : goal.invariant-loop-k

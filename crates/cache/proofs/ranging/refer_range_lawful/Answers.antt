@@ -1,6 +1,5 @@
 -- `cache::ranging::refer_range_lawful` meets its contract: the causes in their order, then the load. Assumes nothing.
 use mathlib.Core.Path.{sym, ◌∙◌}
-use borrow.Author.Rules.{rules}
 use borrow.Author.Tests.{not-true, not-false}
 use Rattle.state.proofs.Arrays.{sized}
 use Rattle.state.proofs.HeldWords.{words-sized, holds-whole}

@@ -1,21 +1,10 @@
 -- `cache::taking::filling_for` meets its contract: a search among the fillings. Assumes nothing.
-use Prim.Native.Nat.{ℕ, ◌≤◌, ◌-◌}
 use native.Mathlib.Omega.{arith}
-use mathlib.Core.Path.{◌≡◌, refl, sym, ◌∙◌}
-use mathlib.Core.Bool.{Bool}
-use mathlib.Core.List.{List}
-use borrow.Author.Rules.{rules}
-use lib.ListN.{get_or}
-use Rattle.finite.specs.Finite.{first_from}
+use mathlib.Core.Path.{refl, sym, ◌∙◌}
 use Rattle.finite.proofs.First.{first-skip, first-here, first_past}
 use Rattle.model.specs.Runs.{filling_for}
-use Rattle.model.specs.Scheme.{same_column}
-use Rattle.state.specs.declared.design.Column.{Column}
-use Rattle.state.specs.declared.design.Filling.{Filling}
-use Rattle.state.specs.Design.{no_filling}
-use Rattle.state.specs.Meaning.{column_of, scheme_of}
+use Rattle.state.specs.Meaning.{scheme_of}
 use Rattle.cache.proofs.taking.filling_for.Goals as goal
-use Rattle.cache.proofs.taking.filling_for.Invariants.{at}
 
 pub loop-f-init : goal.loop-f-init
 loop-f-init c = (omega arith, refl)

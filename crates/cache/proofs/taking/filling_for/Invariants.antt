@@ -1,19 +1,15 @@
 -- What the loops of `cache::taking::filling_for` keep.
-use Prim.Native.Nat.{ℕ, ◌≤◌, ◌-◌}
-use native.Mathlib.Omega.{arith}
-use mathlib.Core.Path.{◌≡◌, refl, sym, ◌∙◌}
+use Prim.Native.Nat.{ℕ, ◌≤◌}
+use mathlib.Core.Path.{◌≡◌}
 use mathlib.Core.Bool.{Bool}
 use mathlib.Core.List.{List}
-use borrow.Author.Rules.{rules}
 use lib.ListN.{get_or}
 use Rattle.finite.specs.Finite.{first_from}
-use Rattle.finite.proofs.First.{first-skip, first-here, first_past}
-use Rattle.model.specs.Runs.{filling_for}
 use Rattle.model.specs.Scheme.{same_column}
 use Rattle.state.specs.declared.design.Column.{Column}
 use Rattle.state.specs.declared.design.Filling.{Filling}
 use Rattle.state.specs.Design.{no_filling}
-use Rattle.state.specs.Meaning.{column_of, scheme_of}
+use Rattle.state.specs.Meaning.{column_of}
 use Rattle.cache.proofs.taking.filling_for.Given as goal
 
 -- filling f is one of column k

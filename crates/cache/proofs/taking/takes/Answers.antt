@@ -1,7 +1,5 @@
 -- `cache::taking::takes` meets its contract, test by test. Assumes nothing.
-use native.Mathlib.Omega.{arith}
 use mathlib.Core.Path.{sym, ◌∙◌}
-use borrow.Author.Rules.{rules}
 use borrow.Author.Tests.{not-true, not-false}
 use Rattle.cache.proofs.TakenLaws.{taken-nowhere, taken-no-candidate, taken-held, taken-room}
 use Rattle.cache.proofs.taking.takes.Goals as goal

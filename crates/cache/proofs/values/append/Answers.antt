@@ -1,7 +1,6 @@
 use native.Mathlib.Omega.{arith}
 use Rattle.state.proofs.HeldWords.{holds-whole}
 use Rattle.cache.proofs.HeldShifts.{append-words}
-use borrow.Author.Rules.{rules}
 use Rattle.cache.proofs.values.append.Goals as goal
 
 pub set_value-requires : goal.set_value-requires

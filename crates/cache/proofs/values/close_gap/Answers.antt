@@ -1,13 +1,9 @@
 use Prim.Native.Nat.{ℕ, ◌-◌}
 use mathlib.Core.Path.{ap}
-use Rattle.state.specs.HeldWords.{words_held}
 use Rattle.state.proofs.HeldWords.{words-sized, holds-whole}
-use Rattle.cache.proofs.HeldShifts.{Shifting, shifting-start, shifting-more, shifting-end}
-use lib.ListN.{get_or, length}
-use mathlib.Core.Logic.{⊎_elim}
-use mathlib.Core.Path.{◌≡◌, refl, sym, ap, subst, ◌∙◌}
-use Prim.Native.Nat.{ℕ, ◌≤◌, ◌<◌, ◌-◌}
-use borrow.Author.Rules.{rules}
+use Rattle.cache.proofs.HeldShifts.{shifting-start, shifting-more, shifting-end}
+use mathlib.Core.Path.{ap}
+use Prim.Native.Nat.{ℕ, ◌-◌}
 use native.Mathlib.Omega.{arith}
 use Rattle.cache.proofs.values.close_gap.Goals as goal
 

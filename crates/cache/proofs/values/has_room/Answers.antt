@@ -5,7 +5,6 @@ use Rattle.model.specs.Holding.{places}
 use Rattle.state.specs.HeldWords.{words_held}
 use Rattle.state.specs.Lawful.{own_count}
 use Rattle.lawful.proofs.HeldLaws.{own_is}
-use borrow.Author.Rules.{rules}
 use Rattle.cache.proofs.values.has_room.Goals as goal
 
 pub returns : goal.returns

@@ -1,7 +1,5 @@
 -- `cache::values::listed` meets its contract: a pair is held if its place is one of the record's. Assumes nothing.
-use Prim.Native.Nat.{ℕ}
 use mathlib.Core.Path.{ap, ◌∙◌}
-use borrow.Author.Rules.{rules}
 use lib.Dec.{ltb}
 use Rattle.state.specs.HeldWords.{words_held}
 use Rattle.cache.proofs.HeldRecord.{listed-is}

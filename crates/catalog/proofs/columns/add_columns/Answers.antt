@@ -1,10 +1,5 @@
 -- `catalog::columns::add_columns` meets its contract: after n turns the first n columns are listed. Assumes nothing.
-use Prim.Native.Nat.{◌≤◌, ◌-◌}
 use native.Mathlib.Omega.{arith}
-use borrow.Author.Rules.{rules}
-use Rattle.state.specs.Cells.{cells_in}
-use Rattle.state.specs.Meaning.{database_of}
-use Rattle.catalog.specs.Columns.{Columns}
 use Rattle.catalog.proofs.ColumnLaws.{columns-start, columns-room, columns-turn, columns-end}
 use Rattle.catalog.proofs.columns.add_columns.Goals as goal
 

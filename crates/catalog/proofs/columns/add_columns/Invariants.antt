@@ -1,11 +1,8 @@
 -- What the loops of `catalog::columns::add_columns` keep.
-use Prim.Native.Nat.{◌≤◌, ◌-◌}
-use native.Mathlib.Omega.{arith}
-use borrow.Author.Rules.{rules}
+use Prim.Native.Nat.{◌≤◌}
 use Rattle.state.specs.Cells.{cells_in}
 use Rattle.state.specs.Meaning.{database_of}
 use Rattle.catalog.specs.Columns.{Columns}
-use Rattle.catalog.proofs.ColumnLaws.{columns-start, columns-room, columns-turn, columns-end}
 use Rattle.catalog.proofs.columns.add_columns.Given as goal
 
 abbrev pub invariant-loop-n : goal.invariant-loop-n

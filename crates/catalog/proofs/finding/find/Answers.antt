@@ -2,7 +2,6 @@
 use native.Mathlib.Omega.{arith}
 use Rattle.state.specs.Meaning.{cell_of}
 use Rattle.catalog.proofs.Found.{stands-below, find_none, find-hit, find-miss}
-use borrow.Author.Rules.{rules}
 use Rattle.catalog.proofs.finding.find.Goals as goal
 
 pub returns-then-to-gt-CELLS : goal.returns-then-to-gt-CELLS

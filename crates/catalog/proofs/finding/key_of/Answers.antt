@@ -1,6 +1,5 @@
 -- `catalog::finding::key_of` meets its contract. Assumes nothing.
 use native.Mathlib.Omega.{arith}
-use borrow.Author.Rules.{rules}
 use Rattle.catalog.specs.Catalog.{key_of}
 use Rattle.catalog.proofs.finding.key_of.Goals as goal
 

@@ -1,9 +1,5 @@
 -- `catalog::finding::seat` meets its contract: halving, where what lies left of a is above x and what lies from e on is not. Assumes nothing.
-use Prim.Native.Nat.{◌≤◌, ◌-◌}
 use native.Mathlib.Omega.{arith}
-use borrow.Author.Rules.{rules}
-use Rattle.catalog.specs.Catalog.{Falls}
-use Rattle.catalog.specs.Listing.{Searched}
 use Rattle.catalog.proofs.Searching.{searched-start, searched-right, searched-left, searched-end}
 use Rattle.catalog.proofs.finding.seat.Goals as goal
 

@@ -1,10 +1,7 @@
 -- What the loops of `catalog::finding::seat` keep.
 use Prim.Native.Nat.{◌≤◌, ◌-◌}
-use native.Mathlib.Omega.{arith}
-use borrow.Author.Rules.{rules}
 use Rattle.catalog.specs.Catalog.{Falls}
 use Rattle.catalog.specs.Listing.{Searched}
-use Rattle.catalog.proofs.Searching.{searched-start, searched-right, searched-left, searched-end}
 use Rattle.catalog.proofs.finding.seat.Given as goal
 
 abbrev pub invariant-loop-a : goal.invariant-loop-a

@@ -1,7 +1,6 @@
 -- `catalog::finding::stands` meets its contract. Assumes nothing.
 use mathlib.Core.Path.{refl}
 use borrow.Author.Tests.{le-ltb, lt-ltb}
-use borrow.Author.Rules.{rules}
 use Rattle.finite.proofs.Bools.{and-go, and-stop}
 use Rattle.catalog.proofs.finding.stands.Goals as goal
 

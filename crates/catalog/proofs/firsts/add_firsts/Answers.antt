@@ -1,12 +1,6 @@
 -- `catalog::firsts::add_firsts` meets its contract: a loop that stores a table. Assumes nothing.
-use Prim.Native.Nat.{◌*◌, ◌≤◌, ◌-◌}
 use native.Mathlib.Omega.{arith}
-use borrow.Author.Rules.{rules}
-use Rattle.finite.proofs.Stores.{Tabled, tabled_start, tabled-more, tabled-end}
-use Rattle.model.specs.Rounds.{leads}
-use Rattle.state.specs.Cells.{cells_in}
-use Rattle.state.specs.Meaning.{constraint_of, database_of}
-use Rattle.finite.specs.Finite.{first_from}
+use Rattle.finite.proofs.Stores.{tabled_start, tabled-more, tabled-end}
 use Rattle.catalog.proofs.firsts.add_firsts.Goals as goal
 
 pub loop-s-init : goal.loop-s-init

@@ -1,8 +1,6 @@
 -- What the loops of `catalog::firsts::add_firsts` keep.
-use Prim.Native.Nat.{◌*◌, ◌≤◌, ◌-◌}
-use native.Mathlib.Omega.{arith}
-use borrow.Author.Rules.{rules}
-use Rattle.finite.proofs.Stores.{Tabled, tabled_start, tabled-more, tabled-end}
+use Prim.Native.Nat.{◌*◌, ◌≤◌}
+use Rattle.finite.proofs.Stores.{Tabled}
 use Rattle.model.specs.Rounds.{leads}
 use Rattle.state.specs.Cells.{cells_in}
 use Rattle.state.specs.Meaning.{constraint_of, database_of}

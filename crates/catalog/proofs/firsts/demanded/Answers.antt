@@ -1,7 +1,6 @@
 -- `catalog::firsts::demanded` meets its contract, test by test. Assumes nothing.
 use native.Mathlib.Omega.{arith}
 use mathlib.Core.Path.{sym, ◌∙◌}
-use borrow.Author.Rules.{rules}
 use borrow.Author.Tests.{not-true, not-false}
 use Rattle.catalog.proofs.HitLaws.{first-hit}
 use Rattle.catalog.proofs.DemandLaws.{demanded-absent, demanded-elsewhere, demanded-value}

@@ -1,10 +1,6 @@
 -- `catalog::firsts::make_firsts` meets its contract: after i turns the places of the first i constraints are set; then they are stored. Assumes nothing.
 use Rattle.catalog.proofs.MakingLaws.{stored_same}
-use Prim.Native.Nat.{◌*◌, ◌/◌, ◌%◌, ◌≤◌, ◌-◌}
-use Rattle.finite.proofs.Tables.{Upto}
-use Rattle.state.specs.Cells.{cells_in}
-use Rattle.state.specs.Meaning.{database_of, scheme_of}
-use Rattle.catalog.specs.Catalog.{demanded_first}
+use Rattle.state.specs.Meaning.{scheme_of}
 use Rattle.catalog.proofs.DemandLaws.{firsts-start, firsts-turn, firsts-end}
 use mathlib.Core.Path.{sym}
 use native.Mathlib.Omega.{arith}

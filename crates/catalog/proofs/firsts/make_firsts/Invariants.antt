@@ -1,13 +1,9 @@
 -- What the loops of `catalog::firsts::make_firsts` keep.
-use Rattle.catalog.proofs.MakingLaws.{stored_same}
-use Prim.Native.Nat.{◌*◌, ◌/◌, ◌%◌, ◌≤◌, ◌-◌}
+use Prim.Native.Nat.{◌*◌, ◌/◌, ◌%◌, ◌≤◌}
 use Rattle.finite.proofs.Tables.{Upto}
 use Rattle.state.specs.Cells.{cells_in}
 use Rattle.state.specs.Meaning.{database_of, scheme_of}
 use Rattle.catalog.specs.Catalog.{demanded_first}
-use Rattle.catalog.proofs.DemandLaws.{firsts-start, firsts-turn, firsts-end}
-use mathlib.Core.Path.{sym}
-use native.Mathlib.Omega.{arith}
 use Rattle.catalog.proofs.firsts.make_firsts.Given as goal
 
 abbrev pub invariant-loop-i : goal.invariant-loop-i

@@ -1,13 +1,7 @@
 -- `catalog::linking::settle` meets its contract: a loop that stores. Assumes nothing.
-use Prim.Native.Nat.{◌/◌, ◌%◌, ◌≤◌, ◌-◌}
 use native.Mathlib.Omega.{arith}
 use mathlib.Core.Path.{◌∙◌}
-use borrow.Author.Rules.{rules}
-use lib.ListN.{get_or}
-use Rattle.finite.proofs.Tables.{Upto, upto-start, upto-set, upto-here, upto-end}
-use Rattle.state.specs.Cells.{cells_in}
-use Rattle.state.specs.Meaning.{database_of}
-use Rattle.catalog.specs.Catalog.{next_of}
+use Rattle.finite.proofs.Tables.{upto-start, upto-set, upto-here, upto-end}
 use Rattle.catalog.proofs.LinkLaws.{settled-known}
 use Rattle.catalog.proofs.linking.settle.Goals as goal
 

@@ -1,14 +1,10 @@
 -- What the loops of `catalog::linking::settle` keep.
-use Prim.Native.Nat.{◌/◌, ◌%◌, ◌≤◌, ◌-◌}
-use native.Mathlib.Omega.{arith}
-use mathlib.Core.Path.{◌∙◌}
-use borrow.Author.Rules.{rules}
+use Prim.Native.Nat.{◌/◌, ◌%◌, ◌≤◌}
 use lib.ListN.{get_or}
-use Rattle.finite.proofs.Tables.{Upto, upto-start, upto-set, upto-here, upto-end}
+use Rattle.finite.proofs.Tables.{Upto}
 use Rattle.state.specs.Cells.{cells_in}
 use Rattle.state.specs.Meaning.{database_of}
 use Rattle.catalog.specs.Catalog.{next_of}
-use Rattle.catalog.proofs.LinkLaws.{settled-known}
 use Rattle.catalog.proofs.linking.settle.Given as goal
 
 abbrev pub invariant-loop-x : goal.invariant-loop-x

@@ -1,6 +1,5 @@
 -- `catalog::linking::settled` meets its contract, test by test. Assumes nothing.
 use mathlib.Core.Path.{sym, ◌∙◌}
-use borrow.Author.Rules.{rules}
 use borrow.Author.Tests.{not-true, not-false}
 use Rattle.catalog.proofs.LinkLaws.{settled-absent, settled-blank, settled-value}
 use Rattle.catalog.proofs.linking.settled.Goals as goal

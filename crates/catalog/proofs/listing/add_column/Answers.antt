@@ -1,10 +1,6 @@
 -- `catalog::listing::add_column` meets its contract: once the numbers from r on have been passed, the rows from r on are in. Assumes nothing.
-use Prim.Native.Nat.{◌≤◌}
 use native.Mathlib.Omega.{arith}
 use mathlib.Core.Path.{◌∙◌}
-use Rattle.state.specs.Cells.{cells_in}
-use Rattle.state.specs.Meaning.{column_of, database_of}
-use Rattle.catalog.specs.Listing.{Added}
 use Rattle.catalog.proofs.PutLaws.{added_none, added-listed, added-room, added-turn, added-end}
 use Rattle.catalog.proofs.Rows.{dead-at}
 use Rattle.catalog.proofs.listing.add_column.Goals as goal

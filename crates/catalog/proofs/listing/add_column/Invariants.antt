@@ -1,12 +1,8 @@
 -- What the loops of `catalog::listing::add_column` keep.
 use Prim.Native.Nat.{◌≤◌}
-use native.Mathlib.Omega.{arith}
-use mathlib.Core.Path.{◌∙◌}
 use Rattle.state.specs.Cells.{cells_in}
 use Rattle.state.specs.Meaning.{column_of, database_of}
 use Rattle.catalog.specs.Listing.{Added}
-use Rattle.catalog.proofs.PutLaws.{added_none, added-listed, added-room, added-turn, added-end}
-use Rattle.catalog.proofs.Rows.{dead-at}
 use Rattle.catalog.proofs.listing.add_column.Given as goal
 
 abbrev pub invariant-loop-r : goal.invariant-loop-r

@@ -2,7 +2,6 @@
 use native.Mathlib.Omega.{arith}
 use mathlib.Core.Logic.{inl, inr}
 use mathlib.Core.Path.{refl}
-use borrow.Author.Rules.{rules}
 use Rattle.catalog.proofs.Found.{stands_here, stands-below, stands-not}
 use Rattle.catalog.proofs.Searching.{moved_open}
 use Rattle.catalog.proofs.listing.enter.Goals as goal

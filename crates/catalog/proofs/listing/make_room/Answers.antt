@@ -1,8 +1,6 @@
 -- `catalog::listing::make_room` meets its contract: the elements from place j on have moved. Assumes nothing.
-use Prim.Native.Nat.{◌≤◌}
 use native.Mathlib.Omega.{arith}
-use borrow.Author.Rules.{rules}
-use Rattle.catalog.proofs.Searching.{Moving, moving-start, moving-turn, moving-end}
+use Rattle.catalog.proofs.Searching.{moving-start, moving-turn, moving-end}
 use Rattle.catalog.proofs.listing.make_room.Goals as goal
 
 pub loop-j-init : goal.loop-j-init

@@ -1,8 +1,6 @@
 -- What the loops of `catalog::listing::make_room` keep.
 use Prim.Native.Nat.{◌≤◌}
-use native.Mathlib.Omega.{arith}
-use borrow.Author.Rules.{rules}
-use Rattle.catalog.proofs.Searching.{Moving, moving-start, moving-turn, moving-end}
+use Rattle.catalog.proofs.Searching.{Moving}
 use Rattle.catalog.proofs.listing.make_room.Given as goal
 
 abbrev pub invariant-loop-j : goal.invariant-loop-j

@@ -1,6 +1,5 @@
 -- `catalog::listing::put` meets its contract, test by test. Assumes nothing.
 use mathlib.Core.Path.{sym, ◌∙◌}
-use borrow.Author.Rules.{rules}
 use Rattle.state.specs.Cells.{cells_in}
 use Rattle.state.specs.Meaning.{cell_of, database_of}
 use Rattle.catalog.proofs.PutLaws.{put-room, put-elsewhere, put-blank, put-entered}

@@ -5,7 +5,6 @@ use Rattle.finite.proofs.Tables.{length-tab}
 use lib.ListN.{length}
 use Rattle.catalog.proofs.ColumnLaws.{columns-directory}
 use Rattle.catalog.proofs.MakingLaws.{size-lent, indexed-made, catalogued-made}
-use borrow.Author.Rules.{rules}
 use Rattle.catalog.proofs.making.build.Goals as goal
 
 pub slice_bounds-store-end : goal.slice_bounds-store-end

@@ -1,6 +1,5 @@
 -- `catalog::reading::first_row` meets its contract: the demanded row that stands there. Assumes nothing.
 use Rattle.catalog.proofs.Entries.{demand-at}
-use borrow.Author.Rules.{rules}
 use Rattle.catalog.proofs.reading.first_row.Goals as goal
 
 pub returns : goal.returns

@@ -1,7 +1,6 @@
 -- `catalog::reading::head_at` meets its contract: a place of a part. Assumes nothing.
 use mathlib.Core.Path.{sym, ◌∙◌}
 use Rattle.catalog.proofs.PartLaws.{part_at}
-use borrow.Author.Rules.{rules}
 use Rattle.catalog.proofs.reading.head_at.Goals as goal
 
 pub returns : goal.returns

@@ -1,6 +1,5 @@
 -- `catalog::reading::next_row` meets its contract: the link that stands there. Assumes nothing.
 use Rattle.catalog.proofs.Entries.{link_at}
-use borrow.Author.Rules.{rules}
 use Rattle.catalog.proofs.reading.next_row.Goals as goal
 
 pub returns : goal.returns

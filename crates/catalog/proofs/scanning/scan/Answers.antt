@@ -1,12 +1,6 @@
 -- `catalog::scanning::scan` meets its contract: what is sought from r on is what is sought. Assumes nothing.
-use Prim.Native.Nat.{◌≤◌, ◌-◌}
 use native.Mathlib.Omega.{arith}
-use mathlib.Core.Path.{◌≡◌, refl, sym, ◌∙◌}
-use borrow.Author.Rules.{rules}
-use Rattle.model.specs.Database.{has}
-use Rattle.state.specs.Cells.{cells_in}
-use Rattle.state.specs.Meaning.{cell_of, column_of, database_of}
-use Rattle.finite.specs.Finite.{first_from}
+use mathlib.Core.Path.{refl, sym, ◌∙◌}
 use Rattle.finite.proofs.First.{first-here, first-skip, first-end}
 use Rattle.catalog.proofs.scanning.scan.Goals as goal
 

@@ -1,13 +1,10 @@
 -- What the loops of `catalog::scanning::scan` keep.
 use Prim.Native.Nat.{◌≤◌, ◌-◌}
-use native.Mathlib.Omega.{arith}
-use mathlib.Core.Path.{◌≡◌, refl, sym, ◌∙◌}
-use borrow.Author.Rules.{rules}
+use mathlib.Core.Path.{◌≡◌}
 use Rattle.model.specs.Database.{has}
 use Rattle.state.specs.Cells.{cells_in}
 use Rattle.state.specs.Meaning.{cell_of, column_of, database_of}
 use Rattle.finite.specs.Finite.{first_from}
-use Rattle.finite.proofs.First.{first-here, first-skip, first-end}
 use Rattle.catalog.proofs.scanning.scan.Given as goal
 
 abbrev pub invariant-loop-r : goal.invariant-loop-r

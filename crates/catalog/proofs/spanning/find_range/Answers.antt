@@ -3,7 +3,6 @@ use Prim.Native.Nat.{ℕ, ◌-◌}
 use mathlib.Core.Path.{◌∙◌, ap}
 use Rattle.catalog.proofs.SpanLaws.{span-long, span_none, span-some}
 use Rattle.state.specs.Meaning.{range_of}
-use borrow.Author.Rules.{rules}
 use Rattle.catalog.proofs.spanning.find_range.Goals as goal
 
 pub returns-then-to-gt-CELLS : goal.returns-then-to-gt-CELLS

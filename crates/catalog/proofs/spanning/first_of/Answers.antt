@@ -1,7 +1,6 @@
 -- `catalog::spanning::first_of` meets its contract: a value of another issue no row is asked for. Assumes nothing.
 use mathlib.Core.Path.{◌∙◌}
 use Rattle.catalog.proofs.SpanLaws.{none_first, some_first}
-use borrow.Author.Rules.{rules}
 use Rattle.catalog.proofs.spanning.first_of.Goals as goal
 
 pub returns-then-keys-i-ne0 : goal.returns-then-keys-i-ne0

@@ -1,11 +1,9 @@
 -- `catalog::storing::store` meets its contract: a loop that stores a list. Assumes nothing.
 use lib.Seq.{sets}
-use Rattle.finite.proofs.Stores.{Tabled, tabled_start, tabled-more, tabled-end}
+use Rattle.finite.proofs.Stores.{tabled_start, tabled-more, tabled-end}
 use Rattle.finite.proofs.Tables.{tab-of}
-use lib.ListN.{get_or, length}
+use lib.ListN.{length}
 use mathlib.Core.Path.{refl, sym, ap, ◌∙◌}
-use Prim.Native.Nat.{◌≤◌, ◌-◌}
-use borrow.Author.Rules.{rules}
 use native.Mathlib.Omega.{arith}
 use Rattle.catalog.proofs.storing.store.Goals as goal
 

@@ -1,12 +1,7 @@
 -- What the loops of `catalog::storing::store` keep.
-use lib.Seq.{sets}
-use Rattle.finite.proofs.Stores.{Tabled, tabled_start, tabled-more, tabled-end}
-use Rattle.finite.proofs.Tables.{tab-of}
+use Rattle.finite.proofs.Stores.{Tabled}
 use lib.ListN.{get_or, length}
-use mathlib.Core.Path.{refl, sym, ap, ◌∙◌}
-use Prim.Native.Nat.{◌≤◌, ◌-◌}
-use borrow.Author.Rules.{rules}
-use native.Mathlib.Omega.{arith}
+use Prim.Native.Nat.{◌≤◌}
 use Rattle.catalog.proofs.storing.store.Given as goal
 
 abbrev pub invariant-loop-i : goal.invariant-loop-i

@@ -1,6 +1,5 @@
 -- `change::causes::put_cause` meets its contract. Assumes nothing.
 use mathlib.Core.Path.{◌∙◌, sym}
-use borrow.Author.Rules.{rules}
 use borrow.Author.Tests.{not-false, not-true}
 use Rattle.state.specs.Changes.{stands}
 use Rattle.change.proofs.CauseLaws.{put-far, put-taken, put-unfit, put-twice, put-well, fit-table}

@@ -1,6 +1,5 @@
 -- `change::causes::remove_cause` meets its contract. Assumes nothing.
 use mathlib.Core.Path.{◌∙◌, sym}
-use borrow.Author.Rules.{rules}
 use borrow.Author.Tests.{not-false, not-true}
 use Rattle.change.proofs.CauseLaws.{remove-far, remove-free, remove-well}
 use Rattle.change.proofs.causes.remove_cause.Goals as goal

@@ -1,16 +1,7 @@
 -- `change::causes::stands` meets its contract: a loop that searches. Assumes nothing.
-use Prim.Native.Nat.{◌-◌, ◌≤◌}
 use native.Mathlib.Omega.{arith}
-use mathlib.Core.Bool.{false}
-use mathlib.Core.Path.{◌∙◌, ◌≡◌, sym}
-use borrow.Author.Rules.{rules}
+use mathlib.Core.Path.{◌∙◌, sym}
 use Rattle.finite.proofs.Search.{any-end, any-hit, any-more, any-start}
-use Rattle.finite.specs.Finite.{any}
-use Rattle.model.specs.Database.{Database}
-use Rattle.state.specs.Lawful.{stood_below}
-use Rattle.state.specs.Meaning.{scheme_of}
-use Rattle.state.specs.Changes.{row_cell}
-use Rattle.catalog.specs.Catalog.{Indexed}
 use Rattle.change.proofs.causes.stands.Goals as goal
 
 pub loop-c-init : goal.loop-c-init

@@ -1,10 +1,7 @@
 -- What the loops of `change::causes::stands` keep.
-use Prim.Native.Nat.{◌-◌, ◌≤◌}
-use native.Mathlib.Omega.{arith}
+use Prim.Native.Nat.{◌≤◌}
 use mathlib.Core.Bool.{false}
-use mathlib.Core.Path.{◌∙◌, ◌≡◌, sym}
-use borrow.Author.Rules.{rules}
-use Rattle.finite.proofs.Search.{any-end, any-hit, any-more, any-start}
+use mathlib.Core.Path.{◌≡◌}
 use Rattle.finite.specs.Finite.{any}
 use Rattle.model.specs.Database.{Database}
 use Rattle.state.specs.Lawful.{stood_below}

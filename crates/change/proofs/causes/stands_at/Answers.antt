@@ -1,6 +1,5 @@
 -- `change::causes::stands_at` meets its contract. Assumes nothing.
 use mathlib.Core.Path.{◌∙◌, sym}
-use borrow.Author.Rules.{rules}
 use borrow.Author.Tests.{not-false, not-true}
 use Rattle.finite.proofs.Bools.{and-stop}
 use Rattle.state.specs.Meaning.{scheme_of}

@@ -1,15 +1,8 @@
 -- `change::changing::call_at` meets its contract: a loop that looks for the first. Assumes nothing.
-use Prim.Native.Nat.{◌-◌, ◌≤◌}
 use native.Mathlib.Omega.{arith}
-use mathlib.Core.Path.{◌≡◌, refl, sym, ◌∙◌}
-use lib.ListN.{take}
-use Rattle.finite.specs.Finite.{first_from}
+use mathlib.Core.Path.{refl, sym, ◌∙◌}
 use Rattle.finite.proofs.First.{first-here, first_past, first-skip}
-use Rattle.model.specs.Database.{Database}
-use Rattle.model.specs.Runs.{marked}
-use Rattle.state.specs.HeldWords.{words_held}
-use Rattle.state.specs.Meaning.{holding_of, scheme_of}
-use Rattle.catalog.specs.Catalog.{Indexed}
+use Rattle.state.specs.Meaning.{scheme_of}
 use Rattle.change.specs.Replacing.{called_at}
 use Rattle.change.proofs.changing.call_at.Goals as goal
 

@@ -1,10 +1,8 @@
 -- What the loops of `change::changing::call_at` keep.
-use Prim.Native.Nat.{◌-◌, ◌≤◌}
-use native.Mathlib.Omega.{arith}
-use mathlib.Core.Path.{◌≡◌, refl, sym, ◌∙◌}
+use Prim.Native.Nat.{◌≤◌}
+use mathlib.Core.Path.{◌≡◌}
 use lib.ListN.{take}
 use Rattle.finite.specs.Finite.{first_from}
-use Rattle.finite.proofs.First.{first-here, first_past, first-skip}
 use Rattle.model.specs.Database.{Database}
 use Rattle.model.specs.Runs.{marked}
 use Rattle.state.specs.HeldWords.{words_held}

@@ -1,5 +1,4 @@
 -- `change::changing::come` meets its contract: the row stored, the catalog, the marks. Assumes nothing.
-use borrow.Author.Rules.{rules}
 use Rattle.state.specs.HeldWords.{words_held}
 use Rattle.state.specs.Meaning.{scheme_of}
 use Rattle.lawful.proofs.StoredLaws.{row_sized}

@@ -1,5 +1,4 @@
 -- `change::changing::go` meets its contract: the catalog, the row freed, the marks. Assumes nothing.
-use borrow.Author.Rules.{rules}
 use Rattle.state.specs.Cells.{cells_in}
 use Rattle.state.specs.HeldWords.{words_held}
 use Rattle.state.specs.Changes.{rows_in, free_row}

@@ -1,5 +1,4 @@
 -- `change::changing::is_called` meets its contract: by the lowest ground. Assumes nothing.
-use borrow.Author.Rules.{rules}
 use mathlib.Core.Path.{sym, ◌∙◌}
 use Rattle.change.proofs.ComingLaws.{called-blank, called-first, called-second}
 use Rattle.change.proofs.changing.is_called.Goals as goal

@@ -1,17 +1,10 @@
 -- `change::changing::leads_on` meets its contract: a loop that searches. Assumes nothing.
-use Prim.Native.Nat.{◌-◌, ◌≤◌}
 use native.Mathlib.Omega.{arith}
-use mathlib.Core.Bool.{false}
-use mathlib.Core.Path.{◌≡◌, sym, ap, ◌∙◌}
+use mathlib.Core.Path.{sym, ap, ◌∙◌}
 use borrow.Author.Tests.{lt-ltb, le-ltb}
 use lib.Dec.{ltb}
-use Rattle.finite.specs.Finite.{any, first_from}
 use Rattle.finite.proofs.Search.{any-end, any-hit, any-more, any-start}
-use Rattle.model.specs.Scheme.{Scheme}
-use Rattle.model.specs.Database.{Database}
-use Rattle.model.specs.Rounds.{leads}
 use Rattle.state.specs.Meaning.{scheme_of}
-use Rattle.catalog.specs.Catalog.{Demands}
 use Rattle.change.proofs.changing.leads_on.Goals as goal
 
 pub loop-i-init : goal.loop-i-init

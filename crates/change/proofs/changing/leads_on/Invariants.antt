@@ -1,16 +1,12 @@
 -- What the loops of `change::changing::leads_on` keep.
-use Prim.Native.Nat.{◌-◌, ◌≤◌}
-use native.Mathlib.Omega.{arith}
+use Prim.Native.Nat.{◌≤◌}
 use mathlib.Core.Bool.{false}
-use mathlib.Core.Path.{◌≡◌, sym, ap, ◌∙◌}
-use borrow.Author.Tests.{lt-ltb, le-ltb}
+use mathlib.Core.Path.{◌≡◌}
 use lib.Dec.{ltb}
 use Rattle.finite.specs.Finite.{any, first_from}
-use Rattle.finite.proofs.Search.{any-end, any-hit, any-more, any-start}
 use Rattle.model.specs.Scheme.{Scheme}
 use Rattle.model.specs.Database.{Database}
 use Rattle.model.specs.Rounds.{leads}
-use Rattle.state.specs.Meaning.{scheme_of}
 use Rattle.catalog.specs.Catalog.{Demands}
 use Rattle.change.proofs.changing.leads_on.Given as goal
 

@@ -1,5 +1,4 @@
 -- `change::changing::mark_new` meets its contract: the marks that stay, or those of the load beside them. Assumes nothing.
-use borrow.Author.Rules.{rules}
 use Rattle.cache.proofs.LoadLaws.{load-long}
 use Rattle.change.proofs.ComingLaws.{coming-uncalled, coming-called, first-called, none-called}
 use Rattle.change.proofs.changing.mark_new.Goals as goal

@@ -1,5 +1,4 @@
 -- `change::changing::remark` meets its contract: the load from nothing, and the marks that it leaves. Assumes nothing.
-use borrow.Author.Rules.{rules}
 use Rattle.state.specs.HeldWords.{words_held}
 use Rattle.state.specs.Meaning.{scheme_of}
 use Rattle.load.proofs.EndedLaws.{within_all}

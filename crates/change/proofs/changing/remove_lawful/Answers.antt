@@ -1,5 +1,4 @@
 -- `change::changing::remove_lawful` meets its contract. Assumes nothing.
-use borrow.Author.Rules.{rules}
 use Rattle.state.specs.Changes.{remove}
 use Rattle.state.proofs.Arrays.{sized}
 use Rattle.state.proofs.HeldWords.{words-sized}
@@ -7,7 +6,6 @@ use Rattle.lawful.proofs.Asked.{sound-backed}
 use Rattle.change.proofs.ReplaceLaws.{changed-refused, replace-asked, changed-well}
 use Rattle.change.proofs.BesideLaws.{remove-asked}
 use Rattle.change.proofs.LeavingLaws.{sound-marking}
-use borrow.Author.Rules.{rules}
 use Rattle.change.proofs.changing.remove_lawful.Goals as goal
 
 pub remove_cause-why-requires : goal.remove_cause-why-requires

@@ -1,5 +1,4 @@
 -- `change::changing::unmark` meets its contract: the marks that stay, or those of a load from nothing. Assumes nothing.
-use borrow.Author.Rules.{rules}
 use Rattle.change.proofs.LeavingLaws.{leaving-uncached, leaving-last}
 use Rattle.change.proofs.changing.unmark.Goals as goal
 

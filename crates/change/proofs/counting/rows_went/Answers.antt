@@ -1,12 +1,7 @@
 -- `change::counting::rows_went` meets its contract: a loop that counts. Assumes nothing.
-use Prim.Native.Nat.{◌-◌, ◌≤◌}
 use native.Mathlib.Omega.{arith}
-use mathlib.Core.Bool.{not, ◌&&◌}
-use mathlib.Core.Logic.{⊎_elim}
-use mathlib.Core.Path.{◌∙◌, ◌≡◌, sym}
-use borrow.Author.Rules.{rules}
+use mathlib.Core.Path.{◌∙◌, sym}
 use Rattle.finite.proofs.Counting.{count-end, count-hit, count-miss, count-start}
-use Rattle.finite.specs.Finite.{count}
 use Rattle.model.specs.Rounds.{reached}
 use Rattle.model.specs.Runs.{marked}
 use Rattle.change.proofs.counting.rows_went.Goals as goal

@@ -1,11 +1,7 @@
 -- What the loops of `change::counting::rows_went` keep.
-use Prim.Native.Nat.{◌-◌, ◌≤◌}
-use native.Mathlib.Omega.{arith}
+use Prim.Native.Nat.{◌≤◌}
 use mathlib.Core.Bool.{not, ◌&&◌}
-use mathlib.Core.Logic.{⊎_elim}
-use mathlib.Core.Path.{◌∙◌, ◌≡◌, sym}
-use borrow.Author.Rules.{rules}
-use Rattle.finite.proofs.Counting.{count-end, count-hit, count-miss, count-start}
+use mathlib.Core.Path.{◌≡◌}
 use Rattle.finite.specs.Finite.{count}
 use Rattle.model.specs.Rounds.{reached}
 use Rattle.model.specs.Runs.{marked}

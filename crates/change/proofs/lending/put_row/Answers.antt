@@ -1,6 +1,5 @@
 -- `change::lending::put_row` meets its contract: causes 7 and 12, then the change of a sound state. Assumes nothing.
 use mathlib.Core.Path.{sym, ◌∙◌}
-use borrow.Author.Rules.{rules}
 use Rattle.state.specs.Changes.{put}
 use Rattle.guard.proofs.CauseWords.{cause-clear, own-sound}
 use Rattle.change.proofs.LendingLaws.{refused-words, changed-words}

@@ -1,11 +1,10 @@
 -- `change::storing::store_issues` meets its contract: a loop that stores a table. Assumes nothing.
-use Prim.Native.Nat.{◌*◌, ◌-◌, ◌≤◌}
+use Prim.Native.Nat.{◌*◌}
 use native.Mathlib.Omega.{arith}
 use mathlib.Core.Path.{◌∙◌, refl, ap}
-use borrow.Author.Rules.{rules}
 use lib.ListN.{get_or}
 use lib.Seq.{sets}
-use Rattle.finite.proofs.Stores.{Tabled, tabled_start, tabled-more, tabled-end}
+use Rattle.finite.proofs.Stores.{tabled_start, tabled-more, tabled-end}
 use Rattle.lawful.proofs.StoredLaws.{row_sized}
 use Rattle.change.proofs.StoreLaws.{tab-whole}
 use Rattle.change.proofs.storing.store_issues.Goals as goal

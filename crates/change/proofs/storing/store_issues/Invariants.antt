@@ -1,13 +1,7 @@
 -- What the loops of `change::storing::store_issues` keep.
-use Prim.Native.Nat.{◌*◌, ◌-◌, ◌≤◌}
-use native.Mathlib.Omega.{arith}
-use mathlib.Core.Path.{◌∙◌, refl, ap}
-use borrow.Author.Rules.{rules}
+use Prim.Native.Nat.{◌*◌, ◌≤◌}
 use lib.ListN.{get_or}
-use lib.Seq.{sets}
-use Rattle.finite.proofs.Stores.{Tabled, tabled_start, tabled-more, tabled-end}
-use Rattle.lawful.proofs.StoredLaws.{row_sized}
-use Rattle.change.proofs.StoreLaws.{tab-whole}
+use Rattle.finite.proofs.Stores.{Tabled}
 use Rattle.change.proofs.storing.store_issues.Given as goal
 
 abbrev pub invariant-loop-c : goal.invariant-loop-c

@@ -1,6 +1,5 @@
 -- `change::storing::store_row` meets its contract. Assumes nothing.
 use mathlib.Core.Path.{refl}
-use borrow.Author.Rules.{rules}
 use Rattle.change.proofs.StoreLaws.{stored_is}
 use Rattle.change.proofs.storing.store_row.Goals as goal
 

@@ -1,7 +1,5 @@
 -- `catalog::demanding::chosen` meets its contract. Assumes nothing.
 use Rattle.demanding.proofs.DemandingLaws.{chosen-past, chosen-here}
-use Prim.Native.Nat.{◌-◌}
-use borrow.Author.Rules.{rules}
 use Rattle.demanding.proofs.nearest.chosen.Goals as goal
 
 pub returns-then-f-ge-ROWS : goal.returns-then-f-ge-ROWS

@@ -1,7 +1,5 @@
 -- `catalog::demanding::counted` meets its contract. Assumes nothing.
 use Rattle.demanding.proofs.DemandingLaws.{count-flat, count-more}
-use Prim.Native.Nat.{◌-◌}
-use borrow.Author.Rules.{rules}
 use Rattle.demanding.proofs.nearest.counted.Goals as goal
 
 pub returns-then-l-eq0 : goal.returns-then-l-eq0

@@ -1,13 +1,8 @@
 -- `catalog::demanding::demanding_rows` meets its contract. Assumes nothing.
 use Rattle.demanding.proofs.DemandingLaws.{demanding-none, demanding-end}
-use Rattle.demanding.specs.Demanding.{Demanding}
-use Rattle.catalog.specs.Catalog.{Demands}
 use Rattle.state.specs.Meaning.{scheme_of}
-use Rattle.model.specs.Database.{Database}
-use mathlib.Core.Path.{◌≡◌, refl}
-use Prim.Native.Nat.{◌≤◌, ◌-◌}
+use mathlib.Core.Path.{refl}
 use native.Mathlib.Omega.{arith}
-use borrow.Author.Rules.{rules}
 use Rattle.demanding.proofs.nearest.demanding_rows.Goals as goal
 
 pub loop-i-init : goal.loop-i-init

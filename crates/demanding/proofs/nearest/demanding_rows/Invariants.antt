@@ -1,13 +1,10 @@
 -- What the loops of `demanding::nearest::demanding_rows` keep.
-use Rattle.demanding.proofs.DemandingLaws.{demanding-none, demanding-end}
 use Rattle.demanding.specs.Demanding.{Demanding}
 use Rattle.catalog.specs.Catalog.{Demands}
 use Rattle.state.specs.Meaning.{scheme_of}
 use Rattle.model.specs.Database.{Database}
-use mathlib.Core.Path.{◌≡◌, refl}
-use Prim.Native.Nat.{◌≤◌, ◌-◌}
-use native.Mathlib.Omega.{arith}
-use borrow.Author.Rules.{rules}
+use mathlib.Core.Path.{◌≡◌}
+use Prim.Native.Nat.{◌≤◌}
 use Rattle.demanding.proofs.nearest.demanding_rows.Given as goal
 
 abbrev pub invariant-loop-i : goal.invariant-loop-i

@@ -1,7 +1,5 @@
 -- `catalog::demanding::nearer` meets its contract. Assumes nothing.
 use Rattle.demanding.proofs.DemandingLaws.{nearer-flat, nearer-new, nearer-lower, nearer-kept}
-use Prim.Native.Nat.{◌-◌}
-use borrow.Author.Rules.{rules}
 use Rattle.demanding.proofs.nearest.nearer.Goals as goal
 
 pub returns-then-l-eq0 : goal.returns-then-l-eq0

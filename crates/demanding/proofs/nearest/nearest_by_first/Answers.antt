@@ -1,16 +1,10 @@
 -- `catalog::demanding::nearest_by_first` meets its contract. Assumes nothing.
 use Rattle.demanding.proofs.DemandingLaws.{Looked, looked-start, looked-past, looked-on, looked-done}
-use Rattle.catalog.specs.Catalog.{Demands}
-use Rattle.model.specs.Scheme.{Scheme}
-use Rattle.model.specs.Database.{Database}
 use lib.ListN.{get_or}
 use mathlib.Core.Path.{sym, subst}
-use Prim.Native.Nat.{◌+◌, ◌≤◌, ◌<◌, ◌-◌}
+use Prim.Native.Nat.{◌+◌}
 use lib.ListN.{get_or}
-use mathlib.Core.Logic.{⊎_elim}
 use mathlib.Core.Path.{sym, subst}
-use Prim.Native.Nat.{◌≤◌, ◌<◌, ◌-◌}
-use borrow.Author.Rules.{rules}
 use native.Mathlib.Omega.{arith}
 use Rattle.demanding.proofs.nearest.nearest_by_first.Goals as goal
 use Rattle.demanding.proofs.nearest.nearest_by_first.Goals.{then-f-lt-ROWS, else-f-lt-ROWS}

@@ -1,17 +1,12 @@
 -- What the loops of `demanding::nearest::nearest_by_first` keep.
-use Rattle.demanding.proofs.DemandingLaws.{Looked, looked-start, looked-past, looked-on, looked-done}
+use Rattle.demanding.proofs.DemandingLaws.{Looked}
 use Rattle.catalog.specs.Catalog.{Demands}
 use Rattle.model.specs.Scheme.{Scheme}
 use Rattle.model.specs.Database.{Database}
 use lib.ListN.{get_or}
-use mathlib.Core.Path.{sym, subst}
-use Prim.Native.Nat.{◌+◌, ◌≤◌, ◌<◌, ◌-◌}
+use Prim.Native.Nat.{◌≤◌, ◌<◌}
 use lib.ListN.{get_or}
-use mathlib.Core.Logic.{⊎_elim}
-use mathlib.Core.Path.{sym, subst}
-use Prim.Native.Nat.{◌≤◌, ◌<◌, ◌-◌}
-use borrow.Author.Rules.{rules}
-use native.Mathlib.Omega.{arith}
+use Prim.Native.Nat.{◌≤◌, ◌<◌}
 use Rattle.demanding.proofs.nearest.nearest_by_first.Given as goal
 
 abbrev pub invariant-loop-k : goal.invariant-loop-k

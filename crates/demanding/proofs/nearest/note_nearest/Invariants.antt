@@ -1,17 +1,12 @@
 -- What the loops of `demanding::nearest::note_nearest` keep.
-use Rattle.demanding.proofs.DemandingLaws.{Noting, noting-start, noting-skip, noting-from, noting-more, noting-done}
+use Rattle.demanding.proofs.DemandingLaws.{Noting}
 use Rattle.demanding.specs.Demanding.{ByFirst, Demanding}
 use Rattle.catalog.specs.Catalog.{Demands}
-use Rattle.finite.specs.Finite.{first_from}
-use Rattle.model.specs.Rounds.{leads}
 use Rattle.model.specs.Scheme.{Scheme}
 use Rattle.model.specs.Database.{Database}
 use lib.ListN.{get_or}
-use mathlib.Core.Logic.{⊎_elim}
-use mathlib.Core.Path.{◌≡◌, sym, subst, ap, ◌∙◌}
-use Prim.Native.Nat.{◌+◌, ◌≤◌, ◌<◌, ◌-◌}
-use native.Mathlib.Omega.{arith}
-use borrow.Author.Rules.{rules}
+use mathlib.Core.Path.{◌≡◌}
+use Prim.Native.Nat.{◌≤◌, ◌<◌}
 use Rattle.demanding.proofs.nearest.note_nearest.Given as goal
 
 abbrev pub invariant-loop-k : goal.invariant-loop-k

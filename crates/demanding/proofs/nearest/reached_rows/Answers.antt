@@ -1,10 +1,8 @@
 -- `catalog::demanding::reached_rows` meets its contract. Assumes nothing.
-use Rattle.demanding.proofs.DemandingLaws.{Listing, listing_none, listing-more, listing-end}
+use Rattle.demanding.proofs.DemandingLaws.{listing_none, listing-more, listing-end}
 use Prim.Native.Nat.{ℕ}
 use lib.ListN.{length-replicate}
-use Prim.Native.Nat.{◌≤◌, ◌-◌}
-use Prim.Native.Nat.{ℕ, ◌≤◌, ◌-◌}
-use borrow.Author.Rules.{rules}
+use Prim.Native.Nat.{ℕ}
 use native.Mathlib.Omega.{arith}
 use Rattle.demanding.proofs.nearest.reached_rows.Goals as goal
 

@@ -1,18 +1,9 @@
 -- `catalog::demanding::spread` meets its contract. Assumes nothing.
-use lib.ListN.{length}
-use Rattle.demanding.proofs.DemandingLaws.{Handed, handed-none, handed-more, handed-end}
+use Rattle.demanding.proofs.DemandingLaws.{handed-none, handed-more, handed-end}
 use Rattle.catalog.proofs.CatalogLaws.{next-rises, next-from}
-use Rattle.catalog.specs.Catalog.{Links, next_of}
-use Rattle.model.specs.Database.{Database, has}
-use Rattle.model.specs.Scheme.{Column}
-use Rattle.model.specs.Cell.{Cell}
-use Rattle.finite.specs.Finite.{first_from}
-use mathlib.Core.Path.{◌≡◌, sym, ap, ◌∙◌}
-use Prim.Native.Nat.{◌-◌}
-use lib.ListN.{length}
-use mathlib.Core.Path.{◌≡◌, sym, ap, ◌∙◌}
-use Prim.Native.Nat.{◌-◌}
-use borrow.Author.Rules.{rules}
+use Rattle.catalog.specs.Catalog.{next_of}
+use mathlib.Core.Path.{sym, ap, ◌∙◌}
+use mathlib.Core.Path.{sym, ap, ◌∙◌}
 use native.Mathlib.Omega.{arith}
 use Rattle.demanding.proofs.nearest.spread.Goals as goal
 

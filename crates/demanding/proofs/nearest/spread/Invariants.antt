@@ -1,19 +1,16 @@
 -- What the loops of `demanding::nearest::spread` keep.
 use lib.ListN.{length}
-use Rattle.demanding.proofs.DemandingLaws.{Handed, handed-none, handed-more, handed-end}
-use Rattle.catalog.proofs.CatalogLaws.{next-rises, next-from}
-use Rattle.catalog.specs.Catalog.{Links, next_of}
+use Rattle.demanding.proofs.DemandingLaws.{Handed}
+use Rattle.catalog.specs.Catalog.{Links}
 use Rattle.model.specs.Database.{Database, has}
 use Rattle.model.specs.Scheme.{Column}
 use Rattle.model.specs.Cell.{Cell}
 use Rattle.finite.specs.Finite.{first_from}
-use mathlib.Core.Path.{◌≡◌, sym, ap, ◌∙◌}
+use mathlib.Core.Path.{◌≡◌}
 use Prim.Native.Nat.{◌-◌}
 use lib.ListN.{length}
-use mathlib.Core.Path.{◌≡◌, sym, ap, ◌∙◌}
+use mathlib.Core.Path.{◌≡◌}
 use Prim.Native.Nat.{◌-◌}
-use borrow.Author.Rules.{rules}
-use native.Mathlib.Omega.{arith}
 use Rattle.demanding.proofs.nearest.spread.Given as goal
 
 abbrev pub invariant-loop-t : goal.invariant-loop-t

@@ -3,7 +3,6 @@ use Rattle.demanding.proofs.DemandingLaws.{turned-scheme-firsts}
 use Rattle.catalog.proofs.MakingLaws.{stored_same}
 use mathlib.Core.Path.{sym}
 use mathlib.Core.Path.{sym}
-use Prim.Native.Nat.{◌-◌}
 use native.Mathlib.Omega.{arith}
 use Rattle.demanding.proofs.nearest.turn_firsts.Goals as goal
 

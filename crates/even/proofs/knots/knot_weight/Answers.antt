@@ -1,12 +1,5 @@
 -- `even::knots::knot_weight` meets its contract. Assumes nothing.
 use Rattle.even.proofs.KnotCode.{lowest-none, lowest-more, knot-end}
-use Rattle.even.specs.Walks.{lowest, weight_from}
-use Rattle.state.specs.Meaning.{scheme_of}
-use mathlib.Core.Path.{◌≡◌}
-use Prim.Native.Nat.{◌≤◌, ◌-◌}
-use mathlib.Core.Path.{◌≡◌}
-use Prim.Native.Nat.{◌≤◌, ◌-◌}
-use borrow.Author.Rules.{rules}
 use native.Mathlib.Omega.{arith}
 use Rattle.even.proofs.knots.knot_weight.Goals as goal
 

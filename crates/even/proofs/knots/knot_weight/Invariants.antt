@@ -1,13 +1,10 @@
 -- What the loops of `even::knots::knot_weight` keep.
-use Rattle.even.proofs.KnotCode.{lowest-none, lowest-more, knot-end}
 use Rattle.even.specs.Walks.{lowest, weight_from}
 use Rattle.state.specs.Meaning.{scheme_of}
 use mathlib.Core.Path.{◌≡◌}
-use Prim.Native.Nat.{◌≤◌, ◌-◌}
+use Prim.Native.Nat.{◌≤◌}
 use mathlib.Core.Path.{◌≡◌}
-use Prim.Native.Nat.{◌≤◌, ◌-◌}
-use borrow.Author.Rules.{rules}
-use native.Mathlib.Omega.{arith}
+use Prim.Native.Nat.{◌≤◌}
 use Rattle.even.proofs.knots.knot_weight.Given as goal
 
 abbrev pub invariant-loop-i : goal.invariant-loop-i

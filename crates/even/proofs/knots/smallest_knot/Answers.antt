@@ -1,5 +1,4 @@
 -- `even::knots::smallest_knot` meets its contract: no set weighs less than `far`, or the lightest one is told by its weight. Assumes nothing.
-use borrow.Author.Rules.{rules}
 use Rattle.even.proofs.KnotFound.{told-knot, told-even}
 use Rattle.even.proofs.knots.smallest_knot.Goals as goal
 

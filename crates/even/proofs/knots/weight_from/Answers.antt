@@ -1,15 +1,8 @@
 -- `even::knots::weight_from` meets its contract. Assumes nothing.
 use Rattle.even.proofs.KnotCode.{lowest-none, lowest-more, cheap-far, with-walk, weight-end}
 use Rattle.even.proofs.LinkLaws.{laid}
-use Rattle.even.specs.Walks.{Cheap, lowest, most_steps, weight_with, weight_from}
-use Rattle.even.specs.Reading.{Laid}
+use Rattle.even.specs.Walks.{weight_from}
 use Rattle.state.specs.Meaning.{scheme_of}
-use Rattle.model.specs.Scheme.{Scheme}
-use mathlib.Core.Path.{◌≡◌}
-use Prim.Native.Nat.{◌-◌, ◌≤◌}
-use mathlib.Core.Path.{◌≡◌}
-use Prim.Native.Nat.{◌≤◌, ◌-◌}
-use borrow.Author.Rules.{rules}
 use native.Mathlib.Omega.{arith}
 use Rattle.even.proofs.knots.weight_from.Goals as goal
 

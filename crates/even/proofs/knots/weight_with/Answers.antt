@@ -4,9 +4,7 @@ use Rattle.state.specs.Meaning.{constraint_of}
 use Prim.Native.Nat.{◌+◌}
 use mathlib.Core.Path.{ap}
 use mathlib.Core.Path.{ap}
-use Prim.Native.Nat.{◌-◌}
 use native.Mathlib.Omega.{arith}
-use borrow.Author.Rules.{rules}
 use Rattle.even.proofs.knots.weight_with.Goals as goal
 
 pub returns-then-a-b : goal.returns-then-a-b

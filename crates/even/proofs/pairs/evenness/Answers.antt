@@ -1,10 +1,6 @@
 -- `even::pairs::evenness` meets its contract. The invariant: the search for the lowest i may go on from here. Assumes nothing.
-use Prim.Native.Nat.{◌-◌, ◌≤◌}
 use native.Mathlib.Omega.{arith}
-use mathlib.Core.Path.{◌≡◌, refl, ◌∙◌}
-use lib.Dec.{ltb}
-use Rattle.finite.specs.Finite.{first_from}
-use Rattle.model.specs.Even.{reaches, square, uneven_from, lowest_uneven}
+use mathlib.Core.Path.{refl, ◌∙◌}
 use Rattle.state.specs.Meaning.{scheme_of}
 use Rattle.even.proofs.PairLaws.{lowest-here, lowest-skip, lowest-none}
 use Rattle.even.proofs.pairs.evenness.Goals as goal

@@ -1,12 +1,10 @@
 -- What the loops of `even::pairs::evenness` keep.
 use Prim.Native.Nat.{◌-◌, ◌≤◌}
-use native.Mathlib.Omega.{arith}
-use mathlib.Core.Path.{◌≡◌, refl, ◌∙◌}
+use mathlib.Core.Path.{◌≡◌}
 use lib.Dec.{ltb}
 use Rattle.finite.specs.Finite.{first_from}
 use Rattle.model.specs.Even.{reaches, square, uneven_from, lowest_uneven}
 use Rattle.state.specs.Meaning.{scheme_of}
-use Rattle.even.proofs.PairLaws.{lowest-here, lowest-skip, lowest-none}
 use Rattle.even.proofs.pairs.evenness.Given as goal
 
 abbrev pub invariant-loop-i : goal.invariant-loop-i

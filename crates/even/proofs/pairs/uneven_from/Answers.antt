@@ -1,16 +1,9 @@
 -- `even::pairs::uneven_from` meets its contract. Assumes nothing.
 use Rattle.even.proofs.PairLaws.{uneven-read, from_start}
 use Rattle.even.proofs.LinkLaws.{laid}
-use Rattle.even.specs.Reading.{Laid}
-use Rattle.model.specs.Even.{is_uneven, reaches, square, uneven_from}
-use Rattle.model.specs.Scheme.{Scheme}
 use Rattle.finite.proofs.First.{first-skip, first-here, first_past}
-use Rattle.finite.specs.Finite.{first_from}
-use mathlib.Core.Path.{◌≡◌, sym, ◌∙◌}
-use Prim.Native.Nat.{◌-◌, ◌≤◌}
-use mathlib.Core.Path.{◌≡◌, sym, ◌∙◌}
-use Prim.Native.Nat.{◌≤◌, ◌-◌}
-use borrow.Author.Rules.{rules}
+use mathlib.Core.Path.{sym, ◌∙◌}
+use mathlib.Core.Path.{sym, ◌∙◌}
 use native.Mathlib.Omega.{arith}
 use Rattle.even.proofs.pairs.uneven_from.Goals as goal
 

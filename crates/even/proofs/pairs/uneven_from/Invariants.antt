@@ -1,17 +1,12 @@
 -- What the loops of `even::pairs::uneven_from` keep.
-use Rattle.even.proofs.PairLaws.{uneven-read, from_start}
-use Rattle.even.proofs.LinkLaws.{laid}
 use Rattle.even.specs.Reading.{Laid}
 use Rattle.model.specs.Even.{is_uneven, reaches, square, uneven_from}
 use Rattle.model.specs.Scheme.{Scheme}
-use Rattle.finite.proofs.First.{first-skip, first-here, first_past}
 use Rattle.finite.specs.Finite.{first_from}
-use mathlib.Core.Path.{◌≡◌, sym, ◌∙◌}
+use mathlib.Core.Path.{◌≡◌}
 use Prim.Native.Nat.{◌-◌, ◌≤◌}
-use mathlib.Core.Path.{◌≡◌, sym, ◌∙◌}
+use mathlib.Core.Path.{◌≡◌}
 use Prim.Native.Nat.{◌≤◌, ◌-◌}
-use borrow.Author.Rules.{rules}
-use native.Mathlib.Omega.{arith}
 use Rattle.even.proofs.pairs.uneven_from.Given as goal
 
 abbrev pub invariant-loop-j : goal.invariant-loop-j

@@ -1,14 +1,8 @@
 -- `even::reaching::linked_tables` meets its contract. Assumes nothing.
 use Rattle.even.proofs.LinkLaws.{laid, links-none, links-more, links_end}
-use Rattle.even.specs.Reading.{Laid, linked_by}
 use Rattle.state.specs.Meaning.{scheme_of}
-use Rattle.model.specs.Even.{square}
-use Rattle.model.specs.Scheme.{Scheme}
-use mathlib.Core.Path.{◌≡◌, sym, ◌∙◌}
-use Prim.Native.Nat.{◌≤◌, ◌-◌}
-use mathlib.Core.Path.{◌≡◌, sym, ◌∙◌}
-use Prim.Native.Nat.{◌≤◌, ◌-◌}
-use borrow.Author.Rules.{rules}
+use mathlib.Core.Path.{sym, ◌∙◌}
+use mathlib.Core.Path.{sym, ◌∙◌}
 use native.Mathlib.Omega.{arith}
 use Rattle.even.proofs.reaching.linked_tables.Goals as goal
 

@@ -1,7 +1,5 @@
 -- `even::reaching::own_row` meets its contract. Assumes nothing.
 use Rattle.even.proofs.LinkLaws.{own_row}
-use Prim.Native.Nat.{◌-◌}
-use borrow.Author.Rules.{rules}
 use Rattle.even.proofs.reaching.own_row.Goals as goal
 
 pub returns : goal.returns

@@ -1,9 +1,5 @@
 -- `even::reaching::reachable` meets its contract. Assumes nothing.
-use Rattle.model.specs.Even.{linked, reached_by, square}
-use mathlib.Core.Path.{◌≡◌}
-use Prim.Native.Nat.{◌≤◌, ◌-◌}
 use native.Mathlib.Omega.{arith}
-use Rattle.model.specs.Scheme.{Scheme}
 use Rattle.even.proofs.Turns.{start, turn, done}
 use Rattle.even.proofs.reaching.reachable.Goals as goal
 

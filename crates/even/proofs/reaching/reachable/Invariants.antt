@@ -1,10 +1,8 @@
 -- What the loops of `even::reaching::reachable` keep.
 use Rattle.model.specs.Even.{linked, reached_by, square}
 use mathlib.Core.Path.{◌≡◌}
-use Prim.Native.Nat.{◌≤◌, ◌-◌}
-use native.Mathlib.Omega.{arith}
+use Prim.Native.Nat.{◌≤◌}
 use Rattle.model.specs.Scheme.{Scheme}
-use Rattle.even.proofs.Turns.{start, turn, done}
 use Rattle.even.proofs.reaching.reachable.Given as goal
 
 abbrev pub invariant-loop-k : goal.invariant-loop-k

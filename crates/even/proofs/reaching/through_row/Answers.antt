@@ -1,13 +1,8 @@
 -- `even::reaching::through_row` meets its contract. Assumes nothing.
-use Rattle.finite.proofs.Tables.{Upto, upto-start, upto-set, upto-end}
-use Prim.Native.Nat.{◌≤◌, ◌-◌}
-use lib.ListN.{get_or}
+use Rattle.finite.proofs.Tables.{upto-start, upto-set, upto-end}
 use mathlib.Core.Path.{refl}
-use mathlib.Core.Bool.{false, ◌&&◌, ◌||◌}
-use lib.ListN.{get_or}
+use mathlib.Core.Bool.{false}
 use mathlib.Core.Path.{refl}
-use Prim.Native.Nat.{◌≤◌, ◌-◌}
-use borrow.Author.Rules.{rules}
 use native.Mathlib.Omega.{arith}
 use Rattle.even.proofs.reaching.through_row.Goals as goal
 

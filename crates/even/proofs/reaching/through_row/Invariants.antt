@@ -1,14 +1,10 @@
 -- What the loops of `even::reaching::through_row` keep.
-use Rattle.finite.proofs.Tables.{Upto, upto-start, upto-set, upto-end}
-use Prim.Native.Nat.{◌≤◌, ◌-◌}
+use Rattle.finite.proofs.Tables.{Upto}
+use Prim.Native.Nat.{◌≤◌}
 use lib.ListN.{get_or}
-use mathlib.Core.Path.{refl}
 use mathlib.Core.Bool.{false, ◌&&◌, ◌||◌}
 use lib.ListN.{get_or}
-use mathlib.Core.Path.{refl}
-use Prim.Native.Nat.{◌≤◌, ◌-◌}
-use borrow.Author.Rules.{rules}
-use native.Mathlib.Omega.{arith}
+use Prim.Native.Nat.{◌≤◌}
 use Rattle.even.proofs.reaching.through_row.Given as goal
 
 abbrev pub invariant-loop-u : goal.invariant-loop-u

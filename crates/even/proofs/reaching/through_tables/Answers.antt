@@ -1,15 +1,8 @@
 -- `even::reaching::through_tables` meets its contract. Assumes nothing.
-use Rattle.even.specs.Reading.{through_at}
-use Rattle.finite.proofs.Tables.{Upto, upto-start, upto-set, upto-end}
-use Rattle.finite.specs.Finite.{tab}
-use lib.ListN.{get_or}
+use Rattle.finite.proofs.Tables.{upto-start, upto-set, upto-end}
 use mathlib.Core.Path.{refl}
 use mathlib.Core.List.{[]}
-use Prim.Native.Nat.{◌≤◌, ◌-◌}
-use lib.ListN.{get_or}
 use mathlib.Core.Path.{refl}
-use Prim.Native.Nat.{◌≤◌, ◌-◌}
-use borrow.Author.Rules.{rules}
 use native.Mathlib.Omega.{arith}
 use Rattle.even.proofs.reaching.through_tables.Goals as goal
 

@@ -1,16 +1,12 @@
 -- What the loops of `even::reaching::through_tables` keep.
 use Rattle.even.specs.Reading.{through_at}
-use Rattle.finite.proofs.Tables.{Upto, upto-start, upto-set, upto-end}
+use Rattle.finite.proofs.Tables.{Upto}
 use Rattle.finite.specs.Finite.{tab}
 use lib.ListN.{get_or}
-use mathlib.Core.Path.{refl}
 use mathlib.Core.List.{[]}
-use Prim.Native.Nat.{◌≤◌, ◌-◌}
+use Prim.Native.Nat.{◌≤◌}
 use lib.ListN.{get_or}
-use mathlib.Core.Path.{refl}
-use Prim.Native.Nat.{◌≤◌, ◌-◌}
-use borrow.Author.Rules.{rules}
-use native.Mathlib.Omega.{arith}
+use Prim.Native.Nat.{◌≤◌}
 use Rattle.even.proofs.reaching.through_tables.Given as goal
 
 abbrev pub invariant-loop-t : goal.invariant-loop-t

@@ -1,7 +1,5 @@
 -- `even::reaching::with_link` meets its contract. Assumes nothing.
 use Rattle.even.proofs.LinkLaws.{link-from-none, link-to-none, link_here}
-use Prim.Native.Nat.{◌-◌}
-use borrow.Author.Rules.{rules}
 use Rattle.even.proofs.reaching.with_link.Goals as goal
 
 pub returns-then-s-ge-TABLES : goal.returns-then-s-ge-TABLES

@@ -1,8 +1,5 @@
 -- `even::walking::no_steps` meets its contract. Assumes nothing.
-use Rattle.even.proofs.KnotCode.{Started, none-started, more-started, all-started}
-use Prim.Native.Nat.{◌≤◌, ◌-◌}
-use Prim.Native.Nat.{◌≤◌, ◌-◌}
-use borrow.Author.Rules.{rules}
+use Rattle.even.proofs.KnotCode.{none-started, more-started, all-started}
 use native.Mathlib.Omega.{arith}
 use Rattle.even.proofs.walking.no_steps.Goals as goal
 

@@ -1,9 +1,7 @@
 -- What the loops of `even::walking::no_steps` keep.
-use Rattle.even.proofs.KnotCode.{Started, none-started, more-started, all-started}
-use Prim.Native.Nat.{◌≤◌, ◌-◌}
-use Prim.Native.Nat.{◌≤◌, ◌-◌}
-use borrow.Author.Rules.{rules}
-use native.Mathlib.Omega.{arith}
+use Rattle.even.proofs.KnotCode.{Started}
+use Prim.Native.Nat.{◌≤◌}
+use Prim.Native.Nat.{◌≤◌}
 use Rattle.even.proofs.walking.no_steps.Given as goal
 
 abbrev pub invariant-loop-t : goal.invariant-loop-t

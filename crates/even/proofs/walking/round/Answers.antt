@@ -1,12 +1,7 @@
 -- `even::walking::round` meets its contract. Assumes nothing.
-use Rattle.even.proofs.KnotCode.{Rounded, round-start, round-read, round-done, cheap-far}
+use Rattle.even.proofs.KnotCode.{round-start, round-read, round-done, cheap-far}
 use Rattle.even.proofs.LinkLaws.{laid}
-use Rattle.even.specs.Reading.{Laid}
 use Rattle.state.specs.Meaning.{scheme_of}
-use Rattle.model.specs.Scheme.{Scheme}
-use Prim.Native.Nat.{◌≤◌, ◌-◌}
-use Prim.Native.Nat.{◌≤◌, ◌-◌}
-use borrow.Author.Rules.{rules}
 use native.Mathlib.Omega.{arith}
 use Rattle.even.proofs.walking.round.Goals as goal
 

@@ -1,13 +1,9 @@
 -- What the loops of `even::walking::round` keep.
-use Rattle.even.proofs.KnotCode.{Rounded, round-start, round-read, round-done, cheap-far}
-use Rattle.even.proofs.LinkLaws.{laid}
+use Rattle.even.proofs.KnotCode.{Rounded}
 use Rattle.even.specs.Reading.{Laid}
-use Rattle.state.specs.Meaning.{scheme_of}
 use Rattle.model.specs.Scheme.{Scheme}
-use Prim.Native.Nat.{◌≤◌, ◌-◌}
-use Prim.Native.Nat.{◌≤◌, ◌-◌}
-use borrow.Author.Rules.{rules}
-use native.Mathlib.Omega.{arith}
+use Prim.Native.Nat.{◌≤◌}
+use Prim.Native.Nat.{◌≤◌}
 use Rattle.even.proofs.walking.round.Given as goal
 
 abbrev pub invariant-loop-e : goal.invariant-loop-e

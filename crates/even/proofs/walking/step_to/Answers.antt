@@ -1,9 +1,6 @@
 -- `even::walking::step_to` meets its contract. Assumes nothing.
-use Prim.Native.Nat.{◌+◌, ◌*◌, ◌≤◌, ◌-◌}
+use Prim.Native.Nat.{◌+◌, ◌*◌}
 use Rattle.even.proofs.KnotCode.{step_start, step-more, step_end}
-use Rattle.even.specs.Walks.{Stepped}
-use Prim.Native.Nat.{◌≤◌, ◌-◌}
-use borrow.Author.Rules.{rules}
 use native.Mathlib.Omega.{arith}
 use Rattle.even.proofs.walking.step_to.Goals as goal
 

@@ -1,10 +1,7 @@
 -- What the loops of `even::walking::step_to` keep.
-use Prim.Native.Nat.{◌+◌, ◌*◌, ◌≤◌, ◌-◌}
-use Rattle.even.proofs.KnotCode.{step_start, step-more, step_end}
+use Prim.Native.Nat.{◌≤◌}
 use Rattle.even.specs.Walks.{Stepped}
-use Prim.Native.Nat.{◌≤◌, ◌-◌}
-use borrow.Author.Rules.{rules}
-use native.Mathlib.Omega.{arith}
+use Prim.Native.Nat.{◌≤◌}
 use Rattle.even.proofs.walking.step_to.Given as goal
 
 abbrev pub invariant-loop-u : goal.invariant-loop-u

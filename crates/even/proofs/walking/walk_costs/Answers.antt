@@ -1,10 +1,6 @@
 -- `even::walking::walk_costs` meets its contract. Assumes nothing.
 use Rattle.even.proofs.KnotCode.{cheap-next, cheap-end}
-use Rattle.even.specs.Walks.{Cheap}
 use Rattle.state.specs.Meaning.{scheme_of}
-use Prim.Native.Nat.{◌≤◌, ◌-◌}
-use Prim.Native.Nat.{◌≤◌, ◌-◌}
-use borrow.Author.Rules.{rules}
 use native.Mathlib.Omega.{arith}
 use Rattle.even.proofs.walking.walk_costs.Goals as goal
 

@@ -1,11 +1,8 @@
 -- What the loops of `even::walking::walk_costs` keep.
-use Rattle.even.proofs.KnotCode.{cheap-next, cheap-end}
 use Rattle.even.specs.Walks.{Cheap}
 use Rattle.state.specs.Meaning.{scheme_of}
 use Prim.Native.Nat.{◌≤◌, ◌-◌}
 use Prim.Native.Nat.{◌≤◌, ◌-◌}
-use borrow.Author.Rules.{rules}
-use native.Mathlib.Omega.{arith}
 use Rattle.even.proofs.walking.walk_costs.Given as goal
 
 abbrev pub invariant-loop : goal.invariant-loop

@@ -1,6 +1,5 @@
 -- `even::weighing::pair_weight` meets its contract: one constraint, or two. Assumes nothing.
 use mathlib.Core.Path.{◌∙◌}
-use borrow.Author.Rules.{rules}
 use Prim.Native.Nat.{◌+◌}
 use Rattle.even.proofs.KnotCode.{pair_one, pair-two}
 use Rattle.even.proofs.weighing.pair_weight.Goals as goal

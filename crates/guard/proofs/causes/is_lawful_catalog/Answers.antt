@@ -1,7 +1,6 @@
 -- `guard::causes::is_lawful_catalog` meets its contract: the design, the rows, the held values, the catalog, unique columns, then the marks. Assumes nothing.
 use mathlib.Core.Path.{refl, sym, ◌∙◌}
 use mathlib.Core.Bool.{and-eq-true_iff}
-use borrow.Author.Rules.{rules}
 use borrow.Author.Tests.{not-true, not-false}
 use Rattle.finite.proofs.Bools.{clash, refute, and-go, and-stop}
 use Rattle.state.specs.HeldWords.{words_held, narrow_held}

@@ -1,16 +1,9 @@
 -- `guard::distinct::is_distinct` meets its contract: a loop that leaves at the first row that has a next row. Assumes nothing.
-use Prim.Native.Nat.{◌-◌, ◌≤◌}
 use native.Mathlib.Omega.{arith}
-use mathlib.Core.Bool.{not, true}
-use mathlib.Core.Path.{◌∙◌, ◌≡◌, ap, sym}
-use borrow.Author.Rules.{rules}
-use lib.ListN.{get_or}
+use mathlib.Core.Bool.{not}
+use mathlib.Core.Path.{◌∙◌, ap, sym}
 use Rattle.finite.proofs.Search.{all_end, all_more, all_start, all-stop}
-use Rattle.finite.specs.Finite.{all, any}
-use Rattle.model.specs.Database.{Database}
-use Rattle.state.specs.Design.{table_at}
-use Rattle.catalog.specs.Catalog.{Links}
-use Rattle.guard.specs.Distinct.{distinct, linked_at}
+use Rattle.guard.specs.Distinct.{distinct}
 use Rattle.guard.proofs.distinct.is_distinct.Goals as goal
 
 pub loop-r-init : goal.loop-r-init

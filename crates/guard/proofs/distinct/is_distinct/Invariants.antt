@@ -1,16 +1,13 @@
 -- What the loops of `guard::distinct::is_distinct` keep.
-use Prim.Native.Nat.{◌-◌, ◌≤◌}
-use native.Mathlib.Omega.{arith}
+use Prim.Native.Nat.{◌≤◌}
 use mathlib.Core.Bool.{not, true}
-use mathlib.Core.Path.{◌∙◌, ◌≡◌, ap, sym}
-use borrow.Author.Rules.{rules}
+use mathlib.Core.Path.{◌≡◌}
 use lib.ListN.{get_or}
-use Rattle.finite.proofs.Search.{all_end, all_more, all_start, all-stop}
 use Rattle.finite.specs.Finite.{all, any}
 use Rattle.model.specs.Database.{Database}
 use Rattle.state.specs.Design.{table_at}
 use Rattle.catalog.specs.Catalog.{Links}
-use Rattle.guard.specs.Distinct.{distinct, linked_at}
+use Rattle.guard.specs.Distinct.{linked_at}
 use Rattle.guard.proofs.distinct.is_distinct.Given as goal
 
 abbrev pub invariant-loop-r : goal.invariant-loop-r

@@ -1,7 +1,6 @@
 -- `guard::distinct::links_at` meets its contract: the column is unique, and the link is a row. Assumes nothing.
 use Prim.Native.Nat.{ℕ}
 use mathlib.Core.Path.{◌∙◌, ap, sym}
-use borrow.Author.Rules.{rules}
 use borrow.Author.Tests.{not-false, not-true}
 use lib.Dec.{ltb}
 use Rattle.finite.proofs.Bools.{and-go, and-stop}

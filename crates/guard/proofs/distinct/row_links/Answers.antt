@@ -1,13 +1,7 @@
 -- `guard::distinct::row_links` meets its contract: a search among the columns. Assumes nothing.
-use Prim.Native.Nat.{◌-◌, ◌≤◌}
 use native.Mathlib.Omega.{arith}
-use mathlib.Core.Bool.{false}
-use mathlib.Core.Path.{◌∙◌, ◌≡◌, sym}
+use mathlib.Core.Path.{◌∙◌, sym}
 use Rattle.finite.proofs.Search.{any-end, any-hit, any-more, any-start}
-use Rattle.finite.specs.Finite.{any}
-use Rattle.model.specs.Database.{Database}
-use Rattle.catalog.specs.Catalog.{Links}
-use Rattle.guard.specs.Distinct.{linked_at}
 use Rattle.guard.proofs.distinct.row_links.Goals as goal
 
 pub loop-c-init : goal.loop-c-init

@@ -1,9 +1,7 @@
 -- What the loops of `guard::distinct::row_links` keep.
-use Prim.Native.Nat.{◌-◌, ◌≤◌}
-use native.Mathlib.Omega.{arith}
+use Prim.Native.Nat.{◌≤◌}
 use mathlib.Core.Bool.{false}
-use mathlib.Core.Path.{◌∙◌, ◌≡◌, sym}
-use Rattle.finite.proofs.Search.{any-end, any-hit, any-more, any-start}
+use mathlib.Core.Path.{◌≡◌}
 use Rattle.finite.specs.Finite.{any}
 use Rattle.model.specs.Database.{Database}
 use Rattle.catalog.specs.Catalog.{Links}

@@ -1,14 +1,7 @@
 -- `lawful::constraints::constraint_before` meets its contract. The invariant: none of the constraints passed is the same. Assumes nothing.
-use Prim.Native.Nat.{◌-◌, ◌≤◌}
 use native.Mathlib.Omega.{arith}
-use mathlib.Core.Bool.{false}
-use mathlib.Core.Path.{◌∙◌, ◌≡◌, sym}
-use borrow.Author.Rules.{rules}
-use lib.ListN.{get_or}
+use mathlib.Core.Path.{◌∙◌, sym}
 use Rattle.finite.proofs.Search.{any-end, any-hit, any-more, any-start}
-use Rattle.finite.specs.Finite.{any}
-use Rattle.state.specs.Design.{no_constraint}
-use Rattle.state.specs.Lawful.{same_constraint}
 use Rattle.lawful.proofs.constraints.constraint_before.Goals as goal
 
 pub loop-i-init : goal.loop-i-init

@@ -1,11 +1,8 @@
 -- What the loops of `lawful::constraints::constraint_before` keep.
-use Prim.Native.Nat.{◌-◌, ◌≤◌}
-use native.Mathlib.Omega.{arith}
+use Prim.Native.Nat.{◌≤◌}
 use mathlib.Core.Bool.{false}
-use mathlib.Core.Path.{◌∙◌, ◌≡◌, sym}
-use borrow.Author.Rules.{rules}
+use mathlib.Core.Path.{◌≡◌}
 use lib.ListN.{get_or}
-use Rattle.finite.proofs.Search.{any-end, any-hit, any-more, any-start}
 use Rattle.finite.specs.Finite.{any}
 use Rattle.state.specs.Design.{no_constraint}
 use Rattle.state.specs.Lawful.{same_constraint}

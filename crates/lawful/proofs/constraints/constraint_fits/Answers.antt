@@ -1,7 +1,6 @@
 -- `lawful::constraints::constraint_fits` meets its contract: each early return is one step along the conjunction that `constraintFits` is. Assumes nothing.
 use mathlib.Core.Bool.{not}
 use mathlib.Core.Path.{◌∙◌, ap, sym}
-use borrow.Author.Rules.{rules}
 use borrow.Author.Tests.{not-false, not-true}
 use Rattle.finite.proofs.Bools.{and-go, and-stop}
 use Rattle.state.specs.Lawful.{constraint_fits}

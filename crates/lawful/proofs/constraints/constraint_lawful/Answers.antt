@@ -1,5 +1,4 @@
 -- `lawful::constraints::constraint_lawful` meets its contract. Assumes nothing.
-use borrow.Author.Rules.{rules}
 use Rattle.state.proofs.Places.{unused, used}
 use Rattle.lawful.proofs.constraints.constraint_lawful.Goals as goal
 

@@ -1,6 +1,5 @@
 -- `lawful::designs::lawful_design` meets its contract: each early return is one step along the conjunction that `lawfulDesign` is. Assumes nothing.
 use mathlib.Core.Path.{◌∙◌, sym}
-use borrow.Author.Rules.{rules}
 use borrow.Author.Tests.{not-false, not-true}
 use Rattle.finite.proofs.Bools.{and-go, and-stop}
 use Rattle.state.specs.Lawful.{lawful_design}

@@ -1,15 +1,7 @@
 -- `lawful::fillings::column_filled` meets its contract. The invariant: none of the fillings passed has the column. Assumes nothing.
-use Prim.Native.Nat.{◌-◌, ◌≤◌}
 use native.Mathlib.Omega.{arith}
-use mathlib.Core.Bool.{false}
-use mathlib.Core.Path.{◌∙◌, ◌≡◌, sym}
-use borrow.Author.Rules.{rules}
-use lib.ListN.{get_or}
+use mathlib.Core.Path.{◌∙◌, sym}
 use Rattle.finite.proofs.Search.{any-end, any-hit, any-more, any-start}
-use Rattle.finite.specs.Finite.{any}
-use Rattle.model.specs.Scheme.{same_column}
-use Rattle.state.specs.Design.{no_filling}
-use Rattle.state.specs.Meaning.{column_of}
 use Rattle.lawful.proofs.fillings.column_filled.Goals as goal
 
 pub loop-i-init : goal.loop-i-init

@@ -1,5 +1,4 @@
 -- `lawful::fillings::filling_lawful` meets its contract. Assumes nothing.
-use borrow.Author.Rules.{rules}
 use Rattle.state.proofs.Places.{unused, used}
 use Rattle.lawful.proofs.fillings.filling_lawful.Goals as goal
 

@@ -1,11 +1,7 @@
 -- What the loops of `lawful::fillings::fillings_lawful` keep.
-use Prim.Native.Nat.{◌-◌, ◌≤◌}
-use native.Mathlib.Omega.{arith}
+use Prim.Native.Nat.{◌≤◌}
 use mathlib.Core.Bool.{true}
-use mathlib.Core.Path.{◌∙◌, ◌≡◌, sym}
-use borrow.Author.Rules.{rules}
-use borrow.Author.Tests.{not-false, not-true}
-use Rattle.finite.proofs.Search.{all_end, all_more, all_start, all-stop}
+use mathlib.Core.Path.{◌≡◌}
 use Rattle.finite.specs.Finite.{all}
 use Rattle.lawful.specs.Parts.{filling_lawful}
 use Rattle.lawful.proofs.fillings.fillings_lawful.Given as goal

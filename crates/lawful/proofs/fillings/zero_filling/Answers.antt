@@ -1,6 +1,5 @@
 -- `lawful::fillings::zero_filling` meets its contract. Assumes nothing.
 use mathlib.Core.Path.{◌∙◌, refl, sym}
-use borrow.Author.Rules.{rules}
 use borrow.Author.Tests.{eq-eqb, ne_eqb, not-false, not-true}
 use Rattle.finite.proofs.Bools.{and-go, and-stop}
 use Rattle.state.specs.Lawful.{zero_filling}

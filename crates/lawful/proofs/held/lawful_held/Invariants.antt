@@ -1,20 +1,12 @@
 -- What the loops of `lawful::held::lawful_held` keep.
-use Prim.Native.Nat.{◌-◌, ◌≤◌}
+use Prim.Native.Nat.{◌≤◌}
 use mathlib.Core.Bool.{true}
-use mathlib.Core.Path.{◌∙◌, ◌≡◌, sym}
-use borrow.Author.Tests.{le-leb, le-ltb, lt-leb, lt-ltb, not-false, not-true}
-use Rattle.finite.proofs.Bools.{and-go, and-stop}
-use Rattle.finite.proofs.Search.{all_end, all_more, all_start, all-stop}
+use mathlib.Core.Path.{◌≡◌}
 use Rattle.finite.specs.Finite.{all}
 use Rattle.state.specs.HeldWords.{words_held}
-use Rattle.state.specs.Lawful.{lawful_held}
 use Rattle.lawful.specs.Parts.{held_lawful}
-use lib.ListN.{get_or, length}
-use mathlib.Core.Logic.{⊎_elim}
-use mathlib.Core.Path.{◌≡◌, refl, sym, ap, subst, ◌∙◌}
-use Prim.Native.Nat.{ℕ, ◌≤◌, ◌<◌, ◌-◌}
-use borrow.Author.Rules.{rules}
-use native.Mathlib.Omega.{arith}
+use mathlib.Core.Path.{◌≡◌}
+use Prim.Native.Nat.{◌≤◌}
 use Rattle.lawful.proofs.held.lawful_held.Given as goal
 
 abbrev pub invariant-loop-i : goal.invariant-loop-i

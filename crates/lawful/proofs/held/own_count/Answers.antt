@@ -1,18 +1,10 @@
-use Prim.Native.Nat.{ℕ, ◌-◌, ◌≤◌}
-use mathlib.Core.Path.{◌∙◌, ◌≡◌, ap, sym}
+use mathlib.Core.Path.{◌∙◌, ap, sym}
 use borrow.Author.Tests.{eq-eqb, ne_eqb}
 use lib.Dec.{eqb}
 use Rattle.finite.proofs.Counting.{count-end, count-hit, count-miss, count-start}
-use Rattle.finite.specs.Finite as Finite
 use Rattle.state.specs.declared.held.OwnedValue.{OwnedValue}
-use Rattle.state.specs.Held.{held_at}
-use Rattle.state.specs.HeldWords.{words_held}
 use Rattle.state.specs.Lawful.{own_count}
-use lib.ListN.{get_or, length}
-use mathlib.Core.Logic.{⊎_elim}
-use mathlib.Core.Path.{◌≡◌, refl, sym, ap, subst, ◌∙◌}
-use Prim.Native.Nat.{ℕ, ◌≤◌, ◌<◌, ◌-◌}
-use borrow.Author.Rules.{rules}
+use mathlib.Core.Path.{sym, ap, ◌∙◌}
 use native.Mathlib.Omega.{arith}
 use Rattle.lawful.proofs.held.own_count.Goals as goal
 use Rattle.lawful.proofs.held.own_count.Goals.{then-v-desk, else-v-desk}

@@ -1,18 +1,8 @@
-use Prim.Native.Nat.{◌-◌, ◌≤◌}
-use mathlib.Core.Bool.{true}
-use mathlib.Core.Path.{◌∙◌, ◌≡◌, sym}
+use mathlib.Core.Path.{◌∙◌, sym}
 use borrow.Author.Tests.{not-false, not-true}
 use Rattle.finite.proofs.Search.{all_end, all_more, all_start, all-stop}
-use Rattle.finite.specs.Finite.{all}
 use Rattle.model.specs.Holding.{desks}
-use Rattle.state.specs.Held.{ranges_at}
-use Rattle.state.specs.HeldWords.{words_held}
-use Rattle.state.specs.Lawful.{lawful_ranges}
-use lib.ListN.{get_or, length}
-use mathlib.Core.Logic.{⊎_elim}
-use mathlib.Core.Path.{◌≡◌, refl, sym, ap, subst, ◌∙◌}
-use Prim.Native.Nat.{ℕ, ◌≤◌, ◌<◌, ◌-◌}
-use borrow.Author.Rules.{rules}
+use mathlib.Core.Path.{sym, ◌∙◌}
 use native.Mathlib.Omega.{arith}
 use Rattle.lawful.proofs.held.ranges_lawful.Goals as goal
 

@@ -1,16 +1,11 @@
 -- `lawful::held::shares_kept` meets its contract. The invariant: the desks passed have no more than their share. Assumes nothing.
-use Prim.Native.Nat.{ℕ, ◌-◌, ◌≤◌}
+use Prim.Native.Nat.{ℕ}
 use native.Mathlib.Omega.{arith}
-use mathlib.Core.Bool.{true}
-use mathlib.Core.Path.{◌∙◌, ◌≡◌, ap, sym}
-use borrow.Author.Rules.{rules}
+use mathlib.Core.Path.{◌∙◌, ap, sym}
 use borrow.Author.Tests.{le-leb, lt-leb}
 use lib.Dec.{leb}
 use Rattle.finite.proofs.Search.{all_end, all_more, all_start, all-stop}
-use Rattle.finite.specs.Finite.{all}
 use Rattle.model.specs.Holding.{desks, places}
-use Rattle.state.specs.HeldWords.{words_held}
-use Rattle.state.specs.Lawful.{own_count}
 use Rattle.lawful.proofs.held.shares_kept.Goals as goal
 
 pub loop-desk-init : goal.loop-desk-init

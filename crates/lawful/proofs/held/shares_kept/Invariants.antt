@@ -1,12 +1,8 @@
 -- What the loops of `lawful::held::shares_kept` keep.
-use Prim.Native.Nat.{ℕ, ◌-◌, ◌≤◌}
-use native.Mathlib.Omega.{arith}
+use Prim.Native.Nat.{◌≤◌}
 use mathlib.Core.Bool.{true}
-use mathlib.Core.Path.{◌∙◌, ◌≡◌, ap, sym}
-use borrow.Author.Rules.{rules}
-use borrow.Author.Tests.{le-leb, lt-leb}
+use mathlib.Core.Path.{◌≡◌}
 use lib.Dec.{leb}
-use Rattle.finite.proofs.Search.{all_end, all_more, all_start, all-stop}
 use Rattle.finite.specs.Finite.{all}
 use Rattle.model.specs.Holding.{desks, places}
 use Rattle.state.specs.HeldWords.{words_held}

@@ -1,5 +1,4 @@
 -- `lawful::held::zero_held` meets its contract. Assumes nothing.
-use borrow.Author.Rules.{rules}
 use borrow.Author.Tests.{eq-eqb, ne_eqb}
 use Rattle.finite.proofs.Bools.{and-go, and-stop}
 use Rattle.state.specs.Lawful.{zero_held}

@@ -1,6 +1,5 @@
 -- `lawful::ranges::only_candidates` meets its contract: the two ends, one after the other. Assumes nothing.
 use mathlib.Core.Path.{◌∙◌, sym}
-use borrow.Author.Rules.{rules}
 use borrow.Author.Tests.{not-false, not-true}
 use Rattle.finite.proofs.Bools.{and-go, and-stop}
 use Rattle.model.specs.Ranges.{only_candidates}

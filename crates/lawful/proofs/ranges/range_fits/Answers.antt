@@ -1,6 +1,5 @@
 -- `lawful::ranges::range_fits` meets its contract: each early return is one step along the conjunction that `rangeFits` is. Assumes nothing.
 use mathlib.Core.Path.{◌∙◌, sym}
-use borrow.Author.Rules.{rules}
 use borrow.Author.Tests.{eq-eqb, ne_eqb, not-false, not-true}
 use Rattle.finite.proofs.Bools.{and-go, and-stop, or-go, or_left}
 use Rattle.state.specs.Lawful.{range_fits}

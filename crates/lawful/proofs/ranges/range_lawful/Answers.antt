@@ -1,5 +1,4 @@
 -- `lawful::ranges::range_lawful` meets its contract. Assumes nothing.
-use borrow.Author.Rules.{rules}
 use Rattle.state.proofs.Places.{unused, used}
 use Rattle.lawful.proofs.ranges.range_lawful.Goals as goal
 

@@ -1,6 +1,5 @@
 -- `lawful::rows::blank_row` meets its contract. Assumes nothing.
 use mathlib.Core.Path.{◌∙◌}
-use borrow.Author.Rules.{rules}
 use Rattle.lawful.proofs.RowTests.{blank-cells}
 use Rattle.lawful.proofs.rows.blank_row.Goals as goal
 

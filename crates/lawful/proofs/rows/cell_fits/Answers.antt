@@ -1,6 +1,5 @@
 -- `lawful::rows::cell_fits` meets its contract, test by test. Assumes nothing.
 use mathlib.Core.Path.{sym, ◌∙◌}
-use borrow.Author.Rules.{rules}
 use Rattle.lawful.proofs.RowTests.{fits-blank, fits-issue, fits-number}
 use Rattle.lawful.proofs.rows.cell_fits.Goals as goal
 

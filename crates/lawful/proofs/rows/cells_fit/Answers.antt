@@ -1,14 +1,8 @@
 -- `lawful::rows::cells_fit` meets its contract. The invariant: the cells passed fit. Assumes nothing.
-use Prim.Native.Nat.{◌-◌, ◌≤◌}
 use native.Mathlib.Omega.{arith}
-use mathlib.Core.Bool.{true}
-use mathlib.Core.Path.{◌∙◌, ◌≡◌, sym}
-use borrow.Author.Rules.{rules}
+use mathlib.Core.Path.{◌∙◌, sym}
 use borrow.Author.Tests.{not-false, not-true}
-use Rattle.state.specs.Cells.{cells_in}
 use Rattle.finite.proofs.Search.{all_end, all_more, all_start, all-stop}
-use Rattle.finite.specs.Finite.{all}
-use Rattle.lawful.specs.Parts.{cell_fits_at}
 use Rattle.lawful.proofs.rows.cells_fit.Goals as goal
 
 pub loop-c-init : goal.loop-c-init

@@ -1,12 +1,8 @@
 -- What the loops of `lawful::rows::cells_fit` keep.
-use Prim.Native.Nat.{◌-◌, ◌≤◌}
-use native.Mathlib.Omega.{arith}
+use Prim.Native.Nat.{◌≤◌}
 use mathlib.Core.Bool.{true}
-use mathlib.Core.Path.{◌∙◌, ◌≡◌, sym}
-use borrow.Author.Rules.{rules}
-use borrow.Author.Tests.{not-false, not-true}
+use mathlib.Core.Path.{◌≡◌}
 use Rattle.state.specs.Cells.{cells_in}
-use Rattle.finite.proofs.Search.{all_end, all_more, all_start, all-stop}
 use Rattle.finite.specs.Finite.{all}
 use Rattle.lawful.specs.Parts.{cell_fits_at}
 use Rattle.lawful.proofs.rows.cells_fit.Given as goal

@@ -1,13 +1,8 @@
 -- `lawful::rows::operand_cells_fit` meets its contract. The invariant: the cells passed fit. Assumes nothing.
-use Prim.Native.Nat.{◌-◌, ◌≤◌}
 use native.Mathlib.Omega.{arith}
-use mathlib.Core.Bool.{true}
-use mathlib.Core.Path.{◌∙◌, ◌≡◌, ap, sym}
-use borrow.Author.Rules.{rules}
+use mathlib.Core.Path.{◌∙◌, ap, sym}
 use borrow.Author.Tests.{not-false, not-true}
 use Rattle.finite.proofs.Search.{all_end, all_more, all_start, all-stop}
-use Rattle.finite.specs.Finite.{all}
-use Rattle.state.specs.Changes.{row_cell}
 use Rattle.state.specs.Lawful.{cell_fits}
 use Rattle.lawful.proofs.rows.operand_cells_fit.Goals as goal
 

@@ -1,11 +1,7 @@
 -- What the loops of `lawful::rows::operand_cells_fit` keep.
-use Prim.Native.Nat.{◌-◌, ◌≤◌}
-use native.Mathlib.Omega.{arith}
+use Prim.Native.Nat.{◌≤◌}
 use mathlib.Core.Bool.{true}
-use mathlib.Core.Path.{◌∙◌, ◌≡◌, ap, sym}
-use borrow.Author.Rules.{rules}
-use borrow.Author.Tests.{not-false, not-true}
-use Rattle.finite.proofs.Search.{all_end, all_more, all_start, all-stop}
+use mathlib.Core.Path.{◌≡◌}
 use Rattle.finite.specs.Finite.{all}
 use Rattle.state.specs.Changes.{row_cell}
 use Rattle.state.specs.Lawful.{cell_fits}

@@ -1,6 +1,5 @@
 -- `lawful::rows::operands_fit` meets its contract. Assumes nothing.
 use mathlib.Core.Path.{◌∙◌}
-use borrow.Author.Rules.{rules}
 use Rattle.lawful.proofs.RowTests.{operands-table, operands-elsewhere}
 use Rattle.lawful.proofs.rows.operands_fit.Goals as goal
 

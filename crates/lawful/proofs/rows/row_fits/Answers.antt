@@ -1,7 +1,5 @@
 -- `lawful::rows::row_fits` meets its contract. Assumes nothing.
-use native.Mathlib.Omega.{arith}
 use mathlib.Core.Path.{◌∙◌}
-use borrow.Author.Rules.{rules}
 use Rattle.lawful.proofs.RowTests.{fits-table, fits-elsewhere}
 use Rattle.lawful.proofs.rows.row_fits.Goals as goal
 

@@ -1,6 +1,5 @@
 -- `lawful::rows::row_stands` meets its contract. Assumes nothing.
 use mathlib.Core.Path.{sym, ◌∙◌}
-use borrow.Author.Rules.{rules}
 use borrow.Author.Tests.{not-true, not-false}
 use Rattle.finite.proofs.Bools.{cond-true, cond-false}
 use Rattle.lawful.proofs.rows.row_stands.Goals as goal

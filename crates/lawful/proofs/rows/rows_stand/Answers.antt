@@ -1,13 +1,9 @@
 -- `lawful::rows::rows_stand` meets its contract. The invariant: the row numbers passed stand. Assumes nothing.
-use Prim.Native.Nat.{◌-◌, ◌≤◌}
 use native.Mathlib.Omega.{arith}
-use mathlib.Core.Bool.{true}
-use mathlib.Core.Path.{◌∙◌, ◌≡◌, sym}
+use mathlib.Core.Path.{◌∙◌, sym}
 use borrow.Author.Tests.{not-false, not-true}
-use Rattle.state.specs.Cells.{cells_in}
 use Rattle.finite.proofs.Search.{all_end, all_more, all_start, all-stop}
-use Rattle.finite.specs.Finite.{all}
-use Rattle.lawful.specs.Parts.{row_stands, rows_stand}
+use Rattle.lawful.specs.Parts.{rows_stand}
 use Rattle.lawful.proofs.rows.rows_stand.Goals as goal
 
 pub loop-r-init : goal.loop-r-init

@@ -1,13 +1,10 @@
 -- What the loops of `lawful::rows::rows_stand` keep.
-use Prim.Native.Nat.{◌-◌, ◌≤◌}
-use native.Mathlib.Omega.{arith}
+use Prim.Native.Nat.{◌≤◌}
 use mathlib.Core.Bool.{true}
-use mathlib.Core.Path.{◌∙◌, ◌≡◌, sym}
-use borrow.Author.Tests.{not-false, not-true}
+use mathlib.Core.Path.{◌≡◌}
 use Rattle.state.specs.Cells.{cells_in}
-use Rattle.finite.proofs.Search.{all_end, all_more, all_start, all-stop}
 use Rattle.finite.specs.Finite.{all}
-use Rattle.lawful.specs.Parts.{row_stands, rows_stand}
+use Rattle.lawful.specs.Parts.{row_stands}
 use Rattle.lawful.proofs.rows.rows_stand.Given as goal
 
 abbrev pub invariant-loop-r : goal.invariant-loop-r

@@ -1,6 +1,5 @@
 -- `lawful::tables::has_bit` meets its contract: a byte has no bit past the eighth. Assumes nothing.
 use mathlib.Core.Path.{refl}
-use borrow.Author.Rules.{rules}
 use Rattle.state.specs.Meaning.{bit}
 use Rattle.lawful.proofs.Bits.{bit_past}
 use Rattle.lawful.proofs.tables.has_bit.Goals as goal

@@ -1,5 +1,4 @@
 -- `lawful::tables::is_column` meets its contract. Assumes nothing.
-use borrow.Author.Rules.{rules}
 use borrow.Author.Tests.{le-ltb, lt-ltb}
 use Rattle.finite.proofs.Bools.{and-go, and-stop}
 use Rattle.model.specs.Scheme.{is_column}

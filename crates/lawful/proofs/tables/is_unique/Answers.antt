@@ -1,6 +1,5 @@
 -- `lawful::tables::is_unique` meets its contract. Assumes nothing.
 use mathlib.Core.Path.{◌∙◌}
-use borrow.Author.Rules.{rules}
 use Rattle.state.specs.Meaning.{scheme_of}
 use Rattle.lawful.proofs.tables.is_unique.Goals as goal
 

@@ -1,6 +1,5 @@
 -- `lawful::tables::table_fits` meets its contract: each early return is one step along the conjunction that `tableFits` is. Assumes nothing.
 use mathlib.Core.Path.{ap}
-use borrow.Author.Rules.{rules}
 use borrow.Author.Tests.{le-leb, lt-leb}
 use lib.Dec.{ltb}
 use Rattle.finite.proofs.Bools.{and-go, and-stop}

@@ -1,13 +1,8 @@
 -- `lawful::tables::tables_lawful` meets its contract. The invariant: the places passed are lawful. Assumes nothing.
-use Prim.Native.Nat.{◌-◌, ◌≤◌}
 use native.Mathlib.Omega.{arith}
-use mathlib.Core.Bool.{true}
-use mathlib.Core.Path.{◌∙◌, ◌≡◌, sym}
-use borrow.Author.Rules.{rules}
+use mathlib.Core.Path.{◌∙◌, sym}
 use borrow.Author.Tests.{not-false, not-true}
 use Rattle.finite.proofs.Search.{all_end, all_more, all_start, all-stop}
-use Rattle.finite.specs.Finite.{all}
-use Rattle.lawful.specs.Parts.{table_lawful}
 use Rattle.lawful.proofs.tables.tables_lawful.Goals as goal
 
 pub loop-i-init : goal.loop-i-init

@@ -1,17 +1,10 @@
 -- `load::expanding::expand` meets its contract: a loop of steps to one level. Assumes nothing.
-use Prim.Native.Nat.{◌≤◌, ◌-◌}
 use native.Mathlib.Omega.{arith}
-use Rattle.finite.specs.Finite.{any}
 use Rattle.finite.proofs.Search.{any-start}
-use Rattle.model.specs.Scheme.{Scheme}
-use Rattle.model.specs.Database.{Database}
-use Rattle.model.specs.Rounds.{leads, demands}
+use Rattle.model.specs.Rounds.{demands}
 use Rattle.state.specs.Meaning.{scheme_of}
-use Rattle.catalog.specs.Catalog.{Demands}
-use Rattle.load.specs.Queue.{Grown}
-use Rattle.load.specs.Walked.{Walked}
 use Rattle.load.proofs.AlongLaws.{begins-leads, along-leads}
-use Rattle.load.proofs.PlaceLaws.{Targets, target_at, targets_of}
+use Rattle.load.proofs.PlaceLaws.{target_at, targets_of}
 use Rattle.load.proofs.QueueLaws.{grown-end, grown-start, grown-turn}
 use Rattle.load.proofs.expanding.expand.Goals as goal
 

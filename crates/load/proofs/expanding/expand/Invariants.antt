@@ -1,18 +1,13 @@
 -- What the loops of `load::expanding::expand` keep.
-use Prim.Native.Nat.{◌≤◌, ◌-◌}
-use native.Mathlib.Omega.{arith}
+use Prim.Native.Nat.{◌≤◌}
 use Rattle.finite.specs.Finite.{any}
-use Rattle.finite.proofs.Search.{any-start}
 use Rattle.model.specs.Scheme.{Scheme}
 use Rattle.model.specs.Database.{Database}
-use Rattle.model.specs.Rounds.{leads, demands}
-use Rattle.state.specs.Meaning.{scheme_of}
+use Rattle.model.specs.Rounds.{leads}
 use Rattle.catalog.specs.Catalog.{Demands}
 use Rattle.load.specs.Queue.{Grown}
 use Rattle.load.specs.Walked.{Walked}
-use Rattle.load.proofs.AlongLaws.{begins-leads, along-leads}
-use Rattle.load.proofs.PlaceLaws.{Targets, target_at, targets_of}
-use Rattle.load.proofs.QueueLaws.{grown-end, grown-start, grown-turn}
+use Rattle.load.proofs.PlaceLaws.{Targets}
 use Rattle.load.proofs.expanding.expand.Given as goal
 
 abbrev pub invariant-loop-i : goal.invariant-loop-i

@@ -1,11 +1,9 @@
 -- `load::expanding::target_places` meets its contract: a loop that stores. Assumes nothing.
-use Prim.Native.Nat.{◌-◌, ◌≤◌, ℕ}
+use Prim.Native.Nat.{ℕ}
 use native.Mathlib.Omega.{arith}
 use mathlib.Core.Path.{refl}
-use borrow.Author.Rules.{rules}
-use lib.ListN.{get_or, length-replicate}
-use Rattle.finite.proofs.Tables.{Upto, upto-end, upto-set, upto-start}
-use Rattle.state.specs.Design.{no_constraint}
+use lib.ListN.{length-replicate}
+use Rattle.finite.proofs.Tables.{upto-end, upto-set, upto-start}
 use Rattle.load.proofs.expanding.target_places.Goals as goal
 
 pub loop-i-init : goal.loop-i-init

@@ -1,10 +1,7 @@
 -- What the loops of `load::expanding::target_places` keep.
-use Prim.Native.Nat.{◌-◌, ◌≤◌, ℕ}
-use native.Mathlib.Omega.{arith}
-use mathlib.Core.Path.{refl}
-use borrow.Author.Rules.{rules}
-use lib.ListN.{get_or, length-replicate}
-use Rattle.finite.proofs.Tables.{Upto, upto-end, upto-set, upto-start}
+use Prim.Native.Nat.{◌≤◌}
+use lib.ListN.{get_or}
+use Rattle.finite.proofs.Tables.{Upto}
 use Rattle.state.specs.Design.{no_constraint}
 use Rattle.load.proofs.expanding.target_places.Given as goal
 

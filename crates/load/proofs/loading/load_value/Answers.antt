@@ -1,6 +1,5 @@
 -- `load::loading::load_value` meets its contract: round 0, and the later rounds to the end. Assumes nothing.
 use Prim.Native.Nat.{ℕ}
-use borrow.Author.Rules.{rules}
 use lib.ListN.{length-replicate}
 use Rattle.load.proofs.EndedLaws.{ended-load}
 use Rattle.load.proofs.StartLaws.{started-long, started-low}

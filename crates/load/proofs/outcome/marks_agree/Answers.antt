@@ -1,16 +1,9 @@
 -- `load::outcome::marks_agree` meets its contract: a loop that leaves at the first mark that differs. Assumes nothing.
-use Prim.Native.Nat.{◌-◌, ◌≤◌}
 use native.Mathlib.Omega.{arith}
-use mathlib.Core.Bool.{cond, true}
-use mathlib.Core.Path.{◌∙◌, ◌≡◌, sym}
-use borrow.Author.Rules.{rules}
+use mathlib.Core.Path.{◌∙◌, sym}
 use borrow.Author.Tests.{eq-eqb, ne_eqb}
-use lib.Dec.{eqb}
-use lib.ListN.{get_or}
 use Rattle.finite.proofs.Search.{all_end, all_more, all_start, all-stop}
-use Rattle.finite.specs.Finite.{all}
-use Rattle.model.specs.Rounds.{levels, reached}
-use Rattle.model.specs.Runs.{marks, taken}
+use Rattle.model.specs.Rounds.{reached}
 use Rattle.load.proofs.outcome.marks_agree.Goals as goal
 
 pub loop-r-init : goal.loop-r-init

@@ -1,16 +1,11 @@
 -- What the loops of `load::outcome::marks_agree` keep.
-use Prim.Native.Nat.{◌-◌, ◌≤◌}
-use native.Mathlib.Omega.{arith}
+use Prim.Native.Nat.{◌≤◌}
 use mathlib.Core.Bool.{cond, true}
-use mathlib.Core.Path.{◌∙◌, ◌≡◌, sym}
-use borrow.Author.Rules.{rules}
-use borrow.Author.Tests.{eq-eqb, ne_eqb}
+use mathlib.Core.Path.{◌≡◌}
 use lib.Dec.{eqb}
 use lib.ListN.{get_or}
-use Rattle.finite.proofs.Search.{all_end, all_more, all_start, all-stop}
 use Rattle.finite.specs.Finite.{all}
-use Rattle.model.specs.Rounds.{levels, reached}
-use Rattle.model.specs.Runs.{marks, taken}
+use Rattle.model.specs.Rounds.{reached}
 use Rattle.load.proofs.outcome.marks_agree.Given as goal
 
 abbrev pub invariant-loop-r : goal.invariant-loop-r

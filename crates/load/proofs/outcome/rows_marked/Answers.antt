@@ -1,11 +1,8 @@
 -- `load::outcome::rows_marked` meets its contract: a loop that counts. Assumes nothing.
-use Prim.Native.Nat.{◌-◌, ◌≤◌}
 use native.Mathlib.Omega.{arith}
-use mathlib.Core.Logic.{⊎_elim}
-use mathlib.Core.Path.{◌∙◌, ◌≡◌}
+use mathlib.Core.Path.{◌∙◌}
 use borrow.Author.Tests.{eq-eqb, ne_eqb}
 use Rattle.finite.proofs.Counting.{count-end, count-hit, count-miss, count-start}
-use Rattle.finite.specs.Finite.{count}
 use Rattle.model.specs.Runs.{marked}
 use Rattle.load.proofs.outcome.rows_marked.Goals as goal
 use Rattle.load.proofs.outcome.rows_marked.Goals.{then-marks-r-eq1, else-marks-r-eq1}

@@ -1,13 +1,8 @@
 -- `load::outcome::settle` meets its contract: a loop that stores in the front of the marks. Assumes nothing.
-use Prim.Native.Nat.{◌-◌, ◌≤◌}
 use native.Mathlib.Omega.{arith}
-use mathlib.Core.Bool.{cond}
 use mathlib.Core.Path.{refl}
-use borrow.Author.Rules.{rules}
-use lib.ListN.{get_or, length}
-use Rattle.finite.proofs.Tables.{Upto, upto-set, upto-start, upto-stored}
-use Rattle.model.specs.Rounds.{levels, reached}
-use Rattle.model.specs.Runs.{marks}
+use Rattle.finite.proofs.Tables.{upto-set, upto-start, upto-stored}
+use Rattle.model.specs.Rounds.{reached}
 use Rattle.load.proofs.outcome.settle.Goals as goal
 
 pub loop-r-init : goal.loop-r-init

@@ -1,13 +1,9 @@
 -- What the loops of `load::outcome::settle` keep.
-use Prim.Native.Nat.{◌-◌, ◌≤◌}
-use native.Mathlib.Omega.{arith}
+use Prim.Native.Nat.{◌≤◌}
 use mathlib.Core.Bool.{cond}
-use mathlib.Core.Path.{refl}
-use borrow.Author.Rules.{rules}
 use lib.ListN.{get_or, length}
-use Rattle.finite.proofs.Tables.{Upto, upto-set, upto-start, upto-stored}
-use Rattle.model.specs.Rounds.{levels, reached}
-use Rattle.model.specs.Runs.{marks}
+use Rattle.finite.proofs.Tables.{Upto}
+use Rattle.model.specs.Rounds.{reached}
 use Rattle.load.proofs.outcome.settle.Given as goal
 
 abbrev pub invariant-loop-r : goal.invariant-loop-r

@@ -2,7 +2,6 @@
 use mathlib.Core.Path.{sym}
 use borrow.Author.Tests.{le-ltb, lt-ltb}
 use Rattle.finite.proofs.Bools.{cond-false, cond-true}
-use Rattle.model.specs.Runs.{taken}
 use Rattle.load.proofs.outcome.settled_mark.Goals as goal
 
 pub returns-then-l-gt0 : goal.returns-then-l-gt0

@@ -1,7 +1,5 @@
 -- `load::queue::reach` meets its contract: a step to one row. Assumes nothing.
 use native.Mathlib.Omega.{arith}
-use borrow.Author.Rules.{rules}
-use Rattle.model.specs.Runs.{taken}
 use Rattle.load.proofs.QueueLaws.{grown-held, grown-one, grown-room}
 use Rattle.load.proofs.queue.reach.Goals as goal
 

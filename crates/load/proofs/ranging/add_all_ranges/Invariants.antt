@@ -1,15 +1,11 @@
 -- What the loops of `load::ranging::add_all_ranges` keep.
-use Prim.Native.Nat.{◌-◌, ◌≤◌}
-use native.Mathlib.Omega.{arith}
-use mathlib.Core.Path.{refl}
-use Rattle.finite.proofs.Search.{any-start}
+use Prim.Native.Nat.{◌≤◌}
 use Rattle.finite.specs.Finite.{any}
 use Rattle.model.specs.Database.{Database}
 use Rattle.state.specs.Held.{ranges_at}
 use Rattle.state.specs.HeldWords.{words_held}
 use Rattle.state.specs.Meaning.{scheme_of}
 use Rattle.catalog.specs.Catalog.{Indexed}
-use Rattle.load.proofs.QueueLaws.{grown-end, grown-start, grown-turn}
 use Rattle.load.specs.Queue.{Grown}
 use Rattle.load.specs.Ranges.{desk_wants}
 use Rattle.load.proofs.ranging.add_all_ranges.Given as goal

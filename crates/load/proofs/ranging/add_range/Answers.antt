@@ -1,18 +1,9 @@
 -- `load::ranging::add_range` meets its contract: a loop of steps to level 2, one for each value in the span. Assumes nothing.
-use Rattle.catalog.specs.Catalog.{Indexed}
-use Prim.Native.Nat.{◌+◌, ◌-◌, ◌≤◌}
 use native.Mathlib.Omega.{arith}
 use mathlib.Core.Path.{sym}
-use borrow.Author.Rules.{rules}
-use lib.ListN.{get_or}
-use Rattle.catalog.specs.Spans.{plain_value}
 use Rattle.finite.proofs.Search.{any-start}
-use Rattle.finite.specs.Finite.{any}
 use Rattle.load.proofs.AlongLaws.{along-has, begins-has}
 use Rattle.load.proofs.QueueLaws.{grown-end, grown-same, grown-start, grown-turn}
-use Rattle.load.specs.Queue.{Grown}
-use Rattle.model.specs.Database.{Database, has}
-use Rattle.state.specs.Meaning.{column_of}
 use Rattle.load.proofs.ranging.add_range.Goals as goal
 
 pub find_range-span-requires : goal.find_range-span-requires

@@ -1,15 +1,9 @@
 -- What the loops of `load::ranging::add_range` keep.
 use Rattle.catalog.specs.Catalog.{Indexed}
-use Prim.Native.Nat.{◌+◌, ◌-◌, ◌≤◌}
-use native.Mathlib.Omega.{arith}
-use mathlib.Core.Path.{sym}
-use borrow.Author.Rules.{rules}
+use Prim.Native.Nat.{◌+◌, ◌≤◌}
 use lib.ListN.{get_or}
 use Rattle.catalog.specs.Spans.{plain_value}
-use Rattle.finite.proofs.Search.{any-start}
 use Rattle.finite.specs.Finite.{any}
-use Rattle.load.proofs.AlongLaws.{along-has, begins-has}
-use Rattle.load.proofs.QueueLaws.{grown-end, grown-same, grown-start, grown-turn}
 use Rattle.load.specs.Queue.{Grown}
 use Rattle.model.specs.Database.{Database, has}
 use Rattle.state.specs.Meaning.{column_of}

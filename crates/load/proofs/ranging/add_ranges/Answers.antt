@@ -1,21 +1,13 @@
 -- `load::ranging::add_ranges` meets its contract: a loop of steps to level 2, one for each range. Assumes nothing.
-use Prim.Native.Nat.{◌-◌, ◌≤◌}
 use native.Mathlib.Omega.{arith}
 use mathlib.Core.Path.{ap}
-use borrow.Author.Rules.{rules}
 use lib.ListN.{get_or}
 use Rattle.finite.proofs.Search.{any-start}
-use Rattle.finite.specs.Finite.{any}
-use Rattle.model.specs.Database.{Database}
 use Rattle.model.specs.Ranges.{has_range}
 use Rattle.state.specs.declared.held.Range.{Range}
 use Rattle.state.specs.Design.{no_filling}
-use Rattle.state.specs.Held.{range_at, ranges_at}
-use Rattle.state.specs.HeldWords.{words_held}
 use Rattle.state.specs.Meaning.{column_of, range_of, scheme_of}
-use Rattle.catalog.specs.Catalog.{Indexed}
 use Rattle.load.proofs.QueueLaws.{grown-end, grown-start, grown-turn}
-use Rattle.load.specs.Queue.{Grown}
 use Rattle.load.proofs.ranging.add_ranges.Goals as goal
 
 pub range_count-n-requires : goal.range_count-n-requires

@@ -1,20 +1,14 @@
 -- What the loops of `load::ranging::add_ranges` keep.
-use Prim.Native.Nat.{◌-◌, ◌≤◌}
-use native.Mathlib.Omega.{arith}
-use mathlib.Core.Path.{ap}
-use borrow.Author.Rules.{rules}
+use Prim.Native.Nat.{◌≤◌}
 use lib.ListN.{get_or}
-use Rattle.finite.proofs.Search.{any-start}
 use Rattle.finite.specs.Finite.{any}
 use Rattle.model.specs.Database.{Database}
 use Rattle.model.specs.Ranges.{has_range}
-use Rattle.state.specs.declared.held.Range.{Range}
 use Rattle.state.specs.Design.{no_filling}
 use Rattle.state.specs.Held.{range_at, ranges_at}
 use Rattle.state.specs.HeldWords.{words_held}
-use Rattle.state.specs.Meaning.{column_of, range_of, scheme_of}
+use Rattle.state.specs.Meaning.{column_of, range_of}
 use Rattle.catalog.specs.Catalog.{Indexed}
-use Rattle.load.proofs.QueueLaws.{grown-end, grown-start, grown-turn}
 use Rattle.load.specs.Queue.{Grown}
 use Rattle.load.proofs.ranging.add_ranges.Given as goal
 

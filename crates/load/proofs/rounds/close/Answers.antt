@@ -2,13 +2,10 @@ use native.Mathlib.Omega.{arith}
 use Rattle.load.proofs.rounds.close.Goals as goal
 -- `load::rounds::close` meets its contract: what `run` gives, and nothing to do if round 0 added nothing. Assumes nothing.
 use mathlib.Core.Path.{sym, ◌∙◌}
-use borrow.Author.Rules.{rules}
 use Rattle.load.proofs.EndedLaws.{ended-whole}
 use Rattle.load.proofs.FrontLaws.{front-start, queue-empty}
 use Rattle.model.proofs.RoundsEnd.{running_none}
 use Rattle.load.proofs.WalkedLaws.{walked_none}
-use Rattle.load.proofs.rounds.close.Statement.{statement}
-use Rattle.load.proofs.rounds.close.Tie as tie
 
 pub returns-then-end-eq0 : goal.returns-then-end-eq0
 returns-then-end-eq0 c = λ D x.

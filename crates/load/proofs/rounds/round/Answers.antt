@@ -1,14 +1,6 @@
 -- `load::rounds::round` meets its contract: a loop of steps to one level, by the rows in the queue's front. Assumes nothing.
-use Rattle.model.specs.Database.{Database}
-use Rattle.catalog.specs.Catalog.{Demands}
-use Prim.Native.Nat.{◌+◌, ◌-◌, ◌≤◌}
 use native.Mathlib.Omega.{arith}
-use Rattle.finite.specs.Finite.{any}
-use Rattle.model.specs.Rounds.{demands}
-use Rattle.state.specs.Meaning.{scheme_of}
-use Rattle.load.specs.Queue.{Grown}
-use Rattle.load.specs.Walked.{Walked}
-use Rattle.load.proofs.FrontLaws.{asks, asks-here, asks_none, front-next, front-round}
+use Rattle.load.proofs.FrontLaws.{asks-here, asks_none, front-next, front-round}
 use Rattle.load.proofs.QueueLaws.{grown-end, grown-start, grown-turn, listed-most}
 use Rattle.load.proofs.rounds.round.Goals as goal
 

@@ -1,15 +1,13 @@
 -- What the loops of `load::rounds::round` keep.
 use Rattle.model.specs.Database.{Database}
 use Rattle.catalog.specs.Catalog.{Demands}
-use Prim.Native.Nat.{◌+◌, ◌-◌, ◌≤◌}
-use native.Mathlib.Omega.{arith}
+use Prim.Native.Nat.{◌+◌, ◌≤◌}
 use Rattle.finite.specs.Finite.{any}
 use Rattle.model.specs.Rounds.{demands}
 use Rattle.state.specs.Meaning.{scheme_of}
 use Rattle.load.specs.Queue.{Grown}
 use Rattle.load.specs.Walked.{Walked}
-use Rattle.load.proofs.FrontLaws.{asks, asks-here, asks_none, front-next, front-round}
-use Rattle.load.proofs.QueueLaws.{grown-end, grown-start, grown-turn, listed-most}
+use Rattle.load.proofs.FrontLaws.{asks}
 use Rattle.load.proofs.rounds.round.Given as goal
 
 abbrev pub invariant-loop-i : goal.invariant-loop-i

@@ -1,14 +1,7 @@
 -- `load::rounds::run` meets its contract: rounds that each added a row, until one adds nothing or enough rows are reached. Assumes nothing.
-use Rattle.model.proofs.RoundsEnd.{some-at, Running, running-end, running-next, running-start, running-stop}
-use Rattle.model.specs.Database.{Database}
-use Rattle.catalog.specs.Catalog.{Demands}
-use Prim.Native.Nat.{◌+◌, ◌-◌, ◌≤◌}
+use Rattle.model.proofs.RoundsEnd.{some-at, running-end, running-next, running-start, running-stop}
 use native.Mathlib.Omega.{arith}
-use mathlib.Core.Path.{◌≡◌, sym, ◌∙◌}
-use lib.ListN.{length}
-use Rattle.state.specs.Meaning.{scheme_of}
-use Rattle.load.specs.Queue.{Front, Listed, added}
-use Rattle.load.specs.Walked.{Walked}
+use mathlib.Core.Path.{sym, ◌∙◌}
 use Rattle.load.proofs.EndedLaws.{ended-enough, ended-whole}
 use Rattle.load.proofs.FrontLaws.{front_at, front-quiet, front-some}
 use Rattle.load.proofs.rounds.run.Goals as goal

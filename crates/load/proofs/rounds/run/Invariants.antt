@@ -1,16 +1,13 @@
 -- What the loops of `load::rounds::run` keep.
-use Rattle.model.proofs.RoundsEnd.{some-at, Running, running-end, running-next, running-start, running-stop}
+use Rattle.model.proofs.RoundsEnd.{Running}
 use Rattle.model.specs.Database.{Database}
 use Rattle.catalog.specs.Catalog.{Demands}
 use Prim.Native.Nat.{◌+◌, ◌-◌, ◌≤◌}
-use native.Mathlib.Omega.{arith}
-use mathlib.Core.Path.{◌≡◌, sym, ◌∙◌}
+use mathlib.Core.Path.{◌≡◌}
 use lib.ListN.{length}
 use Rattle.state.specs.Meaning.{scheme_of}
 use Rattle.load.specs.Queue.{Front, Listed, added}
 use Rattle.load.specs.Walked.{Walked}
-use Rattle.load.proofs.EndedLaws.{ended-enough, ended-whole}
-use Rattle.load.proofs.FrontLaws.{front_at, front-quiet, front-some}
 use Rattle.load.proofs.rounds.run.Given as goal
 
 abbrev pub invariant-loop-n : goal.invariant-loop-n

@@ -1,5 +1,4 @@
 -- `load::seeding::load_rows` meets its contract: round 0, and the later rounds to the end. Assumes nothing.
-use borrow.Author.Rules.{rules}
 use Rattle.load.proofs.EndedLaws.{ended-load}
 use Rattle.load.proofs.StartLaws.{started-long, started-low}
 use Rattle.load.proofs.seeding.load_rows.Goals as goal

@@ -1,7 +1,6 @@
 -- `load::seeding::reach_if` meets its contract: a step to one row, or to none. Assumes nothing.
 use mathlib.Core.Path.{sym, ap}
 use mathlib.Core.Bool.{Bool, ◌&&◌}
-use borrow.Author.Rules.{rules}
 use borrow.Author.Tests.{not-true, not-false}
 use lib.Dec.{eqb}
 use Rattle.finite.proofs.Bools.{and_left}

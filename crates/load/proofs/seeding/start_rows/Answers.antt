@@ -1,14 +1,11 @@
 -- `load::seeding::start_rows` meets its contract: a loop of steps to level 2. Assumes nothing.
-use Prim.Native.Nat.{◌-◌, ◌≤◌, ℕ}
+use Prim.Native.Nat.{ℕ}
 use native.Mathlib.Omega.{arith}
 use mathlib.Core.Path.{refl}
-use borrow.Author.Rules.{rules}
 use lib.ListN.{length-replicate}
-use Rattle.finite.specs.Finite.{any}
 use Rattle.finite.proofs.Search.{any-start}
-use Rattle.load.specs.Queue.{Grown}
 use Rattle.load.proofs.QueueLaws.{grown-end, grown-start, grown-turn}
-use Rattle.load.proofs.SeedLaws.{seeds, start-seeds}
+use Rattle.load.proofs.SeedLaws.{start-seeds}
 use Rattle.load.proofs.StartLaws.{none-added}
 use Rattle.load.proofs.seeding.start_rows.Goals as goal
 

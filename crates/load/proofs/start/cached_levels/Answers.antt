@@ -1,10 +1,6 @@
 -- `load::start::cached_levels` meets its contract: a loop that stores. Assumes nothing.
-use Prim.Native.Nat.{◌-◌, ◌≤◌}
 use native.Mathlib.Omega.{arith}
-use mathlib.Core.Bool.{cond}
-use borrow.Author.Rules.{rules}
-use lib.ListN.{get_or}
-use Rattle.finite.proofs.Tables.{Upto, upto-end, upto-set, upto-start}
+use Rattle.finite.proofs.Tables.{upto-end, upto-set, upto-start}
 use Rattle.model.specs.Runs.{marked}
 use Rattle.load.proofs.start.cached_levels.Goals as goal
 

@@ -1,10 +1,8 @@
 -- What the loops of `load::start::cached_levels` keep.
-use Prim.Native.Nat.{◌-◌, ◌≤◌}
-use native.Mathlib.Omega.{arith}
+use Prim.Native.Nat.{◌≤◌}
 use mathlib.Core.Bool.{cond}
-use borrow.Author.Rules.{rules}
 use lib.ListN.{get_or}
-use Rattle.finite.proofs.Tables.{Upto, upto-end, upto-set, upto-start}
+use Rattle.finite.proofs.Tables.{Upto}
 use Rattle.model.specs.Runs.{marked}
 use Rattle.load.proofs.start.cached_levels.Given as goal
 

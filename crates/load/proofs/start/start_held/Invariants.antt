@@ -1,22 +1,13 @@
 -- What the loops of `load::start::start_held` keep.
-use Prim.Native.Nat.{◌-◌, ◌≤◌, ℕ}
-use native.Mathlib.Omega.{arith}
-use mathlib.Core.Path.{ap, ◌∙◌}
-use borrow.Author.Rules.{rules}
-use lib.ListN.{length-replicate}
+use Prim.Native.Nat.{◌≤◌}
 use Rattle.finite.specs.Finite.{any}
-use Rattle.finite.proofs.Search.{any-start}
 use Rattle.model.specs.Database.{Database, has}
-use Rattle.state.specs.declared.held.OwnedValue.{OwnedValue}
 use Rattle.state.specs.Design.{filling_at}
 use Rattle.state.specs.Held.{held_at}
 use Rattle.state.specs.HeldWords.{words_held}
-use Rattle.state.specs.Meaning.{cell_of, column_of, scheme_of}
+use Rattle.state.specs.Meaning.{cell_of, column_of}
 use Rattle.catalog.specs.Catalog.{Indexed}
 use Rattle.load.specs.Queue.{Grown}
-use Rattle.load.proofs.AlongLaws.{along-has, begins-has}
-use Rattle.load.proofs.QueueLaws.{grown-again, grown-end, grown-start, grown-turn}
-use Rattle.load.proofs.StartLaws.{none-added, start-all}
 use Rattle.load.proofs.start.start_held.Given as goal
 
 abbrev pub invariant-loop-i : goal.invariant-loop-i

@@ -1,6 +1,5 @@
 -- `load::start::start_value` meets its contract: the levels of the cached rows, and a step to level 2. Assumes nothing.
 use native.Mathlib.Omega.{arith}
-use borrow.Author.Rules.{rules}
 use Rattle.model.specs.Runs.{marked}
 use Rattle.load.proofs.AlongLaws.{along-has, begins-has}
 use Rattle.load.proofs.StartLaws.{cached-added, cached-long, start-raised}

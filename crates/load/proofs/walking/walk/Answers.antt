@@ -1,12 +1,8 @@
 -- `load::walking::walk` meets its contract: a walk from one row that has the value to the next. Assumes nothing.
-use Prim.Native.Nat.{◌-◌}
 use native.Mathlib.Omega.{arith}
-use Rattle.model.specs.Database.{Database}
-use Rattle.catalog.specs.Catalog.{Links}
 use Rattle.catalog.proofs.CatalogLaws.{next-rises}
-use Rattle.load.specs.Walked.{Begins, along}
 use Rattle.load.proofs.AlongLaws.{along-next, begins-first}
-use Rattle.load.proofs.WalkLaws.{Walking, walk_end, walk-next, walk_start}
+use Rattle.load.proofs.WalkLaws.{walk_end, walk-next, walk_start}
 use Rattle.load.proofs.walking.walk.Goals as goal
 
 pub loop-r-init : goal.loop-r-init

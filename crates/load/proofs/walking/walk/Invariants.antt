@@ -1,12 +1,9 @@
 -- What the loops of `load::walking::walk` keep.
 use Prim.Native.Nat.{◌-◌}
-use native.Mathlib.Omega.{arith}
 use Rattle.model.specs.Database.{Database}
 use Rattle.catalog.specs.Catalog.{Links}
-use Rattle.catalog.proofs.CatalogLaws.{next-rises}
 use Rattle.load.specs.Walked.{Begins, along}
-use Rattle.load.proofs.AlongLaws.{along-next, begins-first}
-use Rattle.load.proofs.WalkLaws.{Walking, walk_end, walk-next, walk_start}
+use Rattle.load.proofs.WalkLaws.{Walking}
 use Rattle.load.proofs.walking.walk.Given as goal
 
 abbrev pub invariant-loop-r : goal.invariant-loop-r

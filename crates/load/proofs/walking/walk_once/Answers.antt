@@ -1,6 +1,5 @@
 -- `load::walking::walk_once` meets its contract: a value that has been walked adds nothing, and one that has not is walked. Assumes nothing.
 use native.Mathlib.Omega.{arith}
-use borrow.Author.Rules.{rules}
 use Rattle.load.proofs.WalkedLaws.{walk-again, walk-empty, walk-marked}
 use Rattle.load.proofs.walking.walk_once.Goals as goal
 

@@ -3,7 +3,6 @@ use mathlib.Core.Path.{refl}
 use Rattle.state.specs.Meaning.{cell_of, column_of}
 use Rattle.catalog.proofs.HitLaws.{first-hit}
 use Rattle.mend.proofs.ChainLaws.{place_same, place_set, comes-first, comes-behind}
-use borrow.Author.Rules.{rules}
 use Rattle.mend.proofs.chaining.link_in.Goals as goal
 
 pub overflow_cast-catalog : goal.overflow_cast-catalog

@@ -3,7 +3,6 @@ use mathlib.Core.Path.{refl}
 use Rattle.state.specs.Meaning.{cell_of, column_of}
 use Rattle.mend.proofs.ChainLaws.{place_same, place_set, goes_first, goes-behind}
 use Rattle.mend.proofs.BesideLaws.{first-with}
-use borrow.Author.Rules.{rules}
 use Rattle.mend.proofs.chaining.link_out.Goals as goal
 
 pub returns-then-r-h : goal.returns-then-r-h

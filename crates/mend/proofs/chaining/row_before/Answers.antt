@@ -1,16 +1,6 @@
 -- `catalog::chaining::row_before` meets its contract: p has the value, and n is its next row. Assumes nothing.
-use Prim.Native.Nat.{ℕ, ◌+◌, ◌*◌, ◌-◌, ◌<◌}
 use native.Mathlib.Omega.{arith}
-use mathlib.Core.Path.{◌≡◌, sym, ap, subst, ◌∙◌}
-use mathlib.Core.Bool.{true}
-use lib.ListN.{get_or}
-use borrow.Author.Rules.{rules}
-use Rattle.finite.specs.Finite.{first_from}
-use Rattle.finite.proofs.First.{first-from}
-use Rattle.model.specs.Cell.{Cell}
-use Rattle.model.specs.Scheme as Model
-use Rattle.model.specs.Database.{Database, has}
-use Rattle.mend.specs.Changing.{Chained}
+use mathlib.Core.Path.{◌∙◌}
 use Rattle.catalog.proofs.CatalogLaws.{next-rises}
 use Rattle.mend.proofs.ChainLaws.{chain-here, chain-last}
 use Rattle.catalog.proofs.HitLaws.{first-hit}

@@ -1,19 +1,13 @@
 -- What the loops of `mend::chaining::row_before` keep.
-use Prim.Native.Nat.{ℕ, ◌+◌, ◌*◌, ◌-◌, ◌<◌}
-use native.Mathlib.Omega.{arith}
-use mathlib.Core.Path.{◌≡◌, sym, ap, subst, ◌∙◌}
+use Prim.Native.Nat.{◌+◌, ◌*◌, ◌-◌, ◌<◌}
+use mathlib.Core.Path.{◌≡◌}
 use mathlib.Core.Bool.{true}
 use lib.ListN.{get_or}
-use borrow.Author.Rules.{rules}
 use Rattle.finite.specs.Finite.{first_from}
-use Rattle.finite.proofs.First.{first-from}
 use Rattle.model.specs.Cell.{Cell}
 use Rattle.model.specs.Scheme as Model
 use Rattle.model.specs.Database.{Database, has}
 use Rattle.mend.specs.Changing.{Chained}
-use Rattle.catalog.proofs.CatalogLaws.{next-rises}
-use Rattle.mend.proofs.ChainLaws.{chain-here, chain-last}
-use Rattle.catalog.proofs.HitLaws.{first-hit}
 use Rattle.mend.proofs.chaining.row_before.Given as goal
 
 abbrev pub invariant-loop-n : goal.invariant-loop-n

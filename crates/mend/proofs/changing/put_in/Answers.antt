@@ -4,9 +4,7 @@ use native.Mathlib.Omega.{arith}
 use mathlib.Core.Path.{ap, ◌∙◌}
 use mathlib.Core.List.{List}
 use lib.ListN.{get_or}
-use borrow.Author.Rules.{rules}
 use Rattle.mend.proofs.ChangedLaws.{relinked-directory, relinked-starts, relinked-firsts, redirected-links, redirected-firsts, indexed-both, redemanded-all}
-use borrow.Author.Rules.{rules}
 use Rattle.mend.proofs.changing.put_in.Goals as goal
 
 pub add_values-requires : goal.add_values-requires

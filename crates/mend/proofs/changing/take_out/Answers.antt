@@ -1,8 +1,6 @@
 -- `catalog::changing::take_out` meets its contract: the directory, the links, the demanded rows. Assumes nothing.
 use mathlib.Core.Path.{◌∙◌}
-use borrow.Author.Rules.{rules}
 use Rattle.mend.proofs.ChangedLaws.{relinked-directory, relinked-firsts, redirected-links, redirected-firsts, indexed-both, redemanded-all}
-use borrow.Author.Rules.{rules}
 use Rattle.mend.proofs.changing.take_out.Goals as goal
 
 pub drop_links-requires : goal.drop_links-requires

@@ -1,10 +1,7 @@
 -- `catalog::redirecting::drop_values` meets its contract. Assumes nothing.
 use native.Mathlib.Omega.{arith}
-use mathlib.Core.Path.{sym, ap, ◌∙◌}
-use lib.ListN.{get_or}
-use borrow.Author.Rules.{rules}
+use mathlib.Core.Path.{sym, ◌∙◌}
 use Rattle.mend.proofs.RedirectLaws.{fetched, redirected}
-use borrow.Author.Rules.{rules}
 use Rattle.mend.proofs.redirecting.drop_values.Goals as goal
 
 pub drop_cells-requires : goal.drop_cells-requires

@@ -1,11 +1,7 @@
 -- What the loops of `mend::redirecting::fetch_heads` keep.
-use Prim.Native.Nat.{◌+◌, ◌-◌, ◌≤◌}
-use native.Mathlib.Omega.{arith}
-use mathlib.Core.Path.{refl}
+use Prim.Native.Nat.{◌+◌, ◌≤◌}
 use lib.ListN.{get_or}
-use borrow.Author.Rules.{rules}
-use Rattle.finite.proofs.Tables.{Upto, upto-start, upto-set, upto-end}
-use Rattle.catalog.specs.Catalog.{part}
+use Rattle.finite.proofs.Tables.{Upto}
 use Rattle.mend.proofs.redirecting.fetch_heads.Given as goal
 
 abbrev pub invariant-loop-i : goal.invariant-loop-i

@@ -1,10 +1,7 @@
 -- `catalog::redirecting::fetch_starts` meets its contract: those before i are copied. Assumes nothing.
-use Prim.Native.Nat.{◌+◌, ◌-◌, ◌≤◌}
 use native.Mathlib.Omega.{arith}
 use mathlib.Core.Path.{refl}
-use lib.ListN.{get_or}
-use borrow.Author.Rules.{rules}
-use Rattle.finite.proofs.Tables.{Upto, upto-start, upto-set, upto-end}
+use Rattle.finite.proofs.Tables.{upto-start, upto-set, upto-end}
 use Rattle.catalog.specs.Catalog.{part}
 use Rattle.mend.proofs.redirecting.fetch_starts.Goals as goal
 

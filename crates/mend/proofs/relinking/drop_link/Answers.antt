@@ -1,7 +1,6 @@
 use mathlib.Core.Path.{sym, ◌∙◌}
 use Rattle.mend.proofs.ChainLaws.{place_same}
 use Rattle.mend.proofs.RelinkLaws.{blank-goes, linking}
-use borrow.Author.Rules.{rules}
 use Rattle.mend.proofs.relinking.drop_link.Goals as goal
 
 pub returns-then-is_blank : goal.returns-then-is_blank

@@ -1,14 +1,7 @@
 -- `catalog::relinking::drop_links` meets its contract: the places below c are done. Assumes nothing.
-use Prim.Native.Nat.{ℕ, ◌-◌, ◌≤◌}
 use native.Mathlib.Omega.{arith}
 use mathlib.Core.Path.{◌∙◌}
-use borrow.Author.Rules.{rules}
-use Rattle.model.specs.Database.{Database}
-use Rattle.state.specs.Cells.{cells_in}
-use Rattle.state.specs.Meaning.{database_of}
-use Rattle.catalog.specs.Catalog.{heads_in, starts_in, Directory, Links}
-use Rattle.mend.specs.Changing.{Without}
-use Rattle.mend.proofs.RelinkLaws.{Passing, Kept, kept-start, kept-turn, kept-directory, passing-start, passing-turn, passing-end}
+use Rattle.mend.proofs.RelinkLaws.{kept-start, kept-turn, kept-directory, passing-start, passing-turn, passing-end}
 use Rattle.mend.proofs.relinking.drop_links.Goals as goal
 
 pub loop-c-init : goal.loop-c-init

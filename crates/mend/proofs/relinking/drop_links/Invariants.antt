@@ -1,14 +1,11 @@
 -- What the loops of `mend::relinking::drop_links` keep.
-use Prim.Native.Nat.{ℕ, ◌-◌, ◌≤◌}
-use native.Mathlib.Omega.{arith}
-use mathlib.Core.Path.{◌∙◌}
-use borrow.Author.Rules.{rules}
+use Prim.Native.Nat.{◌≤◌}
 use Rattle.model.specs.Database.{Database}
 use Rattle.state.specs.Cells.{cells_in}
 use Rattle.state.specs.Meaning.{database_of}
 use Rattle.catalog.specs.Catalog.{heads_in, starts_in, Directory, Links}
 use Rattle.mend.specs.Changing.{Without}
-use Rattle.mend.proofs.RelinkLaws.{Passing, Kept, kept-start, kept-turn, kept-directory, passing-start, passing-turn, passing-end}
+use Rattle.mend.proofs.RelinkLaws.{Passing, Kept}
 use Rattle.mend.proofs.relinking.drop_links.Given as goal
 
 abbrev pub invariant-loop-c : goal.invariant-loop-c

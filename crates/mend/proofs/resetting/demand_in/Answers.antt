@@ -1,9 +1,7 @@
 -- `mend::resetting::demand_in` meets its contract. Assumes nothing.
 use mathlib.Core.Path.{◌∙◌}
-use borrow.Author.Rules.{rules}
 use Rattle.state.specs.Meaning.{constraint_of}
 use Rattle.mend.proofs.ResetLaws.{only_set, only-indexed, firsts-comes}
-use borrow.Author.Rules.{rules}
 use Rattle.mend.proofs.resetting.demand_in.Goals as goal
 
 pub demanded-requires : goal.demanded-requires

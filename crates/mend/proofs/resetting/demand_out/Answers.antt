@@ -1,9 +1,7 @@
 -- `mend::resetting::demand_out` meets its contract. Assumes nothing.
 use mathlib.Core.Path.{◌∙◌}
-use borrow.Author.Rules.{rules}
 use Rattle.state.specs.Meaning.{constraint_of}
 use Rattle.mend.proofs.ResetLaws.{only_set, firsts-goes}
-use borrow.Author.Rules.{rules}
 use Rattle.mend.proofs.resetting.demand_out.Goals as goal
 
 pub returns : goal.returns

@@ -1,14 +1,8 @@
 -- `mend::resetting::demands_in` meets its contract: the constraints below i are done. Assumes nothing.
-use Prim.Native.Nat.{◌-◌, ◌≤◌, ◌<◌}
+use Prim.Native.Nat.{◌<◌}
 use native.Mathlib.Omega.{arith}
-use mathlib.Core.Path.{◌≡◌}
-use borrow.Author.Rules.{rules}
-use Rattle.model.specs.Database.{Database}
-use Rattle.state.specs.Cells.{cells_in}
-use Rattle.state.specs.Meaning.{database_of, scheme_of}
-use Rattle.catalog.specs.Catalog.{firsts, first_in}
-use Rattle.mend.specs.Changing.{Without}
-use Rattle.mend.proofs.ResetLaws.{Turning, Beside, beside-start, beside-turn, beside-indexed, turning-start, turning-firsts, turning-turn, turning-end}
+use Rattle.state.specs.Meaning.{scheme_of}
+use Rattle.mend.proofs.ResetLaws.{beside-start, beside-turn, beside-indexed, turning-start, turning-firsts, turning-turn, turning-end}
 use Rattle.mend.proofs.resetting.demands_in.Goals as goal
 
 pub loop-i-init : goal.loop-i-init

@@ -1,14 +1,12 @@
 -- What the loops of `mend::resetting::demands_out` keep.
-use Prim.Native.Nat.{◌-◌, ◌≤◌, ◌<◌}
-use native.Mathlib.Omega.{arith}
+use Prim.Native.Nat.{◌≤◌}
 use mathlib.Core.Path.{◌≡◌}
-use borrow.Author.Rules.{rules}
 use Rattle.model.specs.Database.{Database}
 use Rattle.state.specs.Cells.{cells_in}
 use Rattle.state.specs.Meaning.{database_of, scheme_of}
 use Rattle.catalog.specs.Catalog.{firsts, first_in, Indexed}
 use Rattle.mend.specs.Changing.{Without}
-use Rattle.mend.proofs.ResetLaws.{Turning, Beside, beside-start, beside-turn, beside-indexed, turning-start, turning-firsts, turning-turn, turning-end}
+use Rattle.mend.proofs.ResetLaws.{Turning, Beside}
 use Rattle.mend.proofs.resetting.demands_out.Given as goal
 
 abbrev pub invariant-loop-i : goal.invariant-loop-i

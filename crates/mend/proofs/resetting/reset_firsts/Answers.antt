@@ -1,19 +1,9 @@
 -- `mend::resetting::reset_firsts` meets its contract: nothing where the first row stands before r; else the rows before s that have the value are done. Assumes nothing.
-use Prim.Native.Nat.{ℕ, ◌+◌, ◌*◌, ◌-◌}
 use native.Mathlib.Omega.{arith}
-use mathlib.Core.Path.{◌≡◌, refl, sym, ap, ◌∙◌}
-use mathlib.Core.Bool.{cond}
-use lib.ListN.{get_or}
-use borrow.Author.Rules.{rules}
-use Rattle.finite.specs.Finite.{first_from}
-use Rattle.finite.proofs.Tables.{Upto}
-use Rattle.model.specs.Cell.{Cell}
-use Rattle.model.specs.Scheme as Model
-use Rattle.model.specs.Database.{Database, has}
+use mathlib.Core.Path.{refl, sym, ap, ◌∙◌}
+use Rattle.model.specs.Database.{has}
 use Rattle.state.specs.Meaning.{cell_of, column_of, constraint_of}
-use Rattle.catalog.specs.Catalog.{next_of, part, Indexed}
-use Rattle.mend.specs.Resetting.{Only}
-use Rattle.catalog.specs.Hits.{Hit}
+use Rattle.catalog.specs.Catalog.{next_of}
 use Rattle.catalog.proofs.CatalogLaws.{next-rises, next-from}
 use Rattle.catalog.proofs.HitLaws.{first-hit}
 use Rattle.mend.proofs.ResetLaws.{only_same, only_set, only-links, reset-start, reset-turn, reset-end, reset-before, reset-made}

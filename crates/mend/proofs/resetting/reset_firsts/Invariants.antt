@@ -1,22 +1,16 @@
 -- What the loops of `mend::resetting::reset_firsts` keep.
-use Prim.Native.Nat.{ℕ, ◌+◌, ◌*◌, ◌-◌}
-use native.Mathlib.Omega.{arith}
-use mathlib.Core.Path.{◌≡◌, refl, sym, ap, ◌∙◌}
+use Prim.Native.Nat.{◌+◌, ◌*◌, ◌-◌}
+use mathlib.Core.Path.{◌≡◌}
 use mathlib.Core.Bool.{cond}
 use lib.ListN.{get_or}
-use borrow.Author.Rules.{rules}
 use Rattle.finite.specs.Finite.{first_from}
 use Rattle.finite.proofs.Tables.{Upto}
 use Rattle.model.specs.Cell.{Cell}
 use Rattle.model.specs.Scheme as Model
 use Rattle.model.specs.Database.{Database, has}
-use Rattle.state.specs.Meaning.{cell_of, column_of, constraint_of}
-use Rattle.catalog.specs.Catalog.{next_of, part, Indexed}
+use Rattle.catalog.specs.Catalog.{part, Indexed}
 use Rattle.mend.specs.Resetting.{Only}
 use Rattle.catalog.specs.Hits.{Hit}
-use Rattle.catalog.proofs.CatalogLaws.{next-rises, next-from}
-use Rattle.catalog.proofs.HitLaws.{first-hit}
-use Rattle.mend.proofs.ResetLaws.{only_same, only_set, only-links, reset-start, reset-turn, reset-end, reset-before, reset-made}
 use Rattle.mend.proofs.resetting.reset_firsts.Given as goal
 
 abbrev pub invariant-loop-s : goal.invariant-loop-s

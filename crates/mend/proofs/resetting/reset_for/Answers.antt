@@ -1,8 +1,6 @@
 -- `mend::resetting::reset_for` meets its contract. Assumes nothing.
-use borrow.Author.Rules.{rules}
 use Rattle.state.specs.Meaning.{constraint_of}
 use Rattle.mend.proofs.ResetLaws.{only_same, leads-apart, leads-made}
-use borrow.Author.Rules.{rules}
 use Rattle.mend.proofs.resetting.reset_for.Goals as goal
 
 pub returns-then-tables-r : goal.returns-then-tables-r

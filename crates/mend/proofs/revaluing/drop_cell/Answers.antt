@@ -1,10 +1,8 @@
 -- `catalog::revaluing::drop_cell` meets its contract: a blank changes nothing, a value goes. Assumes nothing.
 use native.Mathlib.Omega.{arith}
 use mathlib.Core.Path.{sym, ◌∙◌}
-use borrow.Author.Rules.{rules}
 use Rattle.mend.proofs.DirectoryLaws.{seats}
 use Rattle.mend.proofs.RevalueLaws.{drop-blank, drop-stands, drop-out}
-use borrow.Author.Rules.{rules}
 use Rattle.mend.proofs.revaluing.drop_cell.Goals as goal
 
 pub returns-then-is_blank : goal.returns-then-is_blank

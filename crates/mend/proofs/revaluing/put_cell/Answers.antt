@@ -1,10 +1,8 @@
 -- `catalog::revaluing::put_cell` meets its contract: a blank changes nothing, a value comes. Assumes nothing.
 use native.Mathlib.Omega.{arith}
 use mathlib.Core.Path.{sym, ◌∙◌}
-use borrow.Author.Rules.{rules}
 use Rattle.mend.proofs.DirectoryLaws.{seats, comes-room}
 use Rattle.mend.proofs.RevalueLaws.{put-blank, put_in}
-use borrow.Author.Rules.{rules}
 use Rattle.mend.proofs.revaluing.put_cell.Goals as goal
 
 pub returns-then-is_blank : goal.returns-then-is_blank

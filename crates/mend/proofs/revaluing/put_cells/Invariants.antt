@@ -1,17 +1,12 @@
 -- What the loops of `mend::revaluing::put_cells` keep.
-use Prim.Native.Nat.{ℕ, ◌+◌, ◌*◌, ◌-◌, ◌≤◌, ◌<◌}
-use native.Mathlib.Omega.{arith}
-use mathlib.Core.Path.{◌∙◌}
+use Prim.Native.Nat.{◌+◌, ◌*◌, ◌≤◌}
 use lib.ListN.{get_or}
-use borrow.Author.Rules.{rules}
 use Rattle.model.specs.Database.{Database}
 use Rattle.state.specs.Cells.{cells_in}
 use Rattle.state.specs.Meaning.{database_of}
 use Rattle.catalog.specs.Catalog.{Directory}
 use Rattle.mend.specs.Changing.{Without}
 use Rattle.mend.specs.Values.{Changing}
-use Rattle.catalog.proofs.Rows.{table_is}
-use Rattle.mend.proofs.DirectoryLaws.{comes-start, comes-end}
 use Rattle.mend.proofs.revaluing.put_cells.Given as goal
 
 abbrev pub invariant-loop-c : goal.invariant-loop-c

@@ -1,8 +1,6 @@
 -- `catalog::values::close_room` meets its contract: the elements before place j have moved. Assumes nothing.
-use Prim.Native.Nat.{◌-◌, ◌≤◌, ◌<◌}
 use native.Mathlib.Omega.{arith}
-use borrow.Author.Rules.{rules}
-use Rattle.mend.proofs.ValueLaws.{Closing, closing-start, closing-turn, closing_end}
+use Rattle.mend.proofs.ValueLaws.{closing-start, closing-turn, closing_end}
 use Rattle.mend.proofs.values.close_room.Goals as goal
 
 pub loop-j-init : goal.loop-j-init

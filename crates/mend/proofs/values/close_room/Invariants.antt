@@ -1,8 +1,6 @@
 -- What the loops of `mend::values::close_room` keep.
 use Prim.Native.Nat.{◌-◌, ◌≤◌, ◌<◌}
-use native.Mathlib.Omega.{arith}
-use borrow.Author.Rules.{rules}
-use Rattle.mend.proofs.ValueLaws.{Closing, closing-start, closing-turn, closing_end}
+use Rattle.mend.proofs.ValueLaws.{Closing}
 use Rattle.mend.proofs.values.close_room.Given as goal
 
 abbrev pub invariant-loop-j : goal.invariant-loop-j

@@ -3,7 +3,6 @@ use native.Mathlib.Omega.{arith}
 use mathlib.Core.Path.{refl, ap}
 use mathlib.Core.Logic.{inl, inr}
 use lib.ListN.{set}
-use borrow.Author.Rules.{rules}
 use Rattle.mend.proofs.ValueLaws.{to-bound, seat-at, seat-stands, stands-before, starts-above, closed, alone-says}
 use Rattle.mend.proofs.values.drop_value.Goals as goal
 

@@ -3,7 +3,6 @@ use native.Mathlib.Omega.{arith}
 use mathlib.Core.Path.{refl, ap}
 use mathlib.Core.Logic.{inl, inr}
 use lib.ListN.{set}
-use borrow.Author.Rules.{rules}
 use Rattle.mend.proofs.ValueLaws.{to-bound, seat-end, seat-met, stands-before, opens}
 use Rattle.mend.proofs.values.put_value.Goals as goal
 

@@ -1,9 +1,6 @@
 -- What the loops of `mend::values::raise` keep.
 use Prim.Native.Nat.{◌+◌, ◌-◌, ◌≤◌, ◌<◌}
-use mathlib.Core.Path.{refl}
-use native.Mathlib.Omega.{arith}
-use borrow.Author.Rules.{rules}
-use Rattle.mend.proofs.ValueLaws.{Mapped, mapped-start, mapped-turn, raised-end}
+use Rattle.mend.proofs.ValueLaws.{Mapped}
 use Rattle.mend.proofs.values.raise.Given as goal
 
 abbrev pub invariant-loop-j : goal.invariant-loop-j

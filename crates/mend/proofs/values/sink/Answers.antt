@@ -1,9 +1,7 @@
 -- `catalog::values::sink` meets its contract: the starts before place j are done. Assumes nothing.
-use Prim.Native.Nat.{◌+◌, ◌-◌, ◌≤◌, ◌<◌}
 use mathlib.Core.Path.{refl}
 use native.Mathlib.Omega.{arith}
-use borrow.Author.Rules.{rules}
-use Rattle.mend.proofs.ValueLaws.{Mapped, mapped-start, mapped-turn, sunk-end}
+use Rattle.mend.proofs.ValueLaws.{mapped-start, mapped-turn, sunk-end}
 use Rattle.mend.proofs.values.sink.Goals as goal
 
 pub loop-j-init : goal.loop-j-init

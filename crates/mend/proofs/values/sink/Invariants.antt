@@ -1,9 +1,6 @@
 -- What the loops of `mend::values::sink` keep.
-use Prim.Native.Nat.{◌+◌, ◌-◌, ◌≤◌, ◌<◌}
-use mathlib.Core.Path.{refl}
-use native.Mathlib.Omega.{arith}
-use borrow.Author.Rules.{rules}
-use Rattle.mend.proofs.ValueLaws.{Mapped, mapped-start, mapped-turn, sunk-end}
+use Prim.Native.Nat.{◌-◌, ◌≤◌, ◌<◌}
+use Rattle.mend.proofs.ValueLaws.{Mapped}
 use Rattle.mend.proofs.values.sink.Given as goal
 
 abbrev pub invariant-loop-j : goal.invariant-loop-j

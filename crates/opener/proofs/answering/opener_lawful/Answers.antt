@@ -6,7 +6,6 @@ use Rattle.state.proofs.Arrays.{sized}
 use Rattle.state.proofs.HeldWords.{words-sized}
 use Rattle.lawful.proofs.Asked.{sound-range, sound-backed, sound-marks, sound-bounded, sound-table, sound-column}
 use Rattle.opener.proofs.AskedLaws.{cell-small, opener-5, opener-9, opener-open, opener-read}
-use borrow.Author.Rules.{rules}
 use Rattle.opener.proofs.answering.opener_lawful.Goals as goal
 
 pub returns-then-not-is_column : goal.returns-then-not-is_column

@@ -1,14 +1,7 @@
 -- `opener::giving::mark_having` meets its contract. Assumes nothing.
-use Rattle.opener.proofs.MarkingLaws.{Marking, mark-none, mark-more, mark-end}
+use Rattle.opener.proofs.MarkingLaws.{mark-none, mark-more, mark-end}
 use Rattle.catalog.proofs.CatalogLaws.{next-rises, next-from}
-use Rattle.catalog.specs.Catalog.{Indexed}
 use Rattle.state.specs.Meaning.{column_of}
-use Rattle.model.specs.Database.{Database, has}
-use Rattle.model.specs.Cell.{Cell}
-use Rattle.finite.specs.Finite.{first_from}
-use lib.ListN.{length}
-use mathlib.Core.Path.{◌≡◌}
-use Prim.Native.Nat.{◌-◌}
 use native.Mathlib.Omega.{arith}
 use Rattle.opener.proofs.giving.mark_having.Goals as goal
 

@@ -1,6 +1,5 @@
 -- What the loops of `opener::giving::mark_having` keep.
-use Rattle.opener.proofs.MarkingLaws.{Marking, mark-none, mark-more, mark-end}
-use Rattle.catalog.proofs.CatalogLaws.{next-rises, next-from}
+use Rattle.opener.proofs.MarkingLaws.{Marking}
 use Rattle.catalog.specs.Catalog.{Indexed}
 use Rattle.state.specs.Meaning.{column_of}
 use Rattle.model.specs.Database.{Database, has}
@@ -9,7 +8,6 @@ use Rattle.finite.specs.Finite.{first_from}
 use lib.ListN.{length}
 use mathlib.Core.Path.{◌≡◌}
 use Prim.Native.Nat.{◌-◌}
-use native.Mathlib.Omega.{arith}
 use Rattle.opener.proofs.giving.mark_having.Given as goal
 
 abbrev pub invariant-loop-r : goal.invariant-loop-r

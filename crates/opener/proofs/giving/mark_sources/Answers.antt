@@ -4,7 +4,6 @@ use Rattle.state.specs.Meaning.{cell_of, constraint_of}
 use Rattle.model.specs.Database.{has}
 use borrow.Author.Tests.{not-true, not-false}
 use mathlib.Core.Path.{sym, ◌∙◌}
-use borrow.Author.Rules.{rules}
 use Rattle.opener.proofs.giving.mark_sources.Goals as goal
 
 pub returns-then-not-same_column : goal.returns-then-not-same_column

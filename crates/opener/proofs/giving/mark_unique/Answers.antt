@@ -4,7 +4,6 @@ use Rattle.state.specs.Meaning.{cell_of, column_of}
 use Rattle.model.specs.Database.{has}
 use borrow.Author.Tests.{not-true, not-false}
 use mathlib.Core.Path.{sym, ◌∙◌}
-use borrow.Author.Rules.{rules}
 use Rattle.opener.proofs.giving.mark_unique.Goals as goal
 
 pub returns-then-not-is_unique : goal.returns-then-not-is_unique

@@ -1,17 +1,13 @@
 -- `opener::giving::source_rows` meets its contract. Assumes nothing.
 use Rattle.opener.proofs.MarkingLaws.{mark-start, mark-next, mark-last}
-use Rattle.catalog.specs.Catalog.{Indexed}
 use Rattle.state.specs.Meaning.{cell_of, column_of, constraint_of}
 use Rattle.state.specs.Design.{constraint_at}
-use Rattle.model.specs.Database.{Database, has}
+use Rattle.model.specs.Database.{has}
 use Rattle.model.specs.Scheme.{same_column}
-use Rattle.finite.specs.Finite.{any}
-use lib.ListN.{length, get_or, length-replicate}
+use lib.ListN.{length-replicate}
 use mathlib.Core.Bool.{Bool, false, ◌&&◌}
-use mathlib.Core.Path.{◌≡◌, refl, ◌∙◌}
-use Prim.Native.Nat.{ℕ, ◌≤◌, ◌<◌, ◌-◌}
+use mathlib.Core.Path.{refl, ◌∙◌}
 use native.Mathlib.Omega.{arith}
-use borrow.Author.Rules.{rules}
 use Rattle.opener.proofs.giving.source_rows.Goals as goal
 
 pub loop-i-init : goal.loop-i-init

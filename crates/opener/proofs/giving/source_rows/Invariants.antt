@@ -1,17 +1,14 @@
 -- What the loops of `opener::giving::source_rows` keep.
-use Rattle.opener.proofs.MarkingLaws.{mark-start, mark-next, mark-last}
 use Rattle.catalog.specs.Catalog.{Indexed}
 use Rattle.state.specs.Meaning.{cell_of, column_of, constraint_of}
 use Rattle.state.specs.Design.{constraint_at}
 use Rattle.model.specs.Database.{Database, has}
 use Rattle.model.specs.Scheme.{same_column}
 use Rattle.finite.specs.Finite.{any}
-use lib.ListN.{length, get_or, length-replicate}
-use mathlib.Core.Bool.{Bool, false, ◌&&◌}
-use mathlib.Core.Path.{◌≡◌, refl, ◌∙◌}
-use Prim.Native.Nat.{ℕ, ◌≤◌, ◌<◌, ◌-◌}
-use native.Mathlib.Omega.{arith}
-use borrow.Author.Rules.{rules}
+use lib.ListN.{length, get_or}
+use mathlib.Core.Bool.{false, ◌&&◌}
+use mathlib.Core.Path.{◌≡◌}
+use Prim.Native.Nat.{ℕ, ◌≤◌, ◌<◌}
 use Rattle.opener.proofs.giving.source_rows.Given as goal
 
 abbrev pub invariant-loop-i : goal.invariant-loop-i

@@ -2,7 +2,6 @@
 use Rattle.opener.proofs.LeadLaws.{lead-range, lead-demands, lead-load}
 use Rattle.catalog.proofs.MakingLaws.{demands-made}
 use Rattle.state.proofs.Arrays.{sized}
-use borrow.Author.Rules.{rules}
 use Rattle.opener.proofs.leading.leading_rows.Goals as goal
 
 pub turn_firsts-requires : goal.turn_firsts-requires

@@ -2,7 +2,6 @@
 use mathlib.Core.Path.{sym, ◌∙◌}
 use Rattle.finite.proofs.Bools.{cond-true}
 use Rattle.opener.proofs.ValueLaws.{none-chosen}
-use borrow.Author.Rules.{rules}
 use Rattle.opener.proofs.reading.if_candidate.Goals as goal
 
 pub returns-then-is_candidate : goal.returns-then-is_candidate

@@ -1,7 +1,6 @@
 -- `opener::reading::lower` meets its contract, test by test. Assumes nothing.
 use mathlib.Core.Path.{sym, ◌∙◌}
 use Rattle.opener.proofs.ValueLaws.{lower-none, lower_only, lower-new, lower-old}
-use borrow.Author.Rules.{rules}
 use Rattle.opener.proofs.reading.lower.Goals as goal
 
 pub returns-then-is_numberless : goal.returns-then-is_numberless

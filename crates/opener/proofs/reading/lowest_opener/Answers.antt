@@ -1,14 +1,8 @@
 -- `opener::reading::lowest_opener` meets its contract. The invariant: the search for the lowest filling may go on from here. Assumes nothing.
-use Prim.Native.Nat.{◌≤◌, ◌-◌}
 use native.Mathlib.Omega.{arith}
-use mathlib.Core.Path.{◌≡◌, refl, sym, ◌∙◌}
-use borrow.Author.Rules.{rules}
+use mathlib.Core.Path.{refl, sym, ◌∙◌}
 use borrow.Author.Tests.{not-true, not-false}
-use Rattle.finite.specs.Finite.{first_from}
-use Rattle.model.specs.Rounds.{reached}
-use Rattle.state.specs.Cells.{cells_in}
-use Rattle.state.specs.Meaning.{cell_of, column_of, database_of}
-use Rattle.opener.proofs.FillingLaws.{passes, filling-here, filling_skip, filling-none}
+use Rattle.opener.proofs.FillingLaws.{filling-here, filling_skip, filling-none}
 use Rattle.opener.proofs.reading.lowest_opener.Goals as goal
 
 pub loop-i-init : goal.loop-i-init

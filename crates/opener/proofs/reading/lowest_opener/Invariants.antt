@@ -1,14 +1,11 @@
 -- What the loops of `opener::reading::lowest_opener` keep.
 use Prim.Native.Nat.{◌≤◌, ◌-◌}
-use native.Mathlib.Omega.{arith}
-use mathlib.Core.Path.{◌≡◌, refl, sym, ◌∙◌}
-use borrow.Author.Rules.{rules}
-use borrow.Author.Tests.{not-true, not-false}
+use mathlib.Core.Path.{◌≡◌}
 use Rattle.finite.specs.Finite.{first_from}
 use Rattle.model.specs.Rounds.{reached}
 use Rattle.state.specs.Cells.{cells_in}
 use Rattle.state.specs.Meaning.{cell_of, column_of, database_of}
-use Rattle.opener.proofs.FillingLaws.{passes, filling-here, filling_skip, filling-none}
+use Rattle.opener.proofs.FillingLaws.{passes}
 use Rattle.opener.proofs.reading.lowest_opener.Given as goal
 
 abbrev pub invariant-loop-i : goal.invariant-loop-i

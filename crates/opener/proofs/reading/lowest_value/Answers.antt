@@ -1,12 +1,7 @@
 -- `opener::reading::lowest_value` meets its contract: a loop that keeps the lowest so far. Assumes nothing.
-use Prim.Native.Nat.{◌≤◌, ◌-◌}
 use native.Mathlib.Omega.{arith}
-use mathlib.Core.Path.{◌≡◌, refl}
-use borrow.Author.Rules.{rules}
-use Rattle.model.specs.Rounds.{reached}
-use Rattle.state.specs.Cells.{cells_in}
-use Rattle.state.specs.Meaning.{cell_of, database_of, filling_of}
-use Rattle.opener.specs.Reading.{lowest_of, value_in}
+use mathlib.Core.Path.{refl}
+use Rattle.opener.specs.Reading.{lowest_of}
 use Rattle.opener.proofs.ValueLaws.{lowest-more, lowest-end}
 use Rattle.opener.proofs.reading.lowest_value.Goals as goal
 

@@ -1,13 +1,10 @@
 -- What the loops of `opener::reading::lowest_value` keep.
-use Prim.Native.Nat.{◌≤◌, ◌-◌}
-use native.Mathlib.Omega.{arith}
-use mathlib.Core.Path.{◌≡◌, refl}
-use borrow.Author.Rules.{rules}
+use Prim.Native.Nat.{◌≤◌}
+use mathlib.Core.Path.{◌≡◌}
 use Rattle.model.specs.Rounds.{reached}
 use Rattle.state.specs.Cells.{cells_in}
 use Rattle.state.specs.Meaning.{cell_of, database_of, filling_of}
 use Rattle.opener.specs.Reading.{lowest_of, value_in}
-use Rattle.opener.proofs.ValueLaws.{lowest-more, lowest-end}
 use Rattle.opener.proofs.reading.lowest_value.Given as goal
 
 abbrev pub invariant-loop-r : goal.invariant-loop-r

@@ -2,7 +2,6 @@
 use mathlib.Core.Path.{sym, ◌∙◌}
 use borrow.Author.Tests.{not-true, not-false}
 use Rattle.opener.proofs.ValueLaws.{own-elsewhere, own-there}
-use borrow.Author.Rules.{rules}
 use Rattle.opener.proofs.reading.own_value.Goals as goal
 
 pub returns-then-not-same_column : goal.returns-then-not-same_column

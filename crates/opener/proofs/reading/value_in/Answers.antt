@@ -2,7 +2,6 @@
 use native.Mathlib.Nat.{pos_of_ne-zero}
 use Rattle.model.proofs.RoundsLaws.{zero-unreached, level-reached}
 use Rattle.opener.proofs.ValueLaws.{value-unled, value-elsewhere, value_there}
-use borrow.Author.Rules.{rules}
 use Rattle.opener.proofs.reading.value_in.Goals as goal
 
 pub returns-then-levels-r-eq0 : goal.returns-then-levels-r-eq0

@@ -1,10 +1,7 @@
 -- `opener::turning::turned` meets its contract: a loop that turns each constraint round. Assumes nothing.
-use Prim.Native.Nat.{◌≤◌, ◌-◌}
 use native.Mathlib.Omega.{arith}
 use mathlib.Core.Path.{refl}
-use borrow.Author.Rules.{rules}
-use lib.ListN.{get_or}
-use Rattle.finite.proofs.Tables.{Upto, upto-start, upto-map, upto-end}
+use Rattle.finite.proofs.Tables.{upto-start, upto-map, upto-end}
 use Rattle.state.specs.Design.{no_constraint}
 use Rattle.state.proofs.Arrays.{sized}
 use Rattle.opener.specs.Turning.{turned_constraint}

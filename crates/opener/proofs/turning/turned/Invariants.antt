@@ -1,14 +1,9 @@
 -- What the loops of `opener::turning::turned` keep.
-use Prim.Native.Nat.{◌≤◌, ◌-◌}
-use native.Mathlib.Omega.{arith}
-use mathlib.Core.Path.{refl}
-use borrow.Author.Rules.{rules}
+use Prim.Native.Nat.{◌≤◌}
 use lib.ListN.{get_or}
-use Rattle.finite.proofs.Tables.{Upto, upto-start, upto-map, upto-end}
+use Rattle.finite.proofs.Tables.{Upto}
 use Rattle.state.specs.Design.{no_constraint}
-use Rattle.state.proofs.Arrays.{sized}
 use Rattle.opener.specs.Turning.{turned_constraint}
-use Rattle.opener.proofs.TurningLaws.{turned-made}
 use Rattle.opener.proofs.turning.turned.Given as goal
 
 abbrev pub invariant-loop-i : goal.invariant-loop-i

@@ -1,6 +1,4 @@
 -- `operate::output::draw` meets its contract: the lists, or the total. Assumes nothing.
-use native.Mathlib.Omega.{arith}
-use borrow.Author.Rules.{rules}
 use Rattle.state.proofs.Arrays.{sized}
 use Rattle.query.proofs.Answering.{lent-celled}
 use Rattle.operate.proofs.OutputLaws.{totals, listed, lists-drawn, total-drawn}

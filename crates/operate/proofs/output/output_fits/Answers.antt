@@ -1,6 +1,5 @@
 -- `operate::output::output_fits` meets its contract: the query's operands, then a total's. Assumes nothing.
 use mathlib.Core.Path.{sym, ◌∙◌}
-use borrow.Author.Rules.{rules}
 use borrow.Author.Tests.{not-true, not-false}
 use Rattle.operate.proofs.OutputLaws.{misfit, fit-lists, fit-total}
 use Rattle.operate.proofs.output.output_fits.Goals as goal

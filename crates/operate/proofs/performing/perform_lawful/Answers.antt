@@ -1,6 +1,5 @@
 -- `operate::performing::perform_lawful` meets its contract: what the operation's own function gives. Assumes nothing.
 use mathlib.Core.Path.{refl}
-use borrow.Author.Rules.{rules}
 use Rattle.model.specs.Effects.{reply}
 use Rattle.state.proofs.HeldWords.{words-sized}
 use Rattle.operate.proofs.ReadyLaws.{ready}

@@ -1,7 +1,6 @@
 -- `operate::querying::refer_and_draw` meets its contract: the reference on a copy, then cause 11 or 13, or the copy for the marks. Assumes nothing.
 use native.Mathlib.Omega.{arith}
 use mathlib.Core.Path.{refl, sym, ◌∙◌}
-use borrow.Author.Rules.{rules}
 use lib.Seq.{length-take-le}
 use Rattle.model.proofs.Demand2.{fits-operands}
 use Rattle.state.proofs.Arrays.{sized}

@@ -1,17 +1,9 @@
 -- `probe::cached::seen` meets its contract: a search among the rows that have the value. Assumes nothing.
-use Prim.Native.Nat.{◌-◌}
-use mathlib.Core.Path.{◌≡◌}
 use native.Mathlib.Omega.{arith}
-use borrow.Author.Rules.{rules}
 use borrow.Author.Tests.{eq-eqb, ne_eqb}
-use Rattle.finite.specs.Finite.{first_from}
-use Rattle.model.specs.Cell.{Cell}
-use Rattle.model.specs.Database.{Database, has}
 use Rattle.model.specs.Runs.{marked}
-use Rattle.state.specs.Meaning.{column_of}
-use Rattle.catalog.specs.Catalog.{Links}
 use Rattle.catalog.proofs.CatalogLaws.{next-from, next-rises}
-use Rattle.probe.proofs.SeekLaws.{Seeking, seek-end, seek_found, seek-next, seek-start}
+use Rattle.probe.proofs.SeekLaws.{seek-end, seek_found, seek-next, seek-start}
 use Rattle.probe.proofs.cached.seen.Goals as goal
 
 pub loop-r-init : goal.loop-r-init

@@ -1,17 +1,7 @@
 -- `probe::counting::rows_with` meets its contract: a count among the rows that have the value. Assumes nothing.
-use Prim.Native.Nat.{◌-◌}
-use mathlib.Core.Path.{◌≡◌}
-use mathlib.Core.Logic.{⊎_elim}
 use native.Mathlib.Omega.{arith}
-use borrow.Author.Rules.{rules}
-use Rattle.finite.specs.Finite.{first_from}
-use Rattle.model.specs.Cell.{Cell}
-use Rattle.model.specs.Database.{Database, has}
-use Rattle.model.specs.Runs.{marked}
-use Rattle.state.specs.Meaning.{column_of}
-use Rattle.catalog.specs.Catalog.{Links}
 use Rattle.catalog.proofs.CatalogLaws.{next-from, next-rises}
-use Rattle.probe.proofs.CountLaws.{Counting, counting-end, counting-few, counting-hit, counting-miss, counting-start, mark-cached, mark-other}
+use Rattle.probe.proofs.CountLaws.{counting-end, counting-few, counting-hit, counting-miss, counting-start, mark-cached, mark-other}
 use Rattle.probe.proofs.counting.rows_with.Goals as goal
 use Rattle.probe.proofs.counting.rows_with.Goals.{then-marks-r-eq1, else-marks-r-eq1}
 

@@ -1,17 +1,13 @@
 -- What the loops of `probe::counting::rows_with` keep.
 use Prim.Native.Nat.{◌-◌}
 use mathlib.Core.Path.{◌≡◌}
-use mathlib.Core.Logic.{⊎_elim}
-use native.Mathlib.Omega.{arith}
-use borrow.Author.Rules.{rules}
 use Rattle.finite.specs.Finite.{first_from}
 use Rattle.model.specs.Cell.{Cell}
 use Rattle.model.specs.Database.{Database, has}
 use Rattle.model.specs.Runs.{marked}
 use Rattle.state.specs.Meaning.{column_of}
 use Rattle.catalog.specs.Catalog.{Links}
-use Rattle.catalog.proofs.CatalogLaws.{next-from, next-rises}
-use Rattle.probe.proofs.CountLaws.{Counting, counting-end, counting-few, counting-hit, counting-miss, counting-start, mark-cached, mark-other}
+use Rattle.probe.proofs.CountLaws.{Counting}
 use Rattle.probe.proofs.counting.rows_with.Given as goal
 
 abbrev pub invariant-loop-r : goal.invariant-loop-r

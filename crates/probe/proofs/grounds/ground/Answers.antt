@@ -1,6 +1,5 @@
 -- `probe::grounds::ground` meets its contract: the grounds in their order. Assumes nothing.
 use mathlib.Core.Path.{sym, ◌∙◌}
-use borrow.Author.Rules.{rules}
 use Rattle.probe.proofs.GroundLaws.{probe-front, ground-first, ground-second, ground-third, ground-none}
 use Rattle.probe.proofs.grounds.ground.Goals as goal
 

@@ -1,24 +1,10 @@
 -- `probe::grounds::is_demanded` meets its contract: a search among the constraints. Assumes nothing.
-use Prim.Native.Nat.{ℕ, ◌≤◌, ◌-◌}
 use native.Mathlib.Omega.{arith}
-use mathlib.Core.Path.{◌≡◌, sym, ◌∙◌}
-use mathlib.Core.Bool.{Bool, false, ◌&&◌}
-use mathlib.Core.List.{List}
-use lib.ListN.{get_or}
-use Rattle.finite.specs.Finite.{any}
+use mathlib.Core.Path.{sym, ◌∙◌}
 use Rattle.finite.proofs.Search.{any-start, any-more, any-hit, any-end}
-use Rattle.model.specs.Database.{Database}
-use Rattle.model.specs.Probe.{seen, demanded}
-use Rattle.model.specs.Runs.{marked}
-use Rattle.model.specs.Scheme.{same_column}
-use Rattle.state.specs.declared.cell.Cell.{Cell}
-use Rattle.state.specs.declared.design.Column.{Column}
-use Rattle.state.specs.declared.design.Constraint.{Constraint}
-use Rattle.state.specs.Design.{no_constraint}
-use Rattle.state.specs.Meaning.{cell_of, column_of, constraint_of, scheme_of}
-use Rattle.catalog.specs.Catalog.{Indexed}
+use Rattle.model.specs.Probe.{demanded}
+use Rattle.state.specs.Meaning.{scheme_of}
 use Rattle.probe.proofs.grounds.is_demanded.Goals as goal
-use Rattle.probe.proofs.grounds.is_demanded.Invariants.{by}
 
 pub loop-i-init : goal.loop-i-init
 loop-i-init c = (omega arith, λ D x. any-start _)

@@ -1,21 +1,19 @@
 -- What the loops of `probe::grounds::is_demanded` keep.
-use Prim.Native.Nat.{ℕ, ◌≤◌, ◌-◌}
-use native.Mathlib.Omega.{arith}
-use mathlib.Core.Path.{◌≡◌, sym, ◌∙◌}
+use Prim.Native.Nat.{ℕ, ◌≤◌}
+use mathlib.Core.Path.{◌≡◌}
 use mathlib.Core.Bool.{Bool, false, ◌&&◌}
 use mathlib.Core.List.{List}
 use lib.ListN.{get_or}
 use Rattle.finite.specs.Finite.{any}
-use Rattle.finite.proofs.Search.{any-start, any-more, any-hit, any-end}
 use Rattle.model.specs.Database.{Database}
-use Rattle.model.specs.Probe.{seen, demanded}
+use Rattle.model.specs.Probe.{seen}
 use Rattle.model.specs.Runs.{marked}
 use Rattle.model.specs.Scheme.{same_column}
 use Rattle.state.specs.declared.cell.Cell.{Cell}
 use Rattle.state.specs.declared.design.Column.{Column}
 use Rattle.state.specs.declared.design.Constraint.{Constraint}
 use Rattle.state.specs.Design.{no_constraint}
-use Rattle.state.specs.Meaning.{cell_of, column_of, constraint_of, scheme_of}
+use Rattle.state.specs.Meaning.{cell_of, column_of, constraint_of}
 use Rattle.catalog.specs.Catalog.{Indexed}
 use Rattle.probe.proofs.grounds.is_demanded.Given as goal
 

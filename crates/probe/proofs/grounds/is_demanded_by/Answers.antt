@@ -1,6 +1,5 @@
 -- `probe::grounds::is_demanded_by` meets its contract: the target, then the cached rows. Assumes nothing.
 use mathlib.Core.Path.{sym, ◌∙◌}
-use borrow.Author.Rules.{rules}
 use borrow.Author.Tests.{not-true, not-false}
 use Rattle.finite.proofs.Bools.{and-go, and-stop}
 use Rattle.probe.proofs.grounds.is_demanded_by.Goals as goal

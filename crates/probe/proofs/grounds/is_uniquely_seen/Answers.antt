@@ -1,6 +1,5 @@
 -- `probe::grounds::is_uniquely_seen` meets its contract: the column, then the cached rows. Assumes nothing.
 use mathlib.Core.Path.{sym, ◌∙◌}
-use borrow.Author.Rules.{rules}
 use borrow.Author.Tests.{not-true, not-false}
 use Rattle.finite.proofs.Bools.{and-go, and-stop}
 use Rattle.model.specs.Probe.{uniquely_seen}

@@ -1,6 +1,5 @@
 -- `probe::held::is_held` meets its contract: the values, then the ranges. Assumes nothing.
 use mathlib.Core.Path.{sym, ◌∙◌}
-use borrow.Author.Rules.{rules}
 use Rattle.finite.proofs.Bools.{or-go, or_left}
 use Rattle.probe.proofs.held.is_held.Goals as goal
 

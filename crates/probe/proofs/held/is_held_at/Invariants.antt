@@ -1,20 +1,14 @@
 -- What the loops of `probe::held::is_held_at` keep.
-use Prim.Native.Nat.{◌≤◌, ◌-◌}
+use Prim.Native.Nat.{◌≤◌}
 use mathlib.Core.Bool.{false}
-use mathlib.Core.Path.{◌≡◌, ap, sym, ◌∙◌}
-use Rattle.finite.proofs.Search.{any-start, any-more, any-hit, any-end}
+use mathlib.Core.Path.{◌≡◌}
 use Rattle.finite.specs.Finite.{any}
 use Rattle.model.specs.Ranges.{range_holds}
-use Rattle.state.specs.declared.held.Range.{Range}
 use Rattle.state.specs.Held.{range_at, ranges_at}
 use Rattle.state.specs.HeldWords.{words_held}
 use Rattle.state.specs.Meaning.{cell_of, column_of, range_of, scheme_of}
-use lib.ListN.{get_or, length}
-use mathlib.Core.Logic.{⊎_elim}
-use mathlib.Core.Path.{◌≡◌, refl, sym, ap, subst, ◌∙◌}
-use Prim.Native.Nat.{ℕ, ◌≤◌, ◌<◌, ◌-◌}
-use borrow.Author.Rules.{rules}
-use native.Mathlib.Omega.{arith}
+use mathlib.Core.Path.{◌≡◌}
+use Prim.Native.Nat.{◌≤◌}
 use Rattle.probe.proofs.held.is_held_at.Given as goal
 
 abbrev pub invariant-loop-i : goal.invariant-loop-i

@@ -1,6 +1,5 @@
 -- `probe::held::is_held_by` meets its contract: the value, then the column. Assumes nothing.
 use mathlib.Core.Path.{sym, ◌∙◌}
-use borrow.Author.Rules.{rules}
 use borrow.Author.Tests.{not-true, not-false}
 use Rattle.state.specs.Meaning.{scheme_of}
 use Rattle.probe.proofs.GroundLaws.{one-column, one-other}

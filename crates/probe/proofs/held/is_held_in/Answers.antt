@@ -1,6 +1,5 @@
 -- `probe::held::is_held_in` meets its contract: the range, then the column. Assumes nothing.
 use mathlib.Core.Path.{sym, ◌∙◌}
-use borrow.Author.Rules.{rules}
 use borrow.Author.Tests.{not-true, not-false}
 use Rattle.probe.proofs.GroundLaws.{range-column, range_other}
 use Rattle.state.specs.Meaning.{cell_of, column_of, range_of, scheme_of}

@@ -1,17 +1,9 @@
 -- `probe::held::is_held_range` meets its contract: a search among the desks. Assumes nothing.
-use Prim.Native.Nat.{◌≤◌, ◌-◌}
 use native.Mathlib.Omega.{arith}
-use mathlib.Core.Bool.{false}
-use mathlib.Core.Path.{◌≡◌, sym, ◌∙◌}
-use borrow.Author.Rules.{rules}
+use mathlib.Core.Path.{sym, ◌∙◌}
 use Rattle.finite.proofs.Search.{any-start, any-more, any-hit, any-end}
-use Rattle.finite.specs.Finite.{any}
-use Rattle.model.specs.Holding.{desks}
-use Rattle.model.specs.Ranges.{range_holds}
-use Rattle.state.proofs.RangeLists.{ranges-any, some_at}
-use Rattle.state.specs.Held.{ranges_at}
+use Rattle.state.proofs.RangeLists.{ranges-any}
 use Rattle.state.specs.HeldWords.{words_held}
-use Rattle.state.specs.Meaning.{cell_of, column_of, scheme_of}
 use Rattle.probe.proofs.held.is_held_range.Goals as goal
 
 pub loop-e-init : goal.loop-e-init

@@ -1,14 +1,11 @@
 -- What the loops of `probe::held::is_held_range` keep.
-use Prim.Native.Nat.{◌≤◌, ◌-◌}
-use native.Mathlib.Omega.{arith}
+use Prim.Native.Nat.{◌≤◌}
 use mathlib.Core.Bool.{false}
-use mathlib.Core.Path.{◌≡◌, sym, ◌∙◌}
-use borrow.Author.Rules.{rules}
-use Rattle.finite.proofs.Search.{any-start, any-more, any-hit, any-end}
+use mathlib.Core.Path.{◌≡◌}
 use Rattle.finite.specs.Finite.{any}
 use Rattle.model.specs.Holding.{desks}
 use Rattle.model.specs.Ranges.{range_holds}
-use Rattle.state.proofs.RangeLists.{ranges-any, some_at}
+use Rattle.state.proofs.RangeLists.{some_at}
 use Rattle.state.specs.Held.{ranges_at}
 use Rattle.state.specs.HeldWords.{words_held}
 use Rattle.state.specs.Meaning.{cell_of, column_of, scheme_of}

@@ -1,18 +1,10 @@
-use Prim.Native.Nat.{ℕ, ◌≤◌, ◌-◌}
-use mathlib.Core.Path.{◌≡◌, ap, sym, ◌∙◌}
-use mathlib.Core.Bool.{false}
-use Rattle.finite.specs.Finite.{any}
+use mathlib.Core.Path.{ap, sym, ◌∙◌}
 use Rattle.finite.proofs.Search.{any-start, any-more, any-hit, any-end}
 use Rattle.state.specs.declared.held.OwnedValue.{OwnedValue}
-use Rattle.state.specs.Held.{held_at}
 use Rattle.state.specs.HeldWords.{words_held}
 use Rattle.state.specs.Meaning.{cell_of, column_of, scheme_of, pair_of, values_of}
 use Rattle.probe.proofs.GroundLaws.{pair_holds, held_any}
-use lib.ListN.{get_or, length}
-use mathlib.Core.Logic.{⊎_elim}
-use mathlib.Core.Path.{◌≡◌, refl, sym, ap, subst, ◌∙◌}
-use Prim.Native.Nat.{ℕ, ◌≤◌, ◌<◌, ◌-◌}
-use borrow.Author.Rules.{rules}
+use mathlib.Core.Path.{sym, ap, ◌∙◌}
 use native.Mathlib.Omega.{arith}
 use Rattle.probe.proofs.held.is_held_value.Goals as goal
 

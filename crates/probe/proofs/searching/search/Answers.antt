@@ -1,6 +1,5 @@
 -- `probe::searching::search` meets its contract: the ground, and behind a yes the count. Assumes nothing.
 use mathlib.Core.Path.{◌∙◌}
-use borrow.Author.Rules.{rules}
 use Rattle.model.proofs.CountedRows.{rows-behind-yes, rows-behind-sent}
 use Rattle.probe.proofs.GroundLaws.{rows-front}
 use Rattle.probe.proofs.searching.search.Goals as goal

@@ -3,7 +3,6 @@ use native.Mathlib.Omega.{arith}
 use Rattle.catalog.proofs.MakingLaws.{size-lent}
 use Rattle.reason.proofs.LinkLaws.{below-bound, ranked-below, traceable}
 use Rattle.reason.proofs.Composing.{root_none, links-none}
-use borrow.Author.Rules.{rules}
 use Rattle.reason.proofs.explaining.put_chain.Goals as goal
 
 pub returns-then-n-eq0 : goal.returns-then-n-eq0

@@ -1,7 +1,6 @@
 -- `reason::explaining::put_reason` meets its contract: the row, its links, and the lowest held value or range of the row that they lead back to. Assumes nothing.
 use native.Mathlib.Omega.{arith}
 use mathlib.Core.Path.{refl, ap}
-use borrow.Author.Rules.{rules}
 use Rattle.finite.proofs.Writing.{reach}
 use Rattle.model.specs.Sentence.{row_word, origin_text}
 use Rattle.load.proofs.EndedLaws.{within_all}

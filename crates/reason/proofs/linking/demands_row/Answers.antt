@@ -3,7 +3,6 @@ use mathlib.Core.Path.{sym, ap, ◌∙◌}
 use borrow.Author.Tests.{not-true, not-false}
 use Rattle.state.specs.declared.cell.Cell as State
 use Rattle.reason.proofs.LinkLaws.{leads-apart, leads-absent, leads-elsewhere, leads-value}
-use borrow.Author.Rules.{rules}
 use Rattle.reason.proofs.linking.demands_row.Goals as goal
 
 pub returns-then-a-b : goal.returns-then-a-b

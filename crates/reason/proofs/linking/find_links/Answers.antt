@@ -1,10 +1,8 @@
 -- `reason::linking::find_links` meets its contract. The invariant: the links down to distance k are noted, and row s stands there. Assumes nothing.
 use Prim.Native.Nat.{ℕ}
 use lib.ListN.{length-replicate}
-use Rattle.state.specs.Cells.{cells_in}
-use Rattle.state.specs.Meaning.{database_of, scheme_of}
 use Rattle.catalog.proofs.MakingLaws.{size-lent}
-use Rattle.reason.proofs.LinkLaws.{Noted, noted-start, noted_more, noted-end, ranked-fewer, scheme-count}
+use Rattle.reason.proofs.LinkLaws.{noted-start, noted_more, noted-end, ranked-fewer, scheme-count}
 use Rattle.reason.proofs.Composing.{constraint-below, row_below, row-nearer}
 use mathlib.Core.Path.{refl}
 use native.Mathlib.Omega.{arith}

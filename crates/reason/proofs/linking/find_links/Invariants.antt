@@ -1,13 +1,7 @@
 -- What the loops of `reason::linking::find_links` keep.
-use Prim.Native.Nat.{ℕ}
-use lib.ListN.{length-replicate}
 use Rattle.state.specs.Cells.{cells_in}
 use Rattle.state.specs.Meaning.{database_of, scheme_of}
-use Rattle.catalog.proofs.MakingLaws.{size-lent}
-use Rattle.reason.proofs.LinkLaws.{Noted, noted-start, noted_more, noted-end, ranked-fewer, scheme-count}
-use Rattle.reason.proofs.Composing.{constraint-below, row_below, row-nearer}
-use mathlib.Core.Path.{refl}
-use native.Mathlib.Omega.{arith}
+use Rattle.reason.proofs.LinkLaws.{Noted}
 use Rattle.reason.proofs.linking.find_links.Given as goal
 
 abbrev pub invariant-loop-k : goal.invariant-loop-k

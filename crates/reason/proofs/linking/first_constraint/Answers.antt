@@ -1,15 +1,7 @@
 -- `reason::linking::first_constraint` meets its contract. The invariant: no constraint below i demands row r of row s. Assumes nothing.
-use mathlib.Core.Bool.{false}
-use lib.ListN.{get_or}
 use mathlib.Core.Path.{◌≡◌, sym, ◌∙◌}
 use Rattle.finite.proofs.First.{first-is, first-none}
-use Rattle.model.specs.Rounds.{leads}
-use Rattle.state.specs.Cells.{cells_in}
-use Rattle.state.specs.Design.{no_constraint}
-use Rattle.state.specs.Meaning.{constraint_of, database_of}
 use Rattle.reason.proofs.LinkLaws.{none_more}
-use Prim.Native.Nat.{ℕ, ◌≤◌, ◌<◌, ◌-◌}
-use borrow.Author.Rules.{rules}
 use native.Mathlib.Omega.{arith}
 use Rattle.reason.proofs.linking.first_constraint.Goals as goal
 

@@ -1,16 +1,12 @@
 -- What the loops of `reason::linking::first_constraint` keep.
 use mathlib.Core.Bool.{false}
 use lib.ListN.{get_or}
-use mathlib.Core.Path.{◌≡◌, sym, ◌∙◌}
-use Rattle.finite.proofs.First.{first-is, first-none}
+use mathlib.Core.Path.{◌≡◌}
 use Rattle.model.specs.Rounds.{leads}
 use Rattle.state.specs.Cells.{cells_in}
 use Rattle.state.specs.Design.{no_constraint}
 use Rattle.state.specs.Meaning.{constraint_of, database_of}
-use Rattle.reason.proofs.LinkLaws.{none_more}
-use Prim.Native.Nat.{ℕ, ◌≤◌, ◌<◌, ◌-◌}
-use borrow.Author.Rules.{rules}
-use native.Mathlib.Omega.{arith}
+use Prim.Native.Nat.{ℕ, ◌≤◌, ◌<◌}
 use Rattle.reason.proofs.linking.first_constraint.Given as goal
 
 abbrev pub invariant-loop-i : goal.invariant-loop-i

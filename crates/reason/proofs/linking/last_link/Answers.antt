@@ -1,14 +1,8 @@
 -- `reason::linking::last_link` meets its contract. The invariant: the best so far is the lowest link that comes from a row below s. Assumes nothing.
-use Prim.Native.Nat.{◌+◌, ◌≤◌, ◌<◌, ◌-◌}
-use Rattle.model.specs.Rounds.{level}
-use Rattle.state.specs.declared.design.Design.{Design}
-use Rattle.state.specs.Cells.{cells_in}
-use Rattle.state.specs.Meaning.{database_of, scheme_of}
+use Prim.Native.Nat.{◌+◌}
 use Rattle.catalog.proofs.MakingLaws.{size-lent}
-use Rattle.reason.specs.Links.{LowestLink}
 use Rattle.reason.proofs.LinkLaws.{of-level, ranked-next, places-within, design-none, design-few, design-next, lowest-constraint, lowest-row}
-use mathlib.Core.Path.{◌≡◌, refl, ◌∙◌}
-use borrow.Author.Rules.{rules}
+use mathlib.Core.Path.{refl, ◌∙◌}
 use native.Mathlib.Omega.{arith}
 use Rattle.reason.proofs.linking.last_link.Goals as goal
 

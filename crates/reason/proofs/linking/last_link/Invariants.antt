@@ -4,12 +4,8 @@ use Rattle.model.specs.Rounds.{level}
 use Rattle.state.specs.declared.design.Design.{Design}
 use Rattle.state.specs.Cells.{cells_in}
 use Rattle.state.specs.Meaning.{database_of, scheme_of}
-use Rattle.catalog.proofs.MakingLaws.{size-lent}
 use Rattle.reason.specs.Links.{LowestLink}
-use Rattle.reason.proofs.LinkLaws.{of-level, ranked-next, places-within, design-none, design-few, design-next, lowest-constraint, lowest-row}
-use mathlib.Core.Path.{◌≡◌, refl, ◌∙◌}
-use borrow.Author.Rules.{rules}
-use native.Mathlib.Omega.{arith}
+use mathlib.Core.Path.{◌≡◌}
 use Rattle.reason.proofs.linking.last_link.Given as goal
 
 abbrev pub invariant-loop-s : goal.invariant-loop-s

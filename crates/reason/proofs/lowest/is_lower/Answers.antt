@@ -1,5 +1,4 @@
 -- `reason::lowest::is_lower` meets its contract: case by case of the one. Assumes nothing.
-use borrow.Author.Rules.{rules}
 use Rattle.reason.proofs.LowestLaws.{told-than}
 use Rattle.reason.proofs.lowest.is_lower.Goals as goal
 

@@ -1,6 +1,5 @@
 -- `reason::lowest::is_lower_value` meets its contract: the fillings decide, or else the values. Assumes nothing.
 use mathlib.Core.Path.{◌∙◌}
-use borrow.Author.Rules.{rules}
 use Rattle.finite.proofs.Order.{lower-apart, lower-alike}
 use Rattle.model.specs.Reason.{lower_origin}
 use Rattle.reason.proofs.lowest.is_lower_value.Goals as goal

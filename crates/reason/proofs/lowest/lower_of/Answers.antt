@@ -1,6 +1,5 @@
 -- `reason::lowest::lower_of` meets its contract, test by test. Assumes nothing.
 use mathlib.Core.Path.{sym, ◌∙◌}
-use borrow.Author.Rules.{rules}
 use borrow.Author.Tests.{not-true, not-false}
 use Rattle.reason.proofs.LowestLaws.{lower-lacks, lower-first, lower-higher, lower-taken}
 use Rattle.reason.proofs.lowest.lower_of.Goals as goal

@@ -1,5 +1,4 @@
 -- `reason::lowest::lowest_held` meets its contract: the values, then the ranges. Assumes nothing.
-use borrow.Author.Rules.{rules}
 use Rattle.state.specs.HeldWords.{words_held}
 use Rattle.reason.proofs.LowestLaws.{lowest-found}
 use Rattle.reason.proofs.lowest.lowest_held.Goals as goal

@@ -1,16 +1,13 @@
 -- What the loops of `reason::lowest::lowest_range` keep.
-use Prim.Native.Nat.{◌≤◌, ◌-◌}
-use native.Mathlib.Omega.{arith}
-use mathlib.Core.Path.{◌≡◌, refl}
-use borrow.Author.Rules.{rules}
+use Prim.Native.Nat.{◌≤◌}
+use mathlib.Core.Path.{◌≡◌}
 use lib.ListN.{get_or}
 use Rattle.state.specs.Cells.{cells_in}
 use Rattle.state.specs.declared.design.Design.{Design}
 use Rattle.state.specs.Held.{no_range}
 use Rattle.state.specs.Meaning.{database_of, scheme_of}
 use Rattle.reason.specs.declared.lowest.Origin.TheVariants as O
-use Rattle.reason.specs.Lowest.{lowest_below, lowest_of_ranges}
-use Rattle.reason.proofs.LowestLaws.{range-has, below-start, below-turn, below_end}
+use Rattle.reason.specs.Lowest.{lowest_below}
 use Rattle.reason.proofs.lowest.lowest_range.Given as goal
 
 abbrev pub invariant-loop-i : goal.invariant-loop-i

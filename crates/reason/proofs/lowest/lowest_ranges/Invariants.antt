@@ -1,14 +1,10 @@
 -- What the loops of `reason::lowest::lowest_ranges` keep.
-use Prim.Native.Nat.{ℕ, ◌≤◌, ◌<◌, ◌-◌}
-use native.Mathlib.Omega.{arith}
-use mathlib.Core.Path.{◌≡◌, sym, subst}
+use Prim.Native.Nat.{◌≤◌}
+use mathlib.Core.Path.{◌≡◌}
 use Rattle.state.specs.Cells.{cells_in}
-use Rattle.state.specs.declared.held.DeskRanges.{DeskRanges}
-use Rattle.state.specs.Held.{range_at}
 use Rattle.state.specs.HeldWords.{words_held}
 use Rattle.state.specs.Meaning.{database_of, scheme_of}
 use Rattle.reason.specs.Lowest.{lowest_of_desks}
-use Rattle.reason.proofs.LowestLaws.{desks-start, desks-turn, desks-end}
 use Rattle.reason.proofs.lowest.lowest_ranges.Given as goal
 
 abbrev pub invariant-loop-e : goal.invariant-loop-e

@@ -1,17 +1,12 @@
 -- `reason::lowest::lowest_value` meets its contract: one held value after the other. Assumes nothing.
-use Prim.Native.Nat.{◌≤◌, ◌-◌}
 use native.Mathlib.Omega.{arith}
-use mathlib.Core.Path.{◌≡◌, refl, ap, ◌∙◌}
-use borrow.Author.Rules.{rules}
+use mathlib.Core.Path.{refl, ap, ◌∙◌}
 use Rattle.model.specs.Reason.{has_origin}
 use Rattle.state.specs.Cells.{cells_in}
-use Rattle.state.specs.declared.design.Design.{Design}
 use Rattle.state.specs.declared.held.OwnedValue.{OwnedValue}
-use Rattle.state.specs.Held.{held_at}
-use Rattle.state.specs.HeldWords.{words_held}
 use Rattle.state.specs.Meaning.{database_of, scheme_of}
 use Rattle.reason.specs.declared.lowest.Origin.TheVariants as O
-use Rattle.reason.specs.Lowest.{none_found, lowest_below, lowest_of_values, origin_of}
+use Rattle.reason.specs.Lowest.{lowest_of_values, origin_of}
 use Rattle.reason.proofs.LowestLaws.{value-has, below-start, below-turn, below_end}
 use Rattle.reason.proofs.lowest.lowest_value.Goals as goal
 

@@ -1,18 +1,13 @@
 -- What the loops of `reason::lowest::lowest_value` keep.
-use Prim.Native.Nat.{◌≤◌, ◌-◌}
-use native.Mathlib.Omega.{arith}
-use mathlib.Core.Path.{◌≡◌, refl, ap, ◌∙◌}
-use borrow.Author.Rules.{rules}
-use Rattle.model.specs.Reason.{has_origin}
+use Prim.Native.Nat.{◌≤◌}
+use mathlib.Core.Path.{◌≡◌}
 use Rattle.state.specs.Cells.{cells_in}
 use Rattle.state.specs.declared.design.Design.{Design}
-use Rattle.state.specs.declared.held.OwnedValue.{OwnedValue}
 use Rattle.state.specs.Held.{held_at}
 use Rattle.state.specs.HeldWords.{words_held}
 use Rattle.state.specs.Meaning.{database_of, scheme_of}
 use Rattle.reason.specs.declared.lowest.Origin.TheVariants as O
-use Rattle.reason.specs.Lowest.{none_found, lowest_below, lowest_of_values, origin_of}
-use Rattle.reason.proofs.LowestLaws.{value-has, below-start, below-turn, below_end}
+use Rattle.reason.specs.Lowest.{none_found, lowest_below}
 use Rattle.reason.proofs.lowest.lowest_value.Given as goal
 
 abbrev pub invariant-loop-i : goal.invariant-loop-i

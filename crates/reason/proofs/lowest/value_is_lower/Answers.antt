@@ -1,5 +1,4 @@
 -- `reason::lowest::value_is_lower` meets its contract: case by case of the other. Assumes nothing.
-use borrow.Author.Rules.{rules}
 use Rattle.reason.proofs.LowestLaws.{than-told, value-than-range}
 use Rattle.reason.proofs.lowest.value_is_lower.Goals as goal
 

@@ -1,13 +1,9 @@
 -- `reason::nearing::levels_below` meets its contract. Assumes nothing.
 use Rattle.reason.proofs.LinkLaws.{below-made}
-use Rattle.model.specs.Rounds.{level}
-use Rattle.finite.proofs.Tables.{Upto, upto-start, upto-set, upto-end}
-use lib.ListN.{get_or, length-replicate}
-use lib.Dec.{ltb}
-use mathlib.Core.Bool.{cond}
-use Prim.Native.Nat.{ℕ, ◌≤◌, ◌-◌}
+use Rattle.finite.proofs.Tables.{upto-start, upto-set, upto-end}
+use lib.ListN.{length-replicate}
+use Prim.Native.Nat.{ℕ}
 use native.Mathlib.Omega.{arith}
-use borrow.Author.Rules.{rules}
 use Rattle.reason.proofs.nearing.levels_below.Goals as goal
 
 pub loop-s-init : goal.loop-s-init

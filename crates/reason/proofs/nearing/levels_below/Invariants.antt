@@ -1,13 +1,10 @@
 -- What the loops of `reason::nearing::levels_below` keep.
-use Rattle.reason.proofs.LinkLaws.{below-made}
 use Rattle.model.specs.Rounds.{level}
-use Rattle.finite.proofs.Tables.{Upto, upto-start, upto-set, upto-end}
-use lib.ListN.{get_or, length-replicate}
+use Rattle.finite.proofs.Tables.{Upto}
+use lib.ListN.{get_or}
 use lib.Dec.{ltb}
 use mathlib.Core.Bool.{cond}
-use Prim.Native.Nat.{ℕ, ◌≤◌, ◌-◌}
-use native.Mathlib.Omega.{arith}
-use borrow.Author.Rules.{rules}
+use Prim.Native.Nat.{◌≤◌}
 use Rattle.reason.proofs.nearing.levels_below.Given as goal
 
 abbrev pub invariant-loop-s : goal.invariant-loop-s

@@ -1,9 +1,8 @@
 -- `reason::nearing::list_levels` meets its contract. The invariant: the rows from s on are listed. Assumes nothing.
-use Prim.Native.Nat.{ℕ, ◌≤◌, ◌-◌}
+use Prim.Native.Nat.{ℕ, ◌-◌}
 use lib.ListN.{length-replicate}
-use Rattle.reason.proofs.LinkLaws.{RankedFrom, ranked-none, ranked-past, ranked-more, ranked-end}
+use Rattle.reason.proofs.LinkLaws.{ranked-none, ranked-past, ranked-more, ranked-end}
 use mathlib.Core.Path.{refl}
-use borrow.Author.Rules.{rules}
 use native.Mathlib.Omega.{arith}
 use Rattle.reason.proofs.nearing.list_levels.Goals as goal
 

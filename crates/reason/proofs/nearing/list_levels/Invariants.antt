@@ -1,10 +1,6 @@
 -- What the loops of `reason::nearing::list_levels` keep.
-use Prim.Native.Nat.{ℕ, ◌≤◌, ◌-◌}
-use lib.ListN.{length-replicate}
-use Rattle.reason.proofs.LinkLaws.{RankedFrom, ranked-none, ranked-past, ranked-more, ranked-end}
-use mathlib.Core.Path.{refl}
-use borrow.Author.Rules.{rules}
-use native.Mathlib.Omega.{arith}
+use Prim.Native.Nat.{◌≤◌}
+use Rattle.reason.proofs.LinkLaws.{RankedFrom}
 use Rattle.reason.proofs.nearing.list_levels.Given as goal
 
 abbrev pub invariant-loop-s : goal.invariant-loop-s

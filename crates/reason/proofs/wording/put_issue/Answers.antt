@@ -1,6 +1,5 @@
 -- `reason::wording::put_issue` meets its contract. Assumes nothing.
 use mathlib.Core.Path.{refl, sym}
-use borrow.Author.Rules.{rules}
 use Rattle.finite.proofs.Writing.{behind, wrote_as, wrote_none}
 use Rattle.reason.proofs.WordingLaws.{issue-none, issue-some}
 use Rattle.reason.proofs.wording.put_issue.Goals as goal

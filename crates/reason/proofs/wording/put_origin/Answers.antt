@@ -1,5 +1,4 @@
 -- `reason::wording::put_origin` meets its contract: case by case. Assumes nothing.
-use borrow.Author.Rules.{rules}
 use Rattle.reason.proofs.WordingLaws.{origin-told}
 use Rattle.reason.proofs.wording.put_origin.Goals as goal
 

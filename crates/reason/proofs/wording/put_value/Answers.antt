@@ -1,6 +1,5 @@
 -- `reason::wording::put_value` meets its contract: the parts one behind the other. Assumes nothing.
 use native.Mathlib.Omega.{arith}
-use borrow.Author.Rules.{rules}
 use Rattle.finite.proofs.Writing.{behind}
 use Rattle.model.specs.Sentence.{origin_text, cell_text}
 use Rattle.text.proofs.Reach.{spaced-reach}

@@ -1,12 +1,8 @@
 -- `cache::records::desks_in` meets its contract: each desk gets what its words stand for. Assumes nothing.
-use Prim.Native.Nat.{◌≤◌, ◌-◌}
 use native.Mathlib.Omega.{arith}
 use mathlib.Core.Path.{refl}
-use borrow.Author.Rules.{rules}
-use lib.ListN.{get_or}
-use Rattle.finite.proofs.Tables.{Upto, upto-start, upto-set, upto-end}
-use Rattle.state.specs.Held.{no_ranges, ranges_at}
-use Rattle.state.specs.HeldWords.{words_held}
+use Rattle.finite.proofs.Tables.{upto-start, upto-set, upto-end}
+use Rattle.state.specs.Held.{no_ranges}
 use Rattle.record.proofs.RecordWords.{desks-all-read}
 use Rattle.record.proofs.records.desks_in.Goals as goal
 

@@ -1,13 +1,9 @@
 -- What the loops of `record::records::desks_in` keep.
-use Prim.Native.Nat.{◌≤◌, ◌-◌}
-use native.Mathlib.Omega.{arith}
-use mathlib.Core.Path.{refl}
-use borrow.Author.Rules.{rules}
+use Prim.Native.Nat.{◌≤◌}
 use lib.ListN.{get_or}
-use Rattle.finite.proofs.Tables.{Upto, upto-start, upto-set, upto-end}
+use Rattle.finite.proofs.Tables.{Upto}
 use Rattle.state.specs.Held.{no_ranges, ranges_at}
 use Rattle.state.specs.HeldWords.{words_held}
-use Rattle.record.proofs.RecordWords.{desks-all-read}
 use Rattle.record.proofs.records.desks_in.Given as goal
 
 abbrev pub invariant-loop-e : goal.invariant-loop-e

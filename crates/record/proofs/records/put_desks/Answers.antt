@@ -1,9 +1,6 @@
 -- `cache::records::put_desks` meets its contract: the desks passed are stored. Assumes nothing.
-use Prim.Native.Nat.{◌-◌}
 use native.Mathlib.Omega.{arith}
-use borrow.Author.Rules.{rules}
-use Rattle.state.specs.HeldWords.{words_held}
-use Rattle.record.proofs.RecordWords.{Desked, desked-start, desked-more, desked-end}
+use Rattle.record.proofs.RecordWords.{desked-start, desked-more, desked-end}
 use Rattle.record.proofs.records.put_desks.Goals as goal
 
 pub loop-e-init : goal.loop-e-init

@@ -1,9 +1,6 @@
 -- What the loops of `record::records::put_desks` keep.
-use Prim.Native.Nat.{◌-◌}
-use native.Mathlib.Omega.{arith}
-use borrow.Author.Rules.{rules}
 use Rattle.state.specs.HeldWords.{words_held}
-use Rattle.record.proofs.RecordWords.{Desked, desked-start, desked-more, desked-end}
+use Rattle.record.proofs.RecordWords.{Desked}
 use Rattle.record.proofs.records.put_desks.Given as goal
 
 abbrev pub invariant-loop-e : goal.invariant-loop-e

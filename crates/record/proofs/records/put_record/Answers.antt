@@ -1,5 +1,4 @@
 -- `cache::records::put_record` meets its contract: part by part. Assumes nothing.
-use borrow.Author.Rules.{rules}
 use Rattle.state.proofs.Arrays.{held-sized}
 use Rattle.state.proofs.HeldWords.{holds-whole}
 use Rattle.record.proofs.RecordWords.{record-stored}

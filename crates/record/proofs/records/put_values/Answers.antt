@@ -1,9 +1,6 @@
 -- `cache::records::put_values` meets its contract: the values passed are stored. Assumes nothing.
-use Prim.Native.Nat.{◌-◌}
 use native.Mathlib.Omega.{arith}
-use borrow.Author.Rules.{rules}
-use Rattle.state.specs.HeldWords.{words_held}
-use Rattle.record.proofs.RecordWords.{Valued, valued-start, valued-more, valued-end}
+use Rattle.record.proofs.RecordWords.{valued-start, valued-more, valued-end}
 use Rattle.record.proofs.records.put_values.Goals as goal
 
 pub loop-i-init : goal.loop-i-init

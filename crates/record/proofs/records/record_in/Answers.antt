@@ -1,5 +1,4 @@
 -- `cache::records::record_in` meets its contract: part by part. Assumes nothing.
-use borrow.Author.Rules.{rules}
 use Rattle.state.specs.HeldWords.{words_held}
 use Rattle.record.proofs.RecordWords.{record_is}
 use Rattle.record.proofs.records.record_in.Goals as goal

@@ -1,5 +1,4 @@
 -- `cache::records::refer_record` meets its contract: the record stored as words, the operation over them, and the record that they hold then. Assumes nothing.
-use borrow.Author.Rules.{rules}
 use Rattle.state.proofs.HeldWords.{holds-whole}
 use Rattle.lawful.proofs.Asked.{sound-tidy}
 use Rattle.state.proofs.LentWords.{zero-whole}

@@ -2,7 +2,6 @@
 use mathlib.Core.Path.{sym, ◌∙◌}
 use borrow.Author.Tests.{not-true, not-false}
 use Rattle.slice.proofs.AcceptedLaws.{fits-kind, fits-column, fits-number, fits-value, fits-span}
-use borrow.Author.Rules.{rules}
 use Rattle.slice.proofs.accepted.fetch_fits.Goals as goal
 
 pub returns-then-f-gt1 : goal.returns-then-f-gt1

@@ -1,14 +1,10 @@
 -- `slice::accepted::fetches_fit` meets its contract. Assumes nothing.
-use Prim.Native.Nat.{◌-◌, ◌≤◌}
-use mathlib.Core.Path.{◌≡◌, sym, ap, ◌∙◌}
-use mathlib.Core.Bool.{true, ◌&&◌}
+use mathlib.Core.Path.{sym, ap, ◌∙◌}
 use borrow.Author.Tests.{not-true, not-false}
-use Rattle.finite.specs.Finite.{all}
 use Rattle.finite.proofs.Bools.{both, and_left, and_right}
 use Rattle.finite.proofs.Search.{all_start, all_more, all-stop, all_end}
 use Rattle.state.specs.Meaning.{scheme_of}
-use Rattle.slice.specs.Fetches.{fetch_at, fetch_fits, is_behind, fetches_fit}
-use borrow.Author.Rules.{rules}
+use Rattle.slice.specs.Fetches.{fetch_at, fetch_fits, fetches_fit}
 use native.Mathlib.Omega.{arith}
 use Rattle.slice.proofs.accepted.fetches_fit.Goals as goal
 

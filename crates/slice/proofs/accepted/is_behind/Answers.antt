@@ -2,7 +2,6 @@
 use mathlib.Core.Path.{ap₂, ◌∙◌}
 use Rattle.slice.specs.Fetches.{fetch_before}
 use Rattle.slice.proofs.AcceptedLaws.{behind-first, behind-next}
-use borrow.Author.Rules.{rules}
 use Rattle.slice.proofs.accepted.is_behind.Goals as goal
 
 pub returns-then-i-eq0 : goal.returns-then-i-eq0

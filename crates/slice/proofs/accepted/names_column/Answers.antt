@@ -4,7 +4,6 @@ use lib.Dec.{ltb}
 use Rattle.state.specs.declared.design.Table.{Table}
 use Rattle.state.specs.Meaning.{scheme_of}
 use Rattle.slice.proofs.AcceptedLaws.{past-tables, within-tables}
-use borrow.Author.Rules.{rules}
 use Rattle.slice.proofs.accepted.names_column.Goals as goal
 
 pub returns-then-d-t : goal.returns-then-d-t

@@ -1,7 +1,6 @@
 -- `slice::fetch::fetch_before` meets its contract. Assumes nothing.
 use mathlib.Core.Path.{◌∙◌}
 use Rattle.slice.proofs.OrderLaws.{before-kind, before-table, before-column, before-end}
-use borrow.Author.Rules.{rules}
 use Rattle.slice.proofs.fetch.fetch_before.Goals as goal
 
 pub returns-then-f-g : goal.returns-then-f-g

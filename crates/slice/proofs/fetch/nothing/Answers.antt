@@ -1,7 +1,6 @@
 -- `slice::fetch::nothing` meets its contract. Assumes nothing.
 use mathlib.Core.Path.{refl}
 use Rattle.slice.specs.Fetches.{as_lack}
-use borrow.Author.Rules.{rules}
 use Rattle.slice.proofs.fetch.nothing.Goals as goal
 
 pub returns : goal.returns

@@ -1,5 +1,4 @@
 -- `slice::fetch::value_fetch` meets its contract. Assumes nothing.
-use borrow.Author.Rules.{rules}
 use Rattle.slice.proofs.fetch.value_fetch.Goals as goal
 
 pub returns : goal.returns

@@ -7,7 +7,6 @@ use Rattle.state.specs.Meaning.{cell_of, column_of}
 use Rattle.slice.specs.declared.fetch.Fetch.{Fetch}
 use Rattle.slice.specs.Fetches.{fetch_of}
 use native.Mathlib.Omega.{arith}
-use borrow.Author.Rules.{rules}
 use Rattle.slice.proofs.fetched.covers_at.Goals as goal
 
 pub returns-then-n-i : goal.returns-then-n-i

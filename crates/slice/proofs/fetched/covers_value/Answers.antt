@@ -1,7 +1,6 @@
 -- `slice::fetched::covers_value` meets its contract. Assumes nothing.
 use mathlib.Core.Path.{◌∙◌, sym}
 use Rattle.slice.proofs.CoverLaws.{cover-table, cover-place, cover-value, cover-span}
-use borrow.Author.Rules.{rules}
 use Rattle.slice.proofs.fetched.covers_value.Goals as goal
 
 pub returns-then-f-wide : goal.returns-then-f-wide

@@ -1,7 +1,6 @@
 -- `slice::fetched::is_value` meets its contract. Assumes nothing.
 use mathlib.Core.Path.{sym, ◌∙◌}
 use Rattle.slice.proofs.CoverLaws.{value-blank, value-other, value_same}
-use borrow.Author.Rules.{rules}
 use Rattle.slice.proofs.fetched.is_value.Goals as goal
 
 pub returns-then-is_blank : goal.returns-then-is_blank

@@ -1,10 +1,8 @@
 -- `slice::fetched::seek` meets its contract. Assumes nothing.
-use Prim.Native.Nat.{◌≤◌, ◌-◌}
 use mathlib.Core.Path.{sym, ap, ◌∙◌}
 use Rattle.slice.specs.declared.fetch.Fetch.{Fetch}
-use Rattle.slice.specs.Fetches.{Ordered, fetch_before}
-use Rattle.slice.proofs.SeekLaws.{Halved, halved-start, halved-up, halved-down, halved-end}
-use borrow.Author.Rules.{rules}
+use Rattle.slice.specs.Fetches.{fetch_before}
+use Rattle.slice.proofs.SeekLaws.{halved-start, halved-up, halved-down, halved-end}
 use native.Mathlib.Omega.{arith}
 use Rattle.slice.proofs.fetched.seek.Goals as goal
 

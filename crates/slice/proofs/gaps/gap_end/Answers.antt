@@ -3,7 +3,6 @@ use borrow.Author.Tests.{not-true, not-false}
 use Rattle.finite.proofs.Bools.{clash}
 use Rattle.slice.proofs.LackLaws.{gap-whole, gap-begins, gap-part}
 use native.Mathlib.Omega.{arith}
-use borrow.Author.Rules.{rules}
 use Rattle.slice.proofs.gaps.gap_end.Goals as goal
 
 pub returns-then-not-l : goal.returns-then-not-l

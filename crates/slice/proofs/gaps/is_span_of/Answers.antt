@@ -2,7 +2,6 @@
 use mathlib.Core.Path.{◌∙◌, sym, ap}
 use lib.Dec.{eqb}
 use Rattle.slice.proofs.CoverLaws.{not_span, other-table, same-table}
-use borrow.Author.Rules.{rules}
 use Rattle.slice.proofs.gaps.is_span_of.Goals as goal
 
 pub returns-then-f-eq0 : goal.returns-then-f-eq0

@@ -1,6 +1,5 @@
 -- `slice::gaps::next_span` meets its contract. Assumes nothing.
 use Rattle.slice.proofs.SeekLaws.{sought-as, next-none, next-by}
-use borrow.Author.Rules.{rules}
 use Rattle.slice.proofs.gaps.next_span.Goals as goal
 
 pub returns-then-n-i : goal.returns-then-n-i

@@ -5,7 +5,6 @@ use Rattle.state.specs.declared.design.Filling.{Filling}
 use Rattle.state.specs.Meaning.{cell_of, column_of, scheme_of}
 use Rattle.slice.specs.Fetches.{fetches_in}
 use native.Mathlib.Omega.{arith}
-use borrow.Author.Rules.{rules}
 use Rattle.slice.proofs.held.pair_lack.Goals as goal
 
 pub lack_of-requires : goal.lack_of-requires

@@ -1,16 +1,11 @@
 -- `slice::held::pairs_lack` meets its contract. Assumes nothing.
-use Prim.Native.Nat.{◌-◌, ◌≤◌}
-use mathlib.Core.Path.{◌≡◌}
-use Rattle.model.specs.Database.{Database}
 use Rattle.model.specs.Missing as Model
 use Rattle.state.specs.Held.{held_at}
 use Rattle.state.specs.HeldWords.{words_held}
 use Rattle.state.specs.Meaning.{owned_of, scheme_of, values_of}
-use Rattle.catalog.specs.Catalog.{Indexed}
 use Rattle.model.proofs.MissingLoops.{lack-start}
 use Rattle.slice.specs.Fetches.{fetches_in}
 use Rattle.slice.proofs.LackLaws.{leaves_at, goes_at, ends_at}
-use borrow.Author.Rules.{rules}
 use native.Mathlib.Omega.{arith}
 use Rattle.slice.proofs.held.pairs_lack.Goals as goal
 

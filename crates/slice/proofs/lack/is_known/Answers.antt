@@ -1,7 +1,5 @@
 -- `slice::lack::is_known` meets its contract. Assumes nothing.
 use mathlib.Core.Path.{sym, ◌∙◌}
-use borrow.Author.Rules.{rules}
-use Rattle.model.specs.Missing.{known}
 use Rattle.slice.proofs.LackLaws.{only-known, fetched-known}
 use Rattle.slice.proofs.lack.is_known.Goals as goal
 

@@ -1,6 +1,5 @@
 -- `slice::lack::is_only` meets its contract. Assumes nothing.
 use mathlib.Core.Path.{sym, ◌∙◌}
-use borrow.Author.Rules.{rules}
 use borrow.Author.Tests.{not-true, not-false}
 use Rattle.finite.proofs.Bools.{and-go, and-stop}
 use Rattle.slice.proofs.LackLaws.{below-any}

@@ -1,7 +1,6 @@
 -- `slice::lack::is_open` meets its contract. Assumes nothing.
 use mathlib.Core.Path.{sym, ◌∙◌}
 use Rattle.slice.proofs.LackLaws.{open-blank, open_full}
-use borrow.Author.Rules.{rules}
 use Rattle.slice.proofs.lack.is_open.Goals as goal
 
 pub returns-then-is_blank : goal.returns-then-is_blank

@@ -1,6 +1,5 @@
 -- `slice::lack::lack_of` meets its contract. Assumes nothing.
 use Rattle.slice.proofs.LackLaws.{value-lack}
-use borrow.Author.Rules.{rules}
 use Rattle.slice.proofs.lack.lack_of.Goals as goal
 
 pub returns : goal.returns

@@ -1,7 +1,6 @@
 -- `slice::near::is_fetched_near` meets its contract. Assumes nothing.
 use mathlib.Core.Path.{sym, ◌∙◌}
 use Rattle.slice.proofs.SeekLaws.{fetched-hit, fetched-by}
-use borrow.Author.Rules.{rules}
 use Rattle.slice.proofs.near.is_fetched_near.Goals as goal
 
 pub returns-then-covers_at : goal.returns-then-covers_at

@@ -1,7 +1,6 @@
 -- `slice::near::is_open_near` meets its contract. Assumes nothing.
 use mathlib.Core.Path.{sym, ◌∙◌}
 use Rattle.slice.proofs.LackLaws.{only-known, fetched-known, open-blank, open_full}
-use borrow.Author.Rules.{rules}
 use Rattle.slice.proofs.near.is_open_near.Goals as goal
 
 pub returns-then-is_blank : goal.returns-then-is_blank

@@ -1,6 +1,5 @@
 -- `slice::near::near_lack` meets its contract. Assumes nothing.
 use Rattle.slice.proofs.LackLaws.{value-lack}
-use borrow.Author.Rules.{rules}
 use Rattle.slice.proofs.near.near_lack.Goals as goal
 
 pub returns : goal.returns

@@ -6,7 +6,6 @@ use lib.Dec.{ltb}
 use Prim.Native.Nat.{ℕ}
 use borrow.Author.Tests.{not-true, not-false}
 use Rattle.finite.proofs.Bools.{and-go, and-stop}
-use borrow.Author.Rules.{rules}
 use Rattle.slice.proofs.near.others_whole.Goals as goal
 
 pub returns-then-not-sole : goal.returns-then-not-sole

@@ -1,16 +1,11 @@
 -- `slice::ranges::desk_lack` meets its contract. Assumes nothing.
-use Prim.Native.Nat.{◌-◌, ◌≤◌}
-use mathlib.Core.Path.{◌≡◌}
-use Rattle.model.specs.Database.{Database}
 use Rattle.model.specs.Missing as Model
 use Rattle.state.specs.Held.{range_at, ranges_at}
 use Rattle.state.specs.HeldWords.{words_held}
 use Rattle.state.specs.Meaning.{range_of, scheme_of, list_of}
-use Rattle.catalog.specs.Catalog.{Indexed}
 use Rattle.model.proofs.MissingLoops.{lack-start}
 use Rattle.slice.specs.Fetches.{fetches_in}
 use Rattle.slice.proofs.LackLaws.{leaves_at, goes_at, ends_at}
-use borrow.Author.Rules.{rules}
 use native.Mathlib.Omega.{arith}
 use Rattle.slice.proofs.ranges.desk_lack.Goals as goal
 

@@ -1,11 +1,5 @@
 -- `slice::ranges::first_open` meets its contract. Assumes nothing.
-use Prim.Native.Nat.{◌+◌, ◌-◌}
-use mathlib.Core.Path.{◌≡◌, refl, sym, ◌∙◌}
-use Rattle.model.specs.Database.{Database}
-use Rattle.model.specs.Missing as Model
-use Rattle.state.specs.Meaning.{column_of, scheme_of}
-use Rattle.catalog.specs.Catalog.{Indexed}
-use Rattle.slice.specs.Fetches.{fetches_in}
+use mathlib.Core.Path.{refl, sym, ◌∙◌}
 use Rattle.slice.proofs.LackLaws.{walk-hit, walk-on, walk_end}
 use native.Mathlib.Omega.{arith}
 use Rattle.slice.proofs.ranges.first_open.Goals as goal

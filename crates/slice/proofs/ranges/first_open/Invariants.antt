@@ -1,13 +1,11 @@
 -- What the loops of `slice::ranges::first_open` keep.
 use Prim.Native.Nat.{◌+◌, ◌-◌}
-use mathlib.Core.Path.{◌≡◌, refl, sym, ◌∙◌}
+use mathlib.Core.Path.{◌≡◌}
 use Rattle.model.specs.Database.{Database}
 use Rattle.model.specs.Missing as Model
 use Rattle.state.specs.Meaning.{column_of, scheme_of}
 use Rattle.catalog.specs.Catalog.{Indexed}
 use Rattle.slice.specs.Fetches.{fetches_in}
-use Rattle.slice.proofs.LackLaws.{walk-hit, walk-on, walk_end}
-use native.Mathlib.Omega.{arith}
 use Rattle.slice.proofs.ranges.first_open.Given as goal
 
 abbrev pub invariant-loop-x : goal.invariant-loop-x

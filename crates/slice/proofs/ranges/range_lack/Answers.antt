@@ -4,7 +4,6 @@ use Rattle.state.specs.declared.design.Filling.{Filling}
 use Rattle.state.specs.Meaning.{column_of, scheme_of}
 use Rattle.slice.proofs.LackLaws.{range_none, range-gap, range-says, open-unspanned, first-open}
 use native.Mathlib.Omega.{arith}
-use borrow.Author.Rules.{rules}
 use Rattle.slice.proofs.ranges.range_lack.Goals as goal
 
 pub first_open-x-requires : goal.first_open-x-requires

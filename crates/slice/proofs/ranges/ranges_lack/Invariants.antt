@@ -1,17 +1,13 @@
 -- What the loops of `slice::ranges::ranges_lack` keep.
-use Prim.Native.Nat.{◌-◌, ◌≤◌}
-use mathlib.Core.Path.{◌≡◌, sym, ◌∙◌}
+use Prim.Native.Nat.{◌≤◌}
+use mathlib.Core.Path.{◌≡◌}
 use Rattle.model.specs.Database.{Database}
 use Rattle.model.specs.Missing as Model
 use Rattle.state.specs.Held.{ranges_at}
 use Rattle.state.specs.HeldWords.{words_held}
-use Rattle.state.specs.Meaning.{scheme_of, list_of, lists_of}
+use Rattle.state.specs.Meaning.{scheme_of, list_of}
 use Rattle.catalog.specs.Catalog.{Indexed}
-use Rattle.model.proofs.MissingLoops.{lack-start, lack-tab}
 use Rattle.slice.specs.Fetches.{fetches_in}
-use Rattle.slice.proofs.LackLaws.{leaves, goes_on, ends, lack-all}
-use borrow.Author.Rules.{rules}
-use native.Mathlib.Omega.{arith}
 use Rattle.slice.proofs.ranges.ranges_lack.Given as goal
 
 abbrev pub invariant-loop-e : goal.invariant-loop-e

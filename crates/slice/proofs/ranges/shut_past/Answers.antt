@@ -2,7 +2,6 @@
 use mathlib.Core.Path.{sym, ◌∙◌}
 use borrow.Author.Tests.{not-false}
 use Rattle.slice.proofs.LackLaws.{shut-here, shut_one, shut-span}
-use borrow.Author.Rules.{rules}
 use Rattle.slice.proofs.ranges.shut_past.Goals as goal
 
 pub returns-then-is_open : goal.returns-then-is_open

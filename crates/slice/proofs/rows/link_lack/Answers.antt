@@ -7,7 +7,6 @@ use Rattle.state.specs.Meaning.{database_of, scheme_of}
 use Rattle.slice.proofs.NearLaws.{link-there}
 use Rattle.slice.proofs.LackLaws.{row_other}
 use native.Mathlib.Omega.{arith}
-use borrow.Author.Rules.{rules}
 use Rattle.slice.proofs.rows.link_lack.Goals as goal
 
 pub returns-then-tables-r : goal.returns-then-tables-r

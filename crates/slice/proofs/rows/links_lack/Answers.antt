@@ -1,15 +1,8 @@
 -- `slice::rows::links_lack` meets its contract. Assumes nothing.
-use mathlib.Core.Path.{◌≡◌}
-use Rattle.model.specs.Missing as Model
-use Rattle.state.specs.Cells.{cells_in}
-use Rattle.state.specs.Meaning.{database_of, scheme_of}
-use Rattle.catalog.specs.Catalog.{Demands}
+use Rattle.state.specs.Meaning.{scheme_of}
 use Rattle.model.proofs.MissingLoops.{lack-start}
-use Rattle.slice.specs.Fetches.{fetches_in}
 use Rattle.slice.proofs.LackLaws.{leaves, goes_on, ends}
 use Rattle.slice.proofs.NearLaws.{ends_at}
-use Prim.Native.Nat.{◌≤◌, ◌-◌}
-use borrow.Author.Rules.{rules}
 use native.Mathlib.Omega.{arith}
 use Rattle.slice.proofs.rows.links_lack.Goals as goal
 

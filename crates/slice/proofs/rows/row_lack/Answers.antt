@@ -1,7 +1,6 @@
 -- `slice::rows::row_lack` meets its contract. Assumes nothing.
 use mathlib.Core.Path.{◌∙◌}
 use Rattle.slice.proofs.LackLaws.{marks-out, marks-in}
-use borrow.Author.Rules.{rules}
 use Rattle.slice.proofs.rows.row_lack.Goals as goal
 
 pub returns-then-marks-r-ne1 : goal.returns-then-marks-r-ne1

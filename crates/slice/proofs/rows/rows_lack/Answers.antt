@@ -1,17 +1,7 @@
 -- `slice::rows::rows_lack` meets its contract. Assumes nothing.
-use mathlib.Core.Path.{◌≡◌}
-use lib.ListN.{take}
-use Rattle.model.specs.Missing as Model
-use Rattle.model.specs.Runs.{marked}
-use Rattle.state.specs.Cells.{cells_in}
-use Rattle.state.specs.Meaning.{database_of, scheme_of}
-use Rattle.catalog.specs.Catalog.{Demands}
 use Rattle.model.proofs.MissingLoops.{lack-start}
-use Rattle.slice.specs.Fetches.{fetches_in}
 use Rattle.slice.proofs.LackLaws.{leaves, goes_on, ends}
 use Rattle.slice.proofs.NearLaws.{ends-made}
-use Prim.Native.Nat.{◌≤◌, ◌-◌}
-use borrow.Author.Rules.{rules}
 use native.Mathlib.Omega.{arith}
 use Rattle.slice.proofs.rows.rows_lack.Goals as goal
 

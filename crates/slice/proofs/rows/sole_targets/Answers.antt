@@ -1,11 +1,7 @@
 -- `slice::rows::sole_targets` meets its contract: a loop that stores. Assumes nothing.
-use Prim.Native.Nat.{◌-◌, ◌≤◌}
 use mathlib.Core.Bool.{Bool, false}
-use lib.ListN.{get_or, length-replicate}
-use Rattle.finite.proofs.Tables.{Upto, upto-end, upto-set, upto-start}
-use Rattle.state.specs.Design.{no_constraint}
-use Rattle.state.specs.Meaning.{column_of, scheme_of}
-use borrow.Author.Rules.{rules}
+use lib.ListN.{length-replicate}
+use Rattle.finite.proofs.Tables.{upto-end, upto-set, upto-start}
 use native.Mathlib.Omega.{arith}
 use Rattle.slice.proofs.rows.sole_targets.Goals as goal
 

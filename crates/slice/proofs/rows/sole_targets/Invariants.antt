@@ -1,12 +1,10 @@
 -- What the loops of `slice::rows::sole_targets` keep.
-use Prim.Native.Nat.{◌-◌, ◌≤◌}
-use mathlib.Core.Bool.{Bool, false}
-use lib.ListN.{get_or, length-replicate}
-use Rattle.finite.proofs.Tables.{Upto, upto-end, upto-set, upto-start}
+use Prim.Native.Nat.{◌≤◌}
+use mathlib.Core.Bool.{false}
+use lib.ListN.{get_or}
+use Rattle.finite.proofs.Tables.{Upto}
 use Rattle.state.specs.Design.{no_constraint}
 use Rattle.state.specs.Meaning.{column_of, scheme_of}
-use borrow.Author.Rules.{rules}
-use native.Mathlib.Omega.{arith}
 use Rattle.slice.proofs.rows.sole_targets.Given as goal
 
 abbrev pub invariant-loop-i : goal.invariant-loop-i

@@ -1,6 +1,5 @@
 -- `slice::whole::missing` meets its contract: causes 7 and 12, then what the first words answer. Assumes nothing.
 use mathlib.Core.Path.{sym, ◌∙◌}
-use borrow.Author.Rules.{rules}
 use Rattle.guard.proofs.CauseWords.{cause-clear, own-sound}
 use Rattle.slice.proofs.ReplyLaws.{reply-cause, reply-own}
 use Rattle.slice.proofs.whole.missing.Goals as goal

@@ -3,7 +3,6 @@ use mathlib.Core.Path.{sym, ◌∙◌}
 use borrow.Author.Tests.{not-true, not-false}
 use Rattle.slice.proofs.ReplyLaws.{reply-short, reply-unfit, reply-found, reply-none}
 use native.Mathlib.Omega.{arith}
-use borrow.Author.Rules.{rules}
 use Rattle.slice.proofs.whole.missing_catalogued.Goals as goal
 
 pub returns-then-words-n : goal.returns-then-words-n

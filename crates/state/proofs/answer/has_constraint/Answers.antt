@@ -1,6 +1,5 @@
 -- `state::answer::has_constraint` meets its contract. Assumes nothing.
 use mathlib.Core.Path.{refl}
-use borrow.Author.Rules.{rules}
 use Rattle.state.specs.Meaning.{bit}
 use Rattle.state.proofs.answer.has_constraint.Goals as goal
 

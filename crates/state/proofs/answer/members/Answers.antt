@@ -1,12 +1,9 @@
 -- `state::answer::members` meets its contract. The invariant: the members below e are shown. Assumes nothing.
-use Prim.Native.Nat.{◌-◌, ◌≤◌}
 use native.Mathlib.Omega.{arith}
-use mathlib.Core.Path.{◌≡◌, ap}
-use borrow.Author.Rules.{rules}
+use mathlib.Core.Path.{ap}
 use Rattle.finite.specs.Finite.{collect, tab}
 use Rattle.state.specs.declared.answer.Shown.{Shown}
-use Rattle.state.specs.Meaning.{shown_of}
-use Rattle.state.proofs.AnswerLaws.{members_below, members-few, members-more, members-end}
+use Rattle.state.proofs.AnswerLaws.{members-few, members-more, members-end}
 use Rattle.state.proofs.answer.members.Goals as goal
 
 pub loop-e-init : goal.loop-e-init

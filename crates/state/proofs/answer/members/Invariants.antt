@@ -1,12 +1,8 @@
 -- What the loops of `state::answer::members` keep.
-use Prim.Native.Nat.{◌-◌, ◌≤◌}
-use native.Mathlib.Omega.{arith}
-use mathlib.Core.Path.{◌≡◌, ap}
-use borrow.Author.Rules.{rules}
-use Rattle.finite.specs.Finite.{collect, tab}
-use Rattle.state.specs.declared.answer.Shown.{Shown}
+use Prim.Native.Nat.{◌≤◌}
+use mathlib.Core.Path.{◌≡◌}
 use Rattle.state.specs.Meaning.{shown_of}
-use Rattle.state.proofs.AnswerLaws.{members_below, members-few, members-more, members-end}
+use Rattle.state.proofs.AnswerLaws.{members_below}
 use Rattle.state.proofs.answer.members.Given as goal
 
 abbrev pub invariant-loop-e : goal.invariant-loop-e

@@ -1,6 +1,5 @@
 -- `state::answer::show` meets its contract: case by case. Assumes nothing.
 use mathlib.Core.Path.{refl}
-use borrow.Author.Rules.{rules}
 use Rattle.finite.specs.Finite.{tab}
 use Rattle.model.specs.Answers.{shown}
 use Rattle.state.proofs.AnswerLaws.{shows-case}

@@ -1,6 +1,5 @@
 -- `state::answer::with_constraint` meets its contract: the mask has the constraint, or not. Assumes nothing.
 use mathlib.Core.Path.{sym, ◌∙◌}
-use borrow.Author.Rules.{rules}
 use borrow.Author.Tests.{not-true, not-false}
 use Rattle.finite.proofs.Bools.{cond-true, cond-false}
 use Rattle.state.proofs.answer.with_constraint.Goals as goal

@@ -1,6 +1,5 @@
 -- `state::answer::words` meets its contract: the third number is 0. Assumes nothing.
 use mathlib.Core.Path.{refl, ◌∙◌}
-use borrow.Author.Rules.{rules}
 use Rattle.finite.specs.Finite.{tab}
 use Rattle.state.proofs.answer.words.Goals as goal
 

@@ -1,6 +1,5 @@
 -- `state::answer::words_three` meets its contract: three places of sixteen are stored. Assumes nothing.
 use mathlib.Core.Path.{refl}
-use borrow.Author.Rules.{rules}
 use Rattle.finite.specs.Finite.{tab}
 use Rattle.state.proofs.answer.words_three.Goals as goal
 

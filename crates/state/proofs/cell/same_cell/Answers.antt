@@ -1,7 +1,6 @@
 -- `state::cell::same_cell` meets its contract. Assumes nothing.
 use mathlib.Core.Path.{refl, sym, ap, ◌∙◌}
 use mathlib.Core.Bool.{not}
-use borrow.Author.Rules.{rules}
 use borrow.Author.Tests.{eq-eqb, ne_eqb}
 use Rattle.finite.proofs.Bools.{and-go, and-stop}
 use Rattle.model.specs.Cell.{equal}

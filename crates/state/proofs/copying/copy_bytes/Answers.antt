@@ -1,9 +1,7 @@
 -- `state::copying::copy_bytes` meets its contract: what is passed is copied. Assumes nothing.
-use Prim.Native.Nat.{◌-◌, ◌≤◌}
 use native.Mathlib.Omega.{arith}
 use mathlib.Core.Path.{refl}
-use lib.ListN.{length, get_or}
-use Rattle.finite.proofs.Tables.{Upto, upto-start, upto-set, upto-copied}
+use Rattle.finite.proofs.Tables.{upto-start, upto-set, upto-copied}
 use Rattle.state.proofs.copying.copy_bytes.Goals as goal
 
 pub loop-i-init : goal.loop-i-init

@@ -1,9 +1,7 @@
 -- What the loops of `state::copying::copy_bytes` keep.
-use Prim.Native.Nat.{◌-◌, ◌≤◌}
-use native.Mathlib.Omega.{arith}
-use mathlib.Core.Path.{refl}
+use Prim.Native.Nat.{◌≤◌}
 use lib.ListN.{length, get_or}
-use Rattle.finite.proofs.Tables.{Upto, upto-start, upto-set, upto-copied}
+use Rattle.finite.proofs.Tables.{Upto}
 use Rattle.state.proofs.copying.copy_bytes.Given as goal
 
 abbrev pub invariant-loop-i : goal.invariant-loop-i

@@ -1,5 +1,4 @@
 -- `state::equality::same_pair` meets its contract. Assumes nothing.
-use borrow.Author.Rules.{rules}
 use borrow.Author.Tests.{eq-eqb, ne_eqb}
 use Rattle.finite.proofs.Bools.{and-go, and-stop}
 use Rattle.model.specs.Holding.{same_pair}

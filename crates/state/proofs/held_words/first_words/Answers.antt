@@ -1,11 +1,9 @@
 -- `state::held_words::first_words` meets its contract: what is passed is copied. Assumes nothing.
-use Prim.Native.Nat.{ℕ, ◌-◌, ◌≤◌}
+use Prim.Native.Nat.{ℕ}
 use native.Mathlib.Omega.{arith}
 use mathlib.Core.Path.{refl}
-use borrow.Author.Rules.{rules}
-use lib.ListN.{get_or, length-replicate}
-use Rattle.finite.proofs.Tables.{Upto, upto-start, upto-set, upto-end}
-use Rattle.state.specs.HeldWords.{word_at}
+use lib.ListN.{length-replicate}
+use Rattle.finite.proofs.Tables.{upto-start, upto-set, upto-end}
 use Rattle.state.proofs.held_words.first_words.Goals as goal
 
 pub loop-i-init : goal.loop-i-init

@@ -1,10 +1,7 @@
 -- What the loops of `state::held_words::first_words` keep.
-use Prim.Native.Nat.{ℕ, ◌-◌, ◌≤◌}
-use native.Mathlib.Omega.{arith}
-use mathlib.Core.Path.{refl}
-use borrow.Author.Rules.{rules}
-use lib.ListN.{get_or, length-replicate}
-use Rattle.finite.proofs.Tables.{Upto, upto-start, upto-set, upto-end}
+use Prim.Native.Nat.{◌≤◌}
+use lib.ListN.{get_or}
+use Rattle.finite.proofs.Tables.{Upto}
 use Rattle.state.specs.HeldWords.{word_at}
 use Rattle.state.proofs.held_words.first_words.Given as goal
 

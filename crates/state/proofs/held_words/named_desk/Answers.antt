@@ -1,6 +1,5 @@
 use mathlib.Core.Path.{◌∙◌}
 use Rattle.state.proofs.HeldWords.{desk-in}
-use borrow.Author.Rules.{rules}
 use Rattle.state.proofs.held_words.named_desk.Goals as goal
 
 pub returns : goal.returns

@@ -1,6 +1,5 @@
 use native.Mathlib.Omega.{arith}
 use Rattle.finite.proofs.Stores.{stored-three}
-use borrow.Author.Rules.{rules}
 use Rattle.state.proofs.held_words.put_range.Goals as goal
 
 pub returns : goal.returns

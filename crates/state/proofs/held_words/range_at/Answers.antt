@@ -1,6 +1,5 @@
 use mathlib.Core.Path.{refl}
 use Rattle.state.proofs.HeldWords.{range-read}
-use borrow.Author.Rules.{rules}
 use Rattle.state.proofs.held_words.range_at.Goals as goal
 
 pub returns : goal.returns

@@ -1,6 +1,5 @@
 use mathlib.Core.Path.{◌∙◌}
 use Rattle.state.proofs.HeldWords.{ranges-count}
-use borrow.Author.Rules.{rules}
 use Rattle.state.proofs.held_words.range_count.Goals as goal
 
 pub returns : goal.returns

@@ -1,15 +1,8 @@
-use Prim.Native.Nat.{◌-◌, ◌≤◌}
 use mathlib.Core.Path.{refl}
-use lib.ListN.{get_or}
-use Rattle.finite.proofs.Tables.{Upto, upto-start, upto-set, upto-end}
-use Rattle.state.specs.Held.{no_range, range_at, ranges_at}
-use Rattle.state.specs.HeldWords.{words_held}
+use Rattle.finite.proofs.Tables.{upto-start, upto-set, upto-end}
+use Rattle.state.specs.Held.{no_range}
 use Rattle.state.proofs.HeldWords.{ranges-is}
-use lib.ListN.{get_or, length}
-use mathlib.Core.Logic.{⊎_elim}
-use mathlib.Core.Path.{◌≡◌, refl, sym, ap, subst, ◌∙◌}
-use Prim.Native.Nat.{ℕ, ◌≤◌, ◌<◌, ◌-◌}
-use borrow.Author.Rules.{rules}
+use mathlib.Core.Path.{refl}
 use native.Mathlib.Omega.{arith}
 use Rattle.state.proofs.held_words.ranges_at.Goals as goal
 

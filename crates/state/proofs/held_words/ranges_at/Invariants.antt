@@ -1,17 +1,11 @@
 -- What the loops of `state::held_words::ranges_at` keep.
-use Prim.Native.Nat.{◌-◌, ◌≤◌}
-use mathlib.Core.Path.{refl}
+use Prim.Native.Nat.{◌≤◌}
 use lib.ListN.{get_or}
-use Rattle.finite.proofs.Tables.{Upto, upto-start, upto-set, upto-end}
+use Rattle.finite.proofs.Tables.{Upto}
 use Rattle.state.specs.Held.{no_range, range_at, ranges_at}
 use Rattle.state.specs.HeldWords.{words_held}
-use Rattle.state.proofs.HeldWords.{ranges-is}
-use lib.ListN.{get_or, length}
-use mathlib.Core.Logic.{⊎_elim}
-use mathlib.Core.Path.{◌≡◌, refl, sym, ap, subst, ◌∙◌}
-use Prim.Native.Nat.{ℕ, ◌≤◌, ◌<◌, ◌-◌}
-use borrow.Author.Rules.{rules}
-use native.Mathlib.Omega.{arith}
+use lib.ListN.{get_or}
+use Prim.Native.Nat.{◌≤◌}
 use Rattle.state.proofs.held_words.ranges_at.Given as goal
 
 abbrev pub invariant-loop-i : goal.invariant-loop-i

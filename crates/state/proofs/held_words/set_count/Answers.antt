@@ -1,6 +1,4 @@
-use native.Mathlib.Omega.{arith}
 use Rattle.state.proofs.HeldStores.{count-stored}
-use borrow.Author.Rules.{rules}
 use Rattle.state.proofs.held_words.set_count.Goals as goal
 
 pub returns : goal.returns

@@ -1,6 +1,5 @@
 use native.Mathlib.Omega.{arith}
 use Rattle.state.proofs.HeldStores.{named-stored}
-use borrow.Author.Rules.{rules}
 use Rattle.state.proofs.held_words.set_desk.Goals as goal
 
 pub returns : goal.returns

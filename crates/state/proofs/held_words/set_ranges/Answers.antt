@@ -1,17 +1,9 @@
-use Prim.Native.Nat.{ℕ, ◌+◌, ◌*◌, ◌-◌, ◌<◌}
 use mathlib.Core.Path.{refl}
-use lib.ListN.{get_or}
-use Rattle.state.specs.Held.{no_range}
-use Rattle.state.specs.HeldWords.{range_words}
 use Rattle.state.proofs.Arrays.{ranges-sized}
-use Rattle.state.proofs.WordPlaces.{Storing, storing-start, storing-more, storing-end, below_more}
+use Rattle.state.proofs.WordPlaces.{storing-start, storing-more, storing-end, below_more}
 use Rattle.state.proofs.HeldWords.{stored-ranges}
 use Rattle.state.proofs.HeldStores.{ranges-stored}
-use lib.ListN.{get_or, length}
-use mathlib.Core.Logic.{⊎_elim}
-use mathlib.Core.Path.{◌≡◌, refl, sym, ap, subst, ◌∙◌}
-use Prim.Native.Nat.{ℕ, ◌≤◌, ◌<◌, ◌-◌}
-use borrow.Author.Rules.{rules}
+use mathlib.Core.Path.{refl}
 use native.Mathlib.Omega.{arith}
 use Rattle.state.proofs.held_words.set_ranges.Goals as goal
 

@@ -2,7 +2,6 @@ use Prim.Native.Nat.{◌+◌, ◌*◌}
 use native.Mathlib.Omega.{arith}
 use Rattle.finite.proofs.Stores.{stored-four}
 use Rattle.state.proofs.HeldStores.{value-stored}
-use borrow.Author.Rules.{rules}
 use Rattle.state.proofs.held_words.set_value.Goals as goal
 
 pub returns : goal.returns

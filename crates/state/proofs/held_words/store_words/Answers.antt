@@ -1,8 +1,7 @@
 -- `state::held_words::store_words` meets its contract: what is passed is stored. Assumes nothing.
-use Prim.Native.Nat.{ℕ, ◌+◌, ◌-◌, ◌≤◌}
+use Prim.Native.Nat.{ℕ, ◌+◌}
 use native.Mathlib.Omega.{arith}
 use mathlib.Core.Path.{◌≡◌, refl, sym, ap, subst, ◌∙◌}
-use borrow.Author.Rules.{rules}
 use lib.ListN.{set}
 use lib.Seq.{sets}
 use Rattle.finite.proofs.Stores.{Tabled, tabled_start, tabled-more, tabled-end}

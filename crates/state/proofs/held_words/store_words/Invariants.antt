@@ -1,12 +1,6 @@
 -- What the loops of `state::held_words::store_words` keep.
-use Prim.Native.Nat.{ℕ, ◌+◌, ◌-◌, ◌≤◌}
-use native.Mathlib.Omega.{arith}
-use mathlib.Core.Path.{◌≡◌, refl, sym, ap, subst, ◌∙◌}
-use borrow.Author.Rules.{rules}
-use lib.ListN.{set}
-use lib.Seq.{sets}
-use Rattle.finite.proofs.Stores.{Tabled, tabled_start, tabled-more, tabled-end}
-use Rattle.finite.proofs.Tables.{tab-of}
+use Prim.Native.Nat.{◌≤◌}
+use Rattle.finite.proofs.Stores.{Tabled}
 use Rattle.state.specs.HeldWords.{word_at}
 use Rattle.state.proofs.held_words.store_words.Given as goal
 

@@ -1,6 +1,5 @@
 use mathlib.Core.Path.{◌∙◌}
 use Rattle.state.proofs.HeldWords.{count-in}
-use borrow.Author.Rules.{rules}
 use Rattle.state.proofs.held_words.value_count.Goals as goal
 
 pub returns : goal.returns

@@ -1,6 +1,5 @@
 -- `state::lookup::filling_at` meets its contract: past the array's eight places `get_or` gives the filling that is all 0. Assumes nothing.
 use mathlib.Core.Path.{sym}
-use borrow.Author.Rules.{rules}
 use Rattle.state.proofs.Arrays.{sized}
 use Rattle.state.proofs.Places.{past_end}
 use Rattle.state.proofs.lookup.filling_at.Goals as goal

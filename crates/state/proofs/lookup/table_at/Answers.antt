@@ -1,6 +1,5 @@
 -- `state::lookup::table_at` meets its contract: past the array's eight places `get_or` gives the empty table. Assumes nothing.
 use mathlib.Core.Path.{sym}
-use borrow.Author.Rules.{rules}
 use Rattle.state.proofs.Arrays.{sized}
 use Rattle.state.proofs.Places.{past_end}
 use Rattle.state.proofs.lookup.table_at.Goals as goal

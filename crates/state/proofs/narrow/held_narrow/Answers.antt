@@ -1,6 +1,5 @@
 -- `state::narrow::held_narrow` meets its contract: part by part. Assumes nothing.
 use mathlib.Core.Path.{◌∙◌, sym}
-use borrow.Author.Rules.{rules}
 use borrow.Author.Tests.{not-false, not-true}
 use Rattle.finite.proofs.Bools.{and-go, and-stop}
 use Rattle.state.specs.HeldWords.{narrow_held}

@@ -1,6 +1,5 @@
 -- `state::narrow::is_byte` meets its contract. Assumes nothing.
 use mathlib.Core.Path.{refl}
-use borrow.Author.Rules.{rules}
 use Rattle.state.specs.HeldWords.{is_byte}
 use Rattle.state.proofs.narrow.is_byte.Goals as goal
 

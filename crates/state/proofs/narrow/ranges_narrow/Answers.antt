@@ -1,13 +1,9 @@
 -- `state::narrow::ranges_narrow` meets its contract. The invariant: the ranges passed are words of one. Assumes nothing.
-use Prim.Native.Nat.{◌+◌, ◌*◌, ◌-◌, ◌≤◌}
 use native.Mathlib.Omega.{arith}
-use mathlib.Core.Bool.{true}
-use mathlib.Core.Path.{◌∙◌, ◌≡◌, sym}
-use borrow.Author.Rules.{rules}
+use mathlib.Core.Path.{◌∙◌, sym}
 use borrow.Author.Tests.{not-false, not-true}
-use Rattle.finite.specs.Finite.{all}
 use Rattle.finite.proofs.Search.{all_end, all_more, all_start, all-stop}
-use Rattle.state.specs.HeldWords.{narrow_ranges, is_byte}
+use Rattle.state.specs.HeldWords.{narrow_ranges}
 use Rattle.state.proofs.narrow.ranges_narrow.Goals as goal
 
 pub loop-j-init : goal.loop-j-init

@@ -1,13 +1,9 @@
 -- What the loops of `state::narrow::ranges_narrow` keep.
-use Prim.Native.Nat.{◌+◌, ◌*◌, ◌-◌, ◌≤◌}
-use native.Mathlib.Omega.{arith}
+use Prim.Native.Nat.{◌+◌, ◌*◌, ◌≤◌}
 use mathlib.Core.Bool.{true}
-use mathlib.Core.Path.{◌∙◌, ◌≡◌, sym}
-use borrow.Author.Rules.{rules}
-use borrow.Author.Tests.{not-false, not-true}
+use mathlib.Core.Path.{◌≡◌}
 use Rattle.finite.specs.Finite.{all}
-use Rattle.finite.proofs.Search.{all_end, all_more, all_start, all-stop}
-use Rattle.state.specs.HeldWords.{narrow_ranges, is_byte}
+use Rattle.state.specs.HeldWords.{is_byte}
 use Rattle.state.proofs.narrow.ranges_narrow.Given as goal
 
 abbrev pub invariant-loop-j : goal.invariant-loop-j

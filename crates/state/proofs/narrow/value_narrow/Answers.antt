@@ -1,7 +1,5 @@
 -- `state::narrow::value_narrow` meets its contract: one after the other. Assumes nothing.
-use native.Mathlib.Omega.{arith}
 use mathlib.Core.Path.{◌∙◌, sym}
-use borrow.Author.Rules.{rules}
 use borrow.Author.Tests.{not-false, not-true}
 use Rattle.finite.proofs.Bools.{and-go, and-stop}
 use Rattle.state.specs.HeldWords.{narrow_value}

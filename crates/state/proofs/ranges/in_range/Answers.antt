@@ -1,7 +1,6 @@
 -- `state::ranges::in_range` meets its contract: each early return is one step along the conjunction that `inRange` is. Assumes nothing.
 use mathlib.Core.Bool.{not}
 use mathlib.Core.Path.{◌∙◌, ap, refl, sym}
-use borrow.Author.Rules.{rules}
 use borrow.Author.Tests.{eq-eqb, le-leb, lt-leb, ne_eqb}
 use Rattle.finite.proofs.Bools.{and-go, and-stop}
 use Rattle.model.specs.Ranges.{in_range}

@@ -1,7 +1,6 @@
 -- `state::ranges::row_has_range` meets its contract: each early return is one step along the conjunction that `hasRange` is. Assumes nothing.
 use native.Mathlib.Omega.{arith}
 use mathlib.Core.Path.{sym, ◌∙◌}
-use borrow.Author.Rules.{rules}
 use borrow.Author.Tests.{not-true, not-false}
 use Rattle.state.proofs.RowLaws.{range-absent, range-elsewhere, range-value}
 use Rattle.state.proofs.ranges.row_has_range.Goals as goal

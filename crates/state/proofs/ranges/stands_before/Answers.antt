@@ -1,5 +1,4 @@
 -- `state::ranges::stands_before` meets its contract: the fillings decide, or else whether a number lies between the two. Assumes nothing.
-use borrow.Author.Rules.{rules}
 use Rattle.finite.proofs.Order.{lower-apart, lower-alike}
 use Rattle.model.specs.Ranges.{stands_before}
 use Rattle.state.proofs.ranges.stands_before.Goals as goal

@@ -1,7 +1,6 @@
 -- `state::rows::is_live` meets its contract. Assumes nothing.
 use native.Mathlib.Omega.{arith}
 use mathlib.Core.Path.{sym}
-use borrow.Author.Rules.{rules}
 use Rattle.state.proofs.RowLaws.{live_at}
 use Rattle.state.proofs.rows.is_live.Goals as goal
 

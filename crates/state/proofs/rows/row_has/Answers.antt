@@ -1,7 +1,6 @@
 -- `state::rows::row_has` meets its contract: each early return is one step along the conjunction that `has` is. Assumes nothing.
 use native.Mathlib.Omega.{arith}
 use mathlib.Core.Path.{sym, ◌∙◌}
-use borrow.Author.Rules.{rules}
 use borrow.Author.Tests.{not-true, not-false}
 use Rattle.state.proofs.RowLaws.{has-absent, has-elsewhere, has_value}
 use Rattle.state.proofs.rows.row_has.Goals as goal

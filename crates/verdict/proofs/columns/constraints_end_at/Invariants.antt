@@ -1,14 +1,10 @@
 -- What the loops of `verdict::columns::constraints_end_at` keep.
-use Prim.Native.Nat.{◌-◌, ◌≤◌}
-use mathlib.Core.Path.{◌≡◌, sym, ◌∙◌}
+use Prim.Native.Nat.{◌≤◌}
+use mathlib.Core.Path.{◌≡◌}
 use mathlib.Core.Bool.{true}
 use Rattle.finite.specs.Finite.{all}
-use Rattle.finite.proofs.Search.{all_start, all_more, all-stop, all_end}
 use Rattle.model.specs.Verdict.{elsewhere_or}
 use Rattle.state.specs.Meaning.{column_of, scheme_of}
-use borrow.Author.Tests.{not-true, not-false}
-use borrow.Author.Rules.{rules}
-use native.Mathlib.Omega.{arith}
 use Rattle.verdict.proofs.columns.constraints_end_at.Given as goal
 
 abbrev pub invariant-loop-i : goal.invariant-loop-i

@@ -1,7 +1,6 @@
 -- `verdict::columns::elsewhere_or` meets its contract. Assumes nothing.
 use Rattle.model.specs.Verdict.{elsewhere_or}
 use Rattle.finite.proofs.Bools.{or_left, or-go, ne-not, eq-not}
-use borrow.Author.Rules.{rules}
 use Rattle.verdict.proofs.columns.elsewhere_or.Goals as goal
 
 pub returns-then-j-k : goal.returns-then-j-k

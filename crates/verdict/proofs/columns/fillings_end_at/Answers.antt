@@ -1,13 +1,8 @@
 -- `verdict::columns::fillings_end_at` meets its contract. Assumes nothing.
-use Prim.Native.Nat.{◌-◌, ◌≤◌}
-use mathlib.Core.Path.{◌≡◌, sym, ◌∙◌}
-use mathlib.Core.Bool.{true}
-use Rattle.finite.specs.Finite.{all}
+use mathlib.Core.Path.{sym, ◌∙◌}
 use Rattle.finite.proofs.Search.{all_start, all_more, all-stop, all_end}
-use Rattle.model.specs.Verdict.{elsewhere_or}
-use Rattle.state.specs.Meaning.{column_of, scheme_of}
+use Rattle.state.specs.Meaning.{scheme_of}
 use borrow.Author.Tests.{not-true, not-false}
-use borrow.Author.Rules.{rules}
 use native.Mathlib.Omega.{arith}
 use Rattle.verdict.proofs.columns.fillings_end_at.Goals as goal
 

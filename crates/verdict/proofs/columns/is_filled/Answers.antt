@@ -1,13 +1,8 @@
 -- `verdict::columns::is_filled` meets its contract. Assumes nothing.
-use Prim.Native.Nat.{◌-◌, ◌≤◌}
-use mathlib.Core.Path.{◌≡◌, sym, ◌∙◌}
-use mathlib.Core.Bool.{false}
-use Rattle.finite.specs.Finite.{any}
+use mathlib.Core.Path.{sym, ◌∙◌}
 use Rattle.finite.proofs.Search.{any-start, any-more, any-hit, any-end}
-use Rattle.model.specs.Scheme.{same_column}
 use Rattle.model.specs.Verdict.{fetches}
-use Rattle.state.specs.Meaning.{column_of, scheme_of}
-use borrow.Author.Rules.{rules}
+use Rattle.state.specs.Meaning.{scheme_of}
 use native.Mathlib.Omega.{arith}
 use Rattle.verdict.proofs.columns.is_filled.Goals as goal
 

@@ -4,7 +4,6 @@ use borrow.Author.Tests.{not-true, not-false}
 use Rattle.finite.proofs.Bools.{and-go, and-stop}
 use Rattle.model.specs.Verdict.{once_unique}
 use Rattle.verdict.proofs.ColumnLaws.{can-at}
-use borrow.Author.Rules.{rules}
 use Rattle.verdict.proofs.columns.is_once_unique.Goals as goal
 
 pub returns-then-not-is_unique : goal.returns-then-not-is_unique

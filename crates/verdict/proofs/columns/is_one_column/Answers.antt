@@ -3,7 +3,6 @@ use mathlib.Core.Path.{sym, ◌∙◌}
 use borrow.Author.Tests.{not-true, not-false}
 use Rattle.finite.proofs.Bools.{and-go, and-stop}
 use Rattle.model.specs.Verdict.{is_one_column}
-use borrow.Author.Rules.{rules}
 use Rattle.verdict.proofs.columns.is_one_column.Goals as goal
 
 pub returns-then-not-constraints_end_at : goal.returns-then-not-constraints_end_at

@@ -6,7 +6,6 @@ use Rattle.finite.proofs.Bools.{and-go, and-stop}
 use Rattle.model.specs.Verdict.{links_to}
 use Rattle.state.specs.Meaning.{scheme_of}
 use Rattle.verdict.proofs.ColumnLaws.{can-at}
-use borrow.Author.Rules.{rules}
 use Rattle.verdict.proofs.columns.links_to.Goals as goal
 
 pub returns-then-not-same_column : goal.returns-then-not-same_column

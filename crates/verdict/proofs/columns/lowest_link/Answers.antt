@@ -1,10 +1,7 @@
 -- `verdict::columns::lowest_link` meets its contract. Assumes nothing.
-use Prim.Native.Nat.{◌-◌, ◌≤◌}
-use mathlib.Core.Path.{◌≡◌, refl, sym, ◌∙◌}
-use Rattle.finite.specs.Finite.{first_from}
+use mathlib.Core.Path.{refl, sym, ◌∙◌}
 use Rattle.finite.proofs.First.{first-skip, first-here, first_past}
-use Rattle.model.specs.Verdict.{links_to, lowest_link}
-use Rattle.state.specs.Meaning.{column_of, scheme_of}
+use Rattle.state.specs.Meaning.{scheme_of}
 use native.Mathlib.Omega.{arith}
 use Rattle.verdict.proofs.columns.lowest_link.Goals as goal
 

@@ -1,11 +1,9 @@
 -- What the loops of `verdict::columns::lowest_link` keep.
 use Prim.Native.Nat.{◌-◌, ◌≤◌}
-use mathlib.Core.Path.{◌≡◌, refl, sym, ◌∙◌}
+use mathlib.Core.Path.{◌≡◌}
 use Rattle.finite.specs.Finite.{first_from}
-use Rattle.finite.proofs.First.{first-skip, first-here, first_past}
 use Rattle.model.specs.Verdict.{links_to, lowest_link}
 use Rattle.state.specs.Meaning.{column_of, scheme_of}
-use native.Mathlib.Omega.{arith}
 use Rattle.verdict.proofs.columns.lowest_link.Given as goal
 
 abbrev pub invariant-loop-i : goal.invariant-loop-i

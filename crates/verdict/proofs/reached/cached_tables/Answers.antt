@@ -1,11 +1,7 @@
 -- `verdict::reached::cached_tables` meets its contract. Assumes nothing.
-use Prim.Native.Nat.{◌-◌, ◌≤◌}
 use mathlib.Core.Path.{refl}
 use mathlib.Core.Bool.{false}
-use lib.ListN.{get_or}
-use Rattle.finite.proofs.Tables.{Upto, upto-start, upto-set, upto-end}
-use Rattle.model.specs.Verdict.{can_cache}
-use Rattle.state.specs.Meaning.{scheme_of}
+use Rattle.finite.proofs.Tables.{upto-start, upto-set, upto-end}
 use native.Mathlib.Omega.{arith}
 use Rattle.verdict.proofs.reached.cached_tables.Goals as goal
 

@@ -1,12 +1,10 @@
 -- What the loops of `verdict::reached::cached_tables` keep.
-use Prim.Native.Nat.{◌-◌, ◌≤◌}
-use mathlib.Core.Path.{refl}
+use Prim.Native.Nat.{◌≤◌}
 use mathlib.Core.Bool.{false}
 use lib.ListN.{get_or}
-use Rattle.finite.proofs.Tables.{Upto, upto-start, upto-set, upto-end}
+use Rattle.finite.proofs.Tables.{Upto}
 use Rattle.model.specs.Verdict.{can_cache}
 use Rattle.state.specs.Meaning.{scheme_of}
-use native.Mathlib.Omega.{arith}
 use Rattle.verdict.proofs.reached.cached_tables.Given as goal
 
 abbrev pub invariant-loop-t : goal.invariant-loop-t

@@ -1,14 +1,9 @@
 -- `verdict::reached::can_cache` meets its contract. Assumes nothing.
-use Prim.Native.Nat.{◌-◌, ◌≤◌}
-use mathlib.Core.Path.{◌≡◌, sym, ◌∙◌}
-use mathlib.Core.Bool.{false}
-use Rattle.finite.specs.Finite.{any}
+use mathlib.Core.Path.{sym, ◌∙◌}
 use Rattle.finite.proofs.Search.{any-start, any-more, any-hit, any-end}
-use Rattle.model.specs.Even.{reaches}
 use Rattle.model.specs.Verdict.{can_cache}
 use Rattle.state.specs.Meaning.{scheme_of}
 use Rattle.verdict.proofs.ColumnLaws.{reach-at}
-use borrow.Author.Rules.{rules}
 use native.Mathlib.Omega.{arith}
 use Rattle.verdict.proofs.reached.can_cache.Goals as goal
 

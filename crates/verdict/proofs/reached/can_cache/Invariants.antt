@@ -1,15 +1,10 @@
 -- What the loops of `verdict::reached::can_cache` keep.
-use Prim.Native.Nat.{◌-◌, ◌≤◌}
-use mathlib.Core.Path.{◌≡◌, sym, ◌∙◌}
+use Prim.Native.Nat.{◌≤◌}
+use mathlib.Core.Path.{◌≡◌}
 use mathlib.Core.Bool.{false}
 use Rattle.finite.specs.Finite.{any}
-use Rattle.finite.proofs.Search.{any-start, any-more, any-hit, any-end}
 use Rattle.model.specs.Even.{reaches}
-use Rattle.model.specs.Verdict.{can_cache}
 use Rattle.state.specs.Meaning.{scheme_of}
-use Rattle.verdict.proofs.ColumnLaws.{reach-at}
-use borrow.Author.Rules.{rules}
-use native.Mathlib.Omega.{arith}
 use Rattle.verdict.proofs.reached.can_cache.Given as goal
 
 abbrev pub invariant-loop-i : goal.invariant-loop-i

@@ -5,7 +5,6 @@ use Rattle.finite.proofs.Bools.{cond-true, cond-false}
 use Rattle.lawful.proofs.DesignLaws.{in-range}
 use Rattle.state.proofs.Arrays.{sized}
 use Rattle.verdict.specs.Words.{design_cause, words_after}
-use borrow.Author.Rules.{rules}
 use Rattle.verdict.proofs.words.verdicts.Goals as goal
 
 pub returns-then-not-lawful_design : goal.returns-then-not-lawful_design

@@ -5,7 +5,6 @@ use Rattle.model.specs.Verdict.{links_to}
 use Rattle.state.specs.Meaning.{column_of, scheme_of}
 use Rattle.verdict.proofs.ColumnLaws.{first-most, no-column, column-word}
 use native.Mathlib.Omega.{arith}
-use borrow.Author.Rules.{rules}
 use Rattle.verdict.proofs.words.word_of.Goals as goal
 
 pub returns-then-not-is_column : goal.returns-then-not-is_column

@@ -3,7 +3,6 @@ use mathlib.Core.Bool.{Bool}
 use Rattle.verdict.specs.Words.{flag}
 use mathlib.Core.Path.{ap}
 use native.Mathlib.Omega.{arith}
-use borrow.Author.Rules.{rules}
 use Rattle.verdict.proofs.words.word_with.Goals as goal
 
 pub returns : goal.returns

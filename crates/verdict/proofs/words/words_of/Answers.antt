@@ -1,11 +1,7 @@
 -- `verdict::words::words_of` meets its contract. Assumes nothing.
-use Prim.Native.Nat.{◌-◌, ◌≤◌}
 use mathlib.Core.Path.{refl}
-use lib.ListN.{get_or}
-use Rattle.finite.proofs.Tables.{Upto, upto-start, upto-set, upto-end}
-use Rattle.state.specs.Meaning.{scheme_of}
-use Rattle.verdict.specs.Words.{verdict_of, column_at, verdict_words}
-use borrow.Author.Rules.{rules}
+use Rattle.finite.proofs.Tables.{upto-start, upto-set, upto-end}
+use Rattle.verdict.specs.Words.{verdict_words}
 use native.Mathlib.Omega.{arith}
 use Rattle.verdict.proofs.words.words_of.Goals as goal
 

@@ -1,12 +1,9 @@
 -- What the loops of `verdict::words::words_of` keep.
-use Prim.Native.Nat.{◌-◌, ◌≤◌}
-use mathlib.Core.Path.{refl}
+use Prim.Native.Nat.{◌≤◌}
 use lib.ListN.{get_or}
-use Rattle.finite.proofs.Tables.{Upto, upto-start, upto-set, upto-end}
+use Rattle.finite.proofs.Tables.{Upto}
 use Rattle.state.specs.Meaning.{scheme_of}
-use Rattle.verdict.specs.Words.{verdict_of, column_at, verdict_words}
-use borrow.Author.Rules.{rules}
-use native.Mathlib.Omega.{arith}
+use Rattle.verdict.specs.Words.{verdict_of, column_at}
 use Rattle.verdict.proofs.words.words_of.Given as goal
 
 abbrev pub invariant-loop-i : goal.invariant-loop-i

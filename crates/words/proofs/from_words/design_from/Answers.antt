@@ -1,6 +1,5 @@
 -- `words::from_words::design_from` meets its contract: all places are read. Assumes nothing.
 use native.Mathlib.Omega.{arith}
-use borrow.Author.Rules.{rules}
 use Rattle.words.specs.Words.{table_from, constraint_from, filling_from}
 use Rattle.state.specs.Design.{no_table, no_constraint, no_filling}
 use Rattle.words.proofs.EmptyPlaces.{all_read}

@@ -1,6 +1,5 @@
 -- `words::from_words::design_with` meets its contract: part by part. Assumes nothing.
 use Rattle.words.proofs.WordLaws.{design-is}
-use borrow.Author.Rules.{rules}
 use Rattle.words.proofs.from_words.design_with.Goals as goal
 
 pub returns : goal.returns

@@ -1,11 +1,7 @@
 -- `words::from_words::fillings_from` meets its contract: each place gets what its words stand for. Assumes nothing.
-use Prim.Native.Nat.{◌-◌}
 use native.Mathlib.Omega.{arith}
 use mathlib.Core.Path.{refl}
-use borrow.Author.Rules.{rules}
-use Rattle.state.specs.Design.{no_filling}
-use Rattle.words.specs.Words.{filling_from}
-use Rattle.state.proofs.WordPlaces.{Reading, reading-start, reading-more}
+use Rattle.state.proofs.WordPlaces.{reading-start, reading-more}
 use Rattle.words.proofs.EmptyPlaces.{reading-rest}
 use Rattle.words.proofs.from_words.fillings_from.Goals as goal
 

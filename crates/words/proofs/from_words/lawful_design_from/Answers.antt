@@ -1,5 +1,4 @@
 -- `words::from_words::lawful_design_from` meets its contract: a lawful design has nothing in the places that are not in use. Assumes nothing.
-use borrow.Author.Rules.{rules}
 use Rattle.words.proofs.EmptyPlaces.{lawful-empty}
 use Rattle.words.proofs.from_words.lawful_design_from.Goals as goal
 

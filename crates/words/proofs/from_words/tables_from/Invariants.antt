@@ -1,12 +1,7 @@
 -- What the loops of `words::from_words::tables_from` keep.
-use Prim.Native.Nat.{◌-◌}
-use native.Mathlib.Omega.{arith}
-use mathlib.Core.Path.{refl}
-use borrow.Author.Rules.{rules}
 use Rattle.state.specs.Design.{no_table}
 use Rattle.words.specs.Words.{table_from}
-use Rattle.state.proofs.WordPlaces.{Reading, reading-start, reading-more}
-use Rattle.words.proofs.EmptyPlaces.{reading-rest}
+use Rattle.state.proofs.WordPlaces.{Reading}
 use Rattle.words.proofs.from_words.tables_from.Given as goal
 
 abbrev pub invariant-loop-i : goal.invariant-loop-i

@@ -1,11 +1,7 @@
 -- What the loops of `words::to_words::put_constraints` keep.
-use Prim.Native.Nat.{◌-◌}
-use native.Mathlib.Omega.{arith}
-use mathlib.Core.Path.{refl}
-use borrow.Author.Rules.{rules}
 use Rattle.state.specs.Design.{no_constraint}
 use Rattle.words.specs.Words.{constraint_words}
-use Rattle.state.proofs.WordPlaces.{Storing, storing-start, storing-more, storing-end}
+use Rattle.state.proofs.WordPlaces.{Storing}
 use Rattle.words.proofs.to_words.put_constraints.Given as goal
 
 abbrev pub invariant-loop-i : goal.invariant-loop-i

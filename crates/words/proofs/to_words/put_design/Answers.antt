@@ -1,6 +1,5 @@
 -- `words::to_words::put_design` meets its contract: each part goes behind the one before. Assumes nothing.
 use Rattle.words.proofs.WordLaws.{stored-design}
-use borrow.Author.Rules.{rules}
 use Rattle.words.proofs.to_words.put_design.Goals as goal
 
 pub returns : goal.returns

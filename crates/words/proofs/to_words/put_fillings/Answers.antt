@@ -1,11 +1,7 @@
 -- `words::to_words::put_fillings` meets its contract: the places passed are stored. Assumes nothing.
-use Prim.Native.Nat.{◌-◌}
 use native.Mathlib.Omega.{arith}
 use mathlib.Core.Path.{refl}
-use borrow.Author.Rules.{rules}
-use Rattle.state.specs.Design.{no_filling}
-use Rattle.words.specs.Words.{filling_words}
-use Rattle.state.proofs.WordPlaces.{Storing, storing-start, storing-more, storing-end}
+use Rattle.state.proofs.WordPlaces.{storing-start, storing-more, storing-end}
 use Rattle.words.proofs.to_words.put_fillings.Goals as goal
 
 pub loop-i-init : goal.loop-i-init

@@ -1,13 +1,8 @@
 -- `words::word_tests::constraints_narrow` meets its contract. The invariant: the constraints passed are words of one. Assumes nothing.
-use Prim.Native.Nat.{◌+◌, ◌*◌, ◌-◌, ◌≤◌}
 use native.Mathlib.Omega.{arith}
-use mathlib.Core.Bool.{true}
-use mathlib.Core.Path.{◌∙◌, ◌≡◌, sym}
-use borrow.Author.Rules.{rules}
+use mathlib.Core.Path.{◌∙◌, sym}
 use borrow.Author.Tests.{not-false, not-true}
-use Rattle.finite.specs.Finite.{all}
 use Rattle.finite.proofs.Search.{all_end, all_more, all_start, all-stop}
-use Rattle.words.specs.Words.{narrow_constraint}
 use Rattle.words.proofs.word_tests.constraints_narrow.Goals as goal
 
 pub loop-i-init : goal.loop-i-init

@@ -1,12 +1,8 @@
 -- What the loops of `words::word_tests::constraints_narrow` keep.
-use Prim.Native.Nat.{◌+◌, ◌*◌, ◌-◌, ◌≤◌}
-use native.Mathlib.Omega.{arith}
+use Prim.Native.Nat.{◌+◌, ◌*◌, ◌≤◌}
 use mathlib.Core.Bool.{true}
-use mathlib.Core.Path.{◌∙◌, ◌≡◌, sym}
-use borrow.Author.Rules.{rules}
-use borrow.Author.Tests.{not-false, not-true}
+use mathlib.Core.Path.{◌≡◌}
 use Rattle.finite.specs.Finite.{all}
-use Rattle.finite.proofs.Search.{all_end, all_more, all_start, all-stop}
 use Rattle.words.specs.Words.{narrow_constraint}
 use Rattle.words.proofs.word_tests.constraints_narrow.Given as goal
 

@@ -1,6 +1,5 @@
 -- `words::word_tests::design_narrow` meets its contract: part by part. Assumes nothing.
 use mathlib.Core.Path.{◌∙◌, sym}
-use borrow.Author.Rules.{rules}
 use borrow.Author.Tests.{not-false, not-true}
 use Rattle.finite.proofs.Bools.{and-go, and-stop}
 use Rattle.words.specs.Words.{narrow_design}

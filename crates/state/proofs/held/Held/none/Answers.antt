@@ -1,10 +1,9 @@
 -- `state::held::Held::none` meets its contract, by what DeskRanges::none gives. Assumes nothing.
 use mathlib.Core.Path.{ap}
-use borrow.Author.Rules.{rules}
 use Rattle.finite.specs.Finite.{tab}
 use Rattle.state.specs.declared.held.DeskRanges.{DeskRanges}
 use Rattle.state.specs.declared.held.Held.{Held}
-use Rattle.state.specs.Held.{empty_ranges, no_value, none_held}
+use Rattle.state.specs.Held.{no_value, none_held}
 use Rattle.state.proofs.held.Held.none.Goals as goal
 
 -- the record with the same ranges for each desk
