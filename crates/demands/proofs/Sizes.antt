@@ -17,7 +17,7 @@ use Rattle.command.specs.Bytes.{byte_at}
 use Rattle.command.specs.Commands.{command_at, width_of}
 use Rattle.format.specs.Reading.{most_bytes}
 use Rattle.sizes.specs.Sizes.{ample, words_taken, text_taken}
-use Rattle.sizes.proofs.Sizes.{sizes-enough, sizes-needed}
+use Rattle.sizes.proofs.SizeLaws.{sizes-enough, sizes-needed}
 use Rattle.script.specs.Step.{Outputs, rooms_of, operation_in, Stepped, operated, carried, step_at}
 use Rattle.sizes.specs.StepSizes.{of_step, words_taken_at, text_taken_at}
 use Rattle.script.proofs.StepLaws.{step-overlong, step-carried}

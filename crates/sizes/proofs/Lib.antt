@@ -4,5 +4,5 @@ pub mod Lending
 pub mod QuerySizes
 pub mod SizeSteps
 pub mod ReasonSizes
-pub mod Sizes
+pub mod SizeLaws
 pub mod StepSizes

@@ -42,10 +42,6 @@ kind End = other (record { takes = λ f. refl; same = λ s script i j out out'. 
 kind Unknown = other (record { takes = λ f. refl; same = λ s script i j out out'. refl })
 kind Short = other (record { takes = λ f. refl; same = λ s script i j out out'. refl })
 
--- their numbers among the cases of a command
-abbrev others : List ℕ
-others = 0 ∷ 1 ∷ 2 ∷ 3 ∷ 4 ∷ 6 ∷ 7 ∷ 8 ∷ 9 ∷ []
-
 module _ (f : Operation → ℕ) (script : List ℕ) (i : ℕ) where
   pub overlong-takes : most_bytes < length script → of_step f script i ≡ 0
   unfolding of_step
@@ -57,11 +53,11 @@ module _ (f : Operation → ℕ) (script : List ℕ) (i : ℕ) where
     unfolding of_step
     command-takes = cond-false _ _ _ (le-ltb most_bytes (length script) l) ∙ ap (of_operation f) (sym h)
 
-    pub other-takes : OneOf others (tag_of the_type c) → of_step f script i ≡ 0
+    pub other-takes : ((op : Operation) → c ≡ Operate op → ⊥) → of_step f script i ≡ 0
     other-takes o = go (kind c)
       where
         go : Kind c → of_step f script i ≡ 0
-        go (operates op k) = absurd (miss others 5 tt (rw k at o))
+        go (operates op k) = absurd (o op k)
         go (other x) = command-takes ∙ x.takes f
 
     pub operation-takes : (op : Operation) → c ≡ Operate op → of_step f script i ≡ f op

@@ -9,7 +9,7 @@ use Rattle.state.specs.Lent.{State, words_at, text_at}
 abbrev pub ample : ℕ
 ample = 2 ^ 48
 
--- the answer words that the operation takes: `sizes-enough` and `sizes-needed` of proofs/Sizes.antt say that so many are enough, and that fewer are not
+-- the answer words that the operation takes: `sizes-enough` and `sizes-needed` of proofs/SizeLaws.antt say that so many are enough, and that fewer are not
 unfoldable pub words_taken : State → Operation → ℕ
 words_taken s op = length (words_at s (operation_of op ample ample))
 

@@ -42,10 +42,6 @@ data Kind (s : State) (op : Operation) : Type 0 where
   sentence : (r : ℕ) → op ≡ O.Reason r → Kind s op
   plain : Plain s op → Kind s op
 
--- the numbers of the plain kinds among the cases of an operation
-abbrev others : List ℕ
-others = 0 ∷ 1 ∷ 2 ∷ 4 ∷ 5 ∷ 6 ∷ 7 ∷ 8 ∷ 10 ∷ 11 ∷ []
-
 -- a total has no lists, by the tests for causes 5 and 9, for one that is sent, and for cause 13
 total-tested : (w x y z : Bool) (n : ℕ) (ws : List ℕ) → written_with (unless w 5 (unless x 9 (or_answer y sent (unless z 13 (total n))))) ws ≡ []
 unfolding written_with has_lists shown
@@ -104,13 +100,13 @@ module _ (s : State) (e : sound s ≡ true) where
     reason-takes r k n h = rw k (sym (ap length (ask-words (Runs.reason r ample))), h)
 
     -- of any other
-    pub plain-takes : OneOf others (tag_of the_type op) → Taken 0 0
+    pub plain-takes : ((q : Query) → op ≡ O.Query q → ⊥) → ((r : ℕ) → op ≡ O.Reason r → ⊥) → Taken 0 0
     unfolding words_taken text_taken
-    plain-takes o = go (kind op)
+    plain-takes x y = go (kind op)
       where
         go : Kind s op → Taken 0 0
-        go (lists q k) = absurd (miss others 3 tt (rw k at o))
-        go (sentence r k) = absurd (miss others 9 tt (rw k at o))
+        go (lists q k) = absurd (x q k)
+        go (sentence r k) = absurd (y r k)
         go (plain p) = (sym (ap length p.words), sym (ap length p.text))
 
 -- ---- enough

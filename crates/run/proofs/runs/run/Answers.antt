@@ -1,0 +1,6 @@
+-- `run::runs::run` meets its contract: the run that leaves a catalog too. Assumes nothing.
+use borrow.Author.Rules.{rules}
+use Rattle.run.proofs.runs.run.Goals as goal
+
+pub returns : goal.returns
+returns c = c.run_catalogued.ensures.ran
