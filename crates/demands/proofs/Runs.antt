@@ -10,7 +10,7 @@ use Rattle.lawful.proofs.RowsLaws.{Stored}
 use Rattle.format.specs.Reading.{Draft, cells_after}
 use Rattle.format.specs.Reading.DesignRead.{accepted}
 use Rattle.format.proofs.Small.{Small}
-use Rattle.run.specs.Moments.{Action, operation, change, Moment, moment_from}
+use Rattle.run.specs.Moments.{Action, operation, change, Moment, moment_after, moment_from}
 use Rattle.run.specs.Runs.{left_from, rooms_in, beginning, moment_with, moment_at}
 use Rattle.script.specs.JustRead.{Buffers, reading_of, just_read}
 use Rattle.run.proofs.Tracking.{Tracks, point, RowGiven, operated-tracks, changed-tracks}
@@ -29,8 +29,8 @@ calls-track : (p : Draft) (b : Buffers) (m : Moment) (e : State) → Tracks p b 
     Tracks p b (moment_from (scheme_of p.design) m acts) (state_after_all e acts)
 unfolding moment_from state_after_all state_behind
 calls-track p b m e t [] g = t
-calls-track p b m e t (operation o ∷ more) g = calls-track p b _ _ (operated-tracks p b m e t o) more (given-rest (operation o) more g)
-calls-track p b m e t (change x ∷ more) g = calls-track p b _ _ (changed-tracks p b m e t x (g.each [] more x refl)) more (given-rest (change x) more g)
+calls-track p b m e t (operation o ∷ more) g = calls-track p b (moment_after (scheme_of p.design) m (operation o)) _ (operated-tracks p b m e t o) more (given-rest (operation o) more g)
+calls-track p b m e t (change x ∷ more) g = calls-track p b (moment_after (scheme_of p.design) m (change x)) _ (changed-tracks p b m e t x (g.each [] more x refl)) more (given-rest (change x) more g)
 
 -- A design just read. A script is bytes, a number is below 2 ^ 32 and an issue below 2 ^ 8, as their types say.
 module _ (script : List ℕ) (small : Small script) (b : Buffers) (p : Draft) (i : ℕ) (e : reading_of script b ≡ accepted p i)
