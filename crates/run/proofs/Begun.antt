@@ -6,7 +6,6 @@ use lib.ListN.{drop as past}
 use lib.Seq.{drop_at}
 use Rattle.finite.specs.Finite.{tab}
 use Rattle.finite.proofs.Tables.{length-tab}
-use Rattle.model.specs.Runs.{marks}
 use Rattle.state.specs.Meaning.{scheme_of}
 use Rattle.lawful.proofs.RowsLaws.{Stored}
 use Rattle.format.specs.Reading.{Draft, cells_after}

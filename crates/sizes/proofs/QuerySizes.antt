@@ -15,7 +15,7 @@ use Rattle.model.specs.Cache.{RowSet}
 use Rattle.model.specs.Query.{joins_of, operands_fit, fitting, full_lists, words_of}
 use Rattle.model.specs.Runs.{as_lists, query, taken, pair_for, output_fits, within_limit}
 use Rattle.model.specs.Answers.{Answer, refused, sent, lists, shown, has_lists, query_ground, is_answered, full_answer, query_answer, query_words, written_with}
-use Rattle.model.specs.Effects.{effect, answer, written}
+use Rattle.model.specs.Effects.{effect}
 use Rattle.model.proofs.ListLaws.{fitting-words}
 use Rattle.state.specs.declared.design.Design.{Design}
 use Rattle.state.specs.declared.operation.Query.{Query}

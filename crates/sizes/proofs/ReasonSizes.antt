@@ -14,7 +14,7 @@ use Rattle.finite.proofs.Bools.{dec, cond-true, cond-false}
 use Rattle.finite.proofs.Tables.{tab-at}
 use Rattle.model.specs.Runs.{ask, reason, marked, cached_for}
 use Rattle.model.specs.Answers.{Answer, refused, absent, explained, unless, or_answer, shown, has_text, reason_answer, text_with}
-use Rattle.model.specs.Effects.{effect, reply, answer, text_of}
+use Rattle.model.specs.Effects.{effect, reply}
 use Rattle.model.specs.Sentence.{reason_text}
 use Rattle.model.proofs.ReasonCases.{Replies, reason-unnamed, reason-absent, reason-long, reason-given}
 use Rattle.state.specs.declared.answer.Shown.{Shown}

@@ -1,13 +1,10 @@
 -- What `wordsTaken` and `textTaken` say to a user: so much lent is enough, and with less the operation is refused with cause 11. Assumes nothing.
 use Prim.Native.Nat.{ℕ, ◌≤◌, ◌<◌}
-use Prim.{tt}
 use native.Mathlib.Omega.{arith}
 use mathlib.Core.Path.{◌≡◌, refl, sym, ap, ◌∙◌}
 use mathlib.Core.Logic.{◌⊎◌, ⊎_elim}
 use mathlib.Core.Bool.{Bool, true, false, not}
-use mathlib.Core.List.{List, [], ◌∷◌}
-use denote.Enum.Declared.{tag_of}
-use types.Run.{OneOf, miss}
+use mathlib.Core.List.{List, []}
 use lib.ListN.{length}
 use Rattle.model.specs.Cell.{numberless}
 use Rattle.model.specs.Scheme.{Scheme}
@@ -22,7 +19,6 @@ use Rattle.state.specs.declared.operation.Operation.{Operation}
 use Rattle.state.specs.declared.operation.Operation.TheVariants as O
 use Rattle.state.specs.Meaning.{operation_of, query_of}
 use Rattle.state.specs.Lent.{State, scheme, database, cache, sound, answer_at, words_at, text_at}
-use Rattle.state.specs.contracts.operation.Operation.{the_type}
 use Rattle.lawful.proofs.SoundState.{words-at, text-at}
 use Rattle.sizes.specs.Sizes.{ample, words_taken, text_taken}
 use Rattle.sizes.proofs.Lending.{lends-enough, lends-needed}

@@ -1,11 +1,8 @@
 -- How much a step takes, case by case. Assumes nothing.
 use Prim.Native.Nat.{ℕ, ◌≤◌, ◌<◌}
-use Prim.{tt}
 use mathlib.Core.Path.{◌≡◌, refl, sym, ap, ◌∙◌}
-use mathlib.Core.List.{List, [], ◌∷◌}
+use mathlib.Core.List.{List}
 use borrow.Author.Tests.{lt-ltb, le-ltb}
-use denote.Enum.Declared.{tag_of}
-use types.Run.{OneOf, miss}
 use lib.ListN.{length}
 use Rattle.finite.proofs.Bools.{cond-true, cond-false}
 use Rattle.state.specs.declared.operation.Operation.{Operation}
@@ -14,7 +11,6 @@ use Rattle.command.specs.declared.command.Command.{Command}
 use Rattle.command.specs.declared.command.Command.TheVariants.{Table, Constraint, Filling, Row, End, Operate, Put, Remove, Unknown, Short}
 use Rattle.command.specs.Commands.{command_at}
 use Rattle.format.specs.Reading.{most_bytes}
-use Rattle.command.specs.contracts.command.Command.{the_type}
 use Rattle.script.specs.Step.{Outputs, changing, carried}
 use Rattle.sizes.specs.StepSizes.{of_operation, of_step}
 

@@ -21,7 +21,7 @@ use Rattle.verdict.specs.Words.{verdict_words, design_cause, words_after}
 use Rattle.slice.specs.declared.fetch.Fetch.{Fetch}
 use Rattle.slice.specs.declared.whole.Next.{Next}
 use Rattle.slice.specs.Fetches.{column_in, fetch_of}
-use Rattle.slice.specs.Replies.{Reply, refused, reply_of, reply_in}
+use Rattle.slice.specs.Replies.{Reply, reply_of, reply_in}
 use Rattle.wurzsige.specs.Calls.{Memory, memory, state_in, sound_memory, memory_cause}
 use Rattle.wurzsige.specs.Feeding.{fetch_words, missing_in, ReplyTold, design_cause_in, VerdictsTold}
 use Rattle.wurzsige.proofs.Memories.{words-state, sound-cause}

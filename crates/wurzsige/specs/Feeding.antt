@@ -1,5 +1,5 @@
 -- What the exported functions tell of a slice and of a design's columns, for whatever is lent: what must be fetched next, and the verdicts. Assumes nothing.
-use Rattle.std.specs.Prelude.{ℕ, ◌≡◌, Bool, not, cond, ◌&&◌, List, [], ◌∷◌, eqb, leb, length}
+use Rattle.std.specs.Prelude.{ℕ, ◌≡◌, not, cond, ◌&&◌, List, [], ◌∷◌, eqb, leb, length}
 use Rattle.model.specs.Missing.{Fetch, value, span, nothing, lacks}
 use Rattle.state.specs.Lawful.{lawful_design}
 use Rattle.state.specs.Meaning.{scheme_of}

@@ -1,7 +1,6 @@
 -- `run::runs::probe_after` meets its contract: the run, and a probe of the sound state that it leaves. Assumes nothing.
 use native.Mathlib.Omega.{arith}
 use Rattle.run.proofs.ProbedLaws.{cell-fits, refused-probed, behind-sound, accepted-probed}
-use borrow.Author.Rules.{rules}
 use Rattle.run.proofs.runs.probe_after.Goals as goal
 
 pub returns-in-Refused : goal.returns-in-Refused

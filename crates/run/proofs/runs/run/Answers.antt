@@ -1,5 +1,4 @@
 -- `run::runs::run` meets its contract: the run that leaves a catalog too. Assumes nothing.
-use borrow.Author.Rules.{rules}
 use Rattle.run.proofs.runs.run.Goals as goal
 
 pub returns : goal.returns

@@ -1,14 +1,13 @@
 -- `run::runs::run_catalogued` meets its contract: the design is read with its catalog, and behind an accepted one the steps are done. Assumes nothing.
 use Prim.Native.Nat.{ℕ}
 use native.Mathlib.Omega.{arith}
-use mathlib.Core.Path.{◌≡◌, ◌∙◌}
+use mathlib.Core.Path.{◌≡◌}
 use Rattle.state.specs.Cells.{cells_in}
 use Rattle.state.proofs.LentWords.{zero-whole}
 use Rattle.script.specs.Step.{outputs}
 use Rattle.script.specs.JustRead.{buffers}
 use Rattle.run.proofs.RanLaws.{refused-ran, accepted-ran}
 use Rattle.script.proofs.JustRead.{start-sound}
-use borrow.Author.Rules.{rules}
 use Rattle.run.proofs.runs.run_catalogued.Goals as goal
 
 pub returns-in_default : goal.returns-in_default

@@ -1,17 +1,11 @@
 -- `run::runs::run_lawful` meets its contract: what is left to run leaves what the whole leaves, and the state stays sound and catalogued. Assumes nothing.
-use Prim.Native.Nat.{◌-◌}
 use native.Mathlib.Omega.{arith}
-use mathlib.Core.Path.{◌≡◌, refl, ◌∙◌}
-use mathlib.Core.Bool.{true}
+use mathlib.Core.Path.{refl, ◌∙◌}
 use borrow.Author.Tests.{not-true, not-false}
-use lib.ListN.{length}
 use Rattle.state.specs.Cells.{cells_in}
-use Rattle.state.specs.HeldWords.{words_held, Whole}
-use Rattle.state.specs.Meaning.{database_of, scheme_of}
-use Rattle.state.specs.Lent.{lent, sound}
-use Rattle.catalog.specs.Catalog.{Catalogued}
+use Rattle.state.specs.HeldWords.{words_held}
+use Rattle.state.specs.Lent.{lent}
 use Rattle.script.specs.Step.{outputs}
-use Rattle.run.specs.Runs.{left_from}
 use Rattle.run.proofs.RunCode.{leaves-past, leaves_last, left-on, next_place, sound-on}
 use Rattle.run.proofs.runs.run_lawful.Goals as goal
 

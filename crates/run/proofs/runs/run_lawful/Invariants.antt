@@ -1,9 +1,7 @@
 -- What the loops of `run::runs::run_lawful` keep.
 use Prim.Native.Nat.{◌-◌}
-use native.Mathlib.Omega.{arith}
-use mathlib.Core.Path.{◌≡◌, refl, ◌∙◌}
+use mathlib.Core.Path.{◌≡◌}
 use mathlib.Core.Bool.{true}
-use borrow.Author.Tests.{not-true, not-false}
 use lib.ListN.{length}
 use Rattle.state.specs.Cells.{cells_in}
 use Rattle.state.specs.HeldWords.{words_held, Whole}
@@ -12,7 +10,6 @@ use Rattle.state.specs.Lent.{lent, sound}
 use Rattle.catalog.specs.Catalog.{Catalogued}
 use Rattle.script.specs.Step.{outputs}
 use Rattle.run.specs.Runs.{left_from}
-use Rattle.run.proofs.RunCode.{leaves-past, leaves_last, left-on, next_place, sound-on}
 use Rattle.run.proofs.runs.run_lawful.Given as goal
 
 abbrev pub invariant-loop-i : goal.invariant-loop-i

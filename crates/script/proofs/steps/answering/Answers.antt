@@ -1,5 +1,4 @@
 -- `script::steps::answering` meets its contract. Assumes nothing.
-use borrow.Author.Rules.{rules}
 use mathlib.Core.Bool.{true}
 use Rattle.script.proofs.steps.answering.Goals as goal
 

@@ -1,6 +1,5 @@
 -- `script::steps::carry_out` meets its contract, command by command. Assumes nothing.
 use mathlib.Core.Path.{sym, ◌∙◌}
-use borrow.Author.Rules.{rules}
 use Rattle.script.specs.Step.{carried}
 use Rattle.script.proofs.Places.{put_whole}
 use Rattle.script.proofs.StepCode.{operated-does, refusing-does, placed, in-case, as_read}

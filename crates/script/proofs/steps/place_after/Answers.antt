@@ -1,6 +1,5 @@
 -- `script::steps::place_after` meets its contract. Assumes nothing.
 use native.Mathlib.Omega.{arith}
-use borrow.Author.Rules.{rules}
 use Rattle.command.specs.Bytes.{byte_at}
 use Rattle.command.proofs.CommandLaws.{width-most, width-past}
 use Rattle.script.proofs.steps.place_after.Goals as goal

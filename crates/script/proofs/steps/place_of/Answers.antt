@@ -1,6 +1,5 @@
 -- `script::steps::place_of` meets its contract: a refusal, and the other cases. Assumes nothing.
 use mathlib.Core.Path.{sym, ◌∙◌}
-use borrow.Author.Rules.{rules}
 use Rattle.finite.proofs.Bools.{cond-true, cond-false}
 use Rattle.script.proofs.steps.place_of.Goals as goal
 

@@ -1,6 +1,5 @@
 -- `script::steps::put_at` meets its contract: what `put_lawful` gives of the row at the place, with its place. Assumes nothing.
 use Rattle.script.proofs.StepCode.{changed-does, put-changed}
-use borrow.Author.Rules.{rules}
 use Rattle.script.proofs.steps.put_at.Goals as goal
 
 pub returns : goal.returns

@@ -1,6 +1,5 @@
 -- `script::steps::remove_at` meets its contract: what `remove_lawful` gives, with its place. Assumes nothing.
 use Rattle.script.proofs.StepCode.{changed-does}
-use borrow.Author.Rules.{rules}
 use Rattle.script.proofs.steps.remove_at.Goals as goal
 
 pub returns : goal.returns

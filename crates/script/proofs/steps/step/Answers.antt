@@ -1,6 +1,5 @@
 -- `script::steps::step` meets its contract: causes 7 and 12, then the step on a sound state. Assumes nothing.
 use mathlib.Core.Path.{sym, ◌∙◌}
-use borrow.Author.Rules.{rules}
 use Rattle.state.proofs.HeldWords.{whole_long}
 use Rattle.guard.proofs.CauseWords.{cause-clear, own-sound, own-whole}
 use Rattle.script.proofs.StepCode.{caused-words, done-words}

@@ -1,5 +1,4 @@
 -- `script::steps::step_lawful` meets its contract. Assumes nothing.
-use borrow.Author.Rules.{rules}
 use Rattle.script.proofs.StepLaws.{step-overlong}
 use Rattle.script.proofs.StepCode.{refusing-does, step_is, step_case}
 use Rattle.script.proofs.steps.step_lawful.Goals as goal

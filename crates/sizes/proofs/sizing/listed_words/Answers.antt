@@ -1,6 +1,5 @@
 -- `operate::sizing::listed_words` meets its contract: as many words as positions, of each list. Assumes nothing.
 use native.Mathlib.Omega.{arith}
-use borrow.Author.Rules.{rules}
 use Rattle.sizes.proofs.QuerySizes.{words-of, words-fit}
 use Rattle.sizes.proofs.sizing.listed_words.Goals as goal
 

@@ -1,7 +1,6 @@
 -- `operate::sizing::query_words` meets its contract: causes 5 and 9, then the lists, "sent", or the reference. Assumes nothing.
 use native.Mathlib.Omega.{arith}
 use mathlib.Core.Path.{sym, ap, ◌∙◌}
-use borrow.Author.Rules.{rules}
 use borrow.Author.Tests.{not-true, not-false}
 use lib.ListN.{length}
 use Rattle.state.proofs.Arrays.{sized}

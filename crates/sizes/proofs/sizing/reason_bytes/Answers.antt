@@ -1,6 +1,5 @@
 -- `operate::sizing::reason_bytes` meets its contract: what the answer tells, with room for any reason. Assumes nothing.
 use Prim.Native.Nat.{ℕ}
-use borrow.Author.Rules.{rules}
 use lib.ListN.{length-replicate}
 use Rattle.sizes.proofs.ReasonSizes.{taken-text}
 use Rattle.sizes.proofs.sizing.reason_bytes.Goals as goal

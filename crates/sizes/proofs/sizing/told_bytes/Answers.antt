@@ -1,5 +1,4 @@
 -- `operate::sizing::told_bytes` meets its contract: a test of the word, and the number behind it. Assumes nothing.
-use borrow.Author.Rules.{rules}
 use Rattle.sizes.proofs.ReasonSizes.{tells_none, tells-some}
 use Rattle.sizes.proofs.sizing.told_bytes.Goals as goal
 

@@ -1,6 +1,5 @@
 -- `script::sizing::step_sizes_lawful` meets its contract: nothing in a script that is too long, nothing but of an operation. Assumes nothing.
 use mathlib.Core.Path.{sym, ◌∙◌}
-use borrow.Author.Rules.{rules}
 use Rattle.sizes.proofs.StepSizes.{overlong-takes, other-takes, operation-takes}
 use Rattle.sizes.proofs.stepping.step_sizes_lawful.Goals as goal
 

@@ -1,7 +1,6 @@
 -- `wurzsige::causes::memory_cause` meets its contract: too few words, the causes of the state and of what is held, words of no design. Assumes nothing.
 use native.Mathlib.Omega.{arith}
 use mathlib.Core.Path.{sym, ◌∙◌}
-use borrow.Author.Rules.{rules}
 use borrow.Author.Tests.{not-false, not-true}
 use Rattle.wurzsige.proofs.Memories.{words-cause, catalog-words, few-design, caused-memory, wide-design, fine-memory}
 use Rattle.wurzsige.proofs.causes.memory_cause.Goals as goal

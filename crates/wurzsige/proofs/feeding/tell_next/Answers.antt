@@ -1,6 +1,5 @@
 -- `wurzsige::feeding::tell_next` meets its contract, answer by answer. Assumes nothing.
 use mathlib.Core.Path.{refl}
-use borrow.Author.Rules.{rules}
 use Rattle.wurzsige.proofs.FeedingLaws.{told-as, fetch-words}
 use Rattle.wurzsige.proofs.feeding.tell_next.Goals as goal
 

@@ -1,6 +1,5 @@
 -- `wurzsige::feeding::wurzsige_parts_missing` meets its contract: causes 7 and 12, then what is told of memory that is ready. Assumes nothing.
 use mathlib.Core.Path.{sym, ◌∙◌}
-use borrow.Author.Rules.{rules}
 use Rattle.wurzsige.proofs.Memories.{memory-parts, cause-sound}
 use Rattle.wurzsige.proofs.StepTaking.{own-ready, own-long}
 use Rattle.wurzsige.proofs.FeedingLaws.{missing-caused, missing-own}

@@ -1,5 +1,4 @@
 -- `wurzsige::feeding::wurzsige_parts_missing_trusted` meets its contract: the answer for the state that the words stand for. Assumes nothing.
-use borrow.Author.Rules.{rules}
 use Rattle.wurzsige.proofs.Memories.{memory-design}
 use Rattle.wurzsige.proofs.StepTaking.{ready-lawful}
 use Rattle.wurzsige.proofs.FeedingLaws.{missing-ready}

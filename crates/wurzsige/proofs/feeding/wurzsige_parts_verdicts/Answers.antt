@@ -1,6 +1,5 @@
 -- `wurzsige::feeding::wurzsige_parts_verdicts` meets its contract: too few words, words of no design, the design's verdicts. Assumes nothing.
 use mathlib.Core.Path.{sym, ◌∙◌}
-use borrow.Author.Rules.{rules}
 use borrow.Author.Tests.{not-true, not-false}
 use Rattle.wurzsige.proofs.FeedingLaws.{few-verdicts, wide-verdicts, design-verdicts}
 use Rattle.wurzsige.proofs.feeding.wurzsige_parts_verdicts.Goals as goal

@@ -1,6 +1,5 @@
 -- `wurzsige::opening::open_memory` meets its contract: too few words, a refused design, an accepted one. Assumes nothing.
 use native.Mathlib.Omega.{arith}
-use borrow.Author.Rules.{rules}
 use Rattle.wurzsige.specs.Calls.{arrays}
 use Rattle.wurzsige.proofs.OpenTaking.{few-design-opened, few-held-opened, refused-taken, accepted-design, accepted-taken}
 use Rattle.wurzsige.proofs.opening.open_memory.Goals as goal

@@ -1,6 +1,5 @@
 -- `wurzsige::opening::short` meets its contract. Assumes nothing.
 use mathlib.Core.Path.{ap}
-use borrow.Author.Rules.{rules}
 use Rattle.state.specs.declared.design.Design.{Design}
 use Rattle.format.specs.declared.verdict.Verdict.TheVariants.{Refused}
 use Rattle.wurzsige.proofs.opening.short.Goals as goal

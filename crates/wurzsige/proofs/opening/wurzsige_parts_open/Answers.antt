@@ -1,6 +1,5 @@
 -- `wurzsige::opening::wurzsige_parts_open` meets its contract: the design is opened, and told of. Assumes nothing.
 use Rattle.wurzsige.proofs.OpenTaking.{open-taken}
-use borrow.Author.Rules.{rules}
 use Rattle.wurzsige.proofs.opening.wurzsige_parts_open.Goals as goal
 
 pub returns : goal.returns

@@ -1,5 +1,4 @@
 -- `wurzsige::running::wurzsige_parts_run_trusted` meets its contract: the run on the state that the words stand for. Assumes nothing.
-use borrow.Author.Rules.{rules}
 use Rattle.script.specs.Step.{outputs}
 use Rattle.wurzsige.proofs.Memories.{memory-design}
 use Rattle.wurzsige.proofs.StepTaking.{ready-lawful, run-made}

@@ -1,6 +1,5 @@
 -- `wurzsige::sizing::wurzsige_parts_sizes` meets its contract: a cause of the memory, or the three numbers. Assumes nothing.
 use mathlib.Core.Path.{sym, ap, ◌∙◌}
-use borrow.Author.Rules.{rules}
 use lib.ListN.{length}
 use Rattle.state.specs.Lent.{State, sound}
 use Rattle.sizes.specs.StepSizes.{words_taken_at, text_taken_at}

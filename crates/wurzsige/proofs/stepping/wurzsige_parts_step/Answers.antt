@@ -1,6 +1,5 @@
 -- `wurzsige::stepping::wurzsige_parts_step` meets its contract: causes 7 and 12, then the step on memory that is ready. Assumes nothing.
 use mathlib.Core.Path.{sym, ◌∙◌}
-use borrow.Author.Rules.{rules}
 use Rattle.wurzsige.proofs.Memories.{memory-parts, cause-sound}
 use Rattle.wurzsige.proofs.StepTaking.{caused-taken, caused-catalogs, own-ready, own-long, own-refused, own-left-long, own-taken}
 use Rattle.wurzsige.proofs.stepping.wurzsige_parts_step.Goals as goal

@@ -1,5 +1,4 @@
 -- `wurzsige::stepping::wurzsige_parts_step_trusted` meets its contract: the step on the state that the words stand for. Assumes nothing.
-use borrow.Author.Rules.{rules}
 use Rattle.wurzsige.proofs.Memories.{memory-design}
 use Rattle.wurzsige.proofs.StepTaking.{ready-lawful, step-ready, step-taken}
 use Rattle.wurzsige.proofs.stepping.wurzsige_parts_step_trusted.Goals as goal

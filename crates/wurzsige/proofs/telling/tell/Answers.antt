@@ -1,6 +1,5 @@
 -- `wurzsige::telling::tell` meets its contract: what is shown of the answer. Assumes nothing.
 use mathlib.Core.Path.{ap}
-use borrow.Author.Rules.{rules}
 use Rattle.state.specs.declared.answer.Shown.{Shown}
 use Rattle.state.proofs.AnswerLaws.{few-numbers}
 use Rattle.wurzsige.proofs.telling.tell.Goals as goal

@@ -1,7 +1,6 @@
 -- `wurzsige::telling::tell_counts` meets its contract. Assumes nothing.
 use native.Mathlib.Omega.{arith}
 use mathlib.Core.Path.{refl}
-use borrow.Author.Rules.{rules}
 use Rattle.finite.specs.Finite.{tab}
 use Rattle.wurzsige.proofs.telling.tell_counts.Goals as goal
 

@@ -1,6 +1,5 @@
 -- `wurzsige::telling::tell_reading` meets its contract: of an accepted design, and of a refused one. Assumes nothing.
 use Rattle.wurzsige.proofs.OpenTelling.{accepted-told, refused-told}
-use borrow.Author.Rules.{rules}
 use Rattle.wurzsige.proofs.telling.tell_reading.Goals as goal
 
 pub returns-in-Accepted : goal.returns-in-Accepted

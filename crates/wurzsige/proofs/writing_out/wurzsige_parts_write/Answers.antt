@@ -5,7 +5,6 @@ use lib.ListN.{length}
 use lib.Seq.{sets}
 use Rattle.wurzsige.proofs.Memories.{memory-parts, cause-sound}
 use Rattle.wurzsige.proofs.WriteTaking.{caused-written, cramped-written, stored-written, written-range, written-backed, written-bytes}
-use borrow.Author.Rules.{rules}
 use Rattle.wurzsige.proofs.writing_out.wurzsige_parts_write.Goals as goal
 
 pub returns-then-why-ne0 : goal.returns-then-why-ne0
