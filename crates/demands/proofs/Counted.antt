@@ -21,7 +21,7 @@ use Rattle.model.specs.Query.{Query, operands_fit, extend, fitting, words_of, fu
 use Rattle.model.specs.Opener.{is_open}
 use Rattle.model.specs.Runs.{ask, probe, as_lists, query, output_fits, within_limit, taken, pair_for, marked, Cache, Output, as_total}
 use Rattle.model.specs.Answers.{Answer, sent, ground, lists, unless, or_answer, shown, Yes, query_ground, is_answered, full_answer, query_answer, has_lists, written_with, query_words, total}
-use Rattle.model.specs.Effects.{effect, written, answer}
+use Rattle.model.specs.Effects.{effect}
 use Rattle.model.specs.Demand.{Groundless, Unrefused}
 use Rattle.model.proofs.CountedRows.{fitting-alone, lists-alone}
 use Rattle.state.specs.Lent.{State, scheme, database, cache, sound, answer_at, state_after, words_at}

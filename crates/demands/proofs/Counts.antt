@@ -21,7 +21,7 @@ use Rattle.model.specs.Ranges.{Range, is_range, only_candidates, has_range}
 use Rattle.model.specs.Holding.{Pair, Holding, holds, has_room, without_pair, covers_range, has_range_room, holds_range, without_range}
 use Rattle.model.specs.Runs.{Operation, refer, drop, refer_range, drop_range, taken, range_taken, refer_levels, range_levels, reload_levels, cached_for, marks, marked, Cache}
 use Rattle.model.specs.Answers.{held, no_candidate, loaded, dropped, changed, unless, or_answer}
-use Rattle.model.specs.Effects.{effect, cache_after, answer}
+use Rattle.model.specs.Effects.{effect}
 use Rattle.model.proofs.DatabaseLaws.{has-Has}
 use Rattle.model.proofs.Closed.{Closed, constraints-closed}
 use Rattle.model.proofs.RoundsLaws.{Distances, load-distances, load-closed}

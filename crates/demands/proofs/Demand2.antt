@@ -16,7 +16,7 @@ use Rattle.model.specs.Holding.{held_in}
 use Rattle.model.specs.Runs.{ask, probe, Output, as_lists, query, marked, Cache}
 use Rattle.model.specs.Query.{Query}
 use Rattle.model.specs.Answers.{Answer, sent, ground, lists, unless, or_answer, query_answer}
-use Rattle.model.specs.Effects.{effect, reply, answer}
+use Rattle.model.specs.Effects.{effect, reply}
 use Rattle.model.specs.Demand.{Groundless, Unrefused, FillingsApart, Demand2}
 use Rattle.model.proofs.Demand2.{probe-sent-exactly, demand2}
 use Rattle.model.proofs.CountedRows.{alone-lists}

@@ -13,7 +13,7 @@ use Rattle.model.specs.Holding.{Pair}
 use Rattle.model.specs.Ranges.{Range}
 use Rattle.model.specs.Runs.{ask, evenness, smallest_knot, refer, refer_range}
 use Rattle.model.specs.Answers.{loaded, even, uneven, knot, even_answer, knot_answer}
-use Rattle.model.specs.Effects.{effect, reply, answer}
+use Rattle.model.specs.Effects.{effect, reply}
 use Rattle.model.proofs.EvenLaws.{Few, even-answer, uneven-answer}
 use Rattle.model.proofs.KnotLaws.{knot-even, knot-answer, knot-less}
 use Rattle.state.specs.declared.design.Design.{Design}

@@ -1,5 +1,5 @@
 -- Demand 3 of any list of calls of the exported functions: what the memory means behind them is a state of the run that the actions in their scripts are. Assumes nothing.
-use Prim.Native.Nat.{ℕ, ◌+◌, ◌<◌, ◌≤◌}
+use Prim.Native.Nat.{ℕ, ◌<◌, ◌≤◌}
 use native.Mathlib.Omega.{arith}
 use mathlib.Core.Path.{◌≡◌, refl, sym, ap, subst, ◌∙◌}
 use mathlib.Core.Bool.{true, false, and-eq-true_iff}
@@ -46,7 +46,7 @@ use Rattle.words.specs.Words.{design_length, design_words, words_design}
 use Rattle.words.proofs.WordLaws.{design-stored}
 use Rattle.words.proofs.Narrow.{narrow-design}
 use Rattle.wurzsige.specs.Told.{Told, design_word, open_shown, open_next, answer_in}
-use Rattle.wurzsige.specs.Calls.{Memory, memory, state_in, long_words, Arrays, Ready, Catalogs, keeping, step_in, StepTaken, opening, memory_opened, is_refused, OpenTaken}
+use Rattle.wurzsige.specs.Calls.{Memory, state_in, long_words, Arrays, Ready, Catalogs, keeping, step_in, StepTaken, opening, memory_opened, is_refused, OpenTaken}
 use Rattle.wurzsige.proofs.ToldLaws.{told-read}
 use Rattle.wurzsige.proofs.Memories.{Parts, memory-parts, step-uncaused}
 use Rattle.demands.specs.Actions.{state_behind, state_after_all, Called, actions_of_step, actions_of_run}

@@ -15,8 +15,8 @@ use Rattle.model.specs.Holding.{desks, Pair, holds, has_room, mine, held_in}
 use Rattle.model.specs.Runs.{ask, probe, opener, refer, name, taken, marked, Cache, referred, at_desk, refer_levels}
 use Rattle.model.specs.Rounds.{added_rows, later_rounds}
 use Rattle.model.specs.Opener.{is_open, opens, opens_at}
-use Rattle.model.specs.Answers.{Answer, refused, sent, ground, held, loaded, opened, opened_by, no_opener, unless, or_answer, ground_of, Yes, opener_answer}
-use Rattle.model.specs.Effects.{effect, reply, answer}
+use Rattle.model.specs.Answers.{Answer, refused, sent, ground, loaded, opened, opened_by, no_opener, unless, or_answer, ground_of, Yes, opener_answer}
+use Rattle.model.specs.Effects.{effect, reply}
 use Rattle.model.proofs.OpenerLaws.{open-answer, opened-says, none-says, lowest-says}
 use Rattle.model.proofs.OpenerDesks.{desk-opens-alike, held-opens-nothing, pair_held}
 use Rattle.state.specs.Meaning.{scheme_of}

@@ -6,7 +6,6 @@ use mathlib.Core.List.{List, [], ◌∷◌, ◌++◌, append-nil, append_assoc}
 use lib.Dec.{lit<}
 use lib.ListN.{length, get_or, length-append}
 use Rattle.finite.proofs.Standing.{Stands, stands-part, stands_here, stands_at, stands-long}
-use Rattle.state.specs.declared.held.Range as State-range
 use Rattle.state.specs.declared.operation.Operation.{Operation}
 use Rattle.state.specs.declared.operation.Operation.TheVariants as O
 use Rattle.state.specs.Meaning.{pair_back, range_back}

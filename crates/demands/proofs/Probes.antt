@@ -27,7 +27,7 @@ use Rattle.state.specs.declared.cell.Cell as State-cell
 use Rattle.state.specs.declared.design.Column as State-column
 use Rattle.state.specs.declared.operation.Operation.TheVariants as O
 use Rattle.state.specs.Meaning.{cell_of, column_of, scheme_of}
-use Rattle.state.specs.Lent.{State, database, sound, answer_at}
+use Rattle.state.specs.Lent.{State, sound, answer_at}
 use Rattle.lawful.proofs.RowsLaws.{Stored}
 use Rattle.command.specs.declared.command.Command.TheVariants.{Operate}
 use Rattle.command.specs.Commands.{command_at}

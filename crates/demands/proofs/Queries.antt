@@ -24,7 +24,7 @@ use Rattle.model.specs.Demand.{Groundless, Unrefused, full_words, Demand2}
 use Rattle.model.proofs.QueryLaws.{operands-joins, fitting-reads, probe-reads}
 use Rattle.model.proofs.Demand2.{fits-operands}
 use Rattle.state.specs.Meaning.{scheme_of, holding_of}
-use Rattle.state.specs.Lent.{State, database, cache, sound, answer_at, state_after, words_at}
+use Rattle.state.specs.Lent.{State, database, cache, answer_at, state_after, words_at}
 use Rattle.lawful.proofs.HeldLaws.{holding-back}
 use Rattle.lawful.proofs.RowsLaws.{Stored}
 use Rattle.lawful.proofs.SoundState.{words-at}

@@ -16,7 +16,7 @@ use Rattle.model.specs.Runs.{ask, reason, marked, Cache, cached_for}
 use Rattle.model.specs.Reason.{is_held, by_value, by_range, has_origin, Chain, by_held, by_constraint, Explains, reason_for}
 use Rattle.model.specs.Sentence.{reason_text}
 use Rattle.model.specs.Answers.{Answer, absent, explained, unless, or_answer, shown, has_text, text_with, reason_answer}
-use Rattle.model.specs.Effects.{effect, reply, answer, written, text_of}
+use Rattle.model.specs.Effects.{effect, reply}
 use Rattle.model.proofs.Marks.{marked-marks-is}
 use Rattle.model.proofs.RunLaws.{held-smallest}
 use Rattle.model.specs.Cell.{Fits}

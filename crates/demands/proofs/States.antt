@@ -26,7 +26,7 @@ use Rattle.lawful.proofs.DesignLaws.{design-says}
 use Rattle.lawful.proofs.HeldLaws.{held_back, holding-fits}
 use Rattle.lawful.proofs.RowsLaws.{Stored}
 use Rattle.lawful.proofs.SoundState.{parts, sound-fresh}
-use Rattle.format.specs.Reading.{draft, read_into, cells_after}
+use Rattle.format.specs.Reading.{read_into, cells_after}
 use Rattle.format.specs.Reading.DesignRead.{accepted}
 use Rattle.run.specs.Moments.{Moment}
 use Rattle.script.specs.Step as Step
