@@ -141,7 +141,7 @@ module _ (s : State) (e : sound s ≡ true) where
         ap (λ (X : RowSet). count 512 (λ r. X r && not (marked c.marks r)))
         (sym (ap marked m ∙ marked-marks-is D (reached L) (load-closed S D (marked c.marks) seed closed inside).rows))
 
-  -- THEOREM. 01: "REFER: .. The answer gives the rows added and the number of later rounds that added a row." (The rounds are the definition's: `laterRounds`.)
+  -- THEOREM. 01: "REFER: .. The answer gives the rows added and the number of later rounds that added a row." (The rounds are the definition's: `later_rounds`.)
   pub refer-counts : (p : Pair) (n k : ℕ) → answer_at s (refer p) ≡ loaded n k → n ≡ came s (state_after s (refer p))
   unfolding effect taken refer_levels
   refer-counts p n k h =

@@ -1,4 +1,4 @@
--- The laws of `firstFrom`: it is at or after its start, nothing before it passes, it passes or is n; and what follows. Assumes nothing.
+-- The laws of `first_from`: it is at or after its start, nothing before it passes, it passes or is n; and what follows. Assumes nothing.
 use Prim.Native.Nat.{ℕ, zero, suc, ◌+◌, ◌-◌, ◌≤◌, ◌<◌}
 use native.Mathlib.Decide.{dec_lt}
 use native.Mathlib.Omega.{arith}

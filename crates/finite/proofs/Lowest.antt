@@ -1,4 +1,4 @@
--- The lowest of the numbers below n that pass a test, where an order says which of two is the lower: one number more, and that `lowestOf` finds it.
+-- The lowest of the numbers below n that pass a test, where an order says which of two is the lower: one number more, and that `lowest_of` finds it.
 -- Assumes nothing.
 use Prim.Native.Nat.{ℕ, zero, suc, ◌+◌, ◌<◌}
 use native.Mathlib.Decide.{dec_lt}

@@ -1,4 +1,4 @@
--- Comparing number by number: the laws of `lowerThen`. Assumes nothing.
+-- Comparing number by number: the laws of `lower_then`. Assumes nothing.
 use Prim.Native.Nat.{ℕ, ◌<◌}
 use native.Mathlib.Omega.{arith}
 use mathlib.Core.Path.{◌≡◌, sym, ap, ◌∙◌}

@@ -1,4 +1,4 @@
--- The laws of `sumOver`. Assumes nothing.
+-- The laws of `sum_over`. Assumes nothing.
 use Prim.Native.Nat.{ℕ, ◌+◌, ◌*◌, ◌≤◌}
 use native.Mathlib.Nat.{add-zero, suc-mul}
 use native.Mathlib.Omega.{arith}

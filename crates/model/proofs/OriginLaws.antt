@@ -1,4 +1,4 @@
--- What a chain of demands ends with: the order of what is held, and that the numbers of `originAt` find all of it, pairs and ranges. Assumes nothing.
+-- What a chain of demands ends with: the order of what is held, and that the numbers of `origin_at` find all of it, pairs and ranges. Assumes nothing.
 use Prim.Native.Nat.{ℕ, ◌+◌, ◌-◌, ◌≤◌, ◌<◌}
 use native.Mathlib.Decide.{dec_lt}
 use native.Mathlib.Omega.{arith}

@@ -65,7 +65,7 @@ abbrev pub design-word : List ℕ
 design-word = 100 ∷ 101 ∷ 115 ∷ 105 ∷ 103 ∷ 110 ∷ []
 
 -- the words of the answers, in the order of their numbers (`shown`). Two have none: "printed as these three numbers" (02, Req 09), and the sentence of a
--- reason (`answerText`)
+-- reason (`answer_text`)
 abbrev pub answer-words : List (List ℕ)
 answer-words = loaded_word ∷ held_word ∷ no-candidate-words ∷ dropped-word ∷ ground-word ∷ sent_word ∷ answer_word ∷ refused-word ∷ even-word ∷ uneven-word ∷ total-word ∷ knot-word ∷ desk-word ∷ open-word ∷ [] ∷ none-word ∷ absent-word ∷ [] ∷ rows-word ∷ []
 

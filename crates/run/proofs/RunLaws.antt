@@ -31,7 +31,7 @@ use Rattle.script.proofs.Places.{put-sized, put-stored}
 use Rattle.script.proofs.StepLaws.{step-carried, step-sound, step-on}
 use Rattle.run.proofs.Tracking.{Tracks, operated-tracks, changed-tracks}
 
--- ---- one turn of `leftFrom`
+-- ---- one turn of `left_from`
 
 -- what follows a step, with n more commands at the most
 abbrev pub left_then : ℕ → List ℕ → Stepped → Left

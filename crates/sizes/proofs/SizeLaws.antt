@@ -1,4 +1,4 @@
--- What `wordsTaken` and `textTaken` say to a user: so much lent is enough, and with less the operation is refused with cause 11. Assumes nothing.
+-- What `words_taken` and `text_taken` say to a user: so much lent is enough, and with less the operation is refused with cause 11. Assumes nothing.
 use Prim.Native.Nat.{ℕ, ◌≤◌, ◌<◌}
 use native.Mathlib.Omega.{arith}
 use mathlib.Core.Path.{◌≡◌, refl, sym, ap, ◌∙◌}

@@ -1,4 +1,4 @@
--- The order of fetches: what `fetchBefore` says, test by test, and that it is transitive where spans aren't empty. Assumes nothing.
+-- The order of fetches: what `fetch_before` says, test by test, and that it is transitive where spans aren't empty. Assumes nothing.
 use Prim.Native.Nat.{ℕ, zero, suc, ◌≤◌, ◌<◌}
 use native.Mathlib.Omega.{arith}
 use mathlib.Core.Path.{◌≡◌, refl, sym, ◌∙◌}

@@ -1,4 +1,4 @@
-// The operations with their operands, as they stand in a script. specs/Meaning.antt sets out the model's operation for each (`operationOf`).
+// The operations with their operands, as they stand in a script. specs/Meaning.antt sets out the model's operation for each (`operation_of`).
 use crate::cell::Cell;
 use crate::design::Column;
 use crate::held::{HeldValue, Range};

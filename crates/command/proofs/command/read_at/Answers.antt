@@ -1,4 +1,4 @@
--- `command::command::read_at` meets its contract: each early return is one test of `commandAt`. Assumes nothing.
+-- `command::command::read_at` meets its contract: each early return is one test of `command_at`. Assumes nothing.
 use native.Mathlib.Omega.{arith}
 use mathlib.Core.Path.{refl, sym, ap, ◌∙◌}
 use Rattle.command.specs.declared.command.Command.TheVariants.{Operate}

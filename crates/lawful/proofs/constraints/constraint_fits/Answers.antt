@@ -1,4 +1,4 @@
--- `lawful::constraints::constraint_fits` meets its contract: each early return is one step along the conjunction that `constraintFits` is. Assumes nothing.
+-- `lawful::constraints::constraint_fits` meets its contract: each early return is one step along the conjunction that `constraint_fits` is. Assumes nothing.
 use mathlib.Core.Bool.{not}
 use mathlib.Core.Path.{◌∙◌, ap, sym}
 use borrow.Author.Tests.{not-false, not-true}

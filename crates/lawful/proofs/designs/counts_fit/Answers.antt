@@ -1,4 +1,4 @@
--- `lawful::designs::counts_fit` meets its contract: each early return is one step along the conjunction that `countsFit` is. Assumes nothing.
+-- `lawful::designs::counts_fit` meets its contract: each early return is one step along the conjunction that `counts_fit` is. Assumes nothing.
 use mathlib.Core.Path.{refl}
 use borrow.Author.Tests.{le-leb, lt-leb}
 use Rattle.finite.proofs.Bools.{and-go, and-stop}

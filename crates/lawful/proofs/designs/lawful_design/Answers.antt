@@ -1,4 +1,4 @@
--- `lawful::designs::lawful_design` meets its contract: each early return is one step along the conjunction that `lawfulDesign` is. Assumes nothing.
+-- `lawful::designs::lawful_design` meets its contract: each early return is one step along the conjunction that `lawful_design` is. Assumes nothing.
 use mathlib.Core.Path.{◌∙◌, sym}
 use borrow.Author.Tests.{not-false, not-true}
 use Rattle.finite.proofs.Bools.{and-go, and-stop}

@@ -1,4 +1,4 @@
--- `lawful::fillings::filling_fits` meets its contract: each early return is one step along the conjunction that `fillingFits` is. Assumes nothing.
+-- `lawful::fillings::filling_fits` meets its contract: each early return is one step along the conjunction that `filling_fits` is. Assumes nothing.
 use mathlib.Core.Bool.{not}
 use mathlib.Core.Path.{◌∙◌, ap, sym}
 use borrow.Author.Tests.{le-leb, lt-leb, not-false, not-true}

@@ -1,4 +1,4 @@
--- `lawful::held::held_fits` meets its contract: each early return is one step along the conjunction that `heldFits` is. Assumes nothing.
+-- `lawful::held::held_fits` meets its contract: each early return is one step along the conjunction that `held_fits` is. Assumes nothing.
 use mathlib.Core.Bool.{not}
 use mathlib.Core.Path.{◌∙◌, ap, sym}
 use borrow.Author.Tests.{le-ltb, lt-ltb, not-false, not-true}

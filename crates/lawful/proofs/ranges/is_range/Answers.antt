@@ -1,4 +1,4 @@
--- `lawful::ranges::is_range` meets its contract: each early return is one step along the conjunction that `isRange` is. Assumes nothing.
+-- `lawful::ranges::is_range` meets its contract: each early return is one step along the conjunction that `is_range` is. Assumes nothing.
 use mathlib.Core.Path.{refl}
 use borrow.Author.Tests.{le-leb, le-ltb, lt-leb, lt-ltb}
 use Rattle.finite.proofs.Bools.{and-go, and-stop}

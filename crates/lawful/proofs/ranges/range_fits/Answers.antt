@@ -1,4 +1,4 @@
--- `lawful::ranges::range_fits` meets its contract: each early return is one step along the conjunction that `rangeFits` is. Assumes nothing.
+-- `lawful::ranges::range_fits` meets its contract: each early return is one step along the conjunction that `range_fits` is. Assumes nothing.
 use mathlib.Core.Path.{◌∙◌, sym}
 use borrow.Author.Tests.{eq-eqb, ne_eqb, not-false, not-true}
 use Rattle.finite.proofs.Bools.{and-go, and-stop, or-go, or_left}

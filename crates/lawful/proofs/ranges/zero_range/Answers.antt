@@ -1,4 +1,4 @@
--- `lawful::ranges::zero_range` meets its contract: each early return is one step along the conjunction that `zeroRange` is. Assumes nothing.
+-- `lawful::ranges::zero_range` meets its contract: each early return is one step along the conjunction that `zero_range` is. Assumes nothing.
 use mathlib.Core.Path.{refl}
 use borrow.Author.Tests.{eq-eqb, ne_eqb}
 use Rattle.finite.proofs.Bools.{and-go, and-stop}

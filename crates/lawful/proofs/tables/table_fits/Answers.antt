@@ -1,4 +1,4 @@
--- `lawful::tables::table_fits` meets its contract: each early return is one step along the conjunction that `tableFits` is. Assumes nothing.
+-- `lawful::tables::table_fits` meets its contract: each early return is one step along the conjunction that `table_fits` is. Assumes nothing.
 use mathlib.Core.Path.{ap}
 use borrow.Author.Tests.{le-leb, lt-leb}
 use lib.Dec.{ltb}

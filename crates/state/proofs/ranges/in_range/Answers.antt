@@ -1,4 +1,4 @@
--- `state::ranges::in_range` meets its contract: each early return is one step along the conjunction that `inRange` is. Assumes nothing.
+-- `state::ranges::in_range` meets its contract: each early return is one step along the conjunction that `in_range` is. Assumes nothing.
 use mathlib.Core.Bool.{not}
 use mathlib.Core.Path.{◌∙◌, ap, refl, sym}
 use borrow.Author.Tests.{eq-eqb, le-leb, lt-leb, ne_eqb}

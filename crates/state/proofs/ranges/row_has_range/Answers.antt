@@ -1,4 +1,4 @@
--- `state::ranges::row_has_range` meets its contract: each early return is one step along the conjunction that `hasRange` is. Assumes nothing.
+-- `state::ranges::row_has_range` meets its contract: each early return is one step along the conjunction that `has_range` is. Assumes nothing.
 use native.Mathlib.Omega.{arith}
 use mathlib.Core.Path.{sym, ◌∙◌}
 use borrow.Author.Tests.{not-true, not-false}

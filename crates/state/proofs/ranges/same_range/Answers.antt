@@ -1,4 +1,4 @@
--- `state::ranges::same_range` meets its contract: each early return is one step along the conjunction that `sameRange` is. Assumes nothing.
+-- `state::ranges::same_range` meets its contract: each early return is one step along the conjunction that `same_range` is. Assumes nothing.
 use mathlib.Core.Path.{refl}
 use borrow.Author.Tests.{eq-eqb, ne_eqb}
 use Rattle.finite.proofs.Bools.{and-go, and-stop}
