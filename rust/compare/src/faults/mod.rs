@@ -1,11 +1,11 @@
 //! Reads and writes of the desk program that are made to fail, or to come in
 //! pieces.
 //!
-//! What has to hold: a write that fails, or takes only a part, ends the program
-//! with one line on standard error, unless a signal ends it before, and what was
-//! written is the front of the report. A read that fails gives no report and one
-//! line on standard error. Reads and writes in pieces change nothing. The exit
-//! status is free in these cases.
+//! What has to hold: a write that fails ends the program with one line on
+//! standard error, unless a signal ends it before, and what was written is the
+//! front of the report. A read that fails gives no report and one line on standard
+//! error. Reads and writes in pieces change nothing. The exit status is free in
+//! these cases.
 
 mod situations;
 
