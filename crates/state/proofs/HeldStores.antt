@@ -25,11 +25,11 @@ use Rattle.state.proofs.WordPlaces.{tab-set, all_set}
 use Rattle.state.proofs.HeldWords.{NarrowValue, NarrowRanges, length-ranges, value-back, ranges-back, value-narrow, ranges-narrow, whole_long, whole-narrow, holds_of}
 
 -- the w words from b on are the same
-abbrev Same : List ℕ → List ℕ → ℕ → ℕ → Type 0
+abbrev pub Same : List ℕ → List ℕ → ℕ → ℕ → Type 0
 Same l m b w = (k : ℕ) → b ≤ k → k < b + w → word_at l k ≡ word_at m k
 
 module _ (l m : List ℕ) where
-  byte-same : (b : ℕ) → word_at l b ≡ word_at m b → is_byte l b ≡ is_byte m b
+  pub byte-same : (b : ℕ) → word_at l b ≡ word_at m b → is_byte l b ≡ is_byte m b
   unfolding is_byte
   byte-same b e = ap (λ (x : ℕ). ltb x 256) e
 
@@ -41,7 +41,7 @@ module _ (l m : List ℕ) where
       let t : word_at l (b + 3) ≡ word_at m (b + 3) = s (b + 3) (omega arith) (omega arith) in
       λ x. record { desk = p x % 256; pair = record { filling = q x % 256; value = record { number = r x; issue = t x % 256 } } }
 
-  value-narrow-same : (b : ℕ) → Same l m b 4 → narrow_value l b ≡ narrow_value m b
+  pub value-narrow-same : (b : ℕ) → Same l m b 4 → narrow_value l b ≡ narrow_value m b
   unfolding narrow_value narrow_two
   value-narrow-same b s =
       let p = byte-same b (s b (omega arith) (omega arith)) in
@@ -63,15 +63,15 @@ module _ (l m : List ℕ) where
           let r : word_at l (a + 2) ≡ word_at m (a + 2) = s (a + 2) (omega arith) (omega arith) in
           λ x. record { filling = p x % 256; low = q x; high = r x }
 
-  ranges-narrow-same : (b : ℕ) → Same l m b 25 → narrow_ranges l b ≡ narrow_ranges m b
+  pub ranges-narrow-same : (b : ℕ) → Same l m b 25 → narrow_ranges l b ≡ narrow_ranges m b
   unfolding narrow_ranges
   ranges-narrow-same b s =
       all_same 8 (λ j. is_byte l (b + 1 + 3 * j)) (λ j. is_byte m (b + 1 + 3 * j)) (λ j h. byte-same (b + 1 + 3 * j) (s (b + 1 + 3 * j) (omega arith) (omega arith)))
 
-  values_same : Same l m 2 256 → values_from l ≡ values_from m
+  pub values_same : Same l m 2 256 → values_from l ≡ values_from m
   values_same s = tab-same 64 (λ j. value_from l (2 + 4 * j)) (λ j. value_from m (2 + 4 * j)) (λ j h. value_same (2 + 4 * j) (λ k a b. s k (omega arith) (omega arith)))
 
-  desks-same : Same l m 258 100 → desks_from l ≡ desks_from m
+  pub desks-same : Same l m 258 100 → desks_from l ≡ desks_from m
   desks-same s = tab-same 4 (λ j. ranges_from l (258 + 25 * j)) (λ j. ranges_from m (258 + 25 * j)) (λ j h. ranges-same (258 + 25 * j) (λ k a b. s k (omega arith) (omega arith)))
 
 -- the three parts of narrowness

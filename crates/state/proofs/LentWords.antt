@@ -5,68 +5,37 @@ use native.Mathlib.Omega.{arith}
 use mathlib.Core.Path.{◌≡◌, refl, sym, ap, ap₂, ◌∙◌}
 use mathlib.Core.Bool.{true, ◌&&◌, and-eq-true_iff}
 use mathlib.Core.List.{List}
-use lib.Dec.{ltb}
 use lib.ListN.{length, replicate, length-replicate}
 use lib.Seq.{sets}
 use Rattle.finite.specs.Finite.{all, tab}
 use Rattle.finite.proofs.Search.{all_same}
 use Rattle.finite.proofs.Stores.{sets-at}
-use Rattle.finite.proofs.Tables.{length-tab, tab-at, tab-same}
+use Rattle.finite.proofs.Tables.{length-tab, tab-at}
 use Rattle.state.specs.Held.{none_held}
-use Rattle.state.specs.HeldWords.{word_at, byte_of, value_from, range_from, ranges_from, held_words, words_held}
+use Rattle.state.specs.HeldWords.{word_at, held_words, words_held}
 use Rattle.state.specs.HeldWords.{is_byte, narrow_two, narrow_value, narrow_ranges, narrow_held, long_held, record_in, first_words, Whole}
 use Rattle.state.proofs.HeldWords.{same-held-words, whole_words, whole_long}
+use Rattle.state.proofs.HeldStores.{Same, byte-same, value-narrow-same, ranges-narrow-same, values_same, desks-same}
 
 -- ---- words that agree below 358
 
 module _ (a b : List ℕ) (same : (i : ℕ) → i < 358 → word_at a i ≡ word_at b i) where
-  byte-same : (i : ℕ) → i < 358 → byte_of a i ≡ byte_of b i
-  byte-same i l = ap (λ (n : ℕ). n % 256) (same i l)
-
-  value_same : (i : ℕ) → i + 4 ≤ 358 → value_from a i ≡ value_from b i
-  value_same i l =
-      λ x. record {
-        desk = byte-same i (omega arith) x;
-        pair = record {
-          filling = byte-same (i + 1) (omega arith) x;
-          value = record { number = same (i + 2) (omega arith) x; issue = byte-same (i + 3) (omega arith) x };
-        };
-      }
-
-  range_same : (i : ℕ) → i + 3 ≤ 358 → range_from a i ≡ range_from b i
-  range_same i l =
-      λ x. record { filling = byte-same i (omega arith) x; low = same (i + 1) (omega arith) x; high = same (i + 2) (omega arith) x }
-
-  ranges-same : (i : ℕ) → i + 25 ≤ 358 → ranges_from a i ≡ ranges_from b i
-  ranges-same i l =
-      let p = tab-same 8 (λ j. range_from a (i + 1 + 3 * j)) (λ j. range_from b (i + 1 + 3 * j)) (λ j m. range_same (i + 1 + 3 * j) (omega arith)) in
-      λ x. record { count = same i (omega arith) x; list = p x }
+  part : (i n : ℕ) → i + n ≤ 358 → Same a b i n
+  part i n l k p q = same k (omega arith)
 
   pub means-same : words_held a ≡ words_held b
   unfolding words_held
   means-same =
-      let v = tab-same 64 (λ j. value_from a (2 + 4 * j)) (λ j. value_from b (2 + 4 * j)) (λ j m. value_same (2 + 4 * j) (omega arith)) in
-      let r = tab-same 4 (λ j. ranges_from a (258 + 25 * j)) (λ j. ranges_from b (258 + 25 * j)) (λ j m. ranges-same (258 + 25 * j) (omega arith)) in
-      λ x. record { desk = byte-same 0 (omega arith) x; count = same 1 (omega arith) x; values = v x; ranges = r x }
-
-  is-byte-same : (i : ℕ) → i < 358 → is_byte a i ≡ is_byte b i
-  unfolding is_byte
-  is-byte-same i l = ap (λ (n : ℕ). ltb n 256) (same i l)
-
-  value-narrow-same : (i : ℕ) → i + 4 ≤ 358 → narrow_value a i ≡ narrow_value b i
-  unfolding narrow_value narrow_two
-  value-narrow-same i l =
-      ap₂ ◌&&◌ (ap₂ ◌&&◌ (is-byte-same i (omega arith)) (is-byte-same (i + 1) (omega arith))) (is-byte-same (i + 3) (omega arith))
-
-  ranges-narrow-same : (i : ℕ) → i + 25 ≤ 358 → narrow_ranges a i ≡ narrow_ranges b i
-  unfolding narrow_ranges
-  ranges-narrow-same i l = all_same 8 _ _ (λ j m. is-byte-same (i + 1 + 3 * j) (omega arith))
+      let v = values_same a b (part 2 256 (omega arith)) in
+      let r = desks-same a b (part 258 100 (omega arith)) in
+      λ x. record { desk = same 0 (omega arith) x % 256; count = same 1 (omega arith) x; values = v x; ranges = r x }
 
   pub narrow-same : narrow_held a ≡ narrow_held b
   unfolding narrow_held
   narrow-same =
-      ap₂ ◌&&◌ (is-byte-same 0 (omega arith))
-      (ap₂ ◌&&◌ (all_same 64 _ _ (λ j m. value-narrow-same (2 + 4 * j) (omega arith))) (all_same 4 _ _ (λ j m. ranges-narrow-same (258 + 25 * j) (omega arith))))
+      ap₂ ◌&&◌ (byte-same a b 0 (same 0 (omega arith)))
+      (ap₂ ◌&&◌ (all_same 64 _ _ (λ j m. value-narrow-same a b (2 + 4 * j) (part (2 + 4 * j) 4 (omega arith))))
+      (all_same 4 _ _ (λ j m. ranges-narrow-same a b (258 + 25 * j) (part (258 + 25 * j) 25 (omega arith)))))
 
 -- ---- the first 358 of lent words
 

@@ -1,9 +1,9 @@
 -- What the tests of a row say of the lent buffers. Assumes nothing.
 use Prim.Native.Nat.{ℕ, ◌<◌}
 use mathlib.Core.Path.{◌≡◌, refl, sym, ap, ◌∙◌}
-use mathlib.Core.Bool.{Bool, true, false, not, cond, ◌&&◌}
+use mathlib.Core.Bool.{Bool, true, false, not, cond, ◌&&◌, and_assoc}
 use mathlib.Core.List.{List}
-use borrow.Author.Tests.{lt-ltb, eq-eqb, ne_eqb}
+use borrow.Author.Tests.{lt-ltb, eq-eqb}
 use lib.Dec.{eqb}
 use lib.ListN.{get_or}
 use Rattle.finite.proofs.Bools.{and-go, and-stop}
@@ -33,16 +33,22 @@ module _ (cells : Cells) (tables : List ℕ) (k : Model.Column) (v : Cell) (r : 
   unfolding has database_of
   has-at = rw (lt-ltb k.place 8 p)
 
-  pub has-absent : (database_of cells tables).live r ≡ false → false ≡ has (database_of cells tables) k v r
-  has-absent h = and-stop _ _ h ∙ sym has-at
+  has-split : ((database_of cells tables).live r && eqb (get_or tables r 0) k.table) && equal (cell_of (cell_at cells r k.place)) v ≡ has (database_of cells tables) k v r
+  has-split = and_assoc ((database_of cells tables).live r) (eqb (get_or tables r 0) k.table) (equal (cell_of (cell_at cells r k.place)) v) ∙ sym has-at
 
-  module _ (h : (database_of cells tables).live r ≡ true) where
-    pub has-elsewhere : (get_or tables r 0 ≡ k.table → ⊥) → false ≡ has (database_of cells tables) k v r
-    has-elsewhere t = and-go _ _ h (and-stop _ _ (ne_eqb _ _ t)) ∙ sym has-at
+  -- no row of the column's table
+  pub has-none : (database_of cells tables).live r && eqb (get_or tables r 0) k.table ≡ false → false ≡ has (database_of cells tables) k v r
+  has-none e = and-stop _ _ e ∙ has-split
 
-    pub has_value : (x : State.Cell) → x ≡ cell_at cells r k.place → get_or tables r 0 ≡ k.table →
-        equal (cell_of x) v ≡ has (database_of cells tables) k v r
-    has_value x e t = ap (λ (y : State.Cell). equal (cell_of y) v) e ∙ and-go _ _ h (and-go _ _ (eq-eqb _ _ t) refl) ∙ sym has-at
+  -- a row of it, whose cell there is x
+  pub has-cell : (x : State.Cell) → x ≡ cell_at cells r k.place → (database_of cells tables).live r && eqb (get_or tables r 0) k.table ≡ true →
+      equal (cell_of x) v ≡ has (database_of cells tables) k v r
+  has-cell x c e = ap (λ (y : State.Cell). equal (cell_of y) v) c ∙ and-go _ _ e refl ∙ has-split
+
+  -- the same, its table apart
+  pub has_value : (database_of cells tables).live r ≡ true → (x : State.Cell) → x ≡ cell_at cells r k.place → get_or tables r 0 ≡ k.table →
+      equal (cell_of x) v ≡ has (database_of cells tables) k v r
+  has_value h x c t = has-cell x c (sym (and-go _ _ h (sym (eq-eqb _ _ t))))
 
 -- ---- a row that has a value of a range, in the same way
 
@@ -52,13 +58,12 @@ module _ (cells : Cells) (tables : List ℕ) (k : Model.Column) (q : Range) (r :
   unfolding has_range database_of
   range-at = rw (lt-ltb k.place 8 p)
 
-  pub range-absent : (database_of cells tables).live r ≡ false → false ≡ has_range (database_of cells tables) k q r
-  range-absent h = and-stop _ _ h ∙ sym range-at
+  range-split : ((database_of cells tables).live r && eqb (get_or tables r 0) k.table) && in_range q (cell_of (cell_at cells r k.place)) ≡ has_range (database_of cells tables) k q r
+  range-split = and_assoc ((database_of cells tables).live r) (eqb (get_or tables r 0) k.table) (in_range q (cell_of (cell_at cells r k.place))) ∙ sym range-at
 
-  module _ (h : (database_of cells tables).live r ≡ true) where
-    pub range-elsewhere : (get_or tables r 0 ≡ k.table → ⊥) → false ≡ has_range (database_of cells tables) k q r
-    range-elsewhere t = and-go _ _ h (and-stop _ _ (ne_eqb _ _ t)) ∙ sym range-at
+  pub range-none : (database_of cells tables).live r && eqb (get_or tables r 0) k.table ≡ false → false ≡ has_range (database_of cells tables) k q r
+  range-none e = and-stop _ _ e ∙ range-split
 
-    pub range-value : (x : State.Cell) → x ≡ cell_at cells r k.place → get_or tables r 0 ≡ k.table →
-        in_range q (cell_of x) ≡ has_range (database_of cells tables) k q r
-    range-value x e t = ap (λ (y : State.Cell). in_range q (cell_of y)) e ∙ and-go _ _ h (and-go _ _ (eq-eqb _ _ t) refl) ∙ sym range-at
+  pub range-cell : (x : State.Cell) → x ≡ cell_at cells r k.place → (database_of cells tables).live r && eqb (get_or tables r 0) k.table ≡ true →
+      in_range q (cell_of x) ≡ has_range (database_of cells tables) k q r
+  range-cell x c e = ap (λ (y : State.Cell). in_range q (cell_of y)) c ∙ and-go _ _ e refl ∙ range-split

@@ -1,7 +1,7 @@
 // What an operation answers. specs/Meaning.antt sets out document 01's word, number and values for each case (`answer_of`).
-ghost use Rattle.std.specs.Prelude.{◌≡◌, ◌+◌, ◌-◌, ◌<◌, cond, [], ◌∷◌, set};
+ghost use Rattle.std.specs.Prelude.{◌≡◌, ◌+◌, ◌-◌, ◌≤◌, ◌<◌, length, set};
 ghost use Rattle.model.specs.Answers as Model;
-ghost use Rattle.state.specs.Meaning.{answer_of, bit, mask_members, shown_of, sixteen};
+ghost use Rattle.state.specs.Meaning.{answer_of, bit, mask_members, shown_of};
 
 use crate::design::Design;
 
@@ -49,26 +49,29 @@ pub struct Shown {
     pub numbers: [u64; 16],
 }
 
-// A word with its numbers, of which there are at most three. Constant time, as are the other functions but `members`.
-fn words_three(word: u8, count: u8, first: u64, second: u64, third: u64) -> Shown
-    ensures { result ≡ record { word = word; count = count; numbers = sixteen (first ∷ second ∷ third ∷ []) } }
-{
-    let mut numbers = [0u64; 16];
-    numbers[0] = first;
-    numbers[1] = second;
-    numbers[2] = third;
-    Shown {
-        word,
-        count,
-        numbers,
+impl Shown {
+    // One more number behind the others.
+    fn push(&mut self, number: u64)
+        requires { self.old.count < 16 }
+        ensures { self.new ≡ record { word = self.old.word; count = self.old.count + 1; numbers = set self.old.numbers self.old.count number } }
+    {
+        self.numbers[usize::from(self.count)] = number;
+        self.count += 1;
     }
 }
 
-// The same with at most two.
-fn words(word: u8, count: u8, first: u64, second: u64) -> Shown
-    ensures { result ≡ record { word = word; count = count; numbers = sixteen (first ∷ second ∷ []) } }
+// A word with its numbers. Constant time, as are the other functions but `members`.
+fn words(word: u8, numbers: &[u64]) -> Shown
+    requires { length numbers.now ≤ 16 }
+    ensures { result ≡ shown_of (record { word = word; numbers = numbers.now }) }
 {
-    words_three(word, count, first, second, 0)
+    let mut all = [0u64; 16];
+    all[..numbers.len()].copy_from_slice(numbers);
+    Shown {
+        word,
+        count: numbers.len() as u8,
+        numbers: all,
+    }
 }
 
 // Whether the mask has constraint e.
@@ -79,77 +82,59 @@ fn has_constraint(mask: u16, e: usize) -> bool
     (mask >> (15 - e)) % 2 == 1
 }
 
-// One more number behind the others, where the mask has constraint e.
-fn with_constraint(s: Shown, mask: u16, e: usize) -> Shown
-    requires { (s.count < 16) × (e < 16) }
-    ensures { result ≡ cond (bit mask (15 - e)) (record { word = s.word; count = s.count + 1; numbers = set s.numbers s.count e }) s }
-{
-    if !has_constraint(mask, e) {
-        return s;
-    }
-    let mut r = s;
-    let n = s.count;
-    let at = n as usize;
-    r.numbers[at] = e as u64;
-    r.count = n + 1;
-    r
-}
-
 // A word with the constraints of a mask. One step for each of sixteen.
 fn members(word: u8, mask: u16) -> Shown
     ensures { result ≡ shown_of (record { word = word; numbers = mask_members mask }) }
 {
-    let mut s = words(word, 0, 0, 0);
+    let mut s = words(word, &[]);
     for e in 0..Design::CONSTRAINTS {
-        let t = with_constraint(s, mask, e);
-        s = t;
+        if has_constraint(mask, e) {
+            s.push(e as u64);
+        }
     }
     s
 }
 
 // The one function by cases: a new answer has one line here.
+#[tactic(auto, unfolding(model::specs::Answers::shown))]
 pub fn show(answer: Answer) -> Shown
     ensures { result ≡ shown_of (Model.shown (answer_of answer)) }
 {
     match answer {
-        Answer::Loaded(rows, rounds) => words(0, 2, rows as u64, rounds as u64),
-        Answer::Held => words(1, 0, 0, 0),
-        Answer::NoCandidate => words(2, 0, 0, 0),
-        Answer::Dropped(rows) => words(3, 1, rows as u64, 0),
-        Answer::Ground(g, rows) => words(4, 2, g as u64, rows as u64),
-        Answer::Sent => words(5, 0, 0, 0),
-        Answer::Lists(n) => words(6, 1, n as u64, 0),
-        Answer::Refused(cause) => words(7, 1, cause as u64, 0),
-        Answer::Even => words(8, 0, 0, 0),
-        Answer::Uneven(i, j) => words(9, 2, i as u64, j as u64),
-        Answer::Total(n) => words(10, 1, n, 0),
+        Answer::Loaded(rows, rounds) => words(0, &[rows as u64, rounds as u64]),
+        Answer::Held => words(1, &[]),
+        Answer::NoCandidate => words(2, &[]),
+        Answer::Dropped(rows) => words(3, &[rows as u64]),
+        Answer::Ground(g, rows) => words(4, &[u64::from(g), rows as u64]),
+        Answer::Sent => words(5, &[]),
+        Answer::Lists(n) => words(6, &[n as u64]),
+        Answer::Refused(cause) => words(7, &[u64::from(cause)]),
+        Answer::Even => words(8, &[]),
+        Answer::Uneven(i, j) => words(9, &[u64::from(i), u64::from(j)]),
+        Answer::Total(n) => words(10, &[n]),
         Answer::Knot(mask) => members(11, mask),
-        Answer::Named(desk) => words(12, 1, desk as u64, 0),
-        Answer::Open => words(13, 0, 0, 0),
-        Answer::OpenedBy(f, n, i) => words_three(14, 3, f as u64, n as u64, i as u64),
-        Answer::NoOpener => words(15, 0, 0, 0),
-        Answer::Absent => words(16, 0, 0, 0),
-        Answer::Explained(n) => words(17, 1, n as u64, 0),
-        Answer::Changed(came, went) => words(18, 2, came as u64, went as u64),
+        Answer::Named(desk) => words(12, &[u64::from(desk)]),
+        Answer::Open => words(13, &[]),
+        Answer::OpenedBy(f, n, i) => words(14, &[u64::from(f), u64::from(n), u64::from(i)]),
+        Answer::NoOpener => words(15, &[]),
+        Answer::Absent => words(16, &[]),
+        Answer::Explained(n) => words(17, &[n as u64]),
+        Answer::Changed(came, went) => words(18, &[came as u64, went as u64]),
     }
 }
 
 // Whether an answer is a refusal.
+#[tactic(auto, unfolding(model::specs::Answers::is_refusal, model::specs::Answers::shown))]
 pub fn is_refusal(answer: Answer) -> bool
     ensures { result ≡ Model.is_refusal (answer_of answer) }
 {
-    match answer {
-        Answer::Refused(_) => true,
-        _ => false,
-    }
+    matches!(answer, Answer::Refused(_))
 }
 
 // Whether an answer has lists.
+#[tactic(auto, unfolding(model::specs::Answers::has_lists, model::specs::Answers::shown))]
 pub fn has_lists(answer: Answer) -> bool
     ensures { result ≡ Model.has_lists (answer_of answer) }
 {
-    match answer {
-        Answer::Lists(_) => true,
-        _ => false,
-    }
+    matches!(answer, Answer::Lists(_))
 }

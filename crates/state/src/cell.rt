@@ -5,7 +5,8 @@ ghost use Rattle.model.specs.Cell.{amount, equal, is_blank, lower_cell, numberle
 ghost use Rattle.state.specs.Cells.{cells_in};
 ghost use Rattle.state.specs.Meaning.{cell_at, cell_of};
 
-#[derive(Clone, Copy)]
+// `<` is the model's order, by number and then by issue. `==` is not the model's equality, by which a blank equals nothing: that is `same_cell`.
+#[derive(Clone, Copy, Default, PartialEq, Eq, PartialOrd, Ord)]
 pub struct Cell {
     pub number: u32,
     pub issue: u8,
@@ -23,13 +24,11 @@ pub fn cell_at(cells: &[u32], issues: &[u8], r: usize, c: usize) -> Cell
 }
 
 // Whether the cell is blank.
+#[tactic(auto, unfolding(model::specs::Cell::is_blank))]
 pub fn is_blank(a: Cell) -> bool
     ensures { result ≡ is_blank (cell_of a) }
 {
-    if a.number != 0 {
-        return false;
-    }
-    a.issue == 0
+    a == Cell::default()
 }
 
 // Whether the cell has no number, whatever its issue.
@@ -40,26 +39,19 @@ pub fn is_numberless(a: Cell) -> bool
 }
 
 // Whether the two are equal, and not blank.
+#[tactic(auto, unfolding(model::specs::Cell::equal))]
 pub fn same_cell(a: Cell, b: Cell) -> bool
     ensures { result ≡ equal (cell_of a) (cell_of b) }
 {
-    if is_blank(a) {
-        return false;
-    }
-    if a.number != b.number {
-        return false;
-    }
-    a.issue == b.issue
+    !is_blank(a) && a == b
 }
 
 // Whether a is the lower: by number, then by issue.
+#[tactic(auto, unfolding(model::specs::Cell::lower_cell, finite::specs::Finite::lower_then))]
 pub fn lower_cell(a: Cell, b: Cell) -> bool
     ensures { result ≡ lower_cell (cell_of a) (cell_of b) }
 {
-    if a.number != b.number {
-        return a.number < b.number;
-    }
-    a.issue < b.issue
+    a < b
 }
 
 // What the cell adds to a total: its number alone.

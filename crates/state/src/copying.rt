@@ -6,7 +6,5 @@ pub fn copy_bytes(from: &[u8], to: &mut [u8], n: usize)
     requires { (length from.now ≡ n) × (n ≤ length to.old) }
     ensures { to.new ≡ from.now ++ drop n to.old }
 {
-    for i in 0..n {
-        to[i] = from[i];
-    }
+    to[..n].copy_from_slice(from);
 }

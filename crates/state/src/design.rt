@@ -4,27 +4,27 @@ ghost use Rattle.std.specs.Prelude.{◌≡◌};
 ghost use Rattle.state.specs.Design.{empty_design};
 
 // A table's number of columns, and its unique columns: bit i for column i.
-#[derive(Clone, Copy)]
+#[derive(Clone, Copy, Default, PartialEq, Eq)]
 pub struct Table {
     pub columns: u8,
     pub unique: u8,
 }
 
-#[derive(Clone, Copy)]
+#[derive(Clone, Copy, Default, PartialEq, Eq)]
 pub struct Column {
     pub table: u8,
     pub place: u8,
 }
 
 // A referential cache constraint, source to target.
-#[derive(Clone, Copy)]
+#[derive(Clone, Copy, Default, PartialEq, Eq)]
 pub struct Constraint {
     pub source: Column,
     pub target: Column,
 }
 
 // A filling column and its candidates, low to high.
-#[derive(Clone, Copy)]
+#[derive(Clone, Copy, Default, PartialEq, Eq)]
 pub struct Filling {
     pub column: Column,
     pub low: u32,
@@ -58,30 +58,17 @@ impl Design {
     // the row table of a number without a row
     pub const FREE: u8 = 255;
 
+    #[tactic(auto, unfolding(crate::specs::Design::empty_design, finite::specs::Finite::tab))]
     pub fn empty() -> Design
         ensures { result ≡ empty_design }
     {
-        let t = Table {
-            columns: 0,
-            unique: 0,
-        };
-        let k = Column { table: 0, place: 0 };
-        let c = Constraint {
-            source: k,
-            target: k,
-        };
-        let f = Filling {
-            column: k,
-            low: 0,
-            high: 0,
-        };
         Design {
             tables: 0,
-            table: [t; Design::TABLES],
+            table: [Table::default(); Design::TABLES],
             constraints: 0,
-            constraint: [c; Design::CONSTRAINTS],
+            constraint: [Constraint::default(); Design::CONSTRAINTS],
             fillings: 0,
-            filling: [f; Design::FILLINGS],
+            filling: [Filling::default(); Design::FILLINGS],
         }
     }
 }

@@ -9,31 +9,25 @@ use crate::design::Column;
 use crate::held::{HeldValue, OwnedValue};
 
 // Whether the two are one column.
+#[tactic(auto, unfolding(model::specs::Scheme::same_column))]
 pub fn same_column(j: Column, k: Column) -> bool
     ensures { result ≡ same_column (column_of j) (column_of k) }
 {
-    if j.table != k.table {
-        return false;
-    }
-    j.place == k.place
+    j == k
 }
 
 // Whether the two are one pair of filling and value.
+#[tactic(auto, unfolding(model::specs::Holding::same_pair))]
 pub fn same_pair(a: HeldValue, b: HeldValue) -> bool
     ensures { result ≡ same_pair (pair_of a) (pair_of b) }
 {
-    if a.filling != b.filling {
-        return false;
-    }
-    same_cell(a.value, b.value)
+    a.filling == b.filling && same_cell(a.value, b.value)
 }
 
 // Whether the two are one desk's one pair.
+#[tactic(auto, unfolding(model::specs::Holding::same_owned))]
 pub fn same_owned(a: OwnedValue, b: OwnedValue) -> bool
     ensures { result ≡ same_owned (owned_of a) (owned_of b) }
 {
-    if a.desk != b.desk {
-        return false;
-    }
-    same_pair(a.pair, b.pair)
+    a.desk == b.desk && same_pair(a.pair, b.pair)
 }

@@ -6,21 +6,21 @@ ghost use Rattle.state.specs.Held.{empty_ranges, none_held};
 use crate::cell::Cell;
 
 // A filling's number and a value.
-#[derive(Clone, Copy)]
+#[derive(Clone, Copy, Default, PartialEq, Eq)]
 pub struct HeldValue {
     pub filling: u8,
     pub value: Cell,
 }
 
 // A held value with the desk that it belongs to.
-#[derive(Clone, Copy)]
+#[derive(Clone, Copy, Default, PartialEq, Eq)]
 pub struct OwnedValue {
     pub desk: u8,
     pub pair: HeldValue,
 }
 
 // A range of a filling's values, both ends counted.
-#[derive(Clone, Copy)]
+#[derive(Clone, Copy, Default, PartialEq, Eq)]
 pub struct Range {
     pub filling: u8,
     pub low: u32,
@@ -35,17 +35,13 @@ pub struct DeskRanges {
 }
 
 impl DeskRanges {
+    #[tactic(auto, unfolding(finite::specs::Finite::tab))]
     pub fn none() -> DeskRanges
         ensures { result ≡ empty_ranges }
     {
-        let r = Range {
-            filling: 0,
-            low: 0,
-            high: 0,
-        };
         DeskRanges {
             count: 0,
-            list: [r; Held::RANGES],
+            list: [Range::default(); Held::RANGES],
         }
     }
 }
@@ -67,25 +63,15 @@ impl Held {
     // for each desk
     pub const RANGES: usize = 8;
 
+    #[tactic(auto, unfolding(crate::specs::Held::none_held, finite::specs::Finite::tab))]
     pub fn none() -> Held
         ensures { result ≡ none_held }
     {
-        let v = OwnedValue {
-            desk: 0,
-            pair: HeldValue {
-                filling: 0,
-                value: Cell {
-                    number: 0,
-                    issue: 0,
-                },
-            },
-        };
-        let none = DeskRanges::none();
         Held {
             desk: 0,
             count: 0,
-            values: [v; Held::PLACES],
-            ranges: [none; 4],
+            values: [OwnedValue::default(); Held::PLACES],
+            ranges: [DeskRanges::none(); 4],
         }
     }
 }

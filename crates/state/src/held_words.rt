@@ -8,6 +8,7 @@ ghost use Rattle.state.specs.HeldWords.{words_held, Whole, Holds, with_named, wi
 
 use crate::cell::Cell;
 use crate::held::{DeskRanges, HeldValue, OwnedValue, Range};
+use std::array::from_fn;
 
 // How many words there are.
 pub const HELD_WORDS: usize = 358;
@@ -17,10 +18,8 @@ pub fn first_words(words: &[u32]) -> [u32; 358]
     requires { 358 ≤ length words.now }
     ensures { result ≡ first_words words.now }
 {
-    let mut held = [0u32; 358];
-    for i in 0..358usize {
-        held[i] = words[i];
-    }
+    let mut held = [0; HELD_WORDS];
+    held.copy_from_slice(&words[..HELD_WORDS]);
     held
 }
 
@@ -29,9 +28,7 @@ pub fn store_words(held: &[u32; 358], words: &mut [u32])
     requires { (length held.now ≡ 358) × (358 ≤ length words.old) }
     ensures { words.new ≡ sets words.old 0 held.now }
 {
-    for i in 0..358usize {
-        words[i] = held[i];
-    }
+    words[..HELD_WORDS].copy_from_slice(held);
 }
 
 // A word where a u8 is kept.
@@ -70,13 +67,16 @@ pub fn value_at(held: &[u32; 358], i: usize) -> OwnedValue
     ensures { result ≡ held_at (words_held held.now) i }
 {
     let at = 2 + 4 * i;
-    let desk = byte_at(held, at);
-    let filling = byte_at(held, at + 1);
-    let number = held[at + 2];
-    let issue = byte_at(held, at + 3);
-    let value = Cell { number, issue };
-    let pair = HeldValue { filling, value };
-    OwnedValue { desk, pair }
+    OwnedValue {
+        desk: byte_at(held, at),
+        pair: HeldValue {
+            filling: byte_at(held, at + 1),
+            value: Cell {
+                number: held[at + 2],
+                issue: byte_at(held, at + 3),
+            },
+        },
+    }
 }
 
 // How many ranges desk e has.
@@ -93,10 +93,11 @@ pub fn range_at(held: &[u32; 358], e: usize, i: usize) -> Range
     ensures { result ≡ range_at (ranges_at (words_held held.now) e) i }
 {
     let at = 258 + 25 * e + 1 + 3 * i;
-    let filling = byte_at(held, at);
-    let low = held[at + 1];
-    let high = held[at + 2];
-    Range { filling, low, high }
+    Range {
+        filling: byte_at(held, at),
+        low: held[at + 1],
+        high: held[at + 2],
+    }
 }
 
 // The ranges of desk e. One step for each of their 8 places.
@@ -104,17 +105,10 @@ pub fn ranges_at(held: &[u32; 358], e: usize) -> DeskRanges
     requires { e < 4 }
     ensures { result ≡ ranges_at (words_held held.now) e }
 {
-    let count = range_count(held, e);
-    let mut list = [Range {
-        filling: 0,
-        low: 0,
-        high: 0,
-    }; 8];
-    for i in 0..8usize {
-        let r = range_at(held, e, i);
-        list[i] = r;
+    DeskRanges {
+        count: range_count(held, e),
+        list: from_fn(|i| range_at(held, e, i)),
     }
-    DeskRanges { count, list }
 }
 
 // Names a desk.
@@ -122,7 +116,7 @@ pub fn set_desk(held: &mut [u32; 358], desk: u8)
     requires { Whole held.old }
     ensures { Holds held.new (with_named (words_held held.old) desk) }
 {
-    held[0] = desk as u32;
+    held[0] = u32::from(desk);
 }
 
 // Stores how many values are held.
@@ -139,12 +133,10 @@ pub fn set_value(held: &mut [u32; 358], i: usize, v: OwnedValue)
     ensures { Holds held.new (with_value_at (words_held held.old) i v) }
 {
     let at = 2 + 4 * i;
-    let pair = v.pair;
-    let value = pair.value;
-    held[at] = v.desk as u32;
-    held[at + 1] = pair.filling as u32;
-    held[at + 2] = value.number;
-    held[at + 3] = value.issue as u32;
+    held[at] = u32::from(v.desk);
+    held[at + 1] = u32::from(v.pair.filling);
+    held[at + 2] = v.pair.value.number;
+    held[at + 3] = u32::from(v.pair.value.issue);
 }
 
 // Three words from word `at` on; the filling is a byte, as its type says.
@@ -152,7 +144,7 @@ fn put_range(held: &mut [u32; 358], at: usize, r: Range)
     requires { at + 3 ≤ 358 }
     ensures { (held.new ≡ sets held.old at (range_words r)) × (r.filling < 256) }
 {
-    held[at] = r.filling as u32;
+    held[at] = u32::from(r.filling);
     held[at + 1] = r.low;
     held[at + 2] = r.high;
 }
@@ -163,8 +155,7 @@ pub fn set_ranges(held: &mut [u32; 358], e: usize, s: DeskRanges)
     ensures { Holds held.new (with_ranges_at (words_held held.old) e s) }
 {
     held[258 + 25 * e] = s.count as u32;
-    let list = s.list;
-    for i in 0..8usize {
-        put_range(held, 258 + 25 * e + 1 + 3 * i, list[i]);
+    for (i, r) in s.list.iter().enumerate() {
+        put_range(held, 258 + 25 * e + 1 + 3 * i, *r);
     }
 }

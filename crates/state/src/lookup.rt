@@ -2,31 +2,18 @@
 ghost use Rattle.std.specs.Prelude.{◌≡◌};
 ghost use Rattle.state.specs.Design.{filling_at, table_at};
 
-use crate::design::{Column, Design, Filling, Table};
+use crate::design::{Design, Filling, Table};
 
 // Table number t, or one without columns.
 pub fn table_at(d: Design, t: usize) -> Table
     ensures { result ≡ table_at d t }
 {
-    if Design::TABLES <= t {
-        return Table {
-            columns: 0,
-            unique: 0,
-        };
-    }
-    d.table[t]
+    d.table.get(t).copied().unwrap_or_default()
 }
 
 // Filling number f, or one that is all 0.
 pub fn filling_at(d: Design, f: usize) -> Filling
     ensures { result ≡ filling_at d f }
 {
-    if Design::FILLINGS <= f {
-        return Filling {
-            column: Column { table: 0, place: 0 },
-            low: 0,
-            high: 0,
-        };
-    }
-    d.filling[f]
+    d.filling.get(f).copied().unwrap_or_default()
 }

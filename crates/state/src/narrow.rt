@@ -11,24 +11,20 @@ pub fn is_byte(words: &[u32], i: usize) -> bool
     words[i] < 256
 }
 
+#[tactic(auto, unfolding(crate::specs::HeldWords::narrow_two))]
 pub fn two_narrow(words: &[u32], at: usize) -> bool
     requires { at + 2 ≤ length words.now }
     ensures { result ≡ narrow_two words.now at }
 {
-    if !is_byte(words, at) {
-        return false;
-    }
-    is_byte(words, at + 1)
+    is_byte(words, at) && is_byte(words, at + 1)
 }
 
+#[tactic(auto, unfolding(crate::specs::HeldWords::narrow_value))]
 fn value_narrow(words: &[u32], at: usize) -> bool
     requires { at + 4 ≤ length words.now }
     ensures { result ≡ narrow_value words.now at }
 {
-    if !two_narrow(words, at) {
-        return false;
-    }
-    is_byte(words, at + 3)
+    two_narrow(words, at) && is_byte(words, at + 3)
 }
 
 // One look at each place, as the next three.
@@ -36,47 +32,27 @@ fn values_narrow(words: &[u32]) -> bool
     requires { 358 ≤ length words.now }
     ensures { result ≡ all 64 (λ i. narrow_value words.now (2 + 4 * i)) }
 {
-    for i in 0..64usize {
-        if !value_narrow(words, 2 + 4 * i) {
-            return false;
-        }
-    }
-    true
+    (0..64).all(|i| value_narrow(words, 2 + 4 * i))
 }
 
 fn ranges_narrow(words: &[u32], at: usize) -> bool
     requires { at + 25 ≤ length words.now }
     ensures { result ≡ narrow_ranges words.now at }
 {
-    for j in 0..8usize {
-        if !is_byte(words, at + 1 + 3 * j) {
-            return false;
-        }
-    }
-    true
+    (0..8).all(|j| is_byte(words, at + 1 + 3 * j))
 }
 
 fn desks_narrow(words: &[u32]) -> bool
     requires { 358 ≤ length words.now }
     ensures { result ≡ all 4 (λ e. narrow_ranges words.now (258 + 25 * e)) }
 {
-    for e in 0..4usize {
-        if !ranges_narrow(words, 258 + 25 * e) {
-            return false;
-        }
-    }
-    true
+    (0..4).all(|e| ranges_narrow(words, 258 + 25 * e))
 }
 
 // Whether the words are words of what is held. One look at each.
+#[tactic(auto, unfolding(crate::specs::HeldWords::narrow_held))]
 pub fn held_narrow(held: &[u32; 358]) -> bool
     ensures { result ≡ narrow_held held.now }
 {
-    if !is_byte(held, 0) {
-        return false;
-    }
-    if !values_narrow(held) {
-        return false;
-    }
-    desks_narrow(held)
+    is_byte(held, 0) && values_narrow(held) && desks_narrow(held)
 }

@@ -4,7 +4,7 @@ use crate::design::Column;
 use crate::held::{HeldValue, Range};
 
 // An earlier position of a query, and the constraint by which a row is joined to it.
-#[derive(Clone, Copy)]
+#[derive(Clone, Copy, Default, PartialEq, Eq)]
 pub struct Join {
     pub position: u8,
     pub constraint: u8,

@@ -9,46 +9,31 @@ ghost use Rattle.state.specs.Meaning.{cell_of, column_of, database_of, range_of}
 use crate::cell::{Cell, cell_at, is_blank};
 use crate::design::Column;
 use crate::held::Range;
-use crate::rows::is_live;
+use crate::rows::is_row_of;
 
 // Whether the two are one range.
+#[tactic(auto, unfolding(model::specs::Ranges::same_range))]
 pub fn same_range(a: Range, b: Range) -> bool
     ensures { result ≡ same_range (range_of a) (range_of b) }
 {
-    if a.filling != b.filling {
-        return false;
-    }
-    if a.low != b.low {
-        return false;
-    }
-    a.high == b.high
+    a == b
 }
 
 // Whether the range has the value.
+#[tactic(auto, unfolding(model::specs::Ranges::in_range))]
 pub fn in_range(r: Range, v: Cell) -> bool
     ensures { result ≡ in_range (range_of r) (cell_of v) }
 {
-    if is_blank(v) {
-        return false;
-    }
-    if v.issue != 0 {
-        return false;
-    }
-    if v.number < r.low {
-        return false;
-    }
-    v.number <= r.high
+    !is_blank(v) && v.issue == 0 && (r.low..=r.high).contains(&v.number)
 }
 
 // Whether a stands before b, and the two neither overlap nor touch.
+#[tactic(auto, unfolding(model::specs::Ranges::stands_before, finite::specs::Finite::lower_then))]
 pub fn stands_before(a: Range, b: Range) -> bool
     ensures { result ≡ stands_before (range_of a) (range_of b) }
 {
-    if a.filling != b.filling {
-        return a.filling < b.filling;
-    }
-    // a range can end with the highest number that there is
-    a.high as u64 + 1 < b.low as u64
+    // in u64, since a range can end with the highest number that there is
+    (a.filling, u64::from(a.high) + 1) < (b.filling, u64::from(b.low))
 }
 
 // Whether row r is a row of the column's table and has one of the range's values there.
@@ -63,11 +48,5 @@ pub fn row_has_range(
     requires { (r < 512) × (k.place < 8) × Backed (cells_in cells.now issues.now) tables.now }
     ensures { result ≡ has_range (database_of (cells_in cells.now issues.now) tables.now) (column_of k) (range_of q) r }
 {
-    if !is_live(tables, r) {
-        return false;
-    }
-    if tables[r] != k.table {
-        return false;
-    }
-    in_range(q, cell_at(cells, issues, r, k.place as usize))
+    is_row_of(tables, k.table, r) && in_range(q, cell_at(cells, issues, r, usize::from(k.place)))
 }

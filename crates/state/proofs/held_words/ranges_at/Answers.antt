@@ -1,16 +1,11 @@
-use mathlib.Core.Path.{refl}
-use Rattle.finite.proofs.Tables.{upto-start, upto-set, upto-end}
-use Rattle.state.specs.Held.{no_range}
+use Rattle.std.proofs.Common.{rules}
+use Rattle.state.specs.Held.{no_range, range_at, ranges_at}
+use Rattle.state.specs.HeldWords.{words_held}
 use Rattle.state.proofs.HeldWords.{ranges-is}
-use mathlib.Core.Path.{refl}
-use native.Mathlib.Omega.{arith}
+use Rattle.state.proofs.Made.{from_fn-tab}
 use Rattle.state.proofs.held_words.ranges_at.Goals as goal
 
-pub loop-i-init : goal.loop-i-init
-loop-i-init c = (omega arith, upto-start no_range 8 _ _ refl)
-
-pub loop-i-preserved : goal.loop-i-preserved
-loop-i-preserved c = (omega arith, upto-set no_range 8 _ _ _ _ c.loop-i.invariant.1 c.loop-i-test.true _ c.range_at-r.ensures)
-
 pub returns : goal.returns
-returns c = let v = c.loop-i.invariant in ranges-is _ _ c.requires _ _ c.range_count-count.ensures (upto-end no_range 8 _ _ _ _ v.1 v.0 c.loop-i-test.false)
+returns c =
+    ranges-is _ _ c.requires _ _ c.range_count.ensures
+    (from_fn-tab _ _ _ no_range (range_at (ranges_at (words_held c.args.held.now) c.args.e)) (λ i y q k. search rules) 8 c.from_fn.ensures.items)

@@ -3,4 +3,4 @@ use Rattle.state.proofs.HeldStores.{named-stored}
 use Rattle.state.proofs.held_words.set_desk.Goals as goal
 
 pub returns : goal.returns
-returns c = named-stored c.args.held.now c.requires _ (omega arith)
+returns c = rw c.from.ensures (named-stored c.args.held.now c.requires _ (omega arith))

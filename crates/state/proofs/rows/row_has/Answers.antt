@@ -1,19 +1,11 @@
--- `state::rows::row_has` meets its contract: each early return is one step along the conjunction that `has` is. Assumes nothing.
 use native.Mathlib.Omega.{arith}
 use mathlib.Core.Path.{sym, ◌∙◌}
-use borrow.Author.Tests.{not-true, not-false}
-use Rattle.state.proofs.RowLaws.{has-absent, has-elsewhere, has_value}
+use Rattle.state.proofs.RowLaws.{has-cell, has-none}
 use Rattle.state.proofs.rows.row_has.Goals as goal
 
-pub returns-then-not-is_live : goal.returns-then-not-is_live
-returns-then-not-is_live c = has-absent _ _ _ _ _ (omega arith) (omega arith) (sym (c.is_live.ensures _) ∙ not-true _ c.if-not-is_live.true-raw)
+pub returns-then-is_row_of : goal.returns-then-is_row_of
+returns-then-is_row_of c = c.same_cell.ensures
+    ∙ has-cell _ _ _ _ _ (omega arith) (omega arith) _ (rw c.from.ensures at c.cell_at.ensures) (sym (c.is_row_of.ensures _) ∙ c.if-is_row_of.true)
 
-pub returns-then-tables-r : goal.returns-then-tables-r
-returns-then-tables-r c = has-elsewhere _ _ _ _ _ (omega arith) (omega arith)
-    (sym (c.is_live.ensures _) ∙ not-false _ c.if-not-is_live.false-raw) c.if-tables-r.true
-
-pub returns : goal.returns
-returns c = c.same_cell.ensures ∙
-    has_value _ _ _ _ _ (omega arith) (omega arith)
-    (sym (c.is_live.ensures _) ∙ not-false _ c.if-not-is_live.false-raw)
-    _ c.cell_at.ensures c.if-tables-r.false
+pub returns-else-is_row_of : goal.returns-else-is_row_of
+returns-else-is_row_of c = c.if-is_row_of.false ∙ has-none _ _ _ _ _ (omega arith) (omega arith) (sym (c.is_row_of.ensures _) ∙ c.if-is_row_of.false)
