@@ -1,6 +1,5 @@
 -- What the tests of a row, lent or an operand, say test by test. Assumes nothing.
 use Prim.Native.Nat.{ℕ, ◌≤◌, ◌<◌}
-use native.Mathlib.Omega.{arith}
 use mathlib.Core.Path.{◌≡◌, refl, sym, ap, ◌∙◌}
 use mathlib.Core.Logic.{⊎_elim}
 use mathlib.Core.Bool.{true, false}
@@ -16,7 +15,7 @@ use Rattle.model.proofs.CellLaws.{numbered-full}
 use Rattle.state.specs.Cells.{Cells}
 use Rattle.state.specs.declared.design.Design.{Design}
 use Rattle.state.specs.Design.{table_at}
-use Rattle.state.specs.Meaning.{scheme_of, database_of}
+use Rattle.state.specs.Meaning.{cell_of, cell_at, scheme_of, database_of}
 use Rattle.state.specs.Lawful.{cell_fits, fits_table, row_fits, blank_row}
 use Rattle.state.proofs.RowLaws.{cell-at}
 use Rattle.lawful.specs.Parts.{cell_fits_at, cells_fit}
@@ -30,20 +29,9 @@ module _ (n c : ℕ) (a : Cell) where
       ⊎_elim (λ (q : numberless a ≡ true). sym (cond-true (numberless a) _ _ q ∙ e))
       (λ (q : numberless a ≡ false). clash e (numbered-full a q)) (dec (numberless a))
 
-  pub fits-issue : is_blank a ≡ false → numberless a ≡ true → false ≡ cell_fits n c a
-  unfolding cell_fits
-  fits-issue e q = sym (cond-true (numberless a) _ _ q ∙ e)
-
   pub fits-number : numberless a ≡ false → ltb c n ≡ cell_fits n c a
   unfolding cell_fits
   fits-number q = sym (cond-false (numberless a) _ _ q)
-
--- where there are no columns the blank alone fits
-fits-none : (c : ℕ) (a : Cell) → cell_fits 0 c a ≡ is_blank a
-unfolding cell_fits
-fits-none c a =
-    ⊎_elim (λ (q : numberless a ≡ true). cond-true (numberless a) _ _ q)
-    (λ (q : numberless a ≡ false). sym (fits-number 0 c a q) ∙ le-ltb c 0 (omega arith) ∙ sym (numbered-full a q)) (dec (numberless a))
 
 -- the cells of a row, in the buffers and in the database
 cells_same : (cells : Cells) (tables : List ℕ) (r n : ℕ) → cells_fit cells r n ≡ all 8 (λ c. cell_fits n c ((database_of cells tables).cell r c))
@@ -72,6 +60,6 @@ module _ (d : Design) (cells : Cells) (tables : List ℕ) (r : ℕ) where
 
 -- ---- a number that has no cell
 
-pub blank-cells : (cells : Cells) (tables : List ℕ) (r : ℕ) → cells_fit cells r 0 ≡ blank_row (database_of cells tables) r
+pub blank-cells : (cells : Cells) (tables : List ℕ) (r : ℕ) → all 8 (λ c. is_blank (cell_of (cell_at cells r c))) ≡ blank_row (database_of cells tables) r
 unfolding blank_row
-blank-cells cells tables r = cells_same cells tables r 0 ∙ all_same 8 _ _ (λ c l. fits-none c ((database_of cells tables).cell r c))
+blank-cells cells tables r = all_same 8 _ _ (λ c l. ap is_blank (sym (cell-at cells tables r c l)))

@@ -8,30 +8,19 @@ use crate::tables::tables_lawful;
 use state::Design;
 
 // Whether the counts are at most the largest. Constant time.
+#[tactic(auto, unfolding(state::specs::Lawful::counts_fit))]
 fn counts_fit(d: Design) -> bool
     ensures { result ≡ counts_fit d }
 {
-    if Design::TABLES < d.tables {
-        return false;
-    }
-    if Design::CONSTRAINTS < d.constraints {
-        return false;
-    }
-    d.fillings <= Design::FILLINGS
+    d.tables <= Design::TABLES
+        && d.constraints <= Design::CONSTRAINTS
+        && d.fillings <= Design::FILLINGS
 }
 
 // Whether a script gives this design: counts, tables, constraints and fillings, each place used or 0. Constraints squared.
+#[tactic(auto, unfolding(state::specs::Lawful::lawful_design))]
 pub fn lawful_design(d: Design) -> bool
     ensures { result ≡ lawful_design d }
 {
-    if !counts_fit(d) {
-        return false;
-    }
-    if !tables_lawful(d) {
-        return false;
-    }
-    if !constraints_lawful(d) {
-        return false;
-    }
-    fillings_lawful(d)
+    counts_fit(d) && tables_lawful(d) && constraints_lawful(d) && fillings_lawful(d)
 }

@@ -7,6 +7,7 @@ mod constraints;
 mod designs;
 mod fillings;
 mod held;
+mod places;
 mod ranges;
 mod rows;
 mod tables;

@@ -6,95 +6,46 @@ ghost use Rattle.state.specs.Lawful.{lawful_ranges, range_fits, zero_range};
 ghost use Rattle.lawful.specs.Parts.{range_lawful};
 
 use crate::fillings::is_candidate;
+use crate::places::places_lawful;
 use state::{Cell, Design, DeskRanges, Held, Range, filling_at, stands_before};
 
-// Whether the filling exists, and low is neither 0 nor above high. Constant time, as are the next three.
+// Whether the filling exists, and low is neither 0 nor above high. Constant time, as are the next two.
+#[tactic(auto, unfolding(model::specs::Ranges::is_range, state::specs::Meaning::scheme_of))]
 pub fn is_range(d: Design, r: Range) -> bool
     ensures { result ≡ is_range (scheme_of d) (range_of r) }
 {
-    let f = r.filling as usize;
-    if d.fillings <= f {
-        return false;
-    }
-    if r.low < 1 {
-        return false;
-    }
-    r.low <= r.high
+    usize::from(r.filling) < d.fillings && 1 <= r.low && r.low <= r.high
 }
 
 // Whether the range is wholly of its filling's candidates: whether its ends are.
+#[tactic(auto, unfolding(model::specs::Ranges::only_candidates, state::specs::Meaning::scheme_of))]
 pub fn only_candidates(d: Design, r: Range) -> bool
     ensures { result ≡ only_candidates (scheme_of d) (range_of r) }
 {
-    let f = filling_at(d, r.filling as usize);
-    let low = Cell {
-        number: r.low,
-        issue: 0,
-    };
-    if !is_candidate(f, low) {
-        return false;
-    }
-    let high = Cell {
-        number: r.high,
-        issue: 0,
-    };
-    is_candidate(f, high)
+    let f = filling_at(d, usize::from(r.filling));
+    let candidate = |number| is_candidate(f, Cell { number, issue: 0 });
+    candidate(r.low) && candidate(r.high)
 }
 
 // Whether the range at place i can stand there: a range of a filling, wholly of candidates, and behind the one before it.
+#[tactic(auto, unfolding(state::specs::Lawful::range_fits))]
 fn range_fits(d: Design, s: DeskRanges, i: usize) -> bool
     requires { i < 8 }
     ensures { result ≡ range_fits d s i }
 {
-    let list = s.list;
-    let r = list[i];
-    if !is_range(d, r) {
-        return false;
-    }
-    if !only_candidates(d, r) {
-        return false;
-    }
-    if i == 0 {
-        return true;
-    }
-    stands_before(list[i - 1], r)
-}
-
-// Whether all of a range is 0, as in an unused place.
-fn zero_range(r: Range) -> bool
-    ensures { result ≡ zero_range r }
-{
-    if r.filling != 0 {
-        return false;
-    }
-    if r.low != 0 {
-        return false;
-    }
-    r.high == 0
-}
-
-// Whether place i of a desk's ranges is lawful: a range that fits there, or unused and 0. Constant time.
-fn range_lawful(d: Design, s: DeskRanges, i: usize) -> bool
-    requires { i < 8 }
-    ensures { result ≡ range_lawful d s i }
-{
-    if s.count <= i {
-        return zero_range(s.list[i]);
-    }
-    range_fits(d, s, i)
+    let r = s.list[i];
+    is_range(d, r) && only_candidates(d, r) && (i == 0 || stands_before(s.list[i - 1], r))
 }
 
 // Whether a desk has at most 8 ranges, each wholly of candidates, rising and with gaps, unused places 0. One look at each place.
 pub(crate) fn lawful_ranges(d: Design, s: DeskRanges) -> bool
     ensures { result ≡ lawful_ranges d s }
 {
-    if Held::RANGES < s.count {
-        return false;
-    }
-    for i in 0..Held::RANGES {
-        if !range_lawful(d, s, i) {
-            return false;
-        }
-    }
-    true
+    s.count <= Held::RANGES
+        && places_lawful(
+            Held::RANGES,
+            s.count,
+            |i| range_fits(d, s, i),
+            |i| s.list[i] == Range::default(),
+        )
 }

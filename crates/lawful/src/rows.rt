@@ -12,17 +12,15 @@ ghost use Rattle.lawful.specs.Parts.{cells_fit, row_stands, rows_stand};
 use state::{Cell, Design, Row, cell_at, is_blank, is_live, is_numberless, table_at};
 
 // Whether a cell fits as cell c of a table of n columns: a blank does anywhere, an issue without a number nowhere, a number in one of them. Constant time.
+#[tactic(auto, unfolding(state::specs::Lawful::cell_fits))]
 fn cell_fits(a: Cell, n: u8, c: usize) -> bool
     ensures { result ≡ cell_fits n c (cell_of a) }
 {
-    if is_blank(a) {
-        return true;
-    }
     if is_numberless(a) {
-        return false;
+        is_blank(a)
+    } else {
+        c < usize::from(n)
     }
-    let m = n as usize;
-    c < m
 }
 
 // Whether row r's cells fit a table of n columns; with none, they are blank. One look at each of its 8 cells.
@@ -30,13 +28,7 @@ fn cells_fit(cells: &[u32], issues: &[u8], r: usize, n: u8) -> bool
     requires { (r < 512) × (4096 ≤ length cells.now) × (4096 ≤ length issues.now) }
     ensures { result ≡ cells_fit (cells_in cells.now issues.now) r n }
 {
-    for c in 0..Design::COLUMNS {
-        let a = cell_at(cells, issues, r, c);
-        if !cell_fits(a, n, c) {
-            return false;
-        }
-    }
-    true
+    (0..Design::COLUMNS).all(|c| cell_fits(cell_at(cells, issues, r, c), n, c))
 }
 
 // Whether row r belongs to a table and its cells fit that table's columns. One look at each of its 8 cells.
@@ -44,12 +36,8 @@ pub fn row_fits(d: Design, cells: &[u32], issues: &[u8], tables: &[u8], r: usize
     requires { (r < 512) × Backed (cells_in cells.now issues.now) tables.now }
     ensures { result ≡ row_fits (scheme_of d) (database_of (cells_in cells.now issues.now) tables.now) r }
 {
-    let t = tables[r] as usize;
-    if d.tables <= t {
-        return false;
-    }
-    let x = table_at(d, t);
-    cells_fit(cells, issues, r, x.columns)
+    let t = usize::from(tables[r]);
+    t < d.tables && cells_fit(cells, issues, r, table_at(d, t).columns)
 }
 
 // Cell c of a row that is an operand. Constant time.
@@ -67,24 +55,16 @@ pub fn operand_cell(x: Row, c: usize) -> Cell
 fn operand_cells_fit(x: Row, n: u8) -> bool
     ensures { result ≡ all 8 (λ c. cell_fits n c (row_cell x c)) }
 {
-    for c in 0..Design::COLUMNS {
-        if !cell_fits(operand_cell(x, c), n, c) {
-            return false;
-        }
-    }
-    true
+    (0..Design::COLUMNS).all(|c| cell_fits(operand_cell(x, c), n, c))
 }
 
 // Whether a row that is an operand belongs to a table and its cells fit that table's columns. One look at each of its 8 cells.
+#[tactic(auto, unfolding(state::specs::Meaning::scheme_of))]
 pub fn operands_fit(d: Design, x: Row) -> bool
     ensures { result ≡ fits_table (scheme_of d) x.table (row_cell x) }
 {
-    let t = x.table as usize;
-    if d.tables <= t {
-        return false;
-    }
-    let y = table_at(d, t);
-    operand_cells_fit(x, y.columns)
+    let t = usize::from(x.table);
+    t < d.tables && operand_cells_fit(x, table_at(d, t).columns)
 }
 
 // Whether there is no cell at number r, as where there is no row. One look at each of its 8 cells.
@@ -92,7 +72,7 @@ fn blank_row(cells: &[u32], issues: &[u8], r: usize) -> bool
     requires { (r < 512) × (4096 ≤ length cells.now) × (4096 ≤ length issues.now) }
     ensures { (tables : List ℕ) → result ≡ blank_row (database_of (cells_in cells.now issues.now) tables) r }
 {
-    cells_fit(cells, issues, r, 0)
+    (0..Design::COLUMNS).all(|c| is_blank(cell_at(cells, issues, r, c)))
 }
 
 // Whether number r stands as a script would leave it, other rows apart: a row that fits, or none and no cell. One look at each of its 8 cells.
@@ -100,10 +80,11 @@ fn row_stands(d: Design, cells: &[u32], issues: &[u8], tables: &[u8], r: usize) 
     requires { (r < 512) × Backed (cells_in cells.now issues.now) tables.now }
     ensures { result ≡ row_stands d (cells_in cells.now issues.now) tables.now r }
 {
-    if !is_live(tables, r) {
-        return blank_row(cells, issues, r);
+    if is_live(tables, r) {
+        row_fits(d, cells, issues, tables, r)
+    } else {
+        blank_row(cells, issues, r)
     }
-    row_fits(d, cells, issues, tables, r)
 }
 
 // Whether all rows stand so. What a script asks of them besides, that unique columns have no value twice, is read off a catalog of them. One look at each
@@ -112,10 +93,5 @@ pub fn rows_stand(d: Design, cells: &[u32], issues: &[u8], tables: &[u8]) -> boo
     requires { Backed (cells_in cells.now issues.now) tables.now }
     ensures { result ≡ rows_stand d (cells_in cells.now issues.now) tables.now }
 {
-    for r in 0..Design::ROWS {
-        if !row_stands(d, cells, issues, tables, r) {
-            return false;
-        }
-    }
-    true
+    (0..Design::ROWS).all(|r| row_stands(d, cells, issues, tables, r))
 }

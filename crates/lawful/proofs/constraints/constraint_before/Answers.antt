@@ -1,17 +1,14 @@
--- `lawful::constraints::constraint_before` meets its contract. The invariant: none of the constraints passed is the same. Assumes nothing.
 use native.Mathlib.Omega.{arith}
-use mathlib.Core.Path.{◌∙◌, sym}
-use Rattle.finite.proofs.Search.{any-end, any-hit, any-more, any-start}
+use mathlib.Core.Path.{refl, ◌∙◌}
+use Rattle.model.specs.Scheme.{same_column}
+use Rattle.state.specs.Design.{no_constraint}
+use Rattle.state.specs.Lawful.{same_constraint}
+use Rattle.state.proofs.Arrays.{sized}
+use Rattle.lawful.proofs.Fronts.{any-front}
 use Rattle.lawful.proofs.constraints.constraint_before.Goals as goal
 
-pub loop-i-init : goal.loop-i-init
-loop-i-init c = (omega arith, any-start _)
-
-pub returns-then-same_constraint : goal.returns-then-same_constraint
-returns-then-same_constraint c = any-hit _ _ _ c.loop-i-test.true (sym c.same_constraint.ensures ∙ c.if-same_constraint.true)
-
-pub loop-i-preserved : goal.loop-i-preserved
-loop-i-preserved c = (omega arith, any-more _ _ c.loop-i.invariant.1 (sym c.same_constraint.ensures ∙ c.if-same_constraint.false))
-
 pub returns : goal.returns
-returns c = any-end _ _ _ c.loop-i.invariant.0 c.loop-i-test.false c.loop-i.invariant.1
+unfolding same_constraint same_column
+returns c = let d = c.args.d in
+    c.contains.ensures.value ∙
+    any-front no_constraint _ (λ x. same_constraint x c.args.c) (λ x. refl) c.args.n d.constraint (omega (arith, (sized d _ c.well_formed.0).constraint))

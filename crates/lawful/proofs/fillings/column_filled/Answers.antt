@@ -1,17 +1,20 @@
--- `lawful::fillings::column_filled` meets its contract. The invariant: none of the fillings passed has the column. Assumes nothing.
 use native.Mathlib.Omega.{arith}
-use mathlib.Core.Path.{◌∙◌, sym}
-use Rattle.finite.proofs.Search.{any-end, any-hit, any-more, any-start}
+use Rattle.std.proofs.Common.{rules}
+use borrow.Author.Tests.{tests}
+use mathlib.Core.Path.{refl, ◌∙◌}
+use lib.ListN.{take}
+use Rattle.std.proofs.lemmas.Iterator.{YieldsList-from_slice}
+use Rattle.std.proofs.lemmas.Iterator.Search.{any_from_yields_List}
+use Rattle.model.specs.Scheme.{same_column}
+use Rattle.state.specs.Design.{no_filling}
+use Rattle.state.specs.Meaning.{column_of}
+use Rattle.state.proofs.Arrays.{sized}
+use Rattle.lawful.proofs.Fronts.{any-front}
 use Rattle.lawful.proofs.fillings.column_filled.Goals as goal
 
-pub loop-i-init : goal.loop-i-init
-loop-i-init c = (omega arith, any-start _)
-
-pub returns-then-fills_column : goal.returns-then-fills_column
-returns-then-fills_column c = any-hit _ _ _ c.loop-i-test.true (sym c.fills_column.ensures ∙ c.if-fills_column.true)
-
-pub loop-i-preserved : goal.loop-i-preserved
-loop-i-preserved c = (omega arith, any-more _ _ c.loop-i.invariant.1 (sym c.fills_column.ensures ∙ c.if-fills_column.false))
-
 pub returns : goal.returns
-returns c = any-end _ _ _ c.loop-i.invariant.0 c.loop-i-test.false c.loop-i.invariant.1
+unfolding same_column
+returns c = let d = c.args.d in
+    any_from_yields_List (λ f. same_column (column_of f.column) (column_of c.args.k)) _ _ _ c.any.ensures.ran
+    (YieldsList-from_slice (take c.args.n d.filling) (cc)) (λ x b q k. search (rules, tests)) ∙
+    any-front no_filling _ _ (λ f. refl) c.args.n d.filling (omega (arith, (sized d _ c.well_formed.0).filling))

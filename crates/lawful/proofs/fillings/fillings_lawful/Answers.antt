@@ -1,18 +1,10 @@
--- `lawful::fillings::fillings_lawful` meets its contract. The invariant: the places passed are lawful. Assumes nothing.
-use native.Mathlib.Omega.{arith}
-use mathlib.Core.Path.{◌∙◌, sym}
-use borrow.Author.Tests.{not-false, not-true}
-use Rattle.finite.proofs.Search.{all_end, all_more, all_start, all-stop}
+use Rattle.std.proofs.Common.{rules}
+use borrow.Author.Tests.{tests}
+use Rattle.state.specs.Design.{filling_at}
+use Rattle.state.specs.Lawful.{filling_fits, zero_filling, zero_column}
 use Rattle.lawful.proofs.fillings.fillings_lawful.Goals as goal
 
-pub loop-i-init : goal.loop-i-init
-loop-i-init c = (omega arith, all_start _)
-
-pub returns-then-not-filling_lawful : goal.returns-then-not-filling_lawful
-returns-then-not-filling_lawful c = all-stop _ _ _ c.loop-i-test.true (sym c.filling_lawful.ensures ∙ not-true _ c.if-not-filling_lawful.true-raw)
-
-pub loop-i-preserved : goal.loop-i-preserved
-loop-i-preserved c = (omega arith, all_more _ _ c.loop-i.invariant.1 (sym c.filling_lawful.ensures ∙ not-false _ c.if-not-filling_lawful.false-raw))
-
 pub returns : goal.returns
-returns c = all_end _ _ _ c.loop-i.invariant.0 c.loop-i-test.false c.loop-i.invariant.1
+unfolding zero_filling zero_column
+returns c = let d = c.args.d in
+    c.places_lawful.ensures (λ i. filling_fits d i (filling_at d i)) (λ i. zero_filling (filling_at d i)) (λ i b k. search (rules, tests)) (λ i b k. search (rules, tests))

@@ -1,24 +1,9 @@
--- `lawful::rows::operand_cells_fit` meets its contract. The invariant: the cells passed fit. Assumes nothing.
-use native.Mathlib.Omega.{arith}
-use mathlib.Core.Path.{◌∙◌, ap, sym}
-use borrow.Author.Tests.{not-false, not-true}
-use Rattle.finite.proofs.Search.{all_end, all_more, all_start, all-stop}
-use Rattle.state.specs.Lawful.{cell_fits}
+use Rattle.std.proofs.Common.{rules}
+use borrow.Author.Tests.{tests}
+use mathlib.Core.Path.{refl}
+use Rattle.std.proofs.lemmas.Iterator.{YieldsList-from_range}
+use Rattle.finite.proofs.Ranges.{all_in-range}
 use Rattle.lawful.proofs.rows.operand_cells_fit.Goals as goal
 
-pub loop-c-init : goal.loop-c-init
-loop-c-init c = (omega arith, all_start _)
-
-pub returns-then-not-cell_fits : goal.returns-then-not-cell_fits
-returns-then-not-cell_fits c = all-stop _ _ _ c.loop-c-test.true
-    (sym (c.cell_fits.ensures ∙ ap (cell_fits _ _) c.operand_cell.ensures) ∙ not-true _ c.if-not-cell_fits.true-raw)
-
-pub loop-c-preserved : goal.loop-c-preserved
-loop-c-preserved c = (
-  omega arith,
-  all_more _ _ c.loop-c.invariant.1
-      (sym (c.cell_fits.ensures ∙ ap (cell_fits _ _) c.operand_cell.ensures) ∙ not-false _ c.if-not-cell_fits.false-raw),
-)
-
 pub returns : goal.returns
-returns c = all_end _ _ _ c.loop-c.invariant.0 c.loop-c-test.false c.loop-c.invariant.1
+returns c = all_in-range 8 _ _ _ _ c.all.ensures.ran (YieldsList-from_range 0 8 8 (cc) refl) (λ x b q k. search (rules, tests))

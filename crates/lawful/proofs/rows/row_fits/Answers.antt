@@ -1,10 +1,10 @@
--- `lawful::rows::row_fits` meets its contract. Assumes nothing.
 use mathlib.Core.Path.{◌∙◌}
+use borrow.Author.Tests.{le-ltb}
 use Rattle.lawful.proofs.RowTests.{fits-table, fits-elsewhere}
 use Rattle.lawful.proofs.rows.row_fits.Goals as goal
 
-pub returns-then-d-t : goal.returns-then-d-t
-returns-then-d-t c = fits-elsewhere _ _ _ _ c.if-d-t.true
+pub returns-then-t-d : goal.returns-then-t-d
+returns-then-t-d c = (rw (c.table_at.ensures, c.from-t.ensures) at c.cells_fit.ensures) ∙ fits-table _ _ _ _ (rw c.from-t.ensures at c.if-t-d.true)
 
-pub returns : goal.returns
-returns c = (rw c.table_at-x.ensures at c.cells_fit.ensures) ∙ fits-table _ _ _ _ c.if-d-t.false
+pub returns-else-t-d : goal.returns-else-t-d
+returns-else-t-d c = le-ltb _ _ c.if-t-d.false ∙ fits-elsewhere _ _ _ _ (rw c.from-t.ensures at c.if-t-d.false)
