@@ -8,9 +8,9 @@ use Rattle.state.specs.declared.held.DeskRanges.{DeskRanges}
 use Rattle.state.specs.declared.held.Held.{Held}
 use Rattle.state.specs.Design.{table_at, constraint_at, filling_at}
 use Rattle.state.specs.Held.{held_at, range_at, ranges_at}
-use Rattle.state.specs.Meaning.{cell_of, cell_at, scheme_of, database_of}
+use Rattle.state.specs.Meaning.{scheme_of, database_of}
 use Rattle.state.specs.Lawful.{used_or, table_fits, zero_table, constraint_fits, zero_constraint, filling_fits, zero_filling}
-use Rattle.state.specs.Lawful.{cell_fits, row_fits, blank_row, held_fits, zero_held, own_count, range_fits, zero_range, lawful_ranges}
+use Rattle.state.specs.Lawful.{row_fits, blank_row, held_fits, zero_held, own_count, range_fits, zero_range, lawful_ranges}
 
 -- ---- a design's places: each holds what can stand there, or is unused and 0
 
@@ -33,13 +33,6 @@ abbrev pub fillings_lawful : Design → Bool
 fillings_lawful d = all 8 (filling_lawful d)
 
 -- ---- a row's places
-
--- cell c of row r fits a table of n columns
-abbrev pub cell_fits_at : Cells → ℕ → ℕ → ℕ → Bool
-cell_fits_at cells r n c = cell_fits n c (cell_of (cell_at cells r c))
-
-abbrev pub cells_fit : Cells → ℕ → ℕ → Bool
-cells_fit cells r n = all 8 (cell_fits_at cells r n)
 
 -- row r fits, or there is none and no cell
 abbrev pub row_stands : Design → Cells → List ℕ → ℕ → Bool

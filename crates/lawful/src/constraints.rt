@@ -1,9 +1,9 @@
 // Constraints: whether one can stand at a number, and whether all places are lawful.
-ghost use Rattle.std.specs.Prelude.{◌≡◌, ◌≤◌, ◌<◌};
+ghost use Rattle.std.specs.Prelude.{◌≡◌, ◌≤◌};
 ghost use Rattle.finite.specs.Finite.{any};
 ghost use Rattle.state.specs.Design.{constraint_at};
-ghost use Rattle.state.specs.Lawful.{constraint_fits, same_constraint, zero_constraint};
-ghost use Rattle.lawful.specs.Parts.{constraint_lawful, constraints_lawful};
+ghost use Rattle.state.specs.Lawful.{constraint_fits, same_constraint};
+ghost use Rattle.lawful.specs.Parts.{constraints_lawful};
 
 use crate::places::places_lawful;
 use crate::tables::is_column;

@@ -1,11 +1,11 @@
 // Fillings: their candidates, whether one can stand at a number, and whether all places are lawful.
-ghost use Rattle.std.specs.Prelude.{◌≡◌, ◌≤◌, ◌<◌};
+ghost use Rattle.std.specs.Prelude.{◌≡◌, ◌≤◌};
 ghost use Rattle.finite.specs.Finite.{any};
 ghost use Rattle.model.specs.Scheme.{candidate, same_column};
 ghost use Rattle.state.specs.Design.{filling_at};
 ghost use Rattle.state.specs.Meaning.{cell_of, column_of, filling_of};
-ghost use Rattle.state.specs.Lawful.{filling_fits, zero_filling};
-ghost use Rattle.lawful.specs.Parts.{filling_lawful, fillings_lawful};
+ghost use Rattle.state.specs.Lawful.{filling_fits};
+ghost use Rattle.lawful.specs.Parts.{fillings_lawful};
 
 use crate::places::places_lawful;
 use crate::tables::is_column;

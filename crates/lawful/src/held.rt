@@ -1,11 +1,11 @@
 // What is held: how many values each desk has, whether one can stand at its place, and whether all of them, and the ranges of each desk, are lawful.
-ghost use Rattle.std.specs.Prelude.{◌≡◌, ◌≤◌, ◌<◌, ◌&&◌};
+ghost use Rattle.std.specs.Prelude.{◌≡◌, ◌≤◌, ◌&&◌};
 ghost use Rattle.finite.specs.Finite.{any, all};
 ghost use Rattle.model.specs.Holding.{same_owned};
 ghost use Rattle.state.specs.Held.{held_at};
 ghost use Rattle.state.specs.HeldWords.{words_held, narrow_held};
 ghost use Rattle.state.specs.Meaning.{owned_of};
-ghost use Rattle.state.specs.Lawful.{held_fits, lawful_held, own_count, zero_held};
+ghost use Rattle.state.specs.Lawful.{held_fits, lawful_held, own_count};
 ghost use Rattle.lawful.specs.Parts.{held_lawful, ranges_lawful, shares_kept};
 
 use crate::fillings::is_candidate;

@@ -2,8 +2,7 @@
 ghost use Rattle.std.specs.Prelude.{◌≡◌, ◌<◌};
 ghost use Rattle.model.specs.Ranges.{is_range, only_candidates};
 ghost use Rattle.state.specs.Meaning.{range_of, scheme_of};
-ghost use Rattle.state.specs.Lawful.{lawful_ranges, range_fits, zero_range};
-ghost use Rattle.lawful.specs.Parts.{range_lawful};
+ghost use Rattle.state.specs.Lawful.{lawful_ranges, range_fits};
 
 use crate::fillings::is_candidate;
 use crate::places::places_lawful;

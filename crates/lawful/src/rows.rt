@@ -1,21 +1,24 @@
 // Rows: whether a row can stand at its number, lent or as an operand, and whether all lent rows stand as a script leaves them. Whether unique columns have a
 // value twice is read off a catalog of the rows, by those who have one.
 ghost use Rattle.std.specs.Prelude.{List, ◌≡◌, ℕ, ◌≤◌, ◌<◌, length};
-ghost use Rattle.finite.specs.Finite.{all};
+ghost use Rattle.model.specs.Cell as Model;
 ghost use Rattle.state.specs.Cells.{cells_in};
 ghost use Rattle.state.specs.Design.{Backed};
 ghost use Rattle.state.specs.Meaning.{cell_of, database_of, scheme_of};
 ghost use Rattle.state.specs.Lawful.{cell_fits, fits_table, row_fits, blank_row};
 ghost use Rattle.state.specs.Changes.{row_cell};
-ghost use Rattle.lawful.specs.Parts.{cells_fit, row_stands, rows_stand};
+ghost use Rattle.lawful.specs.Parts.{row_stands, rows_stand};
 
 use state::{Cell, Design, Row, cell_at, is_blank, is_live, is_numberless, table_at};
 
-// Whether a cell fits as cell c of a table of n columns: a blank does anywhere, an issue without a number nowhere, a number in one of them. Constant time.
+// Whether cell c of a row, which `cell` reads, fits a table of n columns: a blank does anywhere, an issue without a number nowhere, a number in one of them.
+// One look at the cell.
 #[tactic(auto, unfolding(state::specs::Lawful::cell_fits))]
-fn cell_fits(a: Cell, n: u8, c: usize) -> bool
-    ensures { result ≡ cell_fits n c (cell_of a) }
+fn cell_fits<F: Fn(usize) -> Cell>(cell: &F, n: u8, c: usize) -> bool
+    requires { F.pre cell.now c }
+    ensures { (a : Model.Cell) → ((x : _) → F.post cell.now c x → cell_of x ≡ a) → result ≡ cell_fits n c a }
 {
+    let a = cell(c);
     if is_numberless(a) {
         is_blank(a)
     } else {
@@ -23,21 +26,22 @@ fn cell_fits(a: Cell, n: u8, c: usize) -> bool
     }
 }
 
-// Whether row r's cells fit a table of n columns; with none, they are blank. One look at each of its 8 cells.
-fn cells_fit(cells: &[u32], issues: &[u8], r: usize, n: u8) -> bool
-    requires { (r < 512) × (4096 ≤ length cells.now) × (4096 ≤ length issues.now) }
-    ensures { result ≡ cells_fit (cells_in cells.now issues.now) r n }
+// Whether a row, lent or an operand, belongs to a table and its cells fit that table's columns. One look at each of its 8 cells.
+fn fits_table<F: Fn(usize) -> Cell>(d: Design, table: u8, cell: F) -> bool
+    requires { (c : ℕ) → c < 8 → F.pre cell c }
+    ensures { (a : ℕ → Model.Cell) → ((c : ℕ) (x : _) → F.post cell c x → cell_of x ≡ a c) → result ≡ fits_table (scheme_of d) table a }
 {
-    (0..Design::COLUMNS).all(|c| cell_fits(cell_at(cells, issues, r, c), n, c))
+    let t = usize::from(table);
+    let n = table_at(d, t).columns;
+    t < d.tables && (0..Design::COLUMNS).all(|c| cell_fits(&cell, n, c))
 }
 
-// Whether row r belongs to a table and its cells fit that table's columns. One look at each of its 8 cells.
+// Whether row r fits so.
 pub fn row_fits(d: Design, cells: &[u32], issues: &[u8], tables: &[u8], r: usize) -> bool
     requires { (r < 512) × Backed (cells_in cells.now issues.now) tables.now }
     ensures { result ≡ row_fits (scheme_of d) (database_of (cells_in cells.now issues.now) tables.now) r }
 {
-    let t = usize::from(tables[r]);
-    t < d.tables && cells_fit(cells, issues, r, table_at(d, t).columns)
+    fits_table(d, tables[r], |c| cell_at(cells, issues, r, c))
 }
 
 // Cell c of a row that is an operand. Constant time.
@@ -51,20 +55,11 @@ pub fn operand_cell(x: Row, c: usize) -> Cell
     }
 }
 
-// Whether the cells of a row that is an operand fit a table of n columns. One look at each of its 8 cells.
-fn operand_cells_fit(x: Row, n: u8) -> bool
-    ensures { result ≡ all 8 (λ c. cell_fits n c (row_cell x c)) }
-{
-    (0..Design::COLUMNS).all(|c| cell_fits(operand_cell(x, c), n, c))
-}
-
-// Whether a row that is an operand belongs to a table and its cells fit that table's columns. One look at each of its 8 cells.
-#[tactic(auto, unfolding(state::specs::Meaning::scheme_of))]
+// Whether a row that is an operand fits so.
 pub fn operands_fit(d: Design, x: Row) -> bool
     ensures { result ≡ fits_table (scheme_of d) x.table (row_cell x) }
 {
-    let t = usize::from(x.table);
-    t < d.tables && operand_cells_fit(x, table_at(d, t).columns)
+    fits_table(d, x.table, |c| operand_cell(x, c))
 }
 
 // Whether there is no cell at number r, as where there is no row. One look at each of its 8 cells.

@@ -2,8 +2,8 @@
 ghost use Rattle.std.specs.Prelude.{◌≡◌, ◌<◌};
 ghost use Rattle.model.specs.Scheme.{is_column};
 ghost use Rattle.state.specs.Meaning.{bit, column_of, scheme_of};
-ghost use Rattle.state.specs.Lawful.{table_fits, zero_column, zero_table};
-ghost use Rattle.lawful.specs.Parts.{table_lawful, tables_lawful};
+ghost use Rattle.state.specs.Lawful.{table_fits};
+ghost use Rattle.lawful.specs.Parts.{tables_lawful};
 
 use crate::places::places_lawful;
 use state::{Column, Design, Table, table_at};

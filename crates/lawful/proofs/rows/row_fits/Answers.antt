@@ -1,10 +1,11 @@
+use Rattle.std.proofs.Common.{rules}
+use borrow.Author.Tests.{tests}
 use mathlib.Core.Path.{◌∙◌}
-use borrow.Author.Tests.{le-ltb}
-use Rattle.lawful.proofs.RowTests.{fits-table, fits-elsewhere}
+use Rattle.state.specs.Cells.{cells_in}
+use Rattle.state.specs.Meaning.{cell_of, cell_at}
+use Rattle.lawful.proofs.RowTests.{row-fits}
 use Rattle.lawful.proofs.rows.row_fits.Goals as goal
 
-pub returns-then-t-d : goal.returns-then-t-d
-returns-then-t-d c = (rw (c.table_at.ensures, c.from-t.ensures) at c.cells_fit.ensures) ∙ fits-table _ _ _ _ (rw c.from-t.ensures at c.if-t-d.true)
-
-pub returns-else-t-d : goal.returns-else-t-d
-returns-else-t-d c = le-ltb _ _ c.if-t-d.false ∙ fits-elsewhere _ _ _ _ (rw c.from-t.ensures at c.if-t-d.false)
+pub returns : goal.returns
+returns c = let a = c.args in let cells = cells_in a.cells.now a.issues.now in
+    c.fits_table.ensures (λ i. cell_of (cell_at cells a.r i)) (λ i x k. search (rules, tests)) ∙ row-fits a.d cells a.tables.now a.r

@@ -1,9 +1,0 @@
-use Rattle.std.proofs.Common.{rules}
-use borrow.Author.Tests.{tests}
-use mathlib.Core.Path.{refl}
-use Rattle.std.proofs.lemmas.Iterator.{YieldsList-from_range}
-use Rattle.finite.proofs.Ranges.{all_in-range}
-use Rattle.lawful.proofs.rows.operand_cells_fit.Goals as goal
-
-pub returns : goal.returns
-returns c = all_in-range 8 _ _ _ _ c.all.ensures.ran (YieldsList-from_range 0 8 8 (cc) refl) (λ x b q k. search (rules, tests))
