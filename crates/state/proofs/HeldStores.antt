@@ -84,11 +84,11 @@ module _ (ws : List ℕ) (n : narrow_held ws ≡ true) where
   unfolding narrow_held
   behind-is-narrow = ((and-eq-true_iff (is_byte ws 0) _).0 n).1
 
-  values-are-narrow : (i : ℕ) → i < 64 → narrow_value ws (2 + 4 * i) ≡ true
-  values-are-narrow = all-at 64 _ ((and-eq-true_iff (all 64 (λ i. narrow_value ws (2 + 4 * i))) _).0 behind-is-narrow).0
+  all-values : all 64 (λ i. narrow_value ws (2 + 4 * i)) ≡ true
+  all-values = ((and-eq-true_iff (all 64 (λ i. narrow_value ws (2 + 4 * i))) _).0 behind-is-narrow).0
 
-  ranges-are-narrow : (e : ℕ) → e < 4 → narrow_ranges ws (258 + 25 * e) ≡ true
-  ranges-are-narrow = all-at 4 _ ((and-eq-true_iff (all 64 (λ i. narrow_value ws (2 + 4 * i))) _).0 behind-is-narrow).1
+  all-ranges : all 4 (λ e. narrow_ranges ws (258 + 25 * e)) ≡ true
+  all-ranges = ((and-eq-true_iff (all 64 (λ i. narrow_value ws (2 + 4 * i))) _).0 behind-is-narrow).1
 
 narrow-of : (ws : List ℕ) → is_byte ws 0 ≡ true → all 64 (λ i. narrow_value ws (2 + 4 * i)) ≡ true → all 4 (λ e. narrow_ranges ws (258 + 25 * e)) ≡ true → narrow_held ws ≡ true
 unfolding narrow_held
@@ -118,8 +118,8 @@ module _ (ws : List ℕ) (whole : Whole ws) where
       (held_of (set ws 0 d) (with_named (words_held ws) d) (omega arith) (far 1 1 (omega arith) 1 (omega arith) (omega arith))
       (values_same (set ws 0 d) ws (far 2 256 (omega arith))) (desks-same (set ws 0 d) ws (far 258 100 (omega arith))))
       (narrow-of (set ws 0 d) (lt-ltb (word_at (set ws 0 d) 0) 256 (omega arith))
-      (all_same 64 _ _ (λ i h. value-narrow-same (set ws 0 d) ws (2 + 4 * i) (far _ 4 (omega arith))) ∙ ((and-eq-true_iff (all 64 (λ i. narrow_value ws (2 + 4 * i))) _).0 (behind-is-narrow ws n)).0)
-      (all_same 4 _ _ (λ i h. ranges-narrow-same (set ws 0 d) ws (258 + 25 * i) (far _ 25 (omega arith))) ∙ ((and-eq-true_iff (all 64 (λ i. narrow_value ws (2 + 4 * i))) _).0 (behind-is-narrow ws n)).1))
+      (all_same 64 _ _ (λ i h. value-narrow-same (set ws 0 d) ws (2 + 4 * i) (far _ 4 (omega arith))) ∙ all-values ws n)
+      (all_same 4 _ _ (λ i h. ranges-narrow-same (set ws 0 d) ws (258 + 25 * i) (far _ 25 (omega arith))) ∙ all-ranges ws n))
 
   pub count-stored : (c : ℕ) → Holds (set ws 1 c) (with_count (words_held ws) c)
   unfolding words_held
@@ -130,8 +130,8 @@ module _ (ws : List ℕ) (whole : Whole ws) where
       (held_of (set ws 1 c) (with_count (words_held ws) c) (ap (λ (x : ℕ). x % 256) z) (sets-at 0 ws 1 (c ∷ []) 0 (omega (arith, l)) (omega arith))
       (values_same (set ws 1 c) ws (far 2 256 (omega arith))) (desks-same (set ws 1 c) ws (far 258 100 (omega arith))))
       (narrow-of (set ws 1 c) (byte-same (set ws 1 c) ws 0 z ∙ desk-is-byte ws n)
-      (all_same 64 _ _ (λ i h. value-narrow-same (set ws 1 c) ws (2 + 4 * i) (far _ 4 (omega arith))) ∙ ((and-eq-true_iff (all 64 (λ i. narrow_value ws (2 + 4 * i))) _).0 (behind-is-narrow ws n)).0)
-      (all_same 4 _ _ (λ i h. ranges-narrow-same (set ws 1 c) ws (258 + 25 * i) (far _ 25 (omega arith))) ∙ ((and-eq-true_iff (all 64 (λ i. narrow_value ws (2 + 4 * i))) _).0 (behind-is-narrow ws n)).1))
+      (all_same 64 _ _ (λ i h. value-narrow-same (set ws 1 c) ws (2 + 4 * i) (far _ 4 (omega arith))) ∙ all-values ws n)
+      (all_same 4 _ _ (λ i h. ranges-narrow-same (set ws 1 c) ws (258 + 25 * i) (far _ 25 (omega arith))) ∙ all-ranges ws n))
 
   module _ (i : ℕ) (h : i < 64) (v : OwnedValue) (small : NarrowValue v) (ws' : List ℕ) (e : ws' ≡ sets ws (2 + 4 * i) (value_words v)) where
     value_there : Stands ws' (2 + 4 * i) (value_words v)
@@ -157,9 +157,9 @@ module _ (ws : List ℕ) (whole : Whole ws) where
         (λ j b ne. value_same ws' ws (2 + 4 * j) (value-other j ne)))
         (desks-same ws' ws (λ k a b. value-above k (omega arith))))
         (narrow-of ws' (byte-same ws' ws 0 (value-below 0 (omega arith)) ∙ desk-is-byte ws n)
-        (all_set 64 i (λ j. narrow_value ws (2 + 4 * j)) (λ j. narrow_value ws' (2 + 4 * j)) (value-narrow ws' (2 + 4 * i) v value_there small) (values-are-narrow ws n)
+        (all_set 64 i (λ j. narrow_value ws (2 + 4 * j)) (λ j. narrow_value ws' (2 + 4 * j)) (value-narrow ws' (2 + 4 * i) v value_there small) (all-at 64 _ (all-values ws n))
         (λ j b ne. value-narrow-same ws' ws (2 + 4 * j) (value-other j ne)))
-        (all_same 4 _ _ (λ j b. ranges-narrow-same ws' ws (258 + 25 * j) (λ k a c. value-above k (omega arith))) ∙ ((and-eq-true_iff (all 64 (λ j. narrow_value ws (2 + 4 * j))) _).0 (behind-is-narrow ws n)).1))
+        (all_same 4 _ _ (λ j b. ranges-narrow-same ws' ws (258 + 25 * j) (λ k a c. value-above k (omega arith))) ∙ all-ranges ws n))
 
   module _ (i : ℕ) (h : i < 4) (s : DeskRanges) (small : NarrowRanges s) (ws' : List ℕ) (e : ws' ≡ sets ws (258 + 25 * i) (ranges_words s)) where
     ranges-there : Stands ws' (258 + 25 * i) (ranges_words s)
@@ -185,6 +185,6 @@ module _ (ws : List ℕ) (whole : Whole ws) where
         (tab-set no_ranges 4 i (λ j. ranges_from ws (258 + 25 * j)) (λ j. ranges_from ws' (258 + 25 * j)) s h (sym (ranges-back ws' (258 + 25 * i) s ranges-there small))
         (λ j b ne. ranges-same ws' ws (258 + 25 * j) (ranges-other j ne))))
         (narrow-of ws' (byte-same ws' ws 0 (ranges-below 0 (omega arith)) ∙ desk-is-byte ws n)
-        (all_same 64 _ _ (λ j b. value-narrow-same ws' ws (2 + 4 * j) (λ k a c. ranges-below k (omega arith))) ∙ ((and-eq-true_iff (all 64 (λ j. narrow_value ws (2 + 4 * j))) _).0 (behind-is-narrow ws n)).0)
-        (all_set 4 i (λ j. narrow_ranges ws (258 + 25 * j)) (λ j. narrow_ranges ws' (258 + 25 * j)) (ranges-narrow ws' (258 + 25 * i) s ranges-there small) (ranges-are-narrow ws n)
+        (all_same 64 _ _ (λ j b. value-narrow-same ws' ws (2 + 4 * j) (λ k a c. ranges-below k (omega arith))) ∙ all-values ws n)
+        (all_set 4 i (λ j. narrow_ranges ws (258 + 25 * j)) (λ j. narrow_ranges ws' (258 + 25 * j)) (ranges-narrow ws' (258 + 25 * i) s ranges-there small) (all-at 4 _ (all-ranges ws n))
         (λ j b ne. ranges-narrow-same ws' ws (258 + 25 * j) (ranges-other j ne))))

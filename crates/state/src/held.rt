@@ -5,14 +5,14 @@ ghost use Rattle.state.specs.Held.{empty_ranges, none_held};
 
 use crate::cell::Cell;
 
-// A filling's number and a value.
+// A filling's number and a value. `==` takes blanks for equal, as a cell's does, and `same_pair` doesn't.
 #[derive(Clone, Copy, Default, PartialEq, Eq)]
 pub struct HeldValue {
     pub filling: u8,
     pub value: Cell,
 }
 
-// A held value with the desk that it belongs to.
+// A held value with the desk that it belongs to; compared by `same_owned`, as pairs are by `same_pair`.
 #[derive(Clone, Copy, Default, PartialEq, Eq)]
 pub struct OwnedValue {
     pub desk: u8,

@@ -1,9 +1,9 @@
 // What is held as 358 lent u32 words: each part read, and each part stored. No other file knows at which word what stands (specs/HeldWords.antt).
 // Constant time, where no other cost is named.
-ghost use Rattle.std.specs.Prelude.{ℕ, ◌+◌, ◌*◌, ◌≤◌, ◌<◌, ◌≡◌, true, [], ◌∷◌, length, get_or};
+ghost use Rattle.std.specs.Prelude.{◌+◌, ◌≤◌, ◌<◌, ◌≡◌, length};
 ghost use Rattle.std.proofs.lemmas.List.Edits.{sets};
 ghost use Rattle.state.specs.Held.{held_at, range_at, ranges_at};
-ghost use Rattle.state.specs.HeldWords.{word_at, byte_of, value_from, range_from, list_from, ranges_from, value_words, range_words, list_words, ranges_words};
+ghost use Rattle.state.specs.HeldWords.{word_at, byte_of, range_words};
 ghost use Rattle.state.specs.HeldWords.{words_held, Whole, Holds, with_named, with_count, with_value_at, with_ranges_at, first_words};
 
 use crate::cell::Cell;
