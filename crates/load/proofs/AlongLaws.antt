@@ -52,25 +52,25 @@ module _ (D : Database) (p r : ℕ) where
       next-from D (column_at D r p) (D.cell r p) x (sym (along-alike s x) ∙ t) n e ∙
       first-same 512 (alike D r p) (along D p r) (x + 1) (λ y _ _. sym (along-alike s y))
 
--- ---- from the first row that has a value
+-- ---- from the first row that has a value, along its place
 
-module _ (D : Database) (k : Model.Column) (v : Cell) (r : ℕ) (e : r ≡ first_from 512 (has D k v) 0) where
+module _ (D : Database) (k : Model.Column) (v : Cell) (r : ℕ) (e : r ≡ first_from 512 (has D k v) 0) (p : ℕ) (at : p ≡ k.place) where
   first : First 512 (has D k v) 0 r
   first = subst (First 512 (has D k v) 0) (sym e) (first-from 512 (has D k v) 0 (omega arith))
 
-  alike-has : r < 512 → (s : ℕ) → alike D r k.place s ≡ has D k v s
+  alike-has : r < 512 → (s : ℕ) → alike D r p s ≡ has D k v s
   unfolding alike
-  alike-has l s = same_rows D k v r (first.here l) s
+  alike-has l s = ap (λ (q : ℕ). has D (column_at D r q) (D.cell r q) s) at ∙ same_rows D k v r (first.here l) s
 
-  pub begins-has : Begins D k.place r
-  begins-has = record { bound = first.bound; first = λ l. e ∙ first-same 512 (has D k v) (alike D r k.place) 0 (λ s _ _. sym (alike-has l s)) }
+  pub begins-has : Begins D p r
+  begins-has = record { bound = first.bound; first = λ l. e ∙ first-same 512 (has D k v) (alike D r p) 0 (λ s _ _. sym (alike-has l s)) }
 
-  pub along-has : (s : ℕ) → s < 512 → along D k.place r s ≡ has D k v s
+  pub along-has : (s : ℕ) → s < 512 → along D p r s ≡ has D k v s
   along-has s m = go (dec_lt r 512)
     where
-      go : Dec (r < 512) → along D k.place r s ≡ has D k v s
-      go (yes l) = along-alike D k.place r l s ∙ alike-has l s
-      go (no h) = along-none D k.place r (omega arith) s ∙ sym (first.none s (omega arith) (omega (arith, first.bound)))
+      go : Dec (r < 512) → along D p r s ≡ has D k v s
+      go (yes l) = along-alike D p r l s ∙ alike-has l s
+      go (no h) = along-none D p r (omega arith) s ∙ sym (first.none s (omega arith) (omega (arith, first.bound)))
 
 -- ---- from the first row that a constraint demands
 
@@ -89,8 +89,8 @@ module _ (D : Database) (j : Model.Constraint) (s r : ℕ) (e : r ≡ first_from
   first-target = let f = leads-cell D j s in e ∙ first-same 512 (leads D j s) (has D j.target f.0) 0 (λ x _ _. sym (f.1 x))
 
   pub begins-leads : Begins D p r
-  begins-leads = subst (λ (q : ℕ). Begins D q r) (sym at) (begins-has D j.target (leads-cell D j s).0 r first-target)
+  begins-leads = begins-has D j.target (leads-cell D j s).0 r first-target p at
 
   pub along-leads : (x : ℕ) → x < 512 → along D p r x ≡ leads D j s x
   along-leads x m =
-      ap (λ (q : ℕ). along D q r x) at ∙ along-has D j.target (leads-cell D j s).0 r first-target x m ∙ (leads-cell D j s).1 x
+      along-has D j.target (leads-cell D j s).0 r first-target p at x m ∙ (leads-cell D j s).1 x

@@ -17,7 +17,7 @@ use Rattle.model.specs.Cache.{RowSet}
 use Rattle.model.specs.Rounds.{level, or_else, demands, reached_from, next}
 use Rattle.load.specs.Raised.{raised}
 use Rattle.load.specs.Queue.{added, Listed, Grown, Front}
-use Rattle.load.proofs.QueueLaws.{is-added, grown-level}
+use Rattle.load.proofs.QueueLaws.{is-added, grown-level, listed-at}
 use Rattle.load.proofs.RaisedLaws.{raised-same}
 
 -- a row in the queue has been added
@@ -35,14 +35,14 @@ pub queue-empty : (L q : List ℕ) (end : ℕ) → Listed (added L) q end → en
 queue-empty L q end u z r l = go (dec_lt 1 (level L r))
   where
     go : Dec (1 < level L r) → level L r ≤ 1
-    go (yes h) = let f = u.there r l (is-added L r h) in absurd (omega (arith, f.1))
+    go (yes h) = let f = listed-at _ _ _ u r l (is-added L r h) in absurd (omega (arith, f.1))
     go (no h) = omega arith
 
 module _ (m : ℕ) (L q : List ℕ) (from end : ℕ) (u : Listed (added L) q end) (w : Front m L q from end) where
   -- a row of level m stands there
   pub front-there : 1 < m → (r : ℕ) → r < 512 → level L r ≡ m → (i : ℕ) × (from ≤ i) × (i < end) × (get_or q i 0 ≡ r)
   front-there o r l e =
-      let f = u.there r l (is-added L r (omega arith)) in
+      let f = listed-at _ _ _ u r l (is-added L r (omega arith)) in
       let x : level L (get_or q f.0 0) ≡ m = ap (level L) f.2 ∙ e in
       (f.0, from_on f.0 x (dec_lt f.0 from), f.1, f.2)
     where
@@ -90,10 +90,10 @@ pub asks_none : (d : ℕ → RowSet) (from : ℕ) (q : List ℕ) (r : ℕ) → a
 unfolding asks
 asks_none d from q r = any-refuted from (λ j. leb from j && d (get_or q j 0) r) (λ j l. and_left (leb from j) _ (lt-leb from j l))
 
--- place j of the queue as it is now
-pub asks-here : (d : ℕ → RowSet) (from : ℕ) (q q' : List ℕ) (j : ℕ) → from ≤ j → get_or q' j 0 ≡ get_or q j 0 → (r : ℕ) → d (get_or q' j 0) r ≡ asks d from q j r
+-- the row of place j
+pub asks-here : (d : ℕ → RowSet) (from : ℕ) (q : List ℕ) (j : ℕ) → from ≤ j → (x : ℕ) → x ≡ get_or q j 0 → (r : ℕ) → d x r ≡ asks d from q j r
 unfolding asks
-asks-here d from q q' j l e r = ap (λ (s : ℕ). d s r) e ∙ sym (ap (λ (b : Bool). b && d (get_or q j 0) r) (le-leb from j l))
+asks-here d from q j l x e r = ap (λ (s : ℕ). d s r) e ∙ sym (ap (λ (b : Bool). b && d (get_or q j 0) r) (le-leb from j l))
 
 module _ (S : Scheme) (D : Database) (z : D.size ≡ 512) (n : ℕ) (L q : List ℕ) (from end : ℕ) (u : Listed (added L) q end) (w : Front (n + 2) L q from end) where
   -- what the rows in the front demand is what the rows of round n demand

@@ -6,13 +6,13 @@ use mathlib.Core.Path.{◌≡◌, refl, sym, ap, subst, ◌∙◌}
 use mathlib.Core.Logic.{⊎_elim}
 use mathlib.Core.Bool.{Bool, true, false, ◌&&◌, ◌||◌}
 use mathlib.Core.List.{List}
-use borrow.Author.Tests.{lt-ltb, le-ltb, eqb-true}
+use borrow.Author.Tests.{lt-ltb, le-ltb, eqb-true, eq-eqb}
 use lib.Dec.{eqb, ltb}
 use lib.ListN.{length, get_or, set, length-set}
 use lib.Seq.{get_or-set_same, get_or-set_other}
 use Rattle.finite.specs.Finite.{any, count}
 use Rattle.finite.proofs.Bools.{same_number, clash}
-use Rattle.finite.proofs.Search.{any-suc}
+use Rattle.finite.proofs.Search.{any-suc, any-true, any_found}
 use Rattle.finite.proofs.Counting.{count-le, count_same, count_none, count-one}
 use Rattle.model.specs.Cache.{RowSet}
 use Rattle.model.specs.Rounds.{level}
@@ -51,6 +51,10 @@ listed-none P q e h =
     }
 
 module _ (P : RowSet) (q : List ℕ) (end : ℕ) (u : Listed P q end) where
+  -- a place of each row
+  pub listed-at : (r : ℕ) → r < 512 → P r ≡ true → (i : ℕ) × (i < end) × (get_or q i 0 ≡ r)
+  listed-at r l t = let f = any_found end (λ i. eqb (get_or q i 0) r) (u.there r l t) in (f.0, f.1, eqb-true _ _ f.2)
+
   pub listed-most : end ≤ 512
   listed-most = omega (arith, u.size, count-le 512 P)
 
@@ -102,11 +106,14 @@ module _ (P : RowSet) (q : List ℕ) (end : ℕ) (u : Listed P q end) where
         is i k (yes m) = ap Q (earlier i m) ∙ old (get_or q i 0) (u.row i m) (u.is i m)
         is i k (no m) = ap Q (last i k m) ∙ b
 
-        there : (x : ℕ) → x < 512 → Q x ≡ true → (i : ℕ) × (i < end + 1) × (get_or (set q end r) i 0 ≡ x)
-        there x k t = ⊎_elim (λ (e : x ≡ r). (end, omega arith, place ∙ sym e)) (λ (ne : x ≡ r → ⊥). was (u.there x k (h x k ne ∙ t))) (same_number x r)
+        there : (x : ℕ) → x < 512 → Q x ≡ true → any (end + 1) (λ i. eqb (get_or (set q end r) i 0) x) ≡ true
+        there x k t = ⊎_elim (λ (e : x ≡ r). here end (omega arith) (place ∙ sym e)) (λ (ne : x ≡ r → ⊥). was (listed-at x k (h x k ne ∙ t))) (same_number x r)
           where
-            was : (i : ℕ) × (i < end) × (get_or q i 0 ≡ x) → (i : ℕ) × (i < end + 1) × (get_or (set q end r) i 0 ≡ x)
-            was f = (f.0, omega (arith, f.1), earlier f.0 f.1 ∙ f.2)
+            here : (i : ℕ) → i < end + 1 → get_or (set q end r) i 0 ≡ x → any (end + 1) (λ i. eqb (get_or (set q end r) i 0) x) ≡ true
+            here i l e = any-true (end + 1) (λ i. eqb (get_or (set q end r) i 0) x) i l (eq-eqb _ _ e)
+
+            was : (i : ℕ) × (i < end) × (get_or q i 0 ≡ x) → any (end + 1) (λ i. eqb (get_or (set q end r) i 0) x) ≡ true
+            was f = here f.0 (omega (arith, f.1)) (earlier f.0 f.1 ∙ f.2)
 
 -- ---- a step
 

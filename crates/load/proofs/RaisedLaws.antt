@@ -70,3 +70,7 @@ module _ (L : List ℕ) (n : ℕ) where
   -- a level that a row has stays
   pub raised-kept : (P : RowSet) (r : ℕ) → r < 512 → 0 < level L r → level (raised L n P) r ≡ level L r
   raised-kept P r l h = raised_at P r l ∙ or_else-kept (level L r) _ h
+
+-- the levels that a step began with, said otherwise
+pub raised_on : (L M K : List ℕ) (n : ℕ) (P : RowSet) → L ≡ M → K ≡ raised L n P → K ≡ raised M n P
+raised_on L M K n P e g = g ∙ ap (λ (X : List ℕ). raised X n P) e

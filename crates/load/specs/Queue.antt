@@ -1,7 +1,7 @@
 -- The queue of a load: the rows that its rounds have added, in the order in which they got their levels, so that a round finds the rows of the
 -- round before without a search. Assumes nothing.
-use Rattle.std.specs.Prelude.{ℕ, ◌≤◌, ◌<◌, ◌≡◌, true, List, ltb, length, get_or}
-use Rattle.finite.specs.Finite.{count}
+use Rattle.std.specs.Prelude.{ℕ, ◌≤◌, ◌<◌, ◌≡◌, true, List, eqb, ltb, length, get_or}
+use Rattle.finite.specs.Finite.{any, count}
 use Rattle.model.specs.Cache.{RowSet}
 use Rattle.model.specs.Rounds.{level}
 use Rattle.load.specs.Raised.{raised}
@@ -16,7 +16,7 @@ pub record Listed (P : RowSet) (q : List ℕ) (end : ℕ) : Type 0 where
   pub size : end ≡ count 512 P
   pub row : (i : ℕ) → i < end → get_or q i 0 < 512
   pub is : (i : ℕ) → i < end → P (get_or q i 0) ≡ true
-  pub there : (r : ℕ) → r < 512 → P r ≡ true → (i : ℕ) × (i < end) × (get_or q i 0 ≡ r)
+  pub there : (r : ℕ) → r < 512 → P r ≡ true → any end (λ i. eqb (get_or q i 0) r) ≡ true
 
 -- a step: the rows of P that had no level have level n and a place at the queue's end; other levels and earlier places stay
 pub record Grown (n : ℕ) (P : RowSet) (L q : List ℕ) (end : ℕ) (L' q' : List ℕ) (end' : ℕ) : Type 0 where

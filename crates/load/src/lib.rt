@@ -11,6 +11,7 @@ mod loading;
 mod outcome;
 mod queue;
 mod ranging;
+mod reached;
 mod rounds;
 mod seeding;
 mod start;

@@ -14,8 +14,8 @@ ghost use Rattle.catalog.specs.Catalog.{Catalogued};
 ghost use Rattle.load.specs.Ended.{Within, Reaches};
 
 use crate::outcome::Growth;
-use crate::rounds::close;
-use crate::start::{start_held, start_range, start_value};
+use crate::reached::Load;
+use catalog::find;
 use state::{Cell, Column, Design, Range};
 
 // The load of the value v in column k beside the marked rows: its levels. One pass over the marks, a search of the directory, the walk of the value's
@@ -34,9 +34,11 @@ pub fn load_value(
     ensures { (D : Database) → Catalogued (scheme_of d) D catalog.now keys.now
         → (levels.new ≡ Rounds.load (scheme_of d) D (marked marks.now) (has D (column_of k) (cell_of v))) × (result.rows ≡ added_rows D levels.new) × (result.rounds ≡ later_rounds D levels.new) }
 {
-    let mut queue = [0u16; 512];
-    let end = start_value(catalog, keys, marks, k, v, levels, &mut queue);
-    close(d, catalog, levels, &mut queue, end, Design::ROWS + 1)
+    let mut load = Load::beside(marks);
+    load.walk(catalog, usize::from(k.place), find(catalog, keys, k, v), 2);
+    let growth = load.close(d, catalog, Design::ROWS + 1);
+    *levels = load.levels;
+    growth
 }
 
 // The load of the values of range q in column k beside the marked rows: its levels. One pass over the marks, a search of the directory, the walk of the range's
@@ -55,9 +57,11 @@ pub fn load_range(
     ensures { (D : Database) → Catalogued (scheme_of d) D catalog.now keys.now
         → (levels.new ≡ Rounds.load (scheme_of d) D (marked marks.now) (has_range D (column_of k) (range_of q))) × (result.rows ≡ added_rows D levels.new) × (result.rounds ≡ later_rounds D levels.new) }
 {
-    let mut queue = [0u16; 512];
-    let end = start_range(catalog, keys, marks, k, q, levels, &mut queue);
-    close(d, catalog, levels, &mut queue, end, Design::ROWS + 1)
+    let mut load = Load::beside(marks);
+    load.add_range(catalog, keys, k, q);
+    let growth = load.close(d, catalog, Design::ROWS + 1);
+    *levels = load.levels;
+    growth
 }
 
 // The levels of a load of all that is held from nothing; how many rows have one. It stops once `most` rows are reached,
@@ -76,8 +80,8 @@ pub fn load_held(
     ensures { (D : Database) → Catalogued (scheme_of d) D catalog.now keys.now
         → Within (scheme_of d) D (wanted (scheme_of d) D (holding_of (words_held held.now))) most → Reaches levels.new (reload_levels (scheme_of d) D (holding_of (words_held held.now))) result }
 {
-    let mut queue = [0u16; 512];
-    let end = start_held(d, catalog, keys, held, levels, &mut queue);
-    let g = close(d, catalog, levels, &mut queue, end, most);
-    g.rows
+    let mut load = Load::of_held(d, catalog, keys, held);
+    let growth = load.close(d, catalog, most);
+    *levels = load.levels;
+    growth.rows
 }

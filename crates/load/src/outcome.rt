@@ -4,6 +4,8 @@ ghost use Rattle.finite.specs.Finite.{count, all, tab};
 ghost use Rattle.model.specs.Rounds.{reached};
 ghost use Rattle.model.specs.Runs.{marked};
 
+use std::array;
+
 // How many rows a load added, and how many of its later rounds added one.
 #[derive(Clone, Copy)]
 pub struct Growth {
@@ -12,10 +14,10 @@ pub struct Growth {
 }
 
 // The mark of a row of this level: 1 if it is reached. Constant time.
-pub(crate) fn settled_mark(l: u16) -> u8
+fn settled_mark(l: u16) -> u8
     ensures { result ≡ cond (ltb 0 l) 1 0 }
 {
-    if 0 < l { 1 } else { 0 }
+    u8::from(0 < l)
 }
 
 // Marks the rows that are reached and no others; what lies past the 512 marks stays. One pass over the row numbers.
@@ -23,9 +25,7 @@ pub fn settle(marks: &mut [u8], levels: &[u16; 512])
     requires { (512 ≤ length marks.old) × (length levels.now ≡ 512) }
     ensures { marks.new ≡ tab 512 (λ r. cond (reached levels.now r) 1 0) ++ drop 512 marks.old }
 {
-    for r in 0..512usize {
-        marks[r] = settled_mark(levels[r]);
-    }
+    marks[..512].copy_from_slice(&array::from_fn::<u8, 512, _>(|r| settled_mark(levels[r])));
 }
 
 // How many rows are marked. One pass over the row numbers.
@@ -33,13 +33,7 @@ pub fn rows_marked(marks: &[u8]) -> usize
     requires { 512 ≤ length marks.now }
     ensures { result ≡ count 512 (marked marks.now) }
 {
-    let mut n: usize = 0;
-    for r in 0..512usize {
-        if marks[r] == 1 {
-            n += 1;
-        }
-    }
-    n
+    (0..512usize).filter(|&r| marks[r] == 1).count()
 }
 
 // Whether the marks are 1 on the reached rows and 0 on the others. One pass over the row numbers.
@@ -47,10 +41,5 @@ pub fn marks_agree(marks: &[u8], levels: &[u16; 512]) -> bool
     requires { (512 ≤ length marks.now) × (length levels.now ≡ 512) }
     ensures { result ≡ all 512 (λ r. eqb (get_or marks.now r 0) (cond (reached levels.now r) 1 0)) }
 {
-    for r in 0..512usize {
-        if marks[r] != settled_mark(levels[r]) {
-            return false;
-        }
-    }
-    true
+    (0..512usize).all(|r| marks[r] == settled_mark(levels[r]))
 }

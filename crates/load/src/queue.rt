@@ -1,22 +1,61 @@
 // The queue of the rows that a load has added.
-ghost use Rattle.std.specs.Prelude.{◌≡◌, ◌<◌, eqb, length};
-ghost use Rattle.load.specs.Queue.{Listed, added, Grown};
+ghost use Rattle.std.specs.Prelude.{◌≡◌, ◌<◌, ◌≤◌, eqb, cond, length, replicate};
+ghost use Rattle.finite.specs.Finite.{tab};
+ghost use Rattle.model.specs.Runs.{marked};
+ghost use Rattle.load.specs.Grows.{Grows};
 
-// Gives row r level `to` and the queue's next place, if it has no level; where the queue ends then. Constant time.
-pub(crate) fn reach(
-    r: usize,
-    levels: &mut [u16; 512],
-    to: u16,
-    queue: &mut [u16; 512],
-    end: usize,
-) -> usize
-    requires { (r < 512) × (1 < to) × (length levels.old ≡ 512) × Listed (added levels.old) queue.old end }
-    ensures { Grown to (λ s. eqb s r) levels.old queue.old end levels.new queue.new result }
+use crate::reached::Load;
+use std::array;
+
+// The level of a row with this mark before a load: 1 if it is cached. Constant time.
+fn cached_level(mark: u8) -> u16
+    ensures { result ≡ cond (eqb mark 1) 1 0 }
 {
-    if levels[r] != 0 {
-        return end;
+    u16::from(mark == 1)
+}
+
+// The levels of the rows with these marks before a load. One pass over the marks.
+fn cached_levels(marks: &[u8]) -> [u16; 512]
+    requires { 512 ≤ length marks.now }
+    ensures { result ≡ tab 512 (λ r. cond (marked marks.now r) 1 0) }
+{
+    array::from_fn(|r| cached_level(marks[r]))
+}
+
+impl Load {
+    // No row is reached.
+    pub(crate) fn none() -> Self
+        ensures { (result.levels ≡ replicate 512 0) × (result.end ≡ 0) }
+    {
+        Load {
+            levels: [0; 512],
+            queue: [0; 512],
+            end: 0,
+        }
     }
-    levels[r] = to;
-    queue[end] = r as u16;
-    end + 1
+
+    // The marked rows are cached, and none has been added. One pass over the marks.
+    pub(crate) fn beside(marks: &[u8]) -> Self
+        requires { 512 ≤ length marks.now }
+        ensures { (result.levels ≡ tab 512 (λ r. cond (marked marks.now r) 1 0)) × (result.end ≡ 0) }
+    {
+        Load {
+            levels: cached_levels(marks),
+            queue: [0; 512],
+            end: 0,
+        }
+    }
+
+    // Gives row r level `to` and the queue's next place, if it has no level. Constant time.
+    pub(crate) fn reach(&mut self, r: usize, to: u16)
+        requires { (r < 512) × (1 < to) }
+        ensures { Grows to (λ s. eqb s r) self.old self.new }
+    {
+        if self.levels[r] != 0 {
+            return;
+        }
+        self.levels[r] = to;
+        self.queue[self.end] = r as u16;
+        self.end += 1;
+    }
 }

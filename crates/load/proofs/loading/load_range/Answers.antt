@@ -1,18 +1,18 @@
 -- `load::loading::load_range` meets its contract: round 0, and the later rounds to the end. Assumes nothing.
-use Prim.Native.Nat.{ℕ}
-use lib.ListN.{length-replicate}
+use mathlib.Core.Path.{refl}
 use Rattle.load.proofs.EndedLaws.{ended-load}
-use Rattle.load.proofs.StartLaws.{started-long, started-low}
+use Rattle.load.proofs.StartLaws.{start-raised, started-low}
 use Rattle.load.proofs.loading.load_range.Goals as goal
 
-pub start_range-end-requires : goal.start_range-end-requires
-start_range-end-requires c = record { table_bound = (c.requires.in_range.1, c.requires.in_range.2, c.requires.in_range.3, c.requires.in_range.4, length-replicate {A = ℕ} 512 0); indexed = (c.requires.catalogued.0, c.requires.catalogued.1.index) }
-
-pub close-requires : goal.close-requires
-close-requires c = let u = c.start_range-end.ensures c.requires.catalogued.0 c.requires.catalogued.1.index in
-    let z = c.requires.catalogued.1.demands.links.size_is in
-    record { in_range = (c.requires.in_range.0, started-long c.requires.catalogued.0 z _ _ _ u.0, started-low c.requires.catalogued.0 z _ _ _ u.0, u.1); demands = (c.requires.catalogued.0, c.requires.catalogued.1.demands) }
+pub close-growth-requires : goal.close-growth-requires
+close-growth-requires c = let x = c.requires.catalogued.1 in
+    let g = c.add_range.ensures _ x.index in
+    let z = x.demands.links.size_is in
+    record { in_range = (c.requires.in_range.0, started-low c.requires.catalogued.0 z _ _ _ (start-raised _ _ c.beside-load.ensures.0 c.requires.catalogued.0 z _ _ _ g.levels (λ r l. refl))); demands = (c.requires.catalogued.0, x.demands) }
 
 pub returns : goal.returns
 returns c = λ D x.
-    ended-load _ D x.demands.links.size_is _ _ _ _ _ _ (c.start_range-end.ensures D x.index).0 (c.close.ensures D x.demands)
+    let s = c in
+    let g = s.add_range.ensures D x.index in
+    let z = x.demands.links.size_is in
+    ended-load _ D z _ _ _ _ _ _ (start-raised _ _ s.beside-load.ensures.0 D z _ _ _ g.levels (λ r l. refl)) (s.close-growth.ensures D x.demands)

@@ -1,22 +1,17 @@
--- `load::outcome::rows_marked` meets its contract: a loop that counts. Assumes nothing.
-use native.Mathlib.Omega.{arith}
-use mathlib.Core.Path.{◌∙◌}
-use borrow.Author.Tests.{eq-eqb, ne_eqb}
-use Rattle.finite.proofs.Counting.{count-end, count-hit, count-miss, count-start}
+-- `load::outcome::rows_marked` meets its contract. Assumes nothing.
+use mathlib.Core.Path.{refl}
+use lib.Dec.{eqb}
+use lib.ListN.{get_or}
+use Rattle.std.proofs.Common.{rules}
+use Rattle.std.proofs.lemmas.Iterator.{YieldsList-from_range}
+use Rattle.std.proofs.lemmas.Iterator.Consumers.{YieldsList-from_filter}
+use Rattle.finite.proofs.Ranges.{count_in-range}
+use borrow.Author.Tests.{tests}
 use Rattle.model.specs.Runs.{marked}
 use Rattle.load.proofs.outcome.rows_marked.Goals as goal
-use Rattle.load.proofs.outcome.rows_marked.Goals.{then-marks-r-eq1, else-marks-r-eq1}
-
-pub loop-r-init : goal.loop-r-init
-loop-r-init c = (omega arith, omega arith, count-start _)
-
-pub loop-r-preserved : goal.loop-r-preserved
-unfolding marked
-loop-r-preserved c = let e = c.loop-r.invariant.2 in
-    elim c.if-marks-r-eq1.branch [
-      | then-marks-r-eq1 w ↦ (omega arith, omega (arith, w.n-is), w.n-is ∙ count-hit _ _ _ e (eq-eqb _ _ w.if-marks-r-eq1.true))
-      | else-marks-r-eq1 w ↦ (omega arith, omega (arith, w.n-is), w.n-is ∙ count-miss _ _ _ e (ne_eqb _ _ w.if-marks-r-eq1.false))
-    ]
 
 pub returns : goal.returns
-returns c = count-end _ _ _ _ c.loop-r.invariant.0 c.loop-r-test.false c.loop-r.invariant.2
+unfolding marked
+returns c =
+    count_in-range 512 _ c.filter.result _ c.count.ensures.ran
+    (YieldsList-from_filter _ (λ i. eqb (get_or c.args.marks.now i 0) 1) (YieldsList-from_range 0 512 512 (cc) refl) c.filter.ensures.closure (λ x r q k. search (rules, tests)))
