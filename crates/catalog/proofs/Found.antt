@@ -66,3 +66,7 @@ module _ (D : Database) (keys heads starts : List ℕ) (d : Directory D keys hea
         sym (listed-miss D k 0 from to keys heads lists x
         (λ i m n w. let o = searched-only from to x keys a lists.falls seat-is i m n w in
         stands-not b keys to a x e h (omega arith) (ap (λ (z : ℕ). get_or keys z 0) (sym o) ∙ w))) ∙ same_first
+
+-- a place of the directory, said by the number of a column
+pub start_by : (starts : List ℕ) (i j s : ℕ) → i ≡ j → s ≡ get_or starts i 0 → s ≡ get_or starts j 0
+start_by starts i j s e h = h ∙ ap (λ (n : ℕ). get_or starts n 0) e

@@ -1,10 +1,12 @@
 -- The parts of a catalog: what stands in one, and what a store of a whole part leaves of it and of the others. Assumes nothing.
 use Prim.Native.Nat.{ℕ, ◌+◌, ◌≤◌, ◌<◌}
 use native.Mathlib.Omega.{arith}
-use mathlib.Core.Path.{◌≡◌, sym}
-use mathlib.Core.List.{List}
-use lib.ListN.{length, get_or}
-use lib.Seq.{sets}
+use mathlib.Core.Path.{◌≡◌, refl, sym, ap, ◌∙◌}
+use mathlib.Core.List.{List, ◌++◌}
+use lib.ListN.{length, get_or, take, drop}
+use lib.Seq.{sets, sets-eq, take-length}
+use borrow.Rule.Slice.PartMut.{put_mid}
+use Rattle.std.proofs.lemmas.Slice.{put_mid-paste}
 use Rattle.finite.proofs.Tables.{length-tab, tab-at, tab-of, tab-same}
 use Rattle.finite.proofs.Stores.{sets_below, sets-above, sets-at}
 use Rattle.catalog.specs.Catalog.{part}
@@ -31,3 +33,8 @@ module _ (a n : ℕ) where
   pub part-behind : (xs vs : List ℕ) (b : ℕ) → b + length vs ≤ a → part a n (sets xs b vs) ≡ part a n xs
   unfolding part
   part-behind xs vs b l = tab-same n _ _ (λ i h. sets-above 0 xs b vs (a + i) (omega arith))
+
+-- a slice is written over, from place a on
+pub put-sets : (a k : ℕ) (xs ys : List ℕ) → a + length ys ≤ length xs → length ys ≡ k → put_mid a k xs ys ≡ sets xs a ys
+put-sets a k xs ys o e =
+    put_mid-paste a k xs ys ys (length ys) refl e refl ∙ ap (λ (zs : List ℕ). take a xs ++ zs ++ drop (a + length ys) xs) (take-length ys) ∙ sym (sets-eq ys xs a o)

@@ -6,15 +6,15 @@ ghost use Rattle.finite.specs.Finite.{first_from};
 ghost use Rattle.catalog.specs.Catalog.{key_of, Falls, heads_in, starts_in, Directory};
 ghost use Rattle.catalog.specs.Listing.{Searched};
 
-use crate::reading::{head_at, start_at};
+use crate::reading::{head_at, number_of, start_at};
 use state::{Cell, Column, Design};
 
 // The key of a value, which no other value has: keys are ordered as values are, by number, then issue. Constant time.
 pub fn key_of(v: Cell) -> u64
     ensures { (result ≡ key_of (cell_of v)) × (v.issue < 256) }
 {
-    let number = v.number as u64;
-    let issue = v.issue as u64;
+    let number = u64::from(v.number);
+    let issue = u64::from(v.issue);
     256 * number + issue
 }
 
@@ -23,17 +23,10 @@ pub fn seat(keys: &[u64; 4096], from: usize, to: usize, x: u64) -> usize
     requires { to ≤ 4096 }
     ensures { from ≤ to → Falls from to keys.now → Searched from to x result result keys.now }
 {
-    let mut a = from;
-    let mut e = to;
-    while a < e {
-        let k = (a + e) / 2;
-        if x < keys[k] {
-            a = k + 1;
-        } else {
-            e = k;
-        }
-    }
-    a
+    let Some(part) = keys.get(from..to) else {
+        return from;
+    };
+    from + part.partition_point(|&k| x < k)
 }
 
 // Whether x stands at place a, of the places before `to`. Constant time.
@@ -41,10 +34,7 @@ pub fn stands(keys: &[u64; 4096], to: usize, a: usize, x: u64) -> bool
     requires { to ≤ 4096 }
     ensures { result ≡ ltb a to && eqb (get_or keys.now a 0) x }
 {
-    if to <= a {
-        return false;
-    }
-    keys[a] == x
+    a < to && keys[a] == x
 }
 
 // The first row that has the value v in column k, in any database whose directory this is; 512 if none has, as for a blank. A step for each halving
@@ -54,7 +44,7 @@ pub fn find(catalog: &[u16; 16449], keys: &[u64; 4096], k: Column, v: Cell) -> u
     ensures { (D : Database) → Directory D keys.now (heads_in catalog.now) (starts_in catalog.now)
         → result ≡ first_from 512 (has D (column_of k) (cell_of v)) 0 }
 {
-    let i = 8 * k.table as usize + k.place as usize;
+    let i = number_of(k);
     let to = start_at(catalog, i + 1);
     if Design::CELLS < to {
         return Design::ROWS;

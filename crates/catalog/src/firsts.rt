@@ -12,6 +12,7 @@ use crate::finding::find;
 use crate::reading::FIRSTS;
 use crate::storing::store;
 use state::{Constraint, Design, cell_at, is_live};
+use std::array;
 
 // The first row that constraint j demands of row s; 512 if there is none. The cost is that of `find`.
 pub fn demanded(
@@ -61,9 +62,9 @@ fn add_firsts(
         (tab 512 (λ s. first_from 512 (leads (database_of (cells_in cells.now issues.now) tables.now)
         (constraint_of j) s) 0)) }
 {
-    for s in 0..Design::ROWS {
-        first[Design::ROWS * i + s] = demanded(cells, issues, tables, catalog, keys, j, s);
-    }
+    let at = 512 * i;
+    let rows: [u16; 512] = array::from_fn(|s| demanded(cells, issues, tables, catalog, keys, j, s));
+    first[at..at + 512].copy_from_slice(&rows);
 }
 
 // Stores the first rows that the constraints demand of each row into the catalog, whatever stood there. One step for each constraint and row number.

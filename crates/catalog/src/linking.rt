@@ -43,6 +43,7 @@ pub(crate) fn settle(cells: &[u32], issues: &[u8], tables: &[u8], next: &mut [u1
     requires linked { Linked (database_of (cells_in cells.now issues.now) tables.now) 64 next.old }
     ensures { next.new ≡ nexts (database_of (cells_in cells.now issues.now) tables.now) }
 {
+    // by index, in place: in a closure of `array::from_fn` the promise of `settled`, which rests on what was known, gave no proof
     for x in 0..Design::CELLS {
         next[x] = settled(cells, issues, tables, x, next[x]);
     }

@@ -15,12 +15,8 @@ pub fn make_room(keys: &mut [u64; 4096], heads: &mut [u16; 4096], a: usize, m: u
     requires { (a ≤ m) × (m < 4096) × (length keys.old ≡ 4096) × (length heads.old ≡ 4096) }
     ensures { Moved a m keys.old keys.new × Moved a m heads.old heads.new }
 {
-    let mut j = m;
-    while a < j {
-        keys[j] = keys[j - 1];
-        heads[j] = heads[j - 1];
-        j -= 1;
-    }
+    keys.copy_within(a..m, a + 1);
+    heads.copy_within(a..m, a + 1);
 }
 
 // Where the column's values end after one is entered, and the value's first row before.
@@ -113,9 +109,7 @@ pub(crate) fn add_column(
         keys.old heads.old next.old result keys.new heads.new next.new }
 {
     let mut m = from;
-    let mut r = Design::ROWS;
-    while 0 < r {
-        r -= 1;
+    for r in (0..Design::ROWS).rev() {
         m = put(cells, issues, tables, k, from, m, keys, heads, next, r);
     }
     m

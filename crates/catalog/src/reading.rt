@@ -1,10 +1,12 @@
 // What stands where in the catalog's array: nothing but this crate, `mend`, which changes it, and `demanding`, which turns a copy of it round, indexes it.
-ghost use Rattle.std.specs.Prelude.{◌≡◌, ◌<◌, get_or};
+ghost use Rattle.std.specs.Prelude.{◌≡◌, ◌+◌, ◌*◌, ◌<◌, get_or};
 ghost use Rattle.finite.specs.Finite.{first_from};
 ghost use Rattle.model.specs.Database.{Database};
 ghost use Rattle.model.specs.Rounds.{leads};
 ghost use Rattle.model.specs.Scheme.{Scheme};
 ghost use Rattle.catalog.specs.Catalog.{next_of, heads_in, starts_in, Links, Demands};
+
+use state::Column;
 
 // The next rows come first; where the other parts begin.
 pub const FIRSTS: usize = 4096;
@@ -17,7 +19,7 @@ pub const STARTS: usize = 16384;
 pub fn wide(x: u16) -> usize
     ensures { result ≡ x }
 {
-    x as usize
+    usize::from(x)
 }
 
 // The next row after r that has the value of r's cell c in the same column, in any database whose links these are; 512 if there is none. Constant time.
@@ -43,6 +45,14 @@ pub(crate) fn head_at(catalog: &[u16; 16449], i: usize) -> usize
     ensures { result ≡ get_or (heads_in catalog.now) i 0 }
 {
     wide(catalog[HEADS + i])
+}
+
+// The number of column k, of 64. Constant time.
+pub(crate) fn number_of(k: Column) -> usize
+    requires { (k.table < 8) × (k.place < 8) }
+    ensures { result ≡ 8 * k.table + k.place }
+{
+    8 * usize::from(k.table) + usize::from(k.place)
 }
 
 // The place of the directory at which column i begins, and the one before it ends. Constant time.

@@ -6,7 +6,7 @@ ghost use Rattle.state.specs.Design.{Backed};
 ghost use Rattle.state.specs.Meaning.{cell_of, column_of, database_of};
 ghost use Rattle.finite.specs.Finite.{first_from};
 
-use state::{Cell, Column, Design, row_has};
+use state::{Cell, Column, row_has};
 
 // The first row from `from` on that has the value v in column k; 512 if none has. One step for each row.
 pub(crate) fn scan(
@@ -21,12 +21,7 @@ pub(crate) fn scan(
     ensures { (result ≡ first_from 512 (has (database_of (cells_in cells.now issues.now) tables.now) (column_of k)
         (cell_of v)) from) × (result ≤ 512) }
 {
-    let mut r = from;
-    while r < Design::ROWS {
-        if row_has(cells, issues, tables, k, v, r) {
-            return r;
-        }
-        r += 1;
-    }
-    r
+    (from..512)
+        .find(|&r| row_has(cells, issues, tables, k, v, r))
+        .unwrap_or(512)
 }

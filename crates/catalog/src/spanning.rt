@@ -1,6 +1,6 @@
 // The values of a range in the directory: a column's values stand in order, so those of a range stand side by side, and as many places are looked at as
 // rows have such values, however wide the range is.
-ghost use Rattle.std.specs.Prelude.{◌≡◌, ◌-◌, ◌<◌, get_or};
+ghost use Rattle.std.specs.Prelude.{◌≡◌, ◌<◌, get_or};
 ghost use Rattle.model.specs.Database.{Database, has};
 ghost use Rattle.model.specs.Scheme as Model;
 ghost use Rattle.state.specs.Meaning.{column_of, range_of};
@@ -9,7 +9,7 @@ ghost use Rattle.catalog.specs.Catalog.{value_of, heads_in, starts_in, Directory
 ghost use Rattle.catalog.specs.Spans.{plain_value, Spanned};
 
 use crate::finding::{key_of, seat};
-use crate::reading::{head_at, start_at};
+use crate::reading::{head_at, number_of, start_at};
 use state::{Cell, Column, Design, Range};
 
 // Some places of the directory: from which on, and how many.
@@ -19,16 +19,6 @@ pub struct Span {
     pub count: usize,
 }
 
-// The key below x, which is 0 where there is none. Constant time.
-fn key_below(x: u64) -> u64
-    ensures { result ≡ x - 1 }
-{
-    if x == 0 {
-        return 0;
-    }
-    x - 1
-}
-
 // The places among which the range's values in column k stand, in any database whose directory this is; values of their numbers with another issue stand
 // there too. A step for each halving of the column's values, twice: at most 20.
 pub fn find_range(catalog: &[u16; 16449], keys: &[u64; 4096], k: Column, q: Range) -> Span
@@ -36,7 +26,7 @@ pub fn find_range(catalog: &[u16; 16449], keys: &[u64; 4096], k: Column, q: Rang
     ensures { (D : Database) → Directory D keys.now (heads_in catalog.now) (starts_in catalog.now)
         → Spanned D (column_of k) (range_of q) keys.now (heads_in catalog.now) result.from result.count }
 {
-    let i = 8 * k.table as usize + k.place as usize;
+    let i = number_of(k);
     let to = start_at(catalog, i + 1);
     if Design::CELLS < to {
         return Span { from: 0, count: 0 };
@@ -51,7 +41,7 @@ pub fn find_range(catalog: &[u16; 16449], keys: &[u64; 4096], k: Column, q: Rang
         number: q.low,
         issue: 0,
     };
-    let e = seat(keys, from, to, key_below(key_of(low)));
+    let e = seat(keys, from, to, key_of(low).saturating_sub(1));
     if e < a {
         return Span { from: 0, count: 0 };
     }

@@ -7,7 +7,5 @@ pub fn store(catalog: &mut [u16; 16449], at: usize, xs: &[u16])
     requires { (at + length xs.now ≤ 16449) × (length catalog.old ≡ 16449) }
     ensures { Stored at xs.now catalog.old catalog.new }
 {
-    for i in 0..xs.len() {
-        catalog[at + i] = xs[i];
-    }
+    catalog[at..at + xs.len()].copy_from_slice(xs);
 }

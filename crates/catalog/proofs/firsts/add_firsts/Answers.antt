@@ -1,16 +1,17 @@
--- `catalog::firsts::add_firsts` meets its contract: a loop that stores a table. Assumes nothing.
+-- `catalog::firsts::add_firsts` meets its contract: a table is stored. Assumes nothing.
 use native.Mathlib.Omega.{arith}
-use Rattle.finite.proofs.Stores.{tabled_start, tabled-more, tabled-end}
+use lib.ListN.{length}
+use mathlib.Core.Path.{ap, ◌∙◌}
+use Prim.Native.Nat.{◌*◌}
+use lib.Seq.{sets}
+use Rattle.std.proofs.Common.{rules}
+use borrow.Author.Tests.{tests}
+use Rattle.catalog.proofs.MadeLaws.{tab_from-fn}
+use Rattle.catalog.proofs.PartLaws.{put-sets}
 use Rattle.catalog.proofs.firsts.add_firsts.Goals as goal
 
-pub loop-s-init : goal.loop-s-init
-loop-s-init c = (omega arith, tabled_start _ _ _)
-
-pub demanded-requires : goal.demanded-requires
-demanded-requires c = record { backed = c.requires.backed; s_bound = (c.loop-s-test.true, c.requires.i_bound.1, c.requires.i_bound.2, c.requires.i_bound.3); directory = c.requires.directory }
-
-pub loop-s-preserved : goal.loop-s-preserved
-loop-s-preserved c = (omega arith, tabled-more _ _ _ _ _ _ c.loop-s.invariant.1 c.demanded.ensures)
-
 pub returns : goal.returns
-returns c = tabled-end _ _ _ _ 512 _ c.loop-s.invariant.0 c.loop-s-test.false c.loop-s.invariant.1
+returns c = let s = c in
+    let n = ap length s.copy_from_slice.ensures.after ∙ s.from_fn-rows.ensures.items.long in
+    put-sets (512 * s.args.i) _ s.args.first.now _ (omega (arith, n, s.requires.i_bound.0)) (omega (arith, n))
+    ∙ ap (sets s.args.first.now (512 * s.args.i)) (s.copy_from_slice.ensures.after ∙ tab_from-fn 0 _ s.from_fn-rows.ensures.items (λ i y q l k. search (rules, tests)))

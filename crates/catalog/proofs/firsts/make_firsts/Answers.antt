@@ -9,18 +9,9 @@ use Rattle.catalog.proofs.firsts.make_firsts.Goals as goal
 pub loop-i-init : goal.loop-i-init
 loop-i-init c = (omega arith, firsts-start _ _)
 
-pub offset_bounds-d-i : goal.offset_bounds-d-i
-offset_bounds-d-i c = omega (arith, c.requires.in_range.0.constraints, c.loop-i-test.true)
-
-pub bounds-d-i : goal.bounds-d-i
-bounds-d-i c = omega (arith, c.requires.in_range.0.constraints, c.loop-i-test.true)
-
 pub add_firsts-requires : goal.add_firsts-requires
 add_firsts-requires c = let i = c.loop-i.i in
     record { backed = c.requires.in_range.1; i_bound = (omega (arith, c.requires.in_range.0.constraints, c.loop-i-test.true), c.requires.in_range.0.source i, c.requires.in_range.0.target-table i, c.requires.in_range.0.target i); directory = c.requires.directory }
-
-pub overflow_step-i : goal.overflow_step-i
-overflow_step-i c = omega (arith, c.requires.in_range.0.constraints, c.loop-i-test.true)
 
 pub loop-i-preserved : goal.loop-i-preserved
 unfolding scheme_of

@@ -7,6 +7,3 @@ use Rattle.catalog.proofs.listing.add_column.Given as goal
 
 abbrev pub invariant-loop-r : goal.invariant-loop-r
 invariant-loop-r l = (l.r ≤ 512) × Added (database_of (cells_in l.cells l.issues) l.tables) (column_of l.k) l.r l.from l.initial.keys l.initial.heads l.initial.next l.m l.keys l.heads l.next
-
-abbrev pub decreases-loop-r : goal.decreases-loop-r
-decreases-loop-r l = l.r

@@ -6,16 +6,8 @@ use Rattle.catalog.proofs.Found.{stands_here, stands-below, stands-not}
 use Rattle.catalog.proofs.Searching.{moved_open}
 use Rattle.catalog.proofs.listing.enter.Goals as goal
 
-pub offset_bounds-heads-a : goal.offset_bounds-heads-a
-offset_bounds-heads-a c = let a = c.args in
-    omega (arith, stands-below _ a.keys.now a.m c.seat-a.result a.x c.stands.ensures c.if-stands.true)
-
 pub bounds-heads-a : goal.bounds-heads-a
 bounds-heads-a c = let a = c.args in
-    omega (arith, stands-below _ a.keys.now a.m c.seat-a.result a.x c.stands.ensures c.if-stands.true)
-
-pub offset_bounds-heads-a-then-stands : goal.offset_bounds-heads-a-then-stands
-offset_bounds-heads-a-then-stands c = let a = c.args in
     omega (arith, stands-below _ a.keys.now a.m c.seat-a.result a.x c.stands.ensures c.if-stands.true)
 
 pub bounds-heads-a-then-stands : goal.bounds-heads-a-then-stands
@@ -40,14 +32,8 @@ pub make_room-requires : goal.make_room-requires
 make_room-requires c = let s = c in
     ((c.seat-a.ensures s.requires.0 s.requires.5).end, s.requires.1, s.requires.3, s.requires.4)
 
-pub offset_bounds-keys-a : goal.offset_bounds-keys-a
-offset_bounds-keys-a c = let s = c in omega (arith, (c.seat-a.ensures s.requires.0 s.requires.5).end)
-
 pub bounds-keys-a : goal.bounds-keys-a
 bounds-keys-a c = let s = c in omega (arith, (c.seat-a.ensures s.requires.0 s.requires.5).end)
-
-pub offset_bounds-heads-a-2 : goal.offset_bounds-heads-a-2
-offset_bounds-heads-a-2 c = let s = c in omega (arith, (c.seat-a.ensures s.requires.0 s.requires.5).end)
 
 pub bounds-heads-a-2 : goal.bounds-heads-a-2
 bounds-heads-a-2 c = let s = c in omega (arith, (c.seat-a.ensures s.requires.0 s.requires.5).end)

@@ -1,19 +1,20 @@
--- `catalog::scanning::scan` meets its contract: what is sought from r on is what is sought. Assumes nothing.
+-- `catalog::scanning::scan` meets its contract. Assumes nothing.
+use Prim.Native.Nat.{◌-◌}
 use native.Mathlib.Omega.{arith}
-use mathlib.Core.Path.{refl, sym, ◌∙◌}
-use Rattle.finite.proofs.First.{first-here, first-skip, first-end}
+use mathlib.Core.Path.{refl, ◌∙◌}
+use Rattle.std.proofs.Common.{rules}
+use Rattle.std.proofs.lemmas.Iterator.{YieldsList-from_range}
+use borrow.Author.Tests.{tests}
+use Rattle.finite.proofs.First.{first-from}
+use Rattle.finite.proofs.Ranges.{first_in-range}
+use Rattle.model.specs.Database.{has}
+use Rattle.state.specs.Cells.{cells_in}
+use Rattle.state.specs.Meaning.{cell_of, column_of, database_of}
 use Rattle.catalog.proofs.scanning.scan.Goals as goal
 
-pub loop-r-init : goal.loop-r-init
-loop-r-init c = (omega arith, refl)
-
-pub returns-then-row_has : goal.returns-then-row_has
-returns-then-row_has c = let i = c.loop-r.invariant in
-    (sym (first-here 512 _ _ (omega arith) (sym c.row_has.ensures ∙ c.if-row_has.true)) ∙ i.1, omega arith)
-
-pub loop-r-preserved : goal.loop-r-preserved
-loop-r-preserved c = let i = c.loop-r.invariant in
-    (omega arith, sym (first-skip 512 _ _ (sym c.row_has.ensures ∙ c.if-row_has.false)) ∙ i.1)
-
 pub returns : goal.returns
-returns c = (first-end 512 _ _ (omega arith) c.loop-r-test.false ∙ c.loop-r.invariant.1, omega arith)
+returns c = let a = c.args in
+    let i = a.from in
+    let p = has (database_of (cells_in a.cells.now a.issues.now) a.tables.now) (column_of a.k) (cell_of a.v) in
+    let e = c.unwrap_or.ensures ∙ first_in-range 512 p i _ _ c.find.result c.find.ensures.ran (YieldsList-from_range i 512 (512 - i) (cc) refl) (λ x b q k. search (rules, tests)) in
+    (e, omega (arith, e, (first-from 512 p i c.requires.0).bound))

@@ -1,8 +1,8 @@
 -- `load::expanding::target_places` meets its contract. Assumes nothing.
 use Rattle.std.proofs.Common.{rules}
 use borrow.Author.Tests.{tests}
-use Rattle.load.proofs.MakingLaws.{tab_from-fn}
+use Rattle.catalog.proofs.MadeLaws.{tab_from-fn}
 use Rattle.load.proofs.expanding.target_places.Goals as goal
 
 pub returns : goal.returns
-returns c = tab_from-fn 0 _ c.from_fn.ensures.items (λ i y q k. search (rules, tests))
+returns c = tab_from-fn 0 _ c.from_fn.ensures.items (λ i y q l k. search (rules, tests))

@@ -5,7 +5,7 @@ use lib.ListN.{drop}
 use Rattle.std.proofs.Common.{rules}
 use borrow.Author.Tests.{tests}
 use Rattle.model.specs.Rounds.{reached}
-use Rattle.load.proofs.MakingLaws.{tab_from-fn}
+use Rattle.catalog.proofs.MadeLaws.{tab_from-fn}
 use Rattle.load.proofs.outcome.settle.Goals as goal
 
 pub copy_from_slice-requires : goal.copy_from_slice-requires
@@ -13,4 +13,4 @@ copy_from_slice-requires c = search (rules, c.from_fn.ensures.items.long)
 
 pub returns : goal.returns
 unfolding reached
-returns c = ap (λ xs. xs ++ drop 512 c.args.marks.now) (c.copy_from_slice.ensures.after ∙ tab_from-fn 0 _ c.from_fn.ensures.items (λ i y q k. search (rules, tests)))
+returns c = ap (λ xs. xs ++ drop 512 c.args.marks.now) (c.copy_from_slice.ensures.after ∙ tab_from-fn 0 _ c.from_fn.ensures.items (λ i y q l k. search (rules, tests)))

@@ -2,9 +2,9 @@
 use Rattle.std.proofs.Common.{rules}
 use borrow.Author.Tests.{tests}
 use Rattle.model.specs.Runs.{marked}
-use Rattle.load.proofs.MakingLaws.{tab_from-fn}
+use Rattle.catalog.proofs.MadeLaws.{tab_from-fn}
 use Rattle.load.proofs.queue.cached_levels.Goals as goal
 
 pub returns : goal.returns
 unfolding marked
-returns c = tab_from-fn 0 _ c.from_fn.ensures.items (λ i y q k. search (rules, tests))
+returns c = tab_from-fn 0 _ c.from_fn.ensures.items (λ i y q l k. search (rules, tests))
