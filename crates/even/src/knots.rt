@@ -7,7 +7,7 @@ ghost use Rattle.state.specs.Meaning.{answer_of, constraint_of, scheme_of};
 ghost use Rattle.even.specs.Walks.{Cheap, far, knot_weight, most_steps, pair_weight, turns_off, weight_from};
 
 use crate::walking::{cost_at, walk_costs};
-use crate::weighing::{FAR, lower, pair_weight};
+use crate::weighing::{FAR, pair_weight};
 use state::{Answer, Constraint, Design};
 
 // The weight of constraints i and j, which are a and b, with the cheapest walk back, which costs `back`, where b turns off at a's end. Constant time.
@@ -37,7 +37,7 @@ fn weight_from(d: Design, costs: &[u32; 64], i: usize) -> u32
         let b = constraint[j];
         let at = cost_at(b.target.table, a.source.table);
         let w = weight_with(a, b, i, j, costs[at]);
-        least = lower(least, w);
+        least = least.min(w);
     }
     least
 }
@@ -53,7 +53,7 @@ fn knot_weight(d: Design) -> u32
     let mut least = FAR;
     for i in 0..n {
         let w = weight_from(d, &costs, i);
-        least = lower(least, w);
+        least = least.min(w);
     }
     least
 }

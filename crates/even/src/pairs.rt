@@ -12,13 +12,7 @@ use state::{Answer, Constraint, Design};
 fn is_uneven(a: Constraint, b: Constraint, back: bool) -> bool
     ensures { result ≡ eqb a.target.table b.source.table && (not (eqb a.target.place b.source.place) && back) }
 {
-    if a.target.table != b.source.table {
-        return false;
-    }
-    if a.target.place == b.source.place {
-        return false;
-    }
-    back
+    a.target.table == b.source.table && (a.target.place != b.source.place && back)
 }
 
 // The lowest j with which constraint i makes the design uneven; the number of constraints if there is none. One look at each constraint.
@@ -29,16 +23,12 @@ fn uneven_from(d: Design, m: [[bool; 8]; 8], i: usize) -> usize
     let n = d.constraints;
     let constraint = d.constraint;
     let a = constraint[i];
-    let mut j: usize = 0;
-    while j < n {
-        let b = constraint[j];
-        let back = m[b.target.table as usize][a.source.table as usize];
-        if is_uneven(a, b, back) {
-            return j;
-        }
-        j += 1;
-    }
-    n
+    (0..n)
+        .find(|&j| {
+            let b = constraint[j];
+            is_uneven(a, b, m[b.target.table as usize][a.source.table as usize])
+        })
+        .unwrap_or(n)
 }
 
 // Whether the design is even, or the lowest i and then the lowest j that make it uneven. Tables cubed, and constraints squared.
@@ -48,13 +38,11 @@ pub fn evenness(d: Design) -> Answer
 {
     let m = reachable(d);
     let n = d.constraints;
-    let mut i: usize = 0;
-    while i < n {
+    for i in 0..n {
         let j = uneven_from(d, m, i);
         if j < n {
             return Answer::Uneven(i as u8, j as u8);
         }
-        i += 1;
     }
     Answer::Even
 }

@@ -23,8 +23,7 @@ fn alone() -> [[bool; 8]; 8]
 {
     let mut m = [[false; 8]; 8];
     for t in 0..Design::TABLES {
-        let row = own_row(t);
-        m[t] = row;
+        m[t] = own_row(t);
     }
     m
 }
@@ -33,16 +32,10 @@ fn alone() -> [[bool; 8]; 8]
 fn with_link(m: [[bool; 8]; 8], s: usize, t: usize) -> [[bool; 8]; 8]
     ensures { result ≡ with_link m s t }
 {
-    if Design::TABLES <= s {
-        return m;
-    }
-    if Design::TABLES <= t {
-        return m;
-    }
-    let mut row = m[s];
-    row[t] = true;
     let mut n = m;
-    n[s] = row;
+    if s < Design::TABLES && t < Design::TABLES {
+        n[s][t] = true;
+    }
     n
 }
 
@@ -56,6 +49,7 @@ fn linked_tables(d: Design) -> [[bool; 8]; 8]
     let mut m = alone();
     for i in 0..n {
         let c = constraint[i];
+        // named first, as in `reachable`: no proof is made of a call whose result is laid straight into a variable that holds an array
         let next = with_link(m, c.source.table as usize, c.target.table as usize);
         m = next;
     }
@@ -66,13 +60,7 @@ fn linked_tables(d: Design) -> [[bool; 8]; 8]
 fn is_through(direct: bool, there: bool, onward: bool) -> bool
     ensures { result ≡ direct || (there && onward) }
 {
-    if direct {
-        return true;
-    }
-    if there {
-        return onward;
-    }
-    false
+    direct || (there && onward)
 }
 
 // The row `own` of a table, with what it reaches through table k, whose row is `way`.
@@ -95,9 +83,7 @@ fn through_tables(m: [[bool; 8]; 8], k: usize) -> [[bool; 8]; 8]
     let way = m[k];
     let mut n = [[false; 8]; 8];
     for t in 0..Design::TABLES {
-        let own = m[t];
-        let row = through_row(own, way, k);
-        n[t] = row;
+        n[t] = through_row(m[t], way, k);
     }
     n
 }

@@ -5,7 +5,7 @@ ghost use Rattle.state.specs.Design.{InRange};
 ghost use Rattle.state.specs.Meaning.{scheme_of};
 ghost use Rattle.even.specs.Walks.{Cheap, Stepped, far, most_steps};
 
-use crate::weighing::{FAR, lower, weight_of};
+use crate::weighing::{FAR, weight_of};
 use state::Design;
 
 // Where the cost of the walk from table t to table u stands. Constant time.
@@ -34,7 +34,7 @@ fn step_to(costs: &[u32; 64], next: &mut [u32; 64], s: usize, t: usize, w: u32)
     for u in 0..Design::TABLES {
         let at = 8 * s + u;
         let onward = w + costs[8 * t + u];
-        next[at] = lower(next[at], onward);
+        next[at] = next[at].min(onward);
     }
 }
 

@@ -1,11 +1,11 @@
 // What constraints weigh.
-ghost use Rattle.std.specs.Prelude.{◌≡◌, ◌<◌, min};
+ghost use Rattle.std.specs.Prelude.{◌≡◌, ◌<◌};
 ghost use Rattle.even.specs.Walks.{pair_weight, weight_of};
 
 // More than all sixteen constraints weigh.
 pub(crate) const FAR: u32 = 1048576;
 
-// What constraint e weighs. Constant time, as are the next two.
+// What constraint e weighs. Constant time, as is the next.
 pub(crate) fn weight_of(e: usize) -> u32
     requires { e < 16 }
     ensures { result ≡ weight_of e }
@@ -22,13 +22,4 @@ pub(crate) fn pair_weight(i: usize, j: usize) -> u32
         return weight_of(i);
     }
     weight_of(i) + weight_of(j)
-}
-
-pub(crate) fn lower(a: u32, b: u32) -> u32
-    ensures { result ≡ min a b }
-{
-    if a <= b {
-        return a;
-    }
-    b
 }

@@ -9,15 +9,6 @@ use Rattle.even.proofs.knots.weight_from.Goals as goal
 pub loop-j-init : goal.loop-j-init
 loop-j-init c = (omega arith, λ S l h. lowest-none _)
 
-pub bounds-constraint-j : goal.bounds-constraint-j
-bounds-constraint-j c = let s = c in omega (arith, c.loop-j-test.true, s.requires.0.constraints)
-
-pub cost_at-at-requires : goal.cost_at-at-requires
-cost_at-at-requires c = let s = c in (s.requires.0.target-table _, s.requires.0.source-table _)
-
-pub offset_bounds-costs-at : goal.offset_bounds-costs-at
-offset_bounds-costs-at c = let s = c in omega (arith, c.cost_at-at.ensures, s.requires.0.target-table c.loop-j.j, s.requires.0.source-table s.args.i)
-
 pub bounds-costs-at : goal.bounds-costs-at
 bounds-costs-at c = let s = c in omega (arith, c.cost_at-at.ensures, s.requires.0.target-table c.loop-j.j, s.requires.0.source-table s.args.i)
 
@@ -29,7 +20,7 @@ loop-j-preserved c = let s = c in (
   omega arith,
   λ S l h.
       lowest-more _ _ (c.loop-j.invariant.1 S l h)
-      (with-walk S _ _ l _ _ _ h (s.requires.0.source-table _) (s.requires.0.target-table _) _ _ c.cost_at-at.ensures c.weight_with-w.ensures) c.lower-least.ensures,
+      (with-walk S _ _ l _ _ _ h (s.requires.0.source-table _) (s.requires.0.target-table _) _ _ c.cost_at-at.ensures c.weight_with-w.ensures) c.min-least.ensures,
 )
 
 pub returns : goal.returns

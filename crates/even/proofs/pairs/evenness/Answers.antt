@@ -5,9 +5,6 @@ use Rattle.state.specs.Meaning.{scheme_of}
 use Rattle.even.proofs.PairLaws.{lowest-here, lowest-skip, lowest-none}
 use Rattle.even.proofs.pairs.evenness.Goals as goal
 
-pub reachable-m-requires : goal.reachable-m-requires
-reachable-m-requires c = c.requires.constraints
-
 pub loop-i-init : goal.loop-i-init
 unfolding scheme_of
 loop-i-init c = (omega arith, refl, c.reachable-m.ensures, refl)

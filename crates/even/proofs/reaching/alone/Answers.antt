@@ -9,11 +9,8 @@ use Rattle.even.proofs.reaching.alone.Goals as goal
 pub loop-t-init : goal.loop-t-init
 loop-t-init c = (omega arith, upto-start [] 8 _ _ refl)
 
-pub own_row-row-requires : goal.own_row-row-requires
-own_row-row-requires c = c.loop-t-test.true
-
 pub loop-t-preserved : goal.loop-t-preserved
-loop-t-preserved c = (omega arith, upto-set _ _ _ _ _ _ c.loop-t.invariant.1 c.loop-t-test.true _ c.own_row-row.ensures)
+loop-t-preserved c = (omega arith, upto-set _ _ _ _ _ _ c.loop-t.invariant.1 c.loop-t-test.true _ c.own_row.ensures)
 
 pub returns : goal.returns
 returns c = upto-end _ _ _ _ _ _ c.loop-t.invariant.1 c.loop-t.invariant.0 c.loop-t-test.false

@@ -9,9 +9,6 @@ use Rattle.even.proofs.reaching.linked_tables.Goals as goal
 pub loop-i-init : goal.loop-i-init
 loop-i-init c = (omega arith, λ S l. c.alone-m.ensures ∙ links-none S)
 
-pub bounds-constraint-i : goal.bounds-constraint-i
-bounds-constraint-i c = let s = c in omega (arith, c.loop-i-test.true, s.requires)
-
 pub loop-i-preserved : goal.loop-i-preserved
 loop-i-preserved c = (omega arith, λ S l. links-more S _ _ l _ _ _ (c.loop-i.invariant.1 S l) c.with_link-next.ensures)
 

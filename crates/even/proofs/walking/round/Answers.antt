@@ -8,12 +8,6 @@ use Rattle.even.proofs.walking.round.Goals as goal
 pub loop-e-init : goal.loop-e-init
 loop-e-init c = (omega arith, λ S l. round-start S _ c.requires.1.1.long (cheap-far _ _ _ c.requires.1.1))
 
-pub bounds-constraint-e : goal.bounds-constraint-e
-bounds-constraint-e c = let s = c in omega (arith, c.loop-e-test.true, s.requires.0.constraints)
-
-pub weight_of-w-requires : goal.weight_of-w-requires
-weight_of-w-requires c = let s = c in omega (arith, c.loop-e-test.true, s.requires.0.constraints)
-
 pub step_to-requires : goal.step_to-requires
 step_to-requires c = let s = c in
     (s.requires.0.source-table _, s.requires.0.target-table _, omega (arith, c.weight_of-w.ensures), s.requires.1.1.long, (c.loop-e.invariant.1 (scheme_of s.args.d) (laid s.args.d)).long, cheap-far _ _ _ s.requires.1.1)

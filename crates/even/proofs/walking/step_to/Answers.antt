@@ -11,7 +11,7 @@ pub overflow_add-onward-in-loop-u : goal.overflow_add-onward-in-loop-u
 overflow_add-onward-in-loop-u c = let s = c in omega (arith, s.requires.5 (8 * s.args.t + c.loop-u.u))
 
 pub loop-u-preserved : goal.loop-u-preserved
-loop-u-preserved c = let s = c in (omega arith, step-more _ _ _ _ _ _ _ c.loop-u.invariant.1 c.loop-u-test.true s.requires.0 s.requires.4 _ c.lower.ensures)
+loop-u-preserved c = let s = c in (omega arith, step-more _ _ _ _ _ _ _ c.loop-u.invariant.1 c.loop-u-test.true s.requires.0 s.requires.4 _ c.min.ensures)
 
 pub returns : goal.returns
 returns c = step_end _ _ _ _ _ _ _ c.loop-u.invariant.1 c.loop-u.invariant.0 c.loop-u-test.false
