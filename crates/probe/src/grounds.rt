@@ -31,12 +31,7 @@ fn is_demanded_by(
     ensures { (D : Database) → Indexed D catalog.now keys.now
         → result ≡ same_column (constraint_of c).target (column_of k) && Probe.seen D (marked marks.now) (constraint_of c).source (cell_of v) }
 {
-    let target = c.target;
-    if !same_column(target, k) {
-        return false;
-    }
-    let source = c.source;
-    seen(catalog, keys, marks, source, v)
+    same_column(c.target, k) && seen(catalog, keys, marks, c.source, v)
 }
 
 // Ground 2: whether a constraint ends at the column and a cached row has the value in its source column. The cost of looking for the value, for each
@@ -54,16 +49,7 @@ fn is_demanded(
     ensures { (D : Database) → Indexed D catalog.now keys.now
         → result ≡ Probe.demanded (scheme_of d) D (marked marks.now) (column_of k) (cell_of v) }
 {
-    let n = d.constraints;
-    // read from here, so that the compiler copies 64 bytes and not the whole design
-    let constraint = d.constraint;
-    for i in 0..n {
-        let c = constraint[i];
-        if is_demanded_by(catalog, keys, marks, c, k, v) {
-            return true;
-        }
-    }
-    false
+    (0..d.constraints).any(|i| is_demanded_by(catalog, keys, marks, d.constraint[i], k, v))
 }
 
 // Ground 3: whether the column is unique and a cached row has the value there. The cost of looking for it, if the column is unique.
@@ -80,10 +66,7 @@ fn is_uniquely_seen(
     ensures { (D : Database) → Indexed D catalog.now keys.now
         → result ≡ Probe.uniquely_seen (scheme_of d) D (marked marks.now) (column_of k) (cell_of v) }
 {
-    if !is_unique(d, k) {
-        return false;
-    }
-    seen(catalog, keys, marks, k, v)
+    is_unique(d, k) && seen(catalog, keys, marks, k, v)
 }
 
 // The lowest ground that says the value is complete in the column, 0 if none does. Held values, and a look for the value for each

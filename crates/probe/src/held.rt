@@ -17,13 +17,7 @@ fn is_held_by(d: Design, h: HeldValue, k: Column, v: Cell) -> bool
     requires { h.filling < 8 }
     ensures { result ≡ one ((scheme_of d).filling h.filling).column (cell_of h.value) (column_of k) (cell_of v) }
 {
-    if !same_cell(h.value, v) {
-        return false;
-    }
-    let f = h.filling as usize;
-    let filling = d.filling[f];
-    let j = filling.column;
-    same_column(j, k)
+    same_cell(h.value, v) && same_column(d.filling[h.filling as usize].column, k)
 }
 
 // Whether a filling of the column holds the value as a pair, for whatever desk. One comparison for each held value that is another.
@@ -31,15 +25,7 @@ fn is_held_value(d: Design, held: &[u32; 358], k: Column, v: Cell) -> bool
     requires { ((words_held held.now).count ≤ 64) × ((i : ℕ) → (held_at (words_held held.now) i).pair.filling < 8) }
     ensures { result ≡ pairs_hold (scheme_of d) (values_of (words_held held.now)) (column_of k) (cell_of v) }
 {
-    let n = value_count(held);
-    for i in 0..n {
-        let o = value_at(held, i);
-        let h = o.pair;
-        if is_held_by(d, h, k, v) {
-            return true;
-        }
-    }
-    false
+    (0..value_count(held)).any(|i| is_held_by(d, value_at(held, i).pair, k, v))
 }
 
 // Whether the range has v and its filling's column is k. Constant time.
@@ -47,13 +33,7 @@ fn is_held_in(d: Design, r: Range, k: Column, v: Cell) -> bool
     requires { r.filling < 8 }
     ensures { result ≡ range_holds (scheme_of d) (range_of r) (column_of k) (cell_of v) }
 {
-    if !in_range(r, v) {
-        return false;
-    }
-    let f = r.filling as usize;
-    let filling = d.filling[f];
-    let j = filling.column;
-    same_column(j, k)
+    in_range(r, v) && same_column(d.filling[r.filling as usize].column, k)
 }
 
 // Whether one of desk e's ranges of the column has the value. One look at each.
@@ -62,14 +42,7 @@ fn is_held_at(d: Design, held: &[u32; 358], e: usize, k: Column, v: Cell) -> boo
     ensures { result ≡ any (ranges_at (words_held held.now) e).count
         (λ i. range_holds (scheme_of d) (range_of (range_at (ranges_at (words_held held.now) e) i)) (column_of k) (cell_of v)) }
 {
-    let n = range_count(held, e);
-    for i in 0..n {
-        let r = range_at(held, e, i);
-        if is_held_in(d, r, k, v) {
-            return true;
-        }
-    }
-    false
+    (0..range_count(held, e)).any(|i| is_held_in(d, range_at(held, e, i), k, v))
 }
 
 // Whether a range of the column has the value, for whatever desk. One look at each range.
@@ -77,12 +50,7 @@ fn is_held_range(d: Design, held: &[u32; 358], k: Column, v: Cell) -> bool
     requires { Bounded (words_held held.now) }
     ensures { result ≡ ranges_hold (scheme_of d) (all_ranges (lists_of (words_held held.now))) (column_of k) (cell_of v) }
 {
-    for e in 0..4usize {
-        if is_held_at(d, held, e, k, v) {
-            return true;
-        }
-    }
-    false
+    (0..4).any(|e| is_held_at(d, held, e, k, v))
 }
 
 // Whether a filling of the column holds the value, as a pair or in a range, for whatever desk. One look at each held value and range.
@@ -90,8 +58,5 @@ pub(crate) fn is_held(d: Design, held: &[u32; 358], k: Column, v: Cell) -> bool
     requires { Bounded (words_held held.now) }
     ensures { result ≡ held_in (scheme_of d) (holding_of (words_held held.now)) (column_of k) (cell_of v) }
 {
-    if is_held_value(d, held, k, v) {
-        return true;
-    }
-    is_held_range(d, held, k, v)
+    is_held_value(d, held, k, v) || is_held_range(d, held, k, v)
 }

@@ -1,25 +1,18 @@
 -- `probe::grounds::is_demanded` meets its contract: a search among the constraints. Assumes nothing.
+use Rattle.std.proofs.Common.{rules}
+use borrow.Author.Tests.{tests}
 use native.Mathlib.Omega.{arith}
-use mathlib.Core.Path.{sym, ◌∙◌}
-use Rattle.finite.proofs.Search.{any-start, any-more, any-hit, any-end}
+use Rattle.std.proofs.lemmas.Iterator.{YieldsList-from_range, serves_from_Range}
+use Rattle.finite.proofs.Ranges.{any_in-range}
 use Rattle.model.specs.Probe.{demanded}
 use Rattle.state.specs.Meaning.{scheme_of}
 use Rattle.probe.proofs.grounds.is_demanded.Goals as goal
 
-pub loop-i-init : goal.loop-i-init
-loop-i-init c = (omega arith, λ D x. any-start _)
-
-pub is_demanded_by-requires : goal.is_demanded_by-requires
-is_demanded_by-requires c = let i = c.loop-i.i in
-    record { table_bound = (c.requires.in_range.0.source-table i, c.requires.in_range.0.source i, c.requires.in_range.1); indexed = c.requires.indexed }
-
-pub returns-then-is_demanded_by : goal.returns-then-is_demanded_by
-unfolding demanded scheme_of
-returns-then-is_demanded_by c = λ D x. any-hit _ _ _ c.loop-i-test.true (sym (c.is_demanded_by.ensures D x) ∙ c.if-is_demanded_by.true)
-
-pub loop-i-preserved : goal.loop-i-preserved
-loop-i-preserved c = (omega arith, λ D x. any-more _ _ (c.loop-i.invariant.1 D x) (sym (c.is_demanded_by.ensures D x) ∙ c.if-is_demanded_by.false))
+pub any-requires-clause-callable : goal.any-requires-clause-callable
+any-requires-clause-callable c = serves_from_Range (λ x q k. search (rules, tests)) (λ i lo hi.
+    let a = c.requires.in_range.0.source-table i in
+    let b = c.requires.in_range.0.source i in search (rules, tests))
 
 pub returns : goal.returns
 unfolding demanded scheme_of
-returns c = λ D x. any-end _ _ _ c.loop-i.invariant.0 c.loop-i-test.false (c.loop-i.invariant.1 D x)
+returns c = λ D x. let n = c.args.d.constraints in any_in-range _ _ _ _ _ c.any.ensures.ran (YieldsList-from_range 0 n n (cc) (omega arith)) (λ i b q k. search (rules, tests))
