@@ -16,19 +16,14 @@ use load::{load_held, marks_agree};
 use state::{Design, HELD_WORDS, first_words};
 
 // Whether the buffers have room for 512 rows. Constant time.
+#[tactic(auto, unfolding(state::specs::Lent::long_enough))]
 fn is_long_enough(cells: &[u32], issues: &[u8], tables: &[u8], marks: &[u8]) -> bool
     ensures { (d : Design) (h : Held) → result ≡ long_enough (lent d (cells_in cells.now issues.now) tables.now marks.now h) }
 {
-    if cells.len() < Design::CELLS {
-        return false;
-    }
-    if issues.len() < Design::CELLS {
-        return false;
-    }
-    if tables.len() < Design::ROWS {
-        return false;
-    }
-    Design::ROWS <= marks.len()
+    Design::CELLS <= cells.len()
+        && Design::CELLS <= issues.len()
+        && Design::ROWS <= tables.len()
+        && Design::ROWS <= marks.len()
 }
 
 // Whether cause 12 does not apply; where it does not, the arrays have the catalog of the rows then, whatever stood there. One look at the design, at each

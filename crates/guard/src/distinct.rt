@@ -14,10 +14,7 @@ fn links_at(unique: u8, catalog: &[u16; 16449], r: usize, c: u8) -> bool
     requires { (r < 512) × (c < 8) }
     ensures { (D : Database) → Links D catalog.now → result ≡ linked_at unique D r c }
 {
-    if !has_bit(unique, c) {
-        return false;
-    }
-    next_row(catalog, r, c as usize) < 512
+    has_bit(unique, c) && next_row(catalog, r, usize::from(c)) < 512
 }
 
 // Whether row r has a next row in one of the unique columns. One look at each of its 8 cells.
@@ -25,12 +22,7 @@ fn row_links(unique: u8, catalog: &[u16; 16449], r: usize) -> bool
     requires { r < 512 }
     ensures { (D : Database) → Links D catalog.now → result ≡ any 8 (linked_at unique D r) }
 {
-    for c in 0..8u8 {
-        if links_at(unique, catalog, r, c) {
-            return true;
-        }
-    }
-    false
+    (0..8).any(|c| links_at(unique, catalog, r, c))
 }
 
 // Whether no row has a next row in a unique column; a number without a row has no table, and so no unique column. One look at each of the 4,096 cells.
@@ -38,12 +30,5 @@ pub(crate) fn is_distinct(d: Design, tables: &[u8], catalog: &[u16; 16449]) -> b
     requires { 512 ≤ length tables.now }
     ensures { (D : Database) → Links D catalog.now → result ≡ distinct d tables.now D }
 {
-    for r in 0..Design::ROWS {
-        let t = tables[r] as usize;
-        let x = table_at(d, t);
-        if row_links(x.unique, catalog, r) {
-            return false;
-        }
-    }
-    true
+    (0..Design::ROWS).all(|r| !row_links(table_at(d, usize::from(tables[r])).unique, catalog, r))
 }
