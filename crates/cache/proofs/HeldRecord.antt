@@ -10,6 +10,8 @@ use mathlib.Core.Bool.{Bool, true, false, cond}
 use mathlib.Core.List.{List, [], ◌∷◌, ◌++◌}
 use borrow.Author.Tests.{lt-ltb, le-ltb}
 use lib.Dec.{ltb}
+use Rattle.std.specs.Prelude.{Option, None, Some}
+use Rattle.std.specs.Option.{is_some}
 use lib.ListN.{length, get_or, set, length-set, get_or-eq_default}
 use lib.Seq.{get_or-set_same, get_or-set_other}
 use Rattle.finite.specs.Finite.{tab}
@@ -26,19 +28,23 @@ use Rattle.state.specs.Held.{no_value, held_at, Tidy}
 use Rattle.state.specs.Meaning.{pair_of, owned_of, owned_back, values_of, list_back, holding_of, held_of}
 use Rattle.state.proofs.Arrays.{HeldSized}
 use Rattle.lawful.proofs.HeldLaws.{length-values, values-at, lists-kept}
-use Rattle.cache.specs.Places.{kept_at, without}
+use Rattle.cache.specs.Places.{kept_at, Placed, without}
 
 -- ---- the values of a record
 
 -- a pair is held if its place is one of the record's
-pub listed-is : (h : Held) (p : Pair) (at : ℕ) → at ≡ place_of same_owned (mine (holding_of h) p) (values_of h) → ltb at h.count ≡ holds (holding_of h) p
+listed-is : (h : Held) (p : Pair) (at : ℕ) → at ≡ place_of same_owned (mine (holding_of h) p) (values_of h) → ltb at h.count ≡ holds (holding_of h) p
 listed-is h p at e = ap₂ ltb e (sym (length-values h)) ∙ listed-place same_owned no_owned (mine (holding_of h) p) (values_of h)
 
 pub held-there : (h : Held) (p : Pair) (at : ℕ) → at ≡ place_of same_owned (mine (holding_of h) p) (values_of h) → at < h.count → holds (holding_of h) p ≡ true
 held-there h p at e l = sym (listed-is h p at e) ∙ lt-ltb at h.count l
 
-pub held-nowhere : (h : Held) (p : Pair) (at : ℕ) → at ≡ place_of same_owned (mine (holding_of h) p) (values_of h) → h.count ≤ at → holds (holding_of h) p ≡ false
+held-nowhere : (h : Held) (p : Pair) (at : ℕ) → at ≡ place_of same_owned (mine (holding_of h) p) (values_of h) → h.count ≤ at → holds (holding_of h) p ≡ false
 held-nowhere h p at e l = sym (listed-is h p at e) ∙ le-ltb at h.count l
+
+pub listed-some : (h : Held) (p : Pair) (r : Option ℕ) → Placed h p r → is_some r ≡ holds (holding_of h) p
+listed-some h p None e = sym (held-nowhere h p h.count e (omega arith))
+listed-some h p (Some i) w = sym (held-there h p i w.0 w.1)
 
 -- with unused places 0, what a place holds is known of every place
 pub values-all : (h : Held) → Tidy h → length h.values ≡ 64 → (i : ℕ) → owned_at (values_of h) i ≡ owned_of (held_at h i)

@@ -6,10 +6,11 @@ use mathlib.Core.Path.{◌≡◌, refl, sym, ap, subst, ◌∙◌}
 use mathlib.Core.Bool.{Bool, true, false, cond}
 use mathlib.Core.List.{List, [], ◌∷◌}
 use lib.ListN.{length, set}
+use Rattle.std.specs.Prelude.{Option, None, Some, MatchOption}
 use Rattle.finite.specs.Finite.{any, tab}
 use Rattle.finite.specs.Sameness.{place_of, remove}
 use Rattle.finite.proofs.Sameness.{place_found, place_none}
-use Rattle.finite.proofs.Search.{any_none}
+use Rattle.finite.proofs.Search.{any_none, any-refuted}
 use Rattle.finite.proofs.Tables.{Upto}
 use Rattle.model.specs.Ranges as Model
 use Rattle.model.specs.Holding.{same_owned, mine, with_pair}
@@ -23,7 +24,7 @@ use Rattle.state.specs.HeldWords.{words_held, Whole, Holds, with_count, with_val
 use Rattle.state.specs.Meaning.{pair_of, owned_of, values_of, list_of, list_back, holding_of, held_of}
 use Rattle.state.proofs.HeldWords.{words-sized, holds-whole, holds_same}
 use Rattle.lawful.proofs.RangeTests.{length-list}
-use Rattle.cache.specs.Places.{kept_at, without}
+use Rattle.cache.specs.Places.{kept_at, Placed, without}
 use Rattle.cache.proofs.HeldRecord.{append-is, shift-start, shift-next, shift-end}
 
 -- the words ws hold what h held, but for its values
@@ -124,6 +125,19 @@ module _ (h : Held) (v : HeldValue) (d : ℕ) (e : d ≡ h.desk) (i : ℕ)
   pub place_end : (n : ℕ) → n ≡ h.count → n ≤ i → n ≡ place_of same_owned (mine (holding_of h) (pair_of v)) (values_of h)
   unfolding values_of
   place_end n p g = p ∙ place_none same_owned no_owned _ _ _ (λ j l. any_none _ _ none-mine j (omega arith))
+
+-- value i is desk d's v
+abbrev pub is_at : Held → HeldValue → ℕ → ℕ → Bool
+is_at h v d i = same_owned (owned_of (held_at h i)) (owned_of (record { desk = d; pair = v }))
+
+-- what a search among the n values finds
+pub placed_first : (h : Held) (v : HeldValue) (d : ℕ) → d ≡ h.desk → (n : ℕ) → n ≡ h.count → (r : Option ℕ) →
+    MatchOption r ((k : ℕ) → 0 ≤ k → k < n → is_at h v d k ≡ false)
+    (λ i. (0 ≤ i) × (i < n) × (is_at h v d i ≡ true) × ((k : ℕ) → 0 ≤ k → k < i → is_at h v d k ≡ false)) →
+    Placed h (pair_of v) r
+placed_first h v d e n f None w = sym f ∙ place_end h v d e n (any-refuted n (is_at h v d) (λ k l. w k (omega arith) l)) n f (omega arith)
+placed_first h v d e n f (Some i) w =
+    (place_at h v d e i (any-refuted i (is_at h v d) (λ k l. w.3 k (omega arith) l)) (omega (arith, w.1, f)) w.2, omega (arith, w.1, f))
 
 -- ---- a desk's ranges without one are no more than before
 

@@ -1,6 +1,6 @@
 -- A desk's ranges in the held record: ranges put one behind the other, joining and removing turn by turn, and the record with other ranges for a desk.
 -- Assumes nothing.
-use Prim.Native.Nat.{ℕ, zero, suc, ◌+◌, ◌≤◌, ◌<◌, max, min}
+use Prim.Native.Nat.{ℕ, zero, suc, ◌+◌, ◌≤◌, ◌<◌}
 use native.Mathlib.Numerals.{add-one}
 use native.Mathlib.Omega.{arith}
 use mathlib.Core.Path.{◌≡◌, refl, sym, ap, ap₂, subst, ◌∙◌}
@@ -235,9 +235,3 @@ module _ (h : Held) (named : h.desk < 4) where
       ranges =
           tab-of no_ranges desks _ (set h.ranges h.desk (list_back rs)) (length-set h.ranges h.desk (list_back rs) ∙ z.ranges)
           (λ x l. at x l (same_number x h.desk))
-
--- ---- the hull, from the lower low and the higher high
-
-pub hull-is : (r q : Model.Range) (low high : ℕ) → low ≡ min r.low q.low → high ≡ max r.high q.high →
-    ◌≡◌ {A = Model.Range} (record { filling = r.filling; low = low; high = high }) (hull r q)
-hull-is r q low high e f = λ i. record { filling = r.filling; low = e i; high = f i }

@@ -10,7 +10,7 @@ ghost use Rattle.cache.specs.Ready.{Ready};
 use crate::loads::mark_held;
 use crate::values::{close_gap, place};
 use catalog::find;
-use state::{Answer, Design, HeldValue, is_numberless, value_count};
+use state::{Answer, Design, HeldValue, is_numberless};
 
 // Lets the named desk's value go, and the cached rows become the smallest set for the values left. One look at each held value, and a search of the directory:
 // where no row has the value, the cached rows stay. Else one reload: a step for each row that is reached and each constraint.
@@ -36,10 +36,9 @@ pub fn drop_lawful(
     if is_numberless(v.value) {
         return Answer::Refused(9);
     }
-    let gap = place(held, v);
-    if value_count(held) <= gap {
+    let Some(gap) = place(held, v) else {
         return Answer::Refused(10);
-    }
+    };
     close_gap(held, gap);
     let filling = design.filling[f];
     let first = find(catalog, keys, filling.column, v.value);

@@ -39,7 +39,7 @@ pub(crate) fn mark_value(
 }
 
 // Loads one range more and marks the rows. Two passes over the marks, a search of the directory and the walk of the range's values, then a step for each row that
-// is added and each constraint.
+// is added and each constraint. Beside `mark_value`, and not one function of a closure that loads: the clause of that closure would be longer than what the two share.
 pub(crate) fn mark_range(
     design: Design,
     catalog: &[u16; 16449],

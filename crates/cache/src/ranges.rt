@@ -1,6 +1,6 @@
 // The ranges of one desk, as a record by value: whether a range lies inside one of them or is one of them, the ranges with one joined to them, and without one.
 // One look at each of at most 8 ranges, where no other cost is named.
-ghost use Rattle.std.specs.Prelude.{◌+◌, ◌≤◌, ◌<◌, max, min, not, cond, ◌&&◌, List, [], ◌∷◌, ◌++◌, ◌≡◌, drop};
+ghost use Rattle.std.specs.Prelude.{◌+◌, ◌≤◌, ◌<◌, not, ◌&&◌, List, [], ◌∷◌, ◌++◌, ◌≡◌, drop};
 ghost use Rattle.finite.specs.Sameness.{listed, remove};
 ghost use Rattle.model.specs.Ranges as Model;
 ghost use Rattle.state.specs.Held.{ranges_at};
@@ -12,16 +12,11 @@ use state::{
 };
 
 // Whether r lies inside q. Constant time.
+#[tactic(auto, unfolding(model::specs::Ranges::contains))]
 fn contains(q: Range, r: Range) -> bool
     ensures { result ≡ Model.contains (range_of q) (range_of r) }
 {
-    if q.filling != r.filling {
-        return false;
-    }
-    if r.low < q.low {
-        return false;
-    }
-    r.high <= q.high
+    q.filling == r.filling && q.low <= r.low && r.high <= q.high
 }
 
 // Whether the range lies inside one of the desk's.
@@ -29,14 +24,7 @@ pub(crate) fn covers(s: DeskRanges, r: Range) -> bool
     requires { s.count ≤ 8 }
     ensures { result ≡ listed Model.contains (range_of r) (list_of s) }
 {
-    let list = s.list;
-    for i in 0..s.count {
-        let q = list[i];
-        if contains(q, r) {
-            return true;
-        }
-    }
-    false
+    (0..s.count).any(|i| contains(s.list[i], r))
 }
 
 // Whether the range is one of the desk's.
@@ -44,14 +32,7 @@ pub(crate) fn has_range(s: DeskRanges, r: Range) -> bool
     requires { s.count ≤ 8 }
     ensures { result ≡ listed Model.same_range (range_of r) (list_of s) }
 {
-    let list = s.list;
-    for i in 0..s.count {
-        let q = list[i];
-        if same_range(q, r) {
-            return true;
-        }
-    }
-    false
+    (0..s.count).any(|i| same_range(s.list[i], r))
 }
 
 // The ranges with one more at the end; a ninth is counted and not kept. Constant time.
@@ -59,31 +40,14 @@ fn put(s: DeskRanges, q: Range) -> DeskRanges
     requires { s.count ≤ 8 }
     ensures { (result.count ≡ s.count + 1) × ((rs : List Model.Range) → s ≡ list_back rs → result ≡ list_back (rs ++ (range_of q ∷ []))) }
 {
-    let n = s.count;
-    let mut list = s.list;
-    if Held::RANGES <= n {
-        return DeskRanges {
-            count: n + 1,
-            list: list,
-        };
+    let mut t = DeskRanges {
+        count: s.count + 1,
+        ..s
+    };
+    if s.count < Held::RANGES {
+        t.list[s.count] = q;
     }
-    list[n] = q;
-    DeskRanges {
-        count: n + 1,
-        list: list,
-    }
-}
-
-// The same, if the range is to be put there. Constant time.
-fn put_if(wanted: bool, s: DeskRanges, q: Range) -> DeskRanges
-    requires { s.count ≤ 8 }
-    ensures { (result.count ≤ s.count + 1)
-        × ((rs : List Model.Range) → s ≡ list_back rs → result ≡ list_back (cond wanted (rs ++ (range_of q ∷ [])) rs)) }
-{
-    if !wanted {
-        return s;
-    }
-    put(s, q)
+    t
 }
 
 // The ranges of `out`, and behind them those of s from place i on.
@@ -94,43 +58,20 @@ fn with_rest(out: DeskRanges, s: DeskRanges, i: usize) -> DeskRanges
     let list = s.list;
     let mut t = out;
     for k in i..s.count {
-        let q = list[k];
-        let u = put(t, q);
-        t = u;
+        t = put(t, list[k]);
     }
     t
 }
 
-// The lower and the higher of two numbers. Constant time, as are the next three.
-fn lower_of(a: u32, b: u32) -> u32
-    ensures { result ≡ min a b }
+// The range from the lower low to the higher high. Constant time, as is the next.
+#[tactic(auto, unfolding(model::specs::Ranges::hull))]
+fn hull(r: Range, q: Range) -> Range
+    ensures { range_of result ≡ Model.hull (range_of r) (range_of q) }
 {
-    if b < a {
-        return b;
-    }
-    a
-}
-
-fn higher_of(a: u32, b: u32) -> u32
-    ensures { result ≡ max a b }
-{
-    if a < b {
-        return b;
-    }
-    a
-}
-
-// The range from the lower low to the higher high, unless the two stay apart.
-fn hull_unless(apart: bool, r: Range, q: Range) -> Range
-    ensures { range_of result ≡ cond apart (range_of r) (Model.hull (range_of r) (range_of q)) }
-{
-    if apart {
-        return r;
-    }
     Range {
         filling: r.filling,
-        low: lower_of(r.low, q.low),
-        high: higher_of(r.high, q.high),
+        low: r.low.min(q.low),
+        high: r.high.max(q.high),
     }
 }
 
@@ -138,10 +79,7 @@ fn hull_unless(apart: bool, r: Range, q: Range) -> Range
 fn is_behind(q: Range, r: Range) -> bool
     ensures { result ≡ not (Model.stands_before (range_of q) (range_of r)) && Model.stands_before (range_of r) (range_of q) }
 {
-    if stands_before(q, r) {
-        return false;
-    }
-    stands_before(r, q)
+    !stands_before(q, r) && stands_before(r, q)
 }
 
 // The desk's ranges with one joined to them. They may be nine, of which the last is counted and not kept.
@@ -151,20 +89,20 @@ pub(crate) fn joined(s: DeskRanges, r: Range) -> DeskRanges
 {
     let list = s.list;
     let mut out = DeskRanges::none();
-    let mut hull = r;
+    let mut whole = r;
     for i in 0..s.count {
         let q = list[i];
-        if is_behind(q, hull) {
-            let t = put(out, hull);
+        if is_behind(q, whole) {
+            let t = put(out, whole);
             return with_rest(t, s, i);
         }
-        let before = stands_before(q, hull);
-        let t = put_if(before, out, q);
-        out = t;
-        let h = hull_unless(before, hull, q);
-        hull = h;
+        if stands_before(q, whole) {
+            out = put(out, q);
+        } else {
+            whole = hull(whole, q);
+        }
     }
-    put(out, hull)
+    put(out, whole)
 }
 
 // The desk's ranges without one.
@@ -179,8 +117,7 @@ pub(crate) fn removed(s: DeskRanges, r: Range) -> DeskRanges
         if same_range(q, r) {
             return with_rest(out, s, i + 1);
         }
-        let t = put(out, q);
-        out = t;
+        out = put(out, q);
     }
     out
 }

@@ -13,34 +13,21 @@ pub fn filling_for(design: Design, k: Column) -> usize
     requires { design.fillings ≤ 8 }
     ensures { result ≡ filling_for (scheme_of design) (column_of k) }
 {
-    let n = design.fillings;
-    let filling = design.filling;
-    for f in 0..n {
-        let x = filling[f];
-        let j = x.column;
-        if same_column(j, k) {
-            return f;
-        }
-    }
-    n
+    (0..design.fillings)
+        .find(|&f| same_column(design.filling[f].column, k))
+        .unwrap_or(design.fillings)
 }
 
 // Whether a REFER takes the pair: the filling exists, the value is a candidate, and the named desk doesn't hold it already and has room. Two looks at each
 // held value.
+#[tactic(auto, unfolding(model::specs::Runs::taken, state::specs::Meaning::scheme_of))]
 pub fn takes(design: Design, held: &[u32; 358], v: HeldValue) -> bool
     requires { (design.fillings ≤ 8) × ((words_held held.now).count ≤ 64) }
     ensures { result ≡ taken (scheme_of design) (holding_of (words_held held.now)) (pair_of v) }
 {
-    let f = v.filling as usize;
-    if design.fillings <= f {
-        return false;
-    }
-    let candidates = design.filling[f];
-    if !is_candidate(candidates, v.value) {
-        return false;
-    }
-    if listed(held, v) {
-        return false;
-    }
-    has_room(held)
+    let f = usize::from(v.filling);
+    f < design.fillings
+        && is_candidate(design.filling[f], v.value)
+        && !listed(held, v)
+        && has_room(held)
 }

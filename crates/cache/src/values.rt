@@ -1,12 +1,11 @@
 // The held values as lent words: looking for a pair of the named desk, whether that has room, putting one at the end, and taking one out so that
 // the gap closes.
 ghost use Rattle.std.specs.Prelude.{◌<◌, ◌≤◌, ◌≡◌};
-ghost use Rattle.finite.specs.Sameness.{place_of};
-ghost use Rattle.model.specs.Holding.{mine, same_owned, has_room, holds, with_pair};
+ghost use Rattle.model.specs.Holding.{has_room, holds, with_pair};
 ghost use Rattle.state.specs.Held.{Tidy};
 ghost use Rattle.state.specs.HeldWords.{words_held, Whole, Holds};
-ghost use Rattle.state.specs.Meaning.{pair_of, values_of, holding_of, held_of};
-ghost use Rattle.cache.specs.Places.{without};
+ghost use Rattle.state.specs.Meaning.{pair_of, holding_of, held_of};
+ghost use Rattle.cache.specs.Places.{Placed, without};
 
 use lawful::own_count;
 use state::{
@@ -14,22 +13,16 @@ use state::{
     value_count,
 };
 
-// The place of the named desk's value; the count where the desk doesn't hold it. One look at each held value.
-pub(crate) fn place(held: &[u32; 358], v: HeldValue) -> usize
+// The place of the named desk's value, if the desk holds it. One look at each held value.
+pub(crate) fn place(held: &[u32; 358], v: HeldValue) -> Option<usize>
     requires { (words_held held.now).count ≤ 64 }
-    ensures { result ≡ place_of same_owned (mine (holding_of (words_held held.now)) (pair_of v)) (values_of (words_held held.now)) }
+    ensures { Placed (words_held held.now) (pair_of v) result }
 {
-    let n = value_count(held);
     let own = OwnedValue {
         desk: named_desk(held),
         pair: v,
     };
-    for i in 0..n {
-        if same_owned(value_at(held, i), own) {
-            return i;
-        }
-    }
-    n
+    (0..value_count(held)).find(|&i| same_owned(value_at(held, i), own))
 }
 
 // Whether the named desk holds the value. One look at each held value.
@@ -37,7 +30,7 @@ pub(crate) fn listed(held: &[u32; 358], v: HeldValue) -> bool
     requires { (words_held held.now).count ≤ 64 }
     ensures { result ≡ holds (holding_of (words_held held.now)) (pair_of v) }
 {
-    place(held, v) < value_count(held)
+    place(held, v).is_some()
 }
 
 // Whether the named desk has room for one value more. One look at each held value.
@@ -69,8 +62,7 @@ pub(crate) fn close_gap(held: &mut [u32; 358], gap: usize)
 {
     let n = value_count(held);
     for i in gap..Held::PLACES - 1 {
-        let v = value_at(held, i + 1);
-        set_value(held, i, v);
+        set_value(held, i, value_at(held, i + 1));
     }
     let none = OwnedValue {
         desk: 0,

@@ -1,19 +1,17 @@
--- `cache::ranges::covers` meets its contract: a search for the first of the desk's ranges that passes the test. Assumes nothing.
+-- `cache::ranges::covers` meets its contract: a search among the desk's ranges. Assumes nothing.
+use Rattle.std.proofs.Common.{rules}
+use borrow.Author.Tests.{tests}
 use native.Mathlib.Omega.{arith}
-use mathlib.Core.Path.{sym, ◌∙◌}
-use Rattle.finite.proofs.Search.{any-start, any-more, any-hit, any-end}
+use mathlib.Core.Path.{◌∙◌}
+use Rattle.std.proofs.lemmas.Iterator.{YieldsList-from_range}
+use Rattle.finite.proofs.Ranges.{any_in-range}
 use Rattle.model.specs.Ranges.{contains}
+use Rattle.state.specs.Held.{range_at}
+use Rattle.state.specs.Meaning.{range_of}
 use Rattle.cache.proofs.RangeRecord.{listed-any}
 use Rattle.cache.proofs.ranges.covers.Goals as goal
 
-pub loop-i-init : goal.loop-i-init
-loop-i-init c = (omega arith, any-start _)
-
-pub returns-then-contains : goal.returns-then-contains
-returns-then-contains c = any-hit _ _ _ c.loop-i-test.true (sym c.contains.ensures ∙ c.if-contains.true) ∙ listed-any contains _ c.args.s
-
-pub loop-i-preserved : goal.loop-i-preserved
-loop-i-preserved c = (omega arith, any-more _ _ c.loop-i.invariant.1 (sym c.contains.ensures ∙ c.if-contains.false))
-
 pub returns : goal.returns
-returns c = any-end _ _ _ c.loop-i.invariant.0 c.loop-i-test.false c.loop-i.invariant.1 ∙ listed-any contains _ c.args.s
+returns c = let s = c.args in let n = s.s.count in
+    any_in-range n (λ i. contains (range_of (range_at s.s i)) (range_of s.r)) _ _ _ c.any.ensures.ran (YieldsList-from_range 0 n n (cc) (omega arith)) (λ x b q k. search (rules, tests))
+    ∙ listed-any contains _ s.s

@@ -7,4 +7,4 @@ use Rattle.cache.proofs.RangeRecord.{Done}
 use Rattle.cache.proofs.ranges.joined.Given as goal
 
 abbrev pub invariant-loop-i : goal.invariant-loop-i
-invariant-loop-i l = (l.i ≤ l.s.count) × (l.out.count ≤ l.i) × Done l.out (joined (range_of l.hull) (drop l.i (list_of l.s))) (joined (range_of l.initial.hull) (list_of l.s))
+invariant-loop-i l = (l.i ≤ l.s.count) × (l.out.count ≤ l.i) × Done l.out (joined (range_of l.whole) (drop l.i (list_of l.s))) (joined (range_of l.initial.whole) (list_of l.s))

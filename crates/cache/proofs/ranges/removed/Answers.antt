@@ -20,18 +20,18 @@ returns-then-same_range c = let s = c in
     (ap (remove same_range (range_of s.args.r)) (rest-cons s.args.s _ c.loop-i-test.true) ∙
     remove-here (range_of s.args.r) _ _ (sym c.same_range.ensures ∙ c.if-same_range.true)) c.with_rest.ensures
 
-pub put-t-requires : goal.put-t-requires
-put-t-requires c = omega (arith, c.loop-i.invariant.1, c.loop-i-test.true, c.requires)
+pub put-out-requires : goal.put-out-requires
+put-out-requires c = omega (arith, c.loop-i.invariant.1, c.loop-i-test.true, c.requires)
 
 pub loop-i-preserved : goal.loop-i-preserved
 loop-i-preserved c = let s = c in
     let v = c.loop-i.invariant in (
       omega (arith, c.loop-i-test.true),
-      omega (arith, v.1, c.put-t.ensures.0),
+      omega (arith, v.1, c.put-out.ensures.0),
       done_more _ _ _ _ _
           (done-same _ _ _ _ v.2
           (ap (remove same_range (range_of s.args.r)) (rest-cons s.args.s _ c.loop-i-test.true) ∙
-          remove-later (range_of s.args.r) _ _ (sym c.same_range.ensures ∙ c.if-same_range.false))) c.put-t.ensures.1,
+          remove-later (range_of s.args.r) _ _ (sym c.same_range.ensures ∙ c.if-same_range.false))) c.put-out.ensures.1,
     )
 
 pub returns : goal.returns

@@ -6,14 +6,14 @@ use Rattle.cache.proofs.ranges.with_rest.Goals as goal
 pub loop-k-init : goal.loop-k-init
 loop-k-init c = (c.requires.1, c.requires.2, λ rs e. done-start rs _ _ e)
 
-pub put-u-requires : goal.put-u-requires
-put-u-requires c = omega (arith, c.loop-k.invariant.1, c.loop-k-test.true, c.requires.0)
+pub put-t-requires : goal.put-t-requires
+put-t-requires c = omega (arith, c.loop-k.invariant.1, c.loop-k-test.true, c.requires.0)
 
 pub loop-k-preserved : goal.loop-k-preserved
 loop-k-preserved c = let v = c.loop-k.invariant in (
   omega (arith, c.loop-k-test.true),
-  omega (arith, v.1, c.put-u.ensures.0),
-  λ rs e. done_more _ _ _ _ _ (done-same _ _ _ _ (v.2 rs e) (rest-cons c.args.s _ c.loop-k-test.true)) c.put-u.ensures.1,
+  omega (arith, v.1, c.put-t.ensures.0),
+  λ rs e. done_more _ _ _ _ _ (done-same _ _ _ _ (v.2 rs e) (rest-cons c.args.s _ c.loop-k-test.true)) c.put-t.ensures.1,
 )
 
 pub returns : goal.returns

@@ -1,22 +1,14 @@
 -- `cache::taking::filling_for` meets its contract: a search among the fillings. Assumes nothing.
-use native.Mathlib.Omega.{arith}
-use mathlib.Core.Path.{refl, sym, ◌∙◌}
-use Rattle.finite.proofs.First.{first-skip, first-here, first_past}
+use Rattle.std.proofs.Common.{rules}
+use borrow.Author.Tests.{tests}
+use mathlib.Core.Path.{refl, ◌∙◌}
+use Rattle.std.proofs.lemmas.Iterator.{YieldsList-from_range}
+use Rattle.finite.proofs.Ranges.{first_in-range}
 use Rattle.model.specs.Runs.{filling_for}
 use Rattle.state.specs.Meaning.{scheme_of}
 use Rattle.cache.proofs.taking.filling_for.Goals as goal
 
-pub loop-f-init : goal.loop-f-init
-loop-f-init c = (omega arith, refl)
-
-pub returns-then-same_column : goal.returns-then-same_column
-unfolding filling_for scheme_of
-returns-then-same_column c = sym (c.loop-f.invariant.1 ∙
-    first-here _ _ _ c.loop-f-test.true (sym c.same_column.ensures ∙ c.if-same_column.true))
-
-pub loop-f-preserved : goal.loop-f-preserved
-loop-f-preserved c = (omega arith, c.loop-f.invariant.1 ∙ first-skip _ _ _ (sym c.same_column.ensures ∙ c.if-same_column.false))
-
 pub returns : goal.returns
 unfolding filling_for scheme_of
-returns c = sym (c.loop-f.invariant.1 ∙ first_past _ _ _ c.loop-f-test.false)
+returns c = let n = c.args.design.fillings in
+    c.unwrap_or.ensures ∙ first_in-range n _ 0 _ _ c.find.result c.find.ensures.ran (YieldsList-from_range 0 n _ (cc) refl) (λ x b q k. search (rules, tests))

@@ -13,8 +13,8 @@ loop-i-init c = let s = c in shifting-start s.args.held.now s.args.gap s.require
 pub overflow_add-i : goal.overflow_add-i
 overflow_add-i c = omega (arith, c.loop-i-test.true)
 
-pub value_at-v-requires : goal.value_at-v-requires
-value_at-v-requires c = omega (arith, c.loop-i-test.true)
+pub value_at-requires : goal.value_at-requires
+value_at-requires c = omega (arith, c.loop-i-test.true)
 
 pub set_value-requires : goal.set_value-requires
 set_value-requires c = (omega (arith, c.loop-i-test.true), c.loop-i.invariant.whole)
@@ -26,7 +26,7 @@ pub loop-i-smaller : goal.loop-i-smaller
 loop-i-smaller c = omega (arith, c.loop-i-test.true)
 
 pub loop-i-preserved : goal.loop-i-preserved
-loop-i-preserved c = shifting-more _ _ _ _ c.loop-i.invariant _ _ c.loop-i-test.true c.value_at-v.ensures c.set_value.ensures
+loop-i-preserved c = shifting-more _ _ _ _ c.loop-i.invariant _ _ c.loop-i-test.true c.value_at.ensures c.set_value.ensures
 
 pub set_value-requires-2 : goal.set_value-requires-2
 set_value-requires-2 c = (omega arith, c.loop-i.invariant.whole)

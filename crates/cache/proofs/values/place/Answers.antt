@@ -1,28 +1,15 @@
-use mathlib.Core.Path.{sym, ◌∙◌}
-use Rattle.finite.proofs.Search.{any-start, any-more}
+-- `cache::values::place` meets its contract: a search among the held values. Assumes nothing.
+use Rattle.std.proofs.Common.{rules}
+use borrow.Author.Tests.{tests}
+use mathlib.Core.Path.{◌≡◌}
+use mathlib.Core.Bool.{true, false}
+use Rattle.std.proofs.lemmas.Iterator.{first_from_Range}
 use Rattle.state.specs.HeldWords.{words_held}
-use Rattle.cache.proofs.HeldShifts.{place_at, place_end}
-use mathlib.Core.Path.{sym, ◌∙◌}
-use native.Mathlib.Omega.{arith}
+use Rattle.cache.proofs.HeldShifts.{is_at, placed_first}
 use Rattle.cache.proofs.values.place.Goals as goal
 
-pub loop-i-init : goal.loop-i-init
-loop-i-init c = (omega arith, any-start _)
-
-pub value_at-requires : goal.value_at-requires
-value_at-requires c = omega (arith, c.requires, c.value_count-n.ensures, c.loop-i-test.true)
-
-pub returns-then-same_owned : goal.returns-then-same_owned
-returns-then-same_owned c = place_at (words_held c.args.held.now) c.args.v _ c.named_desk.ensures _ c.loop-i.invariant.1 (omega (arith, c.value_count-n.ensures, c.loop-i-test.true)) (sym (rw c.value_at.ensures at c.same_owned.ensures) ∙ c.if-same_owned.true)
-
-pub overflow_step-i : goal.overflow_step-i
-overflow_step-i c = omega (arith, c.requires, c.value_count-n.ensures, c.loop-i-test.true)
-
-pub loop-i-smaller : goal.loop-i-smaller
-loop-i-smaller c = omega (arith, c.loop-i-test.true)
-
-pub loop-i-preserved : goal.loop-i-preserved
-loop-i-preserved c = (omega (arith, c.loop-i-test.true), any-more _ _ c.loop-i.invariant.1 (sym (rw c.value_at.ensures at c.same_owned.ensures) ∙ c.if-same_owned.false))
-
 pub returns : goal.returns
-returns c = place_end (words_held c.args.held.now) c.args.v _ c.named_desk.ensures _ c.loop-i.invariant.1 _ c.value_count-n.ensures c.loop-i-test.false
+returns c = let h = words_held c.args.held.now in let v = c.args.v in let d = c.named_desk.result in
+    placed_first h v d c.named_desk.ensures _ c.value_count.ensures c.find.result
+    (first_from_Range _ _ _ c.find.result (λ i. is_at h v d i ≡ true) (λ i. is_at h v d i ≡ false) c.find.ensures.ran
+    (λ x q k. search (rules, tests)) (λ x q k. search (rules, tests)))
