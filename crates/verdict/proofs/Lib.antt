@@ -1,3 +1,4 @@
--- ColumnLaws: the tests of a column and what they make of a word. Theorems: what a word says, and what it is worth.
+-- MakingLaws: what `from_fn` makes. ColumnLaws: the tests of a column and what they make of a word. Theorems: what a word says, and what it is worth.
+pub mod MakingLaws
 pub mod ColumnLaws
 pub mod Theorems

@@ -8,20 +8,14 @@ ghost use Rattle.state.specs.Meaning.{scheme_of};
 
 use even::reachable;
 use state::Design;
+use std::array::from_fn;
 
 // Whether a filling's table reaches table t, where m tells which tables reach which. One look at each filling.
 fn can_cache(d: Design, m: [[bool; 8]; 8], t: usize) -> bool
     requires { InRange d × (t < 8) × (m ≡ square (reaches (scheme_of d))) }
     ensures { result ≡ can_cache (scheme_of d) t }
 {
-    let n = d.fillings;
-    for i in 0..n {
-        let f = d.filling[i];
-        if m[f.column.table as usize][t] {
-            return true;
-        }
-    }
-    false
+    (0..d.fillings).any(|f| m[usize::from(d.filling[f].column.table)][t])
 }
 
 // The same of each table. Tables cubed.
@@ -30,9 +24,5 @@ pub(crate) fn cached_tables(d: Design) -> [bool; 8]
     ensures { result ≡ tab 8 (can_cache (scheme_of d)) }
 {
     let m = reachable(d);
-    let mut can = [false; 8];
-    for t in 0..Design::TABLES {
-        can[t] = can_cache(d, m, t);
-    }
-    can
+    from_fn(|t| can_cache(d, m, t))
 }

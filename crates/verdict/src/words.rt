@@ -1,46 +1,37 @@
 // The verdicts as words, one for each of the 64 columns that there can be (specs/Words.antt says what each number means).
-ghost use Rattle.std.specs.Prelude.{◌+◌, ◌*◌, ◌≤◌, ◌<◌, not, ◌&&◌, ◌||◌, ◌≡◌};
+ghost use Rattle.std.specs.Prelude.{◌+◌, ◌*◌, ◌≤◌, ◌<◌, not, ◌&&◌, ◌||◌, ◌≡◌, is_some, unwrap_or, IfSome};
 ghost use Rattle.finite.specs.Finite.{tab};
 ghost use Rattle.model.specs.Verdict.{can_cache};
 ghost use Rattle.state.specs.Design.{InRange};
 ghost use Rattle.state.specs.Meaning.{column_of, scheme_of};
-ghost use Rattle.verdict.specs.Words.{flag, verdict_of, verdict_words, design_cause, words_after};
+ghost use Rattle.verdict.specs.Words.{column_at, flag, verdict_of, verdict_words, design_cause, words_after};
 
 use crate::columns::{is_filled, is_once_unique, is_one_column, lowest_link};
 use crate::reached::cached_tables;
 use lawful::{is_column, lawful_design};
 use state::{Column, Design};
+use std::array::from_fn;
 
 fn flag_of(b: bool, n: u32) -> u32
     ensures { (result ≡ flag b n) × (result ≤ n) }
 {
-    if b {
-        return n;
-    }
-    0
+    if b { n } else { 0 }
 }
 
-// Whether all three are false.
-fn is_never(f: bool, l: bool, u: bool) -> bool
-    ensures { result ≡ not f && not (l || u) }
+// The word of a column that is filled (f), once linked by constraint l, once unique (u), and of which seeing is enough (o), or not. Constant time.
+fn word_with(f: bool, l: Option<usize>, u: bool, o: bool) -> u32
+    requires { IfSome l (λ i. i ≤ 16) }
+    ensures { result ≡ flag f 1 + flag (is_some l) 2 + flag u 4 + flag (not f && not (is_some l || u)) 8 + flag o 16 + 256 * unwrap_or l 0 }
 {
-    if f {
-        return false;
-    }
-    if l {
-        return false;
-    }
-    !u
-}
-
-// The word of a column that is filled (f), once linked by constraint i (l), once unique (u), and of which seeing is enough (o), or not. Constant time.
-fn word_with(f: bool, l: bool, i: usize, u: bool, o: bool) -> u32
-    requires { i ≤ 16 }
-    ensures { result ≡ flag f 1 + flag l 2 + flag u 4 + flag (not f && not (l || u)) 8 + flag o 16 + 256 * flag l i }
-{
-    let never = is_never(f, l, u);
-    let link = flag_of(l, i as u32);
-    flag_of(f, 1) + flag_of(l, 2) + flag_of(u, 4) + flag_of(never, 8) + flag_of(o, 16) + 256 * link
+    let linked = l.is_some();
+    let never = !(f || linked || u);
+    let link = l.unwrap_or(0) as u32;
+    flag_of(f, 1)
+        + flag_of(linked, 2)
+        + flag_of(u, 4)
+        + flag_of(never, 8)
+        + flag_of(o, 16)
+        + 256 * link
 }
 
 // A column's word. One look at each constraint and filling.
@@ -52,11 +43,21 @@ fn word_of(d: Design, can: [bool; 8], k: Column) -> u32
         return 0;
     }
     let f = is_filled(d, k);
-    let i = lowest_link(d, can, k);
-    let l = i < d.constraints;
+    let l = lowest_link(d, can, k);
     let u = is_once_unique(d, can, k);
     let o = is_one_column(d, k);
-    word_with(f, l, i, u, o)
+    word_with(f, l, u, o)
+}
+
+// Column number i of the 64. Constant time.
+fn column_at(i: usize) -> Column
+    requires { i < 64 }
+    ensures { (column_of result ≡ column_at i) × (result.table < 8) }
+{
+    Column {
+        table: (i / 8) as u8,
+        place: (i % 8) as u8,
+    }
 }
 
 // All 64. Tables cubed, then one look at each constraint and filling for each column.
@@ -65,15 +66,7 @@ fn words_of(d: Design) -> [u32; 64]
     ensures { result ≡ verdict_words (scheme_of d) }
 {
     let can = cached_tables(d);
-    let mut words = [0u32; 64];
-    for i in 0..64usize {
-        let k = Column {
-            table: (i / 8) as u8,
-            place: (i % 8) as u8,
-        };
-        words[i] = word_of(d, can, k);
-    }
-    words
+    from_fn(|i| word_of(d, can, column_at(i)))
 }
 
 // Fills the lent words with the verdicts on the design's columns and returns 0; returns 12 and leaves them as they were where no script gives the design.
