@@ -23,8 +23,7 @@ pub fn refer(
         → Answered (lent design cells tables marks.old held.old) (Runs.refer (pair_of v)) (answer_of result)
         (lent design cells tables marks.new held.new) }
 {
-    let h = *held;
-    let o = refer_record(design, catalog, keys, marks, h, v);
+    let o = refer_record(design, catalog, keys, marks, *held, v);
     *held = o.held;
     o.answer
 }
@@ -43,8 +42,7 @@ pub fn drop(
         → Answered (lent design cells tables marks.old held.old) (Runs.drop (pair_of v)) (answer_of result)
         (lent design cells tables marks.new held.new) }
 {
-    let h = *held;
-    let o = drop_record(design, catalog, keys, marks, h, v);
+    let o = drop_record(design, catalog, keys, marks, *held, v);
     *held = o.held;
     o.answer
 }

@@ -12,56 +12,20 @@ ghost use Rattle.cache.specs.Ready.{Ready};
 use crate::outcome::Outcome;
 use cache::{drop_lawful, refer_lawful};
 use state::{
-    Cell, Design, DeskRanges, Held, HeldValue, OwnedValue, named_desk, ranges_at, set_count,
-    set_desk, set_ranges, set_value, value_at, value_count,
+    Design, DeskRanges, Held, HeldValue, OwnedValue, named_desk, ranges_at, set_count, set_desk,
+    set_ranges, set_value, value_at, value_count,
 };
-
-// The values that words hold, and the ranges of each desk. One step for each place.
-fn values_in(held: &[u32; 358]) -> [OwnedValue; 64]
-    ensures { result ≡ (words_held held.now).values }
-{
-    let mut vs = [OwnedValue {
-        desk: 0,
-        pair: HeldValue {
-            filling: 0,
-            value: Cell {
-                number: 0,
-                issue: 0,
-            },
-        },
-    }; 64];
-    for i in 0..64usize {
-        let v = value_at(held, i);
-        vs[i] = v;
-    }
-    vs
-}
-
-fn desks_in(held: &[u32; 358]) -> [DeskRanges; 4]
-    ensures { result ≡ (words_held held.now).ranges }
-{
-    let none = DeskRanges::none();
-    let mut ss = [none; 4];
-    for e in 0..4usize {
-        let s = ranges_at(held, e);
-        ss[e] = s;
-    }
-    ss
-}
+use std::array::from_fn;
 
 // The record that words hold. One step for each place.
 fn record_in(held: &[u32; 358]) -> Held
     ensures { result ≡ words_held held.now }
 {
-    let desk = named_desk(held);
-    let count = value_count(held);
-    let values = values_in(held);
-    let ranges = desks_in(held);
     Held {
-        desk,
-        count,
-        values,
-        ranges,
+        desk: named_desk(held),
+        count: value_count(held),
+        values: from_fn(|i| value_at(held, i)),
+        ranges: from_fn(|e| ranges_at(held, e)),
     }
 }
 
@@ -101,10 +65,8 @@ fn put_record(h: Held, held: &mut [u32; 358])
 {
     set_desk(held, h.desk);
     set_count(held, h.count);
-    let values = h.values;
-    put_values(values, held);
-    let ranges = h.ranges;
-    put_desks(ranges, held);
+    put_values(h.values, held);
+    put_desks(h.ranges, held);
 }
 
 // REFER with a record by value. The cost of `refer_lawful`, and two copies of the record.
@@ -124,10 +86,9 @@ pub(crate) fn refer_record(
     let mut words = [0u32; 358];
     put_record(held, &mut words);
     let answer = refer_lawful(design, catalog, keys, marks, &mut words, v);
-    let after = record_in(&words);
     Outcome {
-        held: after,
-        answer: answer,
+        held: record_in(&words),
+        answer,
     }
 }
 
@@ -148,9 +109,8 @@ pub(crate) fn drop_record(
     let mut words = [0u32; 358];
     put_record(held, &mut words);
     let answer = drop_lawful(design, catalog, keys, marks, &mut words, v);
-    let after = record_in(&words);
     Outcome {
-        held: after,
-        answer: answer,
+        held: record_in(&words),
+        answer,
     }
 }

@@ -15,4 +15,4 @@ drop_lawful-answer-requires c = let s = c in
 pub returns : goal.returns
 returns c = λ k t y.
     let o = c.put_record.ensures.means in
-    over-record _ _ _ _ _ _ _ _ _ _ _ o c.record_in-after.ensures (c.drop_lawful-answer.ensures.1 k t (ready_for _ _ _ _ _ _ _ _ o y))
+    over-record _ _ _ _ _ _ _ _ _ _ _ o c.record_in.ensures (c.drop_lawful-answer.ensures.1 k t (ready_for _ _ _ _ _ _ _ _ o y))

@@ -1,7 +1,14 @@
--- `cache::records::record_in` meets its contract: part by part. Assumes nothing.
+-- `record::records::record_in` meets its contract: part by part. Assumes nothing.
+use Rattle.std.proofs.Common.{rules}
+use borrow.Author.Tests.{tests}
+use Rattle.state.specs.Held.{no_value, no_ranges}
 use Rattle.state.specs.HeldWords.{words_held}
-use Rattle.record.proofs.RecordWords.{record_is}
+use Rattle.record.proofs.MakingLaws.{tab_from-fn}
+use Rattle.record.proofs.RecordWords.{record_is, values-all-read, desks-all-read}
 use Rattle.record.proofs.records.record_in.Goals as goal
 
 pub returns : goal.returns
-returns c = record_is (words_held c.args.held.now) _ _ _ _ c.named_desk-desk.ensures c.value_count-count.ensures c.values_in-values.ensures c.desks_in-ranges.ensures
+returns c =
+    record_is (words_held c.args.held.now) _ _ _ _ c.named_desk.ensures c.value_count.ensures
+    (values-all-read _ _ (tab_from-fn no_value _ c.from_fn.ensures.items (λ i y q k. search (rules, tests))))
+    (desks-all-read _ _ (tab_from-fn no_ranges _ c.from_fn-2.ensures.items (λ e y q k. search (rules, tests))))
