@@ -55,10 +55,9 @@ fn with_rest(out: DeskRanges, s: DeskRanges, i: usize) -> DeskRanges
     requires { (s.count ≤ 8) × (i ≤ s.count) × (out.count ≤ i + 1) }
     ensures { (rs : List Model.Range) → out ≡ list_back rs → result ≡ list_back (rs ++ drop i (list_of s)) }
 {
-    let list = s.list;
     let mut t = out;
-    for k in i..s.count {
-        t = put(t, list[k]);
+    for &q in &s.list[i..s.count] {
+        t = put(t, q);
     }
     t
 }

@@ -93,6 +93,7 @@ pub(crate) fn refer_record(
 }
 
 // DROP with a record by value. The cost of `drop_lawful`, and two copies of the record.
+// Beside `refer_record`, and not one function of a closure for the step: its clauses would speak of the references passed, in more lines than the two share.
 pub(crate) fn drop_record(
     design: Design,
     catalog: &[u16; 16449],

@@ -8,6 +8,6 @@ use Rattle.state.specs.Meaning.{list_back, list_of}
 use Rattle.cache.proofs.RangeRecord.{Done}
 use Rattle.cache.proofs.ranges.with_rest.Given as goal
 
-abbrev pub invariant-loop-k : goal.invariant-loop-k
-invariant-loop-k l = (l.k ≤ l.k-end) × (l.t.count ≤ l.k + 1) × ((rs : List Range) → l.initial.t ≡ list_back rs →
-    Done l.t (drop l.k (list_of (record { count = l.k-end; list = l.list }))) (rs ++ drop l.i (list_of (record { count = l.k-end; list = l.list }))))
+abbrev pub invariant-loop-q : goal.invariant-loop-q
+invariant-loop-q l = (l.i + l.q-index ≤ l.fn.s.count) × (l.t.count ≤ l.i + l.q-index + 1) × ((rs : List Range) → l.initial.t ≡ list_back rs →
+    Done l.t (drop (l.i + l.q-index) (list_of l.fn.s)) (rs ++ drop l.i (list_of l.fn.s)))
