@@ -53,6 +53,7 @@ fn is_demanded(
 }
 
 // Ground 3: whether the column is unique and a cached row has the value there. The cost of looking for it, if the column is unique.
+#[tactic(auto, unfolding(model::specs::Probe::uniquely_seen))]
 fn is_uniquely_seen(
     d: Design,
     catalog: &[u16; 16449],
