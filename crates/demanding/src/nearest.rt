@@ -34,11 +34,18 @@ fn chosen(best: &[u16; 512], f: usize) -> u16
     best.get(f).copied().unwrap_or(512)
 }
 
-// The rows that have a level, rising, with 512 behind them, whatever stood there; how many there are. One step for each row number.
-fn reached_rows(levels: &[u16; 512], rows: &mut [u16; 513]) -> usize
-    ensures { Rising levels.now result rows.new }
+// The rows that have a level, rising: the first `count`, with 512 behind them.
+#[derive(Drop)]
+struct Reached {
+    rows: [u16; 513],
+    count: usize,
+}
+
+// Those of these levels. One step for each row number.
+fn reached_rows(levels: &[u16; 512]) -> Reached
+    ensures { Rising levels.now result.count result.rows }
 {
-    *rows = [512u16; 513];
+    let mut rows = [512u16; 513];
     let mut m: usize = 0;
     for s in 0..Design::ROWS {
         // the next one takes its place if it has no level
@@ -46,26 +53,25 @@ fn reached_rows(levels: &[u16; 512], rows: &mut [u16; 513]) -> usize
         m += usize::from(levels[s] != 0);
     }
     rows[m] = 512;
-    m
+    Reached { rows, count: m }
 }
 
-// For each row, the nearest of those of which constraint i demands rows with this one as the first, whatever stood there. One step for each of the m rows that
-// have a level.
+// For each row, the nearest of those of which constraint i demands rows with this one as the first, whatever stood there. One step for each of the rows
+// that have a level.
 fn nearest_by_first(
     catalog: &[u16; 16449],
     levels: &[u16; 512],
-    rows: &[u16; 513],
-    m: usize,
+    reached: &Reached,
     i: usize,
     best: &mut [u16; 512],
 )
-    requires { (i < 16) × Rising levels.now m rows.now }
+    requires { (i < 16) × Rising levels.now reached.now.count reached.now.rows }
     ensures { (S : Scheme) (D : Database) → Demands S D catalog.now → i < S.constraints
         → ByFirst S D levels.now i best.new }
 {
     *best = [512u16; 512];
-    for k in 0..m {
-        let s = wide(rows[k]);
+    for &row in &reached.rows[..reached.count] {
+        let s = wide(row);
         let f = first_row(catalog, i, s);
         if f < Design::ROWS {
             best[f] = nearer(levels, best[f], s);
@@ -87,31 +93,30 @@ fn spread(
         → from ≡ first_from 512 (has D k v) 0 → length near.old ≡ 8192 → Spread (has D k v) b a near.old near.new }
 {
     let mut t = from;
+    // along the links: each is the next row, as the catalog has it, or 512, which ends the walk
     while t < Design::ROWS {
         near[a + t] = b;
         t = next_row(catalog, t, place);
     }
 }
 
-// Notes for each row the nearest of those of which constraint i, which ends at this place, demands it. Two steps for each of the m rows that have a level, and
+// Notes for each row the nearest of those of which constraint i, which ends at this place, demands it. Two steps for each of the rows that have a level, and
 // one for each row that they demand.
 fn note_nearest(
     catalog: &[u16; 16449],
     levels: &[u16; 512],
-    rows: &[u16; 513],
-    m: usize,
+    reached: &Reached,
     i: usize,
     place: usize,
     near: &mut [u16; 8192],
 )
-    requires { (i < 16) × (place < 8) × Rising levels.now m rows.now × ((D : Database) × Links D catalog.now) }
+    requires { (i < 16) × (place < 8) × Rising levels.now reached.now.count reached.now.rows × ((D : Database) × Links D catalog.now) }
     ensures { (S : Scheme) (D : Database) → Demands S D catalog.now → i < S.constraints → (S.constraint i).target.place ≡ place
         → Demanding S D levels.now i near.old → Demanding S D levels.now (i + 1) near.new }
 {
     let mut best = [512u16; 512];
-    nearest_by_first(catalog, levels, rows, m, i, &mut best);
-    for k in 0..m {
-        let s = rows[k];
+    nearest_by_first(catalog, levels, reached, i, &mut best);
+    for &s in &reached.rows[..reached.count] {
         let f = first_row(catalog, i, wide(s));
         if chosen(&best, f) == s {
             spread(catalog, place, f, s, 512 * i, near);
@@ -127,11 +132,17 @@ fn demanding_rows(d: Design, catalog: &[u16; 16449], levels: &[u16; 512], near: 
         → Demanding (scheme_of d) D levels.now d.constraints near.new }
 {
     *near = [512u16; 8192];
-    let mut rows = [0u16; 513];
-    let m = reached_rows(levels, &mut rows);
+    let reached = reached_rows(levels);
     for i in 0..d.constraints {
         let j = d.constraint[i];
-        note_nearest(catalog, levels, &rows, m, i, j.target.place as usize, near);
+        note_nearest(
+            catalog,
+            levels,
+            &reached,
+            i,
+            usize::from(j.target.place),
+            near,
+        );
     }
 }
 

@@ -9,5 +9,5 @@ use lib.ListN.{get_or}
 use Prim.Native.Nat.{◌≤◌, ◌<◌}
 use Rattle.demanding.proofs.nearest.nearest_by_first.Given as goal
 
-abbrev pub invariant-loop-k : goal.invariant-loop-k
-invariant-loop-k l = (l.k ≤ l.m) × ((S : Scheme) (D : Database) → Demands S D l.catalog → l.i < S.constraints → Looked S D l.levels l.i (get_or l.rows l.k 0) l.best)
+abbrev pub invariant-loop-row : goal.invariant-loop-row
+invariant-loop-row l = (l.row-index ≤ l.fn.reached.count) × ((S : Scheme) (D : Database) → Demands S D l.catalog → l.i < S.constraints → Looked S D l.levels l.i (get_or l.fn.reached.rows l.row-index 0) l.best)

@@ -9,7 +9,7 @@ use mathlib.Core.Path.{◌≡◌}
 use Prim.Native.Nat.{◌≤◌, ◌<◌}
 use Rattle.demanding.proofs.nearest.note_nearest.Given as goal
 
-abbrev pub invariant-loop-k : goal.invariant-loop-k
-invariant-loop-k l = (l.k ≤ l.m) ×
+abbrev pub invariant-loop-s : goal.invariant-loop-s
+invariant-loop-s l = (l.s-index ≤ l.fn.reached.count) ×
     ((S : Scheme) (D : Database) (y : ByFirst S D l.levels l.i l.best) → Demands S D l.catalog → l.i < S.constraints → (S.constraint l.i).target.place ≡ l.place → Demanding S D l.levels l.i l.initial.near →
-    Noting S D l.levels l.i l.initial.near l.best y (get_or l.rows l.k 0) l.near)
+    Noting S D l.levels l.i l.initial.near l.best y (get_or l.fn.reached.rows l.s-index 0) l.near)

@@ -10,23 +10,8 @@ use Rattle.demanding.proofs.nearest.reached_rows.Goals as goal
 pub loop-s-init : goal.loop-s-init
 loop-s-init c = (omega arith, listing_none _ _ (length-replicate {A = ℕ} 513 512))
 
-pub overflow_cast-rows : goal.overflow_cast-rows
-overflow_cast-rows c = omega (arith, c.loop-s-test.true)
-
-pub offset_bounds-rows-m : goal.offset_bounds-rows-m
-offset_bounds-rows-m c = omega (arith, c.loop-s.invariant.1.few, c.loop-s-test.true)
-
-pub bounds-rows-m : goal.bounds-rows-m
-bounds-rows-m c = omega (arith, c.loop-s.invariant.1.few, c.loop-s-test.true)
-
 pub loop-s-preserved : goal.loop-s-preserved
 loop-s-preserved c = (omega arith, listing-more _ _ _ _ c.loop-s.invariant.1 c.loop-s-test.true _ (search (rules, tests)))
-
-pub offset_bounds-rows-m-2 : goal.offset_bounds-rows-m-2
-offset_bounds-rows-m-2 c = omega (arith, c.loop-s.invariant.1.few, c.loop-s.invariant.0)
-
-pub bounds-rows-m-2 : goal.bounds-rows-m-2
-bounds-rows-m-2 c = omega (arith, c.loop-s.invariant.1.few, c.loop-s.invariant.0)
 
 pub returns : goal.returns
 returns c = listing-end _ _ _ _ c.loop-s.invariant.0 c.loop-s-test.false c.loop-s.invariant.1

@@ -1,4 +1,4 @@
--- `catalog::demanding::spread` meets its contract. Assumes nothing.
+-- `demanding::nearest::spread` meets its contract. Assumes nothing.
 use Rattle.demanding.proofs.DemandingLaws.{handed-none, handed-more, handed-end}
 use Rattle.catalog.proofs.CatalogLaws.{next-rises, next-from}
 use Rattle.catalog.specs.Catalog.{next_of}

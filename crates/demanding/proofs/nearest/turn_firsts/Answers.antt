@@ -1,4 +1,4 @@
--- `catalog::demanding::turn_firsts` meets its contract. Assumes nothing.
+-- `demanding::nearest::turn_firsts` meets its contract. Assumes nothing.
 use Rattle.demanding.proofs.DemandingLaws.{turned-scheme-firsts}
 use Rattle.catalog.proofs.MakingLaws.{stored_same}
 use mathlib.Core.Path.{sym}
