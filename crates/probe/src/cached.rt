@@ -24,6 +24,7 @@ pub(crate) fn seen(
         → result ≡ Probe.seen D (marked marks.now) (column_of k) (cell_of v) }
 {
     let mut r = find(catalog, keys, k, v);
+    // along the links: each is the next row that has the value, as the catalog has it, or 512, which ends the walk
     while r < Design::ROWS {
         if marks[r] == 1 {
             return true;

@@ -24,6 +24,7 @@ pub(crate) fn rows_with(
 {
     let mut n = 0;
     let mut r = find(catalog, keys, k, v);
+    // along the links: each is the next row that has the value, as the catalog has it, or 512, which ends the walk
     while r < Design::ROWS {
         if marks[r] == 1 {
             n += 1;
