@@ -1,7 +1,6 @@
 -- `cache::referring::refer_lawful` meets its contract: the causes in their order, then the load. Assumes nothing.
 use native.Mathlib.Omega.{arith}
 use mathlib.Core.Path.{sym, ◌∙◌}
-use borrow.Author.Tests.{not-true, not-false}
 use Rattle.state.proofs.Arrays.{sized}
 use Rattle.state.proofs.HeldWords.{words-sized, holds-whole}
 use Rattle.lawful.proofs.Asked.{sound-range, sound-marks, sound-fillings, sound-tidy}
@@ -21,25 +20,25 @@ pub bounds-design-f : goal.bounds-design-f
 bounds-design-f c = omega (arith, sound-fillings _ c.requires.by_index.2.sound-is, c.if-design-f.false)
 
 pub returns-then-not-is_candidate : goal.returns-then-not-is_candidate
-returns-then-not-is_candidate c = let s = c in (s.requires.whole, λ k t y. refer-no-candidate _ y.sound-is (words-sized s.args.held.now) _ c.if-design-f.false (sym c.is_numberless.ensures ∙ c.if-is_numberless.false) (sym c.is_candidate.ensures ∙ not-true _ c.if-not-is_candidate.true-raw))
+returns-then-not-is_candidate c = let s = c in (s.requires.whole, λ k t y. refer-no-candidate _ y.sound-is (words-sized s.args.held.now) _ c.if-design-f.false (sym c.is_numberless.ensures ∙ c.if-is_numberless.false) (sym c.is_candidate.ensures ∙ c.if-not-is_candidate.true))
 
 pub listed-requires : goal.listed-requires
 listed-requires c = (sound-tidy _ c.requires.by_index.2.sound-is).few
 
 pub returns-then-listed : goal.returns-then-listed
-returns-then-listed c = let s = c in (s.requires.whole, λ k t y. refer-already _ y.sound-is (words-sized s.args.held.now) _ c.if-design-f.false (sym c.is_numberless.ensures ∙ c.if-is_numberless.false) (sym c.is_candidate.ensures ∙ not-false _ c.if-not-is_candidate.false-raw) (sym c.listed.ensures ∙ c.if-listed.true))
+returns-then-listed c = let s = c in (s.requires.whole, λ k t y. refer-already _ y.sound-is (words-sized s.args.held.now) _ c.if-design-f.false (sym c.is_numberless.ensures ∙ c.if-is_numberless.false) (sym c.is_candidate.ensures ∙ c.if-not-is_candidate.false) (sym c.listed.ensures ∙ c.if-listed.true))
 
 pub has_room-requires : goal.has_room-requires
 has_room-requires c = (sound-tidy _ c.requires.by_index.2.sound-is).few
 
 pub returns-then-not-has_room : goal.returns-then-not-has_room
-returns-then-not-has_room c = let s = c in (s.requires.whole, λ k t y. refer-8 _ y.sound-is (words-sized s.args.held.now) _ c.if-design-f.false (sym c.is_numberless.ensures ∙ c.if-is_numberless.false) (sym c.is_candidate.ensures ∙ not-false _ c.if-not-is_candidate.false-raw) (sym c.listed.ensures ∙ c.if-listed.false) (sym c.has_room.ensures ∙ not-true _ c.if-not-has_room.true-raw))
+returns-then-not-has_room c = let s = c in (s.requires.whole, λ k t y. refer-8 _ y.sound-is (words-sized s.args.held.now) _ c.if-design-f.false (sym c.is_numberless.ensures ∙ c.if-is_numberless.false) (sym c.is_candidate.ensures ∙ c.if-not-is_candidate.false) (sym c.listed.ensures ∙ c.if-listed.false) (sym c.has_room.ensures ∙ c.if-not-has_room.true))
 
 pub mark_value-answer-requires : goal.mark_value-answer-requires
 mark_value-answer-requires c = let s = c in let range = sound-range _ s.requires.by_index.2.sound-is (sized s.args.design _ s.well_formed.0) in record { in_range = (range, sound-marks _ s.requires.by_index.2.sound-is, range.column-table _, range.column _); catalogued = (_, s.requires.by_index.2.catalogued) }
 
 pub append-requires : goal.append-requires
-append-requires c = let s = c in (sound-tidy _ s.requires.by_index.2.sound-is, room-place _ s.requires.by_index.2.sound-is (sym c.has_room.ensures ∙ not-false _ c.if-not-has_room.false-raw), s.requires.whole)
+append-requires c = let s = c in (sound-tidy _ s.requires.by_index.2.sound-is, room-place _ s.requires.by_index.2.sound-is (sym c.has_room.ensures ∙ c.if-not-has_room.false), s.requires.whole)
 
 pub returns : goal.returns
-returns c = let s = c in (holds-whole _ _ c.append.ensures, λ k t y. refer-load _ y.sound-is (words-sized s.args.held.now) _ c.if-design-f.false (sym c.is_numberless.ensures ∙ c.if-is_numberless.false) (sym c.is_candidate.ensures ∙ not-false _ c.if-not-is_candidate.false-raw) (sym c.listed.ensures ∙ c.if-listed.false) (sym c.has_room.ensures ∙ not-false _ c.if-not-has_room.false-raw) _ _ _ (c.mark_value-answer.ensures _ y.catalogued) c.append.ensures.means)
+returns c = let s = c in (holds-whole _ _ c.append.ensures, λ k t y. refer-load _ y.sound-is (words-sized s.args.held.now) _ c.if-design-f.false (sym c.is_numberless.ensures ∙ c.if-is_numberless.false) (sym c.is_candidate.ensures ∙ c.if-not-is_candidate.false) (sym c.listed.ensures ∙ c.if-listed.false) (sym c.has_room.ensures ∙ c.if-not-has_room.false) _ _ _ (c.mark_value-answer.ensures _ y.catalogued) c.append.ensures.means)
