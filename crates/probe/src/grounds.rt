@@ -70,7 +70,7 @@ fn is_uniquely_seen(
     is_unique(d, k) && seen(catalog, keys, marks, k, v)
 }
 
-// The lowest ground that says the value is complete in the column, 0 if none does. Held values, and a look for the value for each
+// The lowest ground that says the value is complete in the column, by number as `Found` and the answer carry it on, 0 if none does. Held values, and a look for the value for each
 // constraint that ends at the column and once more if it is unique.
 pub(crate) fn ground(
     d: Design,
