@@ -1,11 +1,13 @@
 -- Why a change is refused, along the order of the code's tests. Assumes nothing.
 use Prim.Native.Nat.{ℕ, ◌≤◌, ◌<◌}
 use native.Mathlib.Omega.{arith}
-use mathlib.Core.Path.{◌≡◌, refl, ap, ◌∙◌}
+use mathlib.Core.Path.{◌≡◌, refl, sym, ap, ◌∙◌}
 use mathlib.Core.Logic.{⊎_elim}
-use mathlib.Core.Bool.{Bool, true, false, not, and-eq-true_iff}
-use borrow.Author.Tests.{lt-ltb, le-ltb, ltb-true, ltb-false}
-use lib.Dec.{ltb}
+use mathlib.Core.Bool.{Bool, true, false, not, cond, and-eq-true_iff}
+use borrow.Author.Tests.{lt-ltb, le-ltb, ltb-true, ltb-false, eqb-true, eqb-false}
+use Rattle.std.proofs.Common.{rules}
+use Rattle.std.specs.Prelude.{Option, None, Some}
+use lib.Dec.{eqb, ltb}
 use Rattle.finite.specs.Finite.{any, first_from}
 use Rattle.finite.proofs.Bools.{dec, both, clash, refute, and-go, and_left, and_right, bool-ext}
 use Rattle.finite.proofs.Search.{any_found, any-true}
@@ -18,8 +20,24 @@ use Rattle.state.specs.declared.rows.Row.{Row}
 use Rattle.state.specs.Meaning.{scheme_of}
 use Rattle.state.specs.Lawful.{fits_table, stood_below}
 use Rattle.state.specs.Changes.{Rows, put, remove, tables_of, row_cell, is_free, stands, change_cause}
+use Rattle.change.specs.Replacing.{unless_zero}
 use Rattle.lawful.proofs.SoundChange.{put_wrong, put-stands, remove-cause}
 use Rattle.lawful.proofs.RowsLaws.{live_below}
+
+-- a cause that is said to be n, where 0 stands for none
+pub cause-given : (n w : ℕ) (r : Option ℕ) → r ≡ unless_zero n → r ≡ Some w → (w ≡ n) × (w ≡ 0 → ⊥)
+cause-given n w r e f = go (eqb n 0) (λ h. eqb-false n 0 h) (sym e ∙ f)
+  where
+    go : (b : Bool) → (b ≡ false → n ≡ 0 → ⊥) → cond b None (Some n) ≡ Some w → (w ≡ n) × (w ≡ 0 → ⊥)
+    go true h k = search rules
+    go false h k = search (rules, h)
+
+pub no-cause : (n : ℕ) (r : Option ℕ) → r ≡ unless_zero n → r ≡ None → 0 ≡ n
+no-cause n r e f = go (eqb n 0) (λ h. eqb-true n 0 h) (sym e ∙ f)
+  where
+    go : (b : Bool) → (b ≡ true → n ≡ 0) → cond b None (Some n) ≡ None → 0 ≡ n
+    go true h k = sym (h refl)
+    go false h k = search rules
 
 -- a search finds one of the n numbers just if one passes
 pub first_any : (n : ℕ) (p : ℕ → Bool) → ltb (first_from n p 0) n ≡ any n p

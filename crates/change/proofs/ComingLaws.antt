@@ -10,10 +10,9 @@ use borrow.Author.Tests.{not-true}
 use lib.Dec.{eqb, ltb}
 use lib.ListN.{length, take, drop}
 use lib.Seq.{get_or-take}
-use Rattle.finite.specs.Finite.{count, tab, first_from}
+use Rattle.finite.specs.Finite.{count, tab}
 use Rattle.finite.proofs.Bools.{both, clash, same_number, and_left, or_cases, or_left, ne-not}
 use Rattle.finite.proofs.Counting.{count_none, count_same}
-use Rattle.finite.proofs.First.{first-from}
 use Rattle.finite.proofs.Tables.{tab-same}
 use Rattle.model.specs.Cell.{Cell, is_blank, equal}
 use Rattle.model.specs.Scheme.{Column, Scheme}
@@ -244,13 +243,6 @@ module _ {S : Scheme} {E F : Database} {h : Held} {r : ℕ} {x : Row} {m : List 
         kept s false t = refl
 
 -- ---- as the code finds it
-
-module _ (p : ℕ → Bool) (n : ℕ) (e : n ≡ first_from 8 p 0) where
-  pub first-called : n < 8 → p n ≡ true
-  first-called l = subst (λ (i : ℕ). p i ≡ true) (sym e) ((first-from 8 p 0 (omega arith)).here (omega (arith, e)))
-
-  pub none-called : 8 ≤ n → (c : ℕ) → c < 8 → p c ≡ false
-  none-called l c k = (first-from 8 p 0 (omega arith)).none c (omega arith) (omega (arith, e))
 
 -- the lent rows R become R', where x stands at number r
 pub comes : (S : Scheme) {h : Held} {m : List ℕ} (R : Rows) (r : ℕ) → r < 512 → Backed R.cells R.tables → (x : Row) → RowSized x → x.table < 8 →

@@ -1,5 +1,5 @@
 -- What the steps of a change that isn't refused answer and leave: the marks of a load from nothing, and a row stored before it. Assumes nothing.
-use Rattle.std.specs.Prelude.{ℕ, ◌≤◌, ◌<◌, ◌≡◌, Bool, true, false, not, cond, ◌&&◌, ◌||◌, List, ◌++◌, drop, get_or}
+use Rattle.std.specs.Prelude.{ℕ, ◌≤◌, ◌<◌, ◌≡◌, Bool, true, false, not, cond, ◌&&◌, ◌||◌, List, ◌++◌, Option, None, Some, eqb, drop, get_or}
 use Rattle.model.specs.Cell.{blank, is_blank}
 use Rattle.model.specs.Scheme.{Column, Scheme}
 use Rattle.model.specs.Database.{Database}
@@ -16,6 +16,10 @@ use Rattle.state.specs.HeldWords.{record_in}
 use Rattle.state.specs.Lent.{State, scheme, cache, cause_of}
 use Rattle.mend.specs.Changing.{Without}
 use Rattle.state.specs.Changes.{rows, row_cell, tables_of, stored, changed_answer, changed_with, Change, Changed}
+
+-- the number n, where 0 stands for none
+abbrev pub unless_zero : ℕ → Option ℕ
+unless_zero n = cond (eqb n 0) None (Some n)
 
 -- D are the tables as they now are: the marks m become m', those of the smallest set, and a tells how many rows came and went
 pub record Remarked (S : Scheme) (D : Database) (h : Held) (m : List ℕ) (a : Answer) (m' : List ℕ) : Type 0 where

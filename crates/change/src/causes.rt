@@ -8,6 +8,7 @@ ghost use Rattle.state.specs.Meaning.{scheme_of};
 ghost use Rattle.state.specs.Changes.{put, remove, row_cell, rows_in, tables_of, change_cause};
 ghost use Rattle.finite.specs.Finite.{any};
 ghost use Rattle.catalog.specs.Catalog.{Indexed};
+ghost use Rattle.change.specs.Replacing.{unless_zero};
 
 use catalog::find;
 use lawful::{is_unique, operand_cell, operands_fit};
@@ -23,11 +24,8 @@ fn stands_at(d: Design, catalog: &[u16; 16449], keys: &[u64; 4096], x: Row, c: u
         table: x.table,
         place: c,
     };
-    if !is_unique(d, k) {
-        return false;
-    }
-    let v = operand_cell(x, c as usize);
-    find(catalog, keys, k, v) < Design::ROWS
+    let v = operand_cell(x, usize::from(c));
+    is_unique(d, k) && find(catalog, keys, k, v) < Design::ROWS
 }
 
 // Whether a row has one of x's values in a unique column. Eight such searches at the most.
@@ -36,15 +34,10 @@ fn stands(d: Design, catalog: &[u16; 16449], keys: &[u64; 4096], x: Row) -> bool
     ensures { (D : Database) → Indexed D catalog.now keys.now
         → result ≡ any 8 (λ c. stood_below (scheme_of d) D 512 (record { table = x.table; place = c }) (row_cell x c)) }
 {
-    for c in 0..8u8 {
-        if stands_at(d, catalog, keys, x, c) {
-            return true;
-        }
-    }
-    false
+    (0..8).any(|c| stands_at(d, catalog, keys, x, c))
 }
 
-// The cause for which x isn't put in at number r, and 0 if there is none. One look at each of its cells, and eight searches at the most.
+// The cause for which x isn't put in at number r, if there is one. One look at each of its cells, and eight searches at the most.
 pub(crate) fn put_cause(
     d: Design,
     tables: &[u8],
@@ -52,36 +45,27 @@ pub(crate) fn put_cause(
     keys: &[u64; 4096],
     r: usize,
     x: Row,
-) -> u8
+) -> Option<u8>
     requires { InRange d × (512 ≤ length tables.now) }
     ensures { (cells : Cells) → Indexed (tables_of (rows_in cells tables.now)) catalog.now keys.now
-        → result ≡ change_cause (scheme_of d) (rows_in cells tables.now) (put r x) }
+        → result ≡ unless_zero (change_cause (scheme_of d) (rows_in cells tables.now) (put r x)) }
 {
-    if Design::ROWS <= r {
-        return 5;
-    }
-    if is_live(tables, r) {
-        return 5;
-    }
-    if !operands_fit(d, x) {
-        return 5;
+    if Design::ROWS <= r || is_live(tables, r) || !operands_fit(d, x) {
+        return Some(5);
     }
     if stands(d, catalog, keys, x) {
-        return 6;
+        return Some(6);
     }
-    0
+    None
 }
 
-// The cause for which no row is removed at number r, and 0 if there is none. Constant time.
-pub(crate) fn remove_cause(d: Design, tables: &[u8], r: usize) -> u8
+// The cause for which no row is removed at number r, if there is one. Constant time.
+pub(crate) fn remove_cause(d: Design, tables: &[u8], r: usize) -> Option<u8>
     requires { 512 ≤ length tables.now }
-    ensures { (cells : Cells) → result ≡ change_cause (scheme_of d) (rows_in cells tables.now) (remove r) }
+    ensures { (cells : Cells) → result ≡ unless_zero (change_cause (scheme_of d) (rows_in cells tables.now) (remove r)) }
 {
-    if Design::ROWS <= r {
-        return 5;
+    if Design::ROWS <= r || !is_live(tables, r) {
+        return Some(5);
     }
-    if !is_live(tables, r) {
-        return 5;
-    }
-    0
+    None
 }

@@ -1,7 +1,7 @@
 // Putting a row in and removing one, over a sound state with the catalog of its rows. A change that is refused costs its tests; any other mends the catalog in
 // place. A row that comes loads what it leads to, if it is held or demanded. A row that goes and wasn't cached, or led to no other row, leaves the other marks as they
 // are; else all that is held is loaded from nothing.
-ghost use Rattle.std.specs.Prelude.{true, false, ◌≡◌, ℕ, ◌≤◌, ◌<◌, ltb, length, get_or, take};
+ghost use Rattle.std.specs.Prelude.{true, false, ◌≡◌, ℕ, ◌≤◌, ◌<◌, MatchOption, ltb, length, get_or, take};
 ghost use Rattle.model.specs.Database.{Database};
 ghost use Rattle.state.specs.Cells.{cells_in};
 ghost use Rattle.state.specs.Design.{Backed, InRange};
@@ -54,12 +54,7 @@ fn leads_on(d: Design, catalog: &[u16; 16449], r: usize) -> bool
     ensures { (D : Database) → Demands (scheme_of d) D catalog.now
         → result ≡ any d.constraints (λ i. ltb (first_from 512 (leads D ((scheme_of d).constraint i) r) 0) 512) }
 {
-    for i in 0..d.constraints {
-        if first_row(catalog, i, r) < Design::ROWS {
-            return true;
-        }
-    }
-    false
+    (0..d.constraints).any(|i| first_row(catalog, i, r) < Design::ROWS)
 }
 
 // Marks the smallest set after row r went. Where it wasn't cached, all marks stay; where it led to no other row, all but its own. Else the cost is that of `remark`.
@@ -104,7 +99,7 @@ fn is_called(
     ensures { (D : Database) → Indexed D catalog.now keys.now
         → result ≡ called_at (scheme_of design) D (holding_of (words_held held.now)) (marked (take 512 marks.now)) x c }
 {
-    let v = operand_cell(x, c as usize);
+    let v = operand_cell(x, usize::from(c));
     if is_blank(v) {
         return false;
     }
@@ -113,13 +108,10 @@ fn is_called(
         place: c,
     };
     let found = search(design, catalog, keys, marks, held, k, v);
-    if found.ground == 1 {
-        return true;
-    }
-    found.ground == 2
+    found.ground == 1 || found.ground == 2
 }
 
-// The first column in which x is called for, 8 if there is none. Eight such looks at the most.
+// The first column in which x is called for. Eight such looks at the most.
 fn call_at(
     design: Design,
     catalog: &[u16; 16449],
@@ -127,18 +119,14 @@ fn call_at(
     marks: &[u8],
     held: &[u32; 358],
     x: Row,
-) -> u8
+) -> Option<u8>
     requires table_bound { (x.table < 8) × InRange design × Bounded (words_held held.now) × (512 ≤ length marks.now) }
     requires indexed { (D : Database) × Indexed D catalog.now keys.now }
     ensures { (D : Database) → Indexed D catalog.now keys.now
-        → result ≡ first_from 8 (called_at (scheme_of design) D (holding_of (words_held held.now)) (marked (take 512 marks.now)) x) 0 }
+        → let p = called_at (scheme_of design) D (holding_of (words_held held.now)) (marked (take 512 marks.now)) x in
+        MatchOption result ((c : ℕ) → c < 8 → p c ≡ false) (λ c. (c < 8) × (p c ≡ true) × ((a : ℕ) → a < c → p a ≡ false)) }
 {
-    for c in 0..8u8 {
-        if is_called(design, catalog, keys, marks, held, x, c) {
-            return c;
-        }
-    }
-    8
+    (0..8).find(|&c| is_called(design, catalog, keys, marks, held, x, c))
 }
 
 // Marks the smallest set after x came. Where nothing calls for it, all marks stay. Else the value for which it is called for is loaded beside the cached rows, of
@@ -157,15 +145,14 @@ fn mark_new(
         → Coming (scheme_of design) E F (words_held held.now) r x marks.old
         → Remarked (scheme_of design) F (words_held held.now) marks.old (answer_of result) marks.new }
 {
-    let c = call_at(design, catalog, keys, marks, held, x);
-    if 8 <= c {
+    let Some(c) = call_at(design, catalog, keys, marks, held, x) else {
         return Answer::Changed(0, 0);
-    }
+    };
     let k = Column {
         table: x.table,
         place: c,
     };
-    let v = operand_cell(x, c as usize);
+    let v = operand_cell(x, usize::from(c));
     let mut levels = [0u16; 512];
     let grown = load_value(design, catalog, keys, marks, k, v, &mut levels);
     settle(marks, &levels);
@@ -246,8 +233,7 @@ pub fn put_lawful(
     ensures catalogued { Catalogued (scheme_of design) (database_of (cells_in cells.new issues.new) tables.new) catalog.new keys.new }
 {
     let n = r as usize;
-    let why = put_cause(design, tables, catalog, keys, n, x);
-    if why != 0 {
+    if let Some(why) = put_cause(design, tables, catalog, keys, n, x) {
         return Answer::Refused(why);
     }
     come(
@@ -275,8 +261,7 @@ pub fn remove_lawful(
     ensures catalogued { Catalogued (scheme_of design) (database_of (cells_in cells.new issues.new) tables.new) catalog.new keys.new }
 {
     let n = r as usize;
-    let why = remove_cause(design, tables, n);
-    if why != 0 {
+    if let Some(why) = remove_cause(design, tables, n) {
         return Answer::Refused(why);
     }
     go(design, cells, issues, tables, catalog, keys, marks, held, n)

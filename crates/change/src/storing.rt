@@ -18,34 +18,13 @@ pub(crate) fn free_row() -> Row
     }
 }
 
-// The numbers and the issues of row r's cells.
-fn store_numbers(cells: &mut [u32], r: usize, x: Row)
-    requires { (r < 512) × (4096 ≤ length cells.old) }
-    ensures { cells.new ≡ sets cells.old (8 * r) x.numbers }
-{
-    let numbers = x.numbers;
-    for c in 0..8usize {
-        cells[8 * r + c] = numbers[c];
-    }
-}
-
-fn store_issues(issues: &mut [u8], r: usize, x: Row)
-    requires { (r < 512) × (4096 ≤ length issues.old) }
-    ensures { issues.new ≡ sets issues.old (8 * r) x.issues }
-{
-    let own = x.issues;
-    for c in 0..8usize {
-        issues[8 * r + c] = own[c];
-    }
-}
-
 // All of row r.
 pub(crate) fn store_row(cells: &mut [u32], issues: &mut [u8], tables: &mut [u8], r: usize, x: Row)
     requires { (r < 512) × Backed (cells_in cells.old issues.old) tables.old }
     ensures { rows_in (cells_in cells.new issues.new) tables.new
         ≡ stored (rows_in (cells_in cells.old issues.old) tables.old) r x }
 {
-    store_numbers(cells, r, x);
-    store_issues(issues, r, x);
+    cells[8 * r..8 * r + 8].copy_from_slice(&x.numbers);
+    issues[8 * r..8 * r + 8].copy_from_slice(&x.issues);
     tables[r] = x.table;
 }

@@ -1,22 +1,17 @@
--- `change::counting::rows_came` meets its contract: a loop that counts. Assumes nothing.
-use native.Mathlib.Omega.{arith}
-use mathlib.Core.Path.{◌∙◌, sym}
-use Rattle.finite.proofs.Counting.{count-end, count-hit, count-miss, count-start}
+use Rattle.std.proofs.Common.{rules}
+use borrow.Author.Tests.{tests}
+use mathlib.Core.Path.{refl}
+use Rattle.std.proofs.lemmas.Iterator.{YieldsList-from_range}
+use mathlib.Core.Bool.{not, ◌&&◌}
+use lib.Dec.{eqb, ltb}
+use lib.ListN.{get_or}
+use Rattle.std.proofs.lemmas.Iterator.Consumers.{YieldsList-from_filter}
+use Rattle.finite.proofs.Ranges.{count_in-range}
 use Rattle.model.specs.Rounds.{reached}
 use Rattle.model.specs.Runs.{marked}
 use Rattle.change.proofs.counting.rows_came.Goals as goal
-use Rattle.change.proofs.counting.rows_came.Goals.{then-comes, else-comes}
-
-pub loop-r-init : goal.loop-r-init
-loop-r-init c = (omega arith, omega arith, count-start _)
-
-pub loop-r-preserved : goal.loop-r-preserved
-unfolding reached marked
-loop-r-preserved c = let e = c.loop-r.invariant.2 in
-    elim c.if-comes.branch [
-      | then-comes w ↦ (omega arith, omega (arith, w.n-is), w.n-is ∙ count-hit _ _ _ e (sym c.comes.ensures ∙ w.if-comes.true))
-      | else-comes w ↦ (omega arith, omega (arith, w.n-is), w.n-is ∙ count-miss _ _ _ e (sym c.comes.ensures ∙ w.if-comes.false))
-    ]
 
 pub returns : goal.returns
-returns c = count-end _ _ _ _ c.loop-r.invariant.0 c.loop-r-test.false c.loop-r.invariant.2
+unfolding reached marked
+returns c = count_in-range 512 _ c.filter.result _ c.count.ensures.ran
+    (YieldsList-from_filter _ (λ i. ltb 0 (get_or c.args.levels.now i 0) && not (eqb (get_or c.args.marks.now i 0) 1)) (YieldsList-from_range 0 512 512 (cc) refl) c.filter.ensures.closure (λ x r q k. search (rules, tests)))
