@@ -2,10 +2,12 @@
 use Prim.Native.Nat.{ℕ, ◌+◌, ◌-◌, ◌≤◌, ◌<◌}
 use native.Mathlib.Omega.{arith}
 use mathlib.Core.Path.{◌≡◌, refl, sym, ap, subst, ◌∙◌}
-use mathlib.Core.Bool.{Bool, true, false, ◌&&◌, and-eq-true_iff}
+use mathlib.Core.Bool.{Bool, true, false, cond, ◌&&◌, and-eq-true_iff}
 use mathlib.Core.List.{List}
 use mathlib.Core.Logic.{◌⊎◌, inl, inr}
-use borrow.Author.Tests.{eqb-true, ltb-true}
+use Rattle.std.specs.Prelude.{min}
+use Rattle.std.proofs.Common.{rules}
+use borrow.Author.Tests.{tests, eqb-true, ltb-true}
 use lib.Dec.{eqb, ltb}
 use lib.ListN.{length, get_or, set, length-set}
 use lib.Seq.{get_or-set_same, get_or-set_other}
@@ -15,6 +17,10 @@ use Rattle.catalog.specs.Listing.{Searched, Moved, Opened}
 use Rattle.mend.specs.Values.{Seats, Raised, Stands, Opens, Closes}
 use Rattle.catalog.proofs.Searching.{searched-only, moved_open}
 use Rattle.catalog.proofs.Found.{stands_here, stands-not}
+
+-- the lower of two row numbers
+pub lower_is : (h r : ℕ) → min h r ≡ cond (ltb r h) r h
+lower_is h r = search (rules, tests)
 
 -- ---- the elements behind place n and before place j have become f of what they were
 

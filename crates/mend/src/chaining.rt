@@ -25,6 +25,7 @@ fn row_before(catalog: &[u16; 16449], c: usize, h: usize, r: usize) -> usize
     ensures { (result < r) × ((D : Database) (k : Model.Column) (v : Model·cell.Cell) → Chained D c catalog.now → k.place ≡ c
         → h ≡ first_from 512 (has D k v) 0 → Last (has D k v) r result) }
 {
+    // Along the links, not by a count: `successors(..).last()` would ask for a default, where there is always a row.
     let mut p = h;
     let mut n = link(catalog, h, c);
     while n < r {

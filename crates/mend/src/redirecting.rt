@@ -11,26 +11,6 @@ ghost use Rattle.mend.specs.Values.{Redirected};
 use crate::revaluing::{drop_cells, put_cells};
 use catalog::{HEADS, STARTS, store};
 
-// Copies the first rows of all values. One step for each.
-fn fetch_heads(catalog: &[u16; 16449], heads: &mut [u16; 4096])
-    requires { length heads.old ≡ 4096 }
-    ensures { heads.new ≡ heads_in catalog.now }
-{
-    for i in 0..4096usize {
-        heads[i] = catalog[HEADS + i];
-    }
-}
-
-// Copies where the columns begin. One step for each.
-fn fetch_starts(catalog: &[u16; 16449], starts: &mut [u16; 65])
-    requires { length starts.old ≡ 65 }
-    ensures { starts.new ≡ starts_in catalog.now }
-{
-    for i in 0..65usize {
-        starts[i] = catalog[STARTS + i];
-    }
-}
-
 // Row r comes: the directory of the rows without it becomes that of the lent rows. The cost is that of `put_cells`, and of copying the first rows twice.
 pub(crate) fn add_values(
     cells: &[u32],
@@ -51,8 +31,8 @@ pub(crate) fn add_values(
 {
     let mut heads = [0u16; 4096];
     let mut starts = [0u16; 65];
-    fetch_heads(catalog, &mut heads);
-    fetch_starts(catalog, &mut starts);
+    heads.copy_from_slice(&catalog[HEADS..STARTS]);
+    starts.copy_from_slice(&catalog[STARTS..]);
     put_cells(cells, issues, tables, keys, &mut heads, &mut starts, r);
     store(catalog, HEADS, &heads);
     store(catalog, STARTS, &starts);
@@ -77,8 +57,8 @@ pub(crate) fn drop_values(
 {
     let mut heads = [0u16; 4096];
     let mut starts = [0u16; 65];
-    fetch_heads(catalog, &mut heads);
-    fetch_starts(catalog, &mut starts);
+    heads.copy_from_slice(&catalog[HEADS..STARTS]);
+    starts.copy_from_slice(&catalog[STARTS..]);
     drop_cells(
         cells,
         issues,

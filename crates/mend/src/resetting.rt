@@ -35,6 +35,7 @@ fn reset_firsts(
     let first = h as u16;
     let k = j.source;
     let c = k.place as usize;
+    // Along the links of the array that the loop writes, which no iterator over them can lend.
     let mut s = find(catalog, keys, k, v);
     while s < Design::ROWS {
         let n = next_row(catalog, s, c);

@@ -5,27 +5,13 @@ ghost use Rattle.mend.specs.Values.{Comes, Goes, Raised, Seats, Stands};
 
 use catalog::{make_room, seat, stands, wide};
 
-// The lower of two row numbers. Constant time.
-fn lower(a: u16, b: u16) -> u16
-    ensures { result ≡ cond (ltb a b) a b }
-{
-    if a < b {
-        return a;
-    }
-    b
-}
-
 // Moves the elements behind place a, up to place m, one place back. A step for each.
 fn close_room(keys: &mut [u64; 4096], heads: &mut [u16; 4096], a: usize, m: usize)
     requires { (a < m) × (m ≤ 4096) × (length keys.old ≡ 4096) × (length heads.old ≡ 4096) }
     ensures { Moved a (m - 1) keys.new keys.old × Moved a (m - 1) heads.new heads.old }
 {
-    let mut j = a + 1;
-    while j < m {
-        keys[j - 1] = keys[j];
-        heads[j - 1] = heads[j];
-        j += 1;
-    }
+    keys.copy_within(a + 1..m, a);
+    heads.copy_within(a + 1..m, a);
 }
 
 // The columns behind number n begin one place on. A step for each.
@@ -33,10 +19,8 @@ fn raise(starts: &mut [u16; 65], n: usize)
     requires { (n < 64) × (length starts.old ≡ 65) × ((j : ℕ) → j < 65 → get_or starts.old j 0 < 4096) }
     ensures { Raised n starts.old starts.new }
 {
-    let mut j = n + 1;
-    while j < 65 {
-        starts[j] = starts[j] + 1;
-        j += 1;
+    for j in n + 1..65 {
+        starts[j] += 1;
     }
 }
 
@@ -45,10 +29,8 @@ fn sink(starts: &mut [u16; 65], n: usize)
     requires { (n < 64) × (length starts.old ≡ 65) × ((j : ℕ) → n < j → j < 65 → 0 < get_or starts.old j 0) }
     ensures { Raised n starts.new starts.old }
 {
-    let mut j = n + 1;
-    while j < 65 {
-        starts[j] = starts[j] - 1;
-        j += 1;
+    for j in n + 1..65 {
+        starts[j] -= 1;
     }
 }
 
@@ -67,7 +49,7 @@ pub(crate) fn put_value(
     let to = wide(starts[n + 1]);
     let a = seat(keys, wide(starts[n]), to, x);
     if stands(keys, to, a, x) {
-        heads[a] = lower(r as u16, heads[a]);
+        heads[a] = heads[a].min(r as u16);
         return;
     }
     make_room(keys, heads, a, wide(starts[64]));
@@ -80,10 +62,7 @@ pub(crate) fn put_value(
 fn first_without(h: u16, r: u16, next: u16) -> u16
     ensures { result ≡ cond (eqb h r) next h }
 {
-    if h == r {
-        return next;
-    }
-    h
+    if h == r { next } else { h }
 }
 
 // Row r goes, which has the key x in column n, and the next row `next` there. A binary search; where no other row has x, a step for each value behind it.
@@ -112,8 +91,5 @@ pub(crate) fn drop_value(
 fn alone(h: u16, r: u16, next: u16) -> bool
     ensures { result ≡ eqb h r && ltb 511 next }
 {
-    if h != r {
-        return false;
-    }
-    512 <= next
+    h == r && 512 <= next
 }

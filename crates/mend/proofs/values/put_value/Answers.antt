@@ -1,9 +1,9 @@
 -- `catalog::values::put_value` meets its contract: the key stands at its seat, or a place is opened there. Assumes nothing.
 use native.Mathlib.Omega.{arith}
-use mathlib.Core.Path.{refl, ap}
+use mathlib.Core.Path.{refl, ap, ◌∙◌}
 use mathlib.Core.Logic.{inl, inr}
 use lib.ListN.{set}
-use Rattle.mend.proofs.ValueLaws.{to-bound, seat-end, seat-met, stands-before, opens}
+use Rattle.mend.proofs.ValueLaws.{lower_is, to-bound, seat-end, seat-met, stands-before, opens}
 use Rattle.mend.proofs.values.put_value.Goals as goal
 
 pub seat-a-requires : goal.seat-a-requires
@@ -25,7 +25,7 @@ pub bounds-heads-a-then-stands : goal.bounds-heads-a-then-stands
 bounds-heads-a-then-stands c = omega (arith, stands-before _ _ _ _ _ c.requires.0 c.requires.2 _ (seat-met _ _ _ _ _ c.requires.0 c.requires.2 _ _ c.wide.ensures c.wide-to.ensures _ c.seat-a.ensures _ c.stands.ensures c.if-stands.true))
 
 pub returns-then-stands : goal.returns-then-stands
-returns-then-stands c = inl (record { at = c.seat-a.result; stands = seat-met _ _ _ _ _ c.requires.0 c.requires.2 _ _ c.wide.ensures c.wide-to.ensures _ c.seat-a.ensures _ c.stands.ensures c.if-stands.true; keys-are = refl; heads-are = ap (set c.args.heads.now c.seat-a.result) c.lower.ensures; starts-are = refl })
+returns-then-stands c = inl (record { at = c.seat-a.result; stands = seat-met _ _ _ _ _ c.requires.0 c.requires.2 _ _ c.wide.ensures c.wide-to.ensures _ c.seat-a.ensures _ c.stands.ensures c.if-stands.true; keys-are = refl; heads-are = ap (set c.args.heads.now c.seat-a.result) (c.min.ensures ∙ lower_is _ _); starts-are = refl })
 
 pub make_room-requires : goal.make_room-requires
 make_room-requires c = (omega (arith, seat-end _ _ _ _ _ c.requires.0 c.requires.2 _ _ c.wide.ensures c.wide-to.ensures _ c.seat-a.ensures, c.wide-2.ensures), omega (arith, c.wide-2.ensures), c.requires.2.keys-long, c.requires.2.heads-long)

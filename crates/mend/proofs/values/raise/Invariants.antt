@@ -1,10 +1,7 @@
 -- What the loops of `mend::values::raise` keep.
-use Prim.Native.Nat.{◌+◌, ◌-◌, ◌≤◌, ◌<◌}
+use Prim.Native.Nat.{◌+◌, ◌≤◌, ◌<◌}
 use Rattle.mend.proofs.ValueLaws.{Mapped}
 use Rattle.mend.proofs.values.raise.Given as goal
 
 abbrev pub invariant-loop-j : goal.invariant-loop-j
 invariant-loop-j l = (l.n < l.j) × (l.j ≤ 65) × Mapped (λ z. z + 1) l.n l.j l.initial.starts l.starts
-
-abbrev pub decreases-loop-j : goal.decreases-loop-j
-decreases-loop-j l = 65 - l.j
