@@ -84,11 +84,11 @@ module _ (p : ℕ → Bool) (seed : List Bool) where
 -- ---- a test that doesn't pass, and one that does
 
 module _ (a : Bool) (p : ℕ → Bool) (seed : List Bool) where
-  pub mark-not : a ≡ false → Marked (λ r. a && p r) seed seed
-  mark-not e = record { long = refl; at = λ t l. sym (or-none (get_or seed t false) (a && p t) (and_left a (p t) e)) }
+  pub mark-not : (seed' : List Bool) → seed' ≡ seed → a ≡ false → Marked (λ r. a && p r) seed seed'
+  mark-not seed' q e = subst (λ (s : List Bool). Marked (λ r. a && p r) seed s) (sym q) record { long = refl; at = λ t l. sym (or-none (get_or seed t false) (a && p t) (and_left a (p t) e)) }
 
-  pub mark-all : (seed' : List Bool) → a ≡ true → Marked p seed seed' → Marked (λ r. a && p r) seed seed'
-  mark-all seed' e x = record { long = x.long; at = λ t l. x.at t l ∙ ap (λ (b : Bool). get_or seed t false || (b && p t)) (sym e) }
+  pub mark-all : (seed' seed'' : List Bool) → seed'' ≡ seed' → a ≡ true → Marked p seed seed' → Marked (λ r. a && p r) seed seed''
+  mark-all seed' seed'' q e x = subst (λ (s : List Bool). Marked (λ r. a && p r) seed s) (sym q) record { long = x.long; at = λ t l. x.at t l ∙ ap (λ (b : Bool). get_or seed t false || (b && p t)) (sym e) }
 
 -- ---- constraint by constraint
 

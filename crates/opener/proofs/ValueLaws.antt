@@ -5,9 +5,13 @@ use native.Mathlib.Omega.{arith}
 use mathlib.Core.Path.{◌≡◌, refl, sym, ap, ap₂, ◌∙◌}
 use mathlib.Core.Bool.{Bool, true, false, cond, ◌&&◌}
 use mathlib.Core.List.{List}
-use borrow.Author.Tests.{eq-eqb, ne_eqb}
+use borrow.Author.Tests.{eq-eqb, ne_eqb, ltb-true}
+use lib.Dec.{eqb, ltb}
 use lib.ListN.{get_or}
-use Rattle.finite.proofs.Bools.{and_left, and_right, cond-true, cond-false}
+use Rattle.std.specs.Prelude.{Some}
+use Rattle.std.specs.declared.cmp.Ordering.TheVariants.{Less, Equal, Greater}
+use Rattle.std.specs.Ordering.{nat_cmp, is_lt, is_some_and, partial_ordering_then}
+use Rattle.finite.proofs.Bools.{clash, and_left, and_right, cond-true, cond-false}
 use Rattle.model.specs.Cell.{Cell, issued, blank, numberless}
 use Rattle.model.specs.Scheme.{Column, same_column, Filling, candidate}
 use Rattle.model.specs.Cache.{RowSet}
@@ -16,6 +20,20 @@ use Rattle.state.specs.Cells.{Cells}
 use Rattle.state.specs.Meaning.{cell_of, cell_at, database_of}
 use Rattle.state.proofs.RowLaws.{cell-at}
 use Rattle.opener.specs.Reading.{is_before, lower, lowest_of, own_value, value_in, lowest_value}
+
+-- ---- the order: pairs of numbers and issues, compared as the library does
+
+pub pair-before : (n i m j : ℕ) → is_some_and is_lt (partial_ordering_then (Some (nat_cmp n m)) (Some (nat_cmp i j))) ≡ cond (eqb n m) (ltb i j) (ltb n m)
+pair-before n i m j = go (ltb n m) (eqb n m) (ltb i j) (eqb i j) (λ h. ne_eqb n m (λ e. omega (arith, ltb-true n m h)))
+  where
+    go : (a b x y : Bool) → (a ≡ true → b ≡ false) →
+        is_some_and is_lt (partial_ordering_then (Some (cond a Less (cond b Equal Greater))) (Some (cond x Less (cond y Equal Greater)))) ≡ cond b x a
+    go true true x y h = clash refl (h refl)
+    go true false x y h = refl
+    go false true true y h = refl
+    go false true false true h = refl
+    go false true false false h = refl
+    go false false x y h = refl
 
 -- ---- the lower of two
 

@@ -11,7 +11,7 @@ ghost use Rattle.opener.specs.Marking.{Marked};
 
 use catalog::{find, next_row};
 use lawful::is_unique;
-use state::{Cell, Column, Constraint, Design, same_column};
+use state::{Cell, Column, Design, same_column};
 
 // Marks the rows that have the value v in column k, beside those that are marked. A search of the directory, and a step for each of them.
 fn mark_having(
@@ -25,51 +25,12 @@ fn mark_having(
     ensures { (D : Database) → Indexed D catalog.now keys.now → length seed.old ≡ 512
         → Marked (has D (column_of k) (cell_of v)) seed.old seed.new }
 {
+    // Along the links, not by a count: `successors` asks for an Option at the end, which `find` and `next_row` say by 512.
     let mut r = find(catalog, keys, k, v);
     while r < Design::ROWS {
         seed[r] = true;
         r = next_row(catalog, r, k.place as usize);
     }
-}
-
-// Marks the rows that have the value v in the source column, if the constraint ends at column k. The cost is that of `mark_having`, as that of the next.
-fn mark_sources(
-    catalog: &[u16; 16449],
-    keys: &[u64; 4096],
-    j: Constraint,
-    k: Column,
-    v: Cell,
-    seed: &mut [bool; 512],
-)
-    requires { (j.source.table < 8) × (j.source.place < 8) × ((D : Database) × Indexed D catalog.now keys.now) }
-    ensures { (D : Database) → Indexed D catalog.now keys.now → length seed.old ≡ 512
-        → Marked (λ r. same_column (constraint_of j).target (column_of k) && has D (constraint_of j).source (cell_of v) r) seed.old seed.new }
-{
-    let target = j.target;
-    if !same_column(target, k) {
-        return;
-    }
-    let source = j.source;
-    mark_having(catalog, keys, source, v, seed);
-}
-
-// Marks the rows that have the value v in column k, if it is unique.
-fn mark_unique(
-    d: Design,
-    catalog: &[u16; 16449],
-    keys: &[u64; 4096],
-    k: Column,
-    v: Cell,
-    seed: &mut [bool; 512],
-)
-    requires { (k.table < 8) × (k.place < 8) × ((D : Database) × Indexed D catalog.now keys.now) }
-    ensures { (D : Database) → Indexed D catalog.now keys.now → length seed.old ≡ 512
-        → Marked (λ r. (scheme_of d).unique (column_of k) && has D (column_of k) (cell_of v) r) seed.old seed.new }
-{
-    if !is_unique(d, k) {
-        return;
-    }
-    mark_having(catalog, keys, k, v, seed);
 }
 
 // The rows that would be ground 2, whatever stood in the array. A search of the directory for each constraint that ends at the column, and a step for each row
@@ -90,7 +51,9 @@ fn source_rows(
     *seed = [false; 512];
     for i in 0..d.constraints {
         let j = d.constraint[i];
-        mark_sources(catalog, keys, j, k, v, seed);
+        if same_column(j.target, k) {
+            mark_having(catalog, keys, j.source, v, seed);
+        }
     }
 }
 
@@ -108,5 +71,7 @@ pub(crate) fn giving_rows(
         → seed.new ≡ tab 512 (Turned.gives (scheme_of d) D (column_of k) (cell_of v)) }
 {
     source_rows(d, catalog, keys, k, v, seed);
-    mark_unique(d, catalog, keys, k, v, seed);
+    if is_unique(d, k) {
+        mark_having(catalog, keys, k, v, seed);
+    }
 }

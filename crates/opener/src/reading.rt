@@ -15,10 +15,7 @@ use state::{Answer, Cell, Column, Design, Filling, cell_at, is_numberless, same_
 fn is_before(a: Cell, b: Cell) -> bool
     ensures { result ≡ Reading.is_before (cell_of a) (cell_of b) }
 {
-    if a.number != b.number {
-        return a.number < b.number;
-    }
-    a.issue < b.issue
+    (a.number, a.issue) < (b.number, b.issue)
 }
 
 // The lower of the two, where a cell without a number stands for none.
@@ -129,16 +126,11 @@ pub(crate) fn lowest_opener(
     ensures { answer_of result ≡ Reading.reading (scheme_of d) (database_of (cells_in cells.now issues.now)
         tables.now) (reached levels.now) (column_of k) (cell_of v) }
 {
-    let n = d.fillings;
-    let filling = d.filling;
-    let mut i: usize = 0;
-    while i < n {
-        let f = filling[i];
-        let w = lowest_value(cells, issues, tables, levels, f, k, v);
+    for i in 0..d.fillings {
+        let w = lowest_value(cells, issues, tables, levels, d.filling[i], k, v);
         if !is_numberless(w) {
             return Answer::OpenedBy(i as u8, w.number, w.issue);
         }
-        i += 1;
     }
     Answer::NoOpener
 }

@@ -17,19 +17,8 @@ fn turned_round(j: Constraint) -> Constraint
 pub(crate) fn turned(d: Design) -> Design
     ensures { result ≡ turned_design d }
 {
-    let mut constraint = d.constraint;
-    for i in 0..Design::CONSTRAINTS {
-        let j = constraint[i];
-        constraint[i] = turned_round(j);
-    }
-    let table = d.table;
-    let filling = d.filling;
     Design {
-        tables: d.tables,
-        table,
-        constraints: d.constraints,
-        constraint,
-        fillings: d.fillings,
-        filling,
+        constraint: d.constraint.map(turned_round),
+        ..d
     }
 }

@@ -1,12 +1,13 @@
 -- `opener::giving::source_rows` meets its contract. Assumes nothing.
-use Rattle.opener.proofs.MarkingLaws.{mark-start, mark-next, mark-last}
+use Rattle.opener.proofs.MarkingLaws.{mark-all, mark-not, mark-start, mark-next, mark-last}
 use Rattle.state.specs.Meaning.{cell_of, column_of, constraint_of}
 use Rattle.state.specs.Design.{constraint_at}
 use Rattle.model.specs.Database.{has}
 use Rattle.model.specs.Scheme.{same_column}
 use lib.ListN.{length-replicate}
 use mathlib.Core.Bool.{Bool, false, ◌&&◌}
-use mathlib.Core.Path.{refl, ◌∙◌}
+use Rattle.opener.proofs.giving.source_rows.Goals.{then-same_column, else-same_column}
+use mathlib.Core.Path.{refl, sym}
 use native.Mathlib.Omega.{arith}
 use Rattle.opener.proofs.giving.source_rows.Goals as goal
 
@@ -17,18 +18,23 @@ loop-i-init c = let a = c.args in
 pub bounds-d-i : goal.bounds-d-i
 bounds-d-i c = let s = c in omega (arith, c.loop-i-test.true, c.loop-i.invariant.1, s.requires.0.constraints)
 
-pub mark_sources-requires : goal.mark_sources-requires
-mark_sources-requires c = (c.requires.0.source-table _, c.requires.0.source _, c.requires.1)
+pub mark_having-requires : goal.mark_having-requires
+mark_having-requires c = (c.requires.0.source-table _, c.requires.0.source _, c.requires.1)
 
 pub loop-i-preserved : goal.loop-i-preserved
 loop-i-preserved c = let a = c.args in
-    let v = c.loop-i.invariant in (
+    let v = c.loop-i.invariant in
+    let i = c.loop-i.i in (
       omega arith,
       v.1,
-      (c.mark_sources.ensures c.requires.1.0 c.requires.1.1 v.2).long ∙ v.2,
+      c.if-same_column.array_long,
       λ D y.
-          mark-next _ (λ i r. same_column (constraint_of (constraint_at a.d i)).target (column_of a.k) && has D (constraint_of (constraint_at a.d i)).source (cell_of a.v) r) _ _
-          (v.3 D y) (c.mark_sources.ensures D y v.2),
+          mark-next i (λ n r. same_column (constraint_of (constraint_at a.d n)).target (column_of a.k) && has D (constraint_of (constraint_at a.d n)).source (cell_of a.v) r)
+          c.loop-i.seed c.if-same_column.seed (v.3 D y)
+          (elim c.if-same_column.branch [
+            | then-same_column w ↦ mark-all _ (has D (constraint_of (constraint_at a.d i)).source (cell_of a.v)) _ _ _ w.seed-is (sym w.if-same_column.ensures) (w.mark_having.ensures D y v.2)
+            | else-same_column w ↦ mark-not _ (has D (constraint_of (constraint_at a.d i)).source (cell_of a.v)) _ _ w.seed-is (sym w.if-same_column.ensures)
+          ]),
     )
 
 pub returns : goal.returns

@@ -1,5 +1,5 @@
 -- What the loops of `opener::reading::lowest_opener` keep.
-use Prim.Native.Nat.{◌≤◌, ◌-◌}
+use Prim.Native.Nat.{◌≤◌}
 use mathlib.Core.Path.{◌≡◌}
 use Rattle.finite.specs.Finite.{first_from}
 use Rattle.model.specs.Rounds.{reached}
@@ -9,9 +9,6 @@ use Rattle.opener.proofs.FillingLaws.{passes}
 use Rattle.opener.proofs.reading.lowest_opener.Given as goal
 
 abbrev pub invariant-loop-i : goal.invariant-loop-i
-invariant-loop-i l = (l.i ≤ l.n) ×
-    (let p = passes l.filling (database_of (cells_in l.cells l.issues) l.tables) (reached l.levels) (column_of l.k) (cell_of l.v) in
-    first_from l.n p 0 ≡ first_from l.n p l.i)
-
-abbrev pub decreases-loop-i : goal.decreases-loop-i
-decreases-loop-i l = l.n - l.i
+invariant-loop-i l = (l.i ≤ l.d.fillings) ×
+    (let p = passes l.d.filling (database_of (cells_in l.cells l.issues) l.tables) (reached l.levels) (column_of l.k) (cell_of l.v) in
+    first_from l.d.fillings p 0 ≡ first_from l.d.fillings p l.i)
