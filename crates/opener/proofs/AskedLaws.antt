@@ -1,5 +1,5 @@
 -- From the tests of the code to what the question answers on a sound state. Assumes nothing.
-use Prim.Native.Nat.{ℕ}
+use Prim.Native.Nat.{ℕ, ◌≤◌, ◌<◌}
 use native.Mathlib.Omega.{arith}
 use mathlib.Core.Path.{◌≡◌, sym, ap, ◌∙◌}
 use mathlib.Core.Bool.{Bool, true, false, not}
@@ -23,6 +23,7 @@ use Rattle.model.proofs.OpenerLaws.{open-answer}
 use Rattle.state.specs.declared.cell.Cell as State
 use Rattle.state.specs.contracts.cell.Cell.{the_type}
 use Rattle.state.specs.Meaning.{cell_of, holding_of, scheme_of}
+use Rattle.state.specs.Design.{filling_at}
 use Rattle.state.specs.Lent.{State as Lent, scheme, database, cache, sound, answer_at}
 use Rattle.lawful.proofs.DesignLaws.{design-says}
 use Rattle.lawful.proofs.RowsLaws.{Stored, lawful-database}
@@ -33,6 +34,11 @@ use Rattle.opener.proofs.ReadingLaws.{Small, reading-is}
 -- an operand is a u32 and a u8, as its type says
 pub cell-small : (a : State.Cell) (vs : List Val) → Is (row the_type) a vs → Small (cell_of a)
 cell-small a vs g = record { number = omega (arith, g); issue = omega (arith, g) }
+
+-- candidates begin with 1
+pub fillings-low : (s : Lent) → sound s ≡ true → (i : ℕ) → i < s.design.fillings → 1 ≤ (filling_at s.design i).low
+unfolding scheme_of
+fillings-low s e i l = ((design-says s.design (parts s e).design).filling i l).low
 
 module _ (s : Lent) (e : sound s ≡ true) (k : Column) (v : Cell) where
   pub opener-5 : is_column (scheme s) k ≡ false → refused 5 ≡ answer_at s (ask (opener k v))

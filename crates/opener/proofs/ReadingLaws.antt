@@ -35,7 +35,7 @@ unfolding numberless blank
 blank-numberless = refl
 
 -- a candidate has one, where candidates begin with 1
-candidate-numbered : (F : Filling) (w : Cell) → 1 ≤ F.low → candidate F w ≡ true → numberless w ≡ false
+pub candidate-numbered : (F : Filling) (w : Cell) → 1 ≤ F.low → candidate F w ≡ true → numberless w ≡ false
 unfolding candidate numberless
 candidate-numbered F w l e = ne_eqb w.number 0 (λ z. omega (arith, leb-true F.low w.number ((and-eq-true_iff (leb F.low w.number) _).0 e).0))
 

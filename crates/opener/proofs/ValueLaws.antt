@@ -2,24 +2,26 @@
 use Prim.Native.Nat.{ℕ, ◌+◌, ◌≤◌, ◌<◌}
 use native.Mathlib.Numerals.{add-one}
 use native.Mathlib.Omega.{arith}
-use mathlib.Core.Path.{◌≡◌, refl, sym, ap, ap₂, ◌∙◌}
+use mathlib.Core.Path.{◌≡◌, refl, sym, ap, ap₂, subst, ◌∙◌}
 use mathlib.Core.Bool.{Bool, true, false, cond, ◌&&◌}
 use mathlib.Core.List.{List}
 use borrow.Author.Tests.{eq-eqb, ne_eqb, ltb-true}
 use lib.Dec.{eqb, ltb}
 use lib.ListN.{get_or}
-use Rattle.std.specs.Prelude.{Some}
+use Rattle.std.specs.Prelude.{Option, None, Some}
+use Rattle.std.specs.Bool.{then_some}
 use Rattle.std.specs.declared.cmp.Ordering.TheVariants.{Less, Equal, Greater}
 use Rattle.std.specs.Ordering.{nat_cmp, is_lt, is_some_and, partial_ordering_then}
 use Rattle.finite.proofs.Bools.{clash, and_left, and_right, cond-true, cond-false}
-use Rattle.model.specs.Cell.{Cell, issued, blank, numberless}
+use Rattle.model.specs.Cell.{Cell, blank, numberless}
 use Rattle.model.specs.Scheme.{Column, same_column, Filling, candidate}
 use Rattle.model.specs.Cache.{RowSet}
 use Rattle.state.specs.declared.cell.Cell as State
 use Rattle.state.specs.Cells.{Cells}
 use Rattle.state.specs.Meaning.{cell_of, cell_at, database_of}
 use Rattle.state.proofs.RowLaws.{cell-at}
-use Rattle.opener.specs.Reading.{is_before, lower, lowest_of, own_value, value_in, lowest_value}
+use Rattle.opener.proofs.ReadingLaws.{candidate-numbered}
+use Rattle.opener.specs.Reading.{Reads, is_before, lower, lowest_of, own_value, value_in, lowest_value}
 
 -- ---- the order: pairs of numbers and issues, compared as the library does
 
@@ -56,19 +58,60 @@ module _ (a b : Cell) where
       unfolding lower
       lower-old l = sym (cond-false _ _ _ h ∙ cond-false _ _ _ g ∙ cond-false _ _ _ l)
 
--- ---- none, by a test that fails
+-- ---- the lower of two that may be missing
 
-none-blank : issued 0 0 ≡ blank
-unfolding blank
-none-blank = refl
+blank-none : numberless blank ≡ true
+unfolding numberless blank
+blank-none = refl
 
-pub none-chosen : (b : Bool) (w : Cell) → b ≡ false → issued 0 0 ≡ cond b w blank
-none-chosen b w h = none-blank ∙ sym (cond-false b w blank h)
+module _ (a b : Option State.Cell) (x y : Cell) (p : Reads a x) (q : Reads b y) where
+  pub reads-other : a ≡ None → Reads b (lower x y)
+  reads-other e = subst (λ (z : Cell). Reads b z) (lower-none x y (ap numberless (subst (λ (o : Option State.Cell). Reads o x) e p) ∙ blank-none)) q
+
+  module _ (u : State.Cell) (e : a ≡ Some u) where
+    there-a : Reads (Some u) x
+    there-a = subst (λ (o : Option State.Cell). Reads o x) e p
+
+    pub reads-only : b ≡ None → Reads (Some u) (lower x y)
+    reads-only f =
+        subst (λ (z : Cell). Reads (Some u) z) (lower_only x y there-a.1 (ap numberless (subst (λ (o : Option State.Cell). Reads o y) f q) ∙ blank-none)) there-a
+
+    module _ (v : State.Cell) (f : b ≡ Some v) where
+      there-b : Reads (Some v) y
+      there-b = subst (λ (o : Option State.Cell). Reads o y) f q
+
+      before-is : is_before (cell_of v) (cell_of u) ≡ is_before y x
+      before-is = ap₂ (λ (m n : Cell). is_before m n) there-b.0 there-a.0
+
+      pub reads-new : is_before (cell_of v) (cell_of u) ≡ true → Reads (Some v) (lower x y)
+      reads-new h = subst (λ (z : Cell). Reads (Some v) z) (lower-new x y there-a.1 there-b.1 (sym before-is ∙ h)) there-b
+
+      pub reads-old : is_before (cell_of v) (cell_of u) ≡ false → Reads (Some u) (lower x y)
+      reads-old h = subst (λ (z : Cell). Reads (Some u) z) (lower-old x y there-a.1 there-b.1 (sym before-is ∙ h)) there-a
+
+pub reads-some : (r : Option State.Cell) (u : State.Cell) (w : Cell) → r ≡ Some u → Reads r w → (cell_of u ≡ w) × (numberless w ≡ false)
+reads-some r u w e h = subst (λ (o : Option State.Cell). Reads o w) e h
+
+pub reads-none : (r : Option State.Cell) (w : Cell) → r ≡ None → Reads r w → numberless w ≡ true
+reads-none r w e h = ap numberless (subst (λ (o : Option State.Cell). Reads o w) e h) ∙ blank-none
+
+-- ---- what a test chooses
+
+pub reads-chosen : (F : Filling) (x : State.Cell) (r : Option State.Cell) (b : Bool) (w : Cell) → 1 ≤ F.low → b ≡ candidate F (cell_of x) → r ≡ then_some b x
+    → cond (candidate F (cell_of x)) (cell_of x) blank ≡ w → Reads r w
+reads-chosen F x r b w l e h f =
+    subst (λ (z : Cell). Reads r z) f
+    (subst (λ (o : Option State.Cell). Reads o (cond (candidate F (cell_of x)) (cell_of x) blank)) (sym (h ∙ ap (λ (c : Bool). then_some c x) e))
+    (go (candidate F (cell_of x)) (candidate-numbered F (cell_of x) l)))
+  where
+    go : (c : Bool) → (c ≡ true → numberless (cell_of x) ≡ false) → Reads (then_some c x) (cond c (cell_of x) blank)
+    go true m = (refl, m refl)
+    go false m = refl
 
 module _ (k : Column) (v : Cell) (F : Filling) where
-  pub own-elsewhere : same_column F.column k ≡ false → issued 0 0 ≡ own_value k v F
+  pub own-elsewhere : same_column F.column k ≡ false → own_value k v F ≡ blank
   unfolding own_value
-  own-elsewhere h = none-chosen _ v (and_left _ _ h)
+  own-elsewhere h = cond-false _ v blank (and_left _ _ h)
 
   pub own-there : same_column F.column k ≡ true → (u : Cell) → u ≡ cond (candidate F v) v blank → u ≡ own_value k v F
   unfolding own_value
@@ -78,13 +121,13 @@ module _ (cells : Cells) (tables : List ℕ) (B : RowSet) (F : Filling) (r : ℕ
   abbrev there : Cell
   there = (database_of cells tables).cell r F.column.place
 
-  pub value-unled : B r ≡ false → issued 0 0 ≡ value_in (database_of cells tables) B F r
+  pub value-unled : B r ≡ false → value_in (database_of cells tables) B F r ≡ blank
   unfolding value_in
-  value-unled h = none-chosen _ there (and_left _ _ h)
+  value-unled h = cond-false _ there blank (and_left _ _ h)
 
-  pub value-elsewhere : (get_or tables r 0 ≡ F.column.table → ⊥) → issued 0 0 ≡ value_in (database_of cells tables) B F r
+  pub value-elsewhere : (get_or tables r 0 ≡ F.column.table → ⊥) → value_in (database_of cells tables) B F r ≡ blank
   unfolding value_in database_of
-  value-elsewhere h = none-chosen _ there (and_right (B r) _ (and_left _ _ (ne_eqb _ _ h)))
+  value-elsewhere h = cond-false _ there blank (and_right (B r) _ (and_left _ _ (ne_eqb _ _ h)))
 
   pub value_there : B r ≡ true → get_or tables r 0 ≡ F.column.table → (x : State.Cell) → x ≡ cell_at cells r F.column.place → (u : Cell) →
       u ≡ cond (candidate F (cell_of x)) (cell_of x) blank → u ≡ value_in (database_of cells tables) B F r
@@ -95,13 +138,13 @@ module _ (cells : Cells) (tables : List ℕ) (B : RowSet) (F : Filling) (r : ℕ
 
 -- ---- the lowest of many, value by value
 
-pub lowest-more : (a : Cell) (n : ℕ) (f : ℕ → Cell) (m u w : Cell) → m ≡ lowest_of a n f → u ≡ f n → w ≡ lower m u → w ≡ lowest_of a (n + 1) f
+pub reads-more : (a : Cell) (n : ℕ) (f : ℕ → Cell) (r : Option State.Cell) → Reads r (lower (lowest_of a n f) (f n)) → Reads r (lowest_of a (n + 1) f)
 unfolding lowest_of
-lowest-more a n f m u w p q h = h ∙ ap₂ lower p q ∙ ap (λ (x : ℕ). lowest_of a x f) (sym (add-one n))
+reads-more a n f r h = subst (λ (z : Cell). Reads r z) (ap (λ (x : ℕ). lowest_of a x f) (sym (add-one n))) h
 
-pub lowest-end : (cells : Cells) (tables : List ℕ) (B : RowSet) (k : Column) (v : Cell) (F : Filling) (a : Cell) (n : ℕ) (w : Cell) → a ≡ own_value k v F →
-    n ≤ 512 → 512 ≤ n → w ≡ lowest_of a n (value_in (database_of cells tables) B F) → w ≡ lowest_value (database_of cells tables) B k v F
+pub reads-end : (cells : Cells) (tables : List ℕ) (B : RowSet) (k : Column) (v : Cell) (F : Filling) (n : ℕ) (r : Option State.Cell) → n ≤ 512 → 512 ≤ n →
+    Reads r (lowest_of (own_value k v F) n (value_in (database_of cells tables) B F)) → Reads r (lowest_value (database_of cells tables) B k v F)
 unfolding lowest_value database_of
-lowest-end cells tables B k v F a n w o s t h =
+reads-end cells tables B k v F n r s t h =
     let e : n ≡ 512 = omega arith in
-    h ∙ ap₂ (λ (x : Cell) (y : ℕ). lowest_of x y (value_in (database_of cells tables) B F)) o e
+    subst (λ (z : Cell). Reads r z) (ap (λ (y : ℕ). lowest_of (own_value k v F) y (value_in (database_of cells tables) B F)) e) h

@@ -1,12 +1,18 @@
 -- Reading the value that would open a query off the rows B that lead on to one which gives a ground: of each filling, the lowest candidate among the values
 -- of these rows in its column, and the probed value itself if the filling is of its column. Assumes nothing.
-use Rattle.std.specs.Prelude.{ℕ, zero, suc, Bool, not, cond, ◌&&◌, eqb, ltb}
+use Rattle.std.specs.Prelude.{ℕ, zero, suc, Bool, false, not, cond, ◌&&◌, ◌≡◌, Option, MatchOption, eqb, ltb}
+use Rattle.state.specs.declared.cell.Cell as State
+use Rattle.state.specs.Meaning.{cell_of}
 use Rattle.finite.specs.Finite.{first}
 use Rattle.model.specs.Cell.{Cell, blank, numberless}
 use Rattle.model.specs.Scheme.{Column, same_column, Filling, candidate, Scheme}
 use Rattle.model.specs.Database.{Database}
 use Rattle.model.specs.Cache.{RowSet}
 use Rattle.model.specs.Answers.{Answer, opened_by, no_opener, or_answer}
+
+-- r is the cell w, which has a number, or there is none and w is blank
+abbrev pub Reads : Option State.Cell → Cell → Type 0
+Reads r w = MatchOption r (w ≡ blank) (λ x. (cell_of x ≡ w) × (numberless w ≡ false))
 
 -- a stands before b, by number, then issue
 unfoldable pub is_before : Cell → Cell → Bool

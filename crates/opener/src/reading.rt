@@ -1,68 +1,50 @@
 // The lowest value that would open a query, read off the levels of the load along the constraints turned round.
-ghost use Rattle.std.specs.Prelude.{◌≡◌, cond, ◌<◌};
-ghost use Rattle.model.specs.Cell.{blank};
+ghost use Rattle.std.specs.Prelude.{◌≡◌, ℕ, ◌≤◌, ◌<◌};
+ghost use Rattle.model.specs.Cell as Model·cell;
 ghost use Rattle.model.specs.Rounds.{reached};
-ghost use Rattle.model.specs.Scheme.{candidate};
 ghost use Rattle.state.specs.Cells.{cells_in};
-ghost use Rattle.state.specs.Design.{Backed, InRange};
+ghost use Rattle.state.specs.Design.{Backed, InRange, filling_at};
 ghost use Rattle.state.specs.Meaning.{answer_of, cell_of, column_of, database_of, filling_of, scheme_of};
 ghost use Rattle.opener.specs.Reading as Reading;
 
 use lawful::is_candidate;
-use state::{Answer, Cell, Column, Design, Filling, cell_at, is_numberless, same_column};
+use state::{Answer, Cell, Column, Design, Filling, cell_at, same_column};
 
-// Whether a stands before b, by number, then issue. Constant time, as are the next four.
+// Whether a stands before b, by number, then issue. Constant time, as are the next three.
 fn is_before(a: Cell, b: Cell) -> bool
     ensures { result ≡ Reading.is_before (cell_of a) (cell_of b) }
 {
     (a.number, a.issue) < (b.number, b.issue)
 }
 
-// The lower of the two, where a cell without a number stands for none.
-fn lower(a: Cell, b: Cell) -> Cell
-    ensures { cell_of result ≡ Reading.lower (cell_of a) (cell_of b) }
+// The lower of the two, or the one that there is.
+fn lower(a: Option<Cell>, b: Option<Cell>) -> Option<Cell>
+    ensures { (x y : Model·cell.Cell) → Reading.Reads a x → Reading.Reads b y → Reading.Reads result (Reading.lower x y) }
 {
-    if is_numberless(a) {
+    let Some(x) = a else {
         return b;
-    }
-    if is_numberless(b) {
+    };
+    let Some(y) = b else {
         return a;
-    }
-    if is_before(b, a) {
+    };
+    if is_before(y, x) {
         return b;
     }
     a
 }
 
-// The value if it is a candidate of the filling, else none.
-fn if_candidate(f: Filling, w: Cell) -> Cell
-    ensures { cell_of result ≡ cond (candidate (filling_of f) (cell_of w)) (cell_of w) blank }
+// The probed value, if the filling is of its column and it is a candidate.
+fn own_value(f: Filling, k: Column, v: Cell) -> Option<Cell>
+    requires { 1 ≤ f.low }
+    ensures { Reading.Reads result (Reading.own_value (column_of k) (cell_of v) (filling_of f)) }
 {
-    let none = Cell {
-        number: 0,
-        issue: 0,
-    };
-    if is_candidate(f, w) {
-        return w;
-    }
-    none
-}
-
-// The probed value, if the filling is of its column and it is a candidate, else none.
-fn own_value(f: Filling, k: Column, v: Cell) -> Cell
-    ensures { cell_of result ≡ Reading.own_value (column_of k) (cell_of v) (filling_of f) }
-{
-    let none = Cell {
-        number: 0,
-        issue: 0,
-    };
     if !same_column(f.column, k) {
-        return none;
+        return None;
     }
-    if_candidate(f, v)
+    is_candidate(f, v).then_some(v)
 }
 
-// Row r's value in the filling's column, if the row has a level and the value is a candidate, else none.
+// Row r's value in the filling's column, if the row has a level and the value is a candidate.
 fn value_in(
     cells: &[u32],
     issues: &[u8],
@@ -70,24 +52,20 @@ fn value_in(
     levels: &[u16; 512],
     f: Filling,
     r: usize,
-) -> Cell
-    requires { (r < 512) × (f.column.place < 8) × Backed (cells_in cells.now issues.now) tables.now }
-    ensures { cell_of result ≡ Reading.value_in (database_of (cells_in cells.now issues.now) tables.now)
-        (reached levels.now) (filling_of f) r }
+) -> Option<Cell>
+    requires { (r < 512) × (f.column.place < 8) × Backed (cells_in cells.now issues.now) tables.now × (1 ≤ f.low) }
+    ensures { Reading.Reads result (Reading.value_in (database_of (cells_in cells.now issues.now) tables.now)
+        (reached levels.now) (filling_of f) r) }
 {
-    let none = Cell {
-        number: 0,
-        issue: 0,
-    };
     if levels[r] == 0 {
-        return none;
+        return None;
     }
     let k = f.column;
     if tables[r] != k.table {
-        return none;
+        return None;
     }
     let w = cell_at(cells, issues, r, k.place as usize);
-    if_candidate(f, w)
+    is_candidate(f, w).then_some(w)
 }
 
 // The lowest of the filling's values. One pass over the row numbers.
@@ -99,10 +77,10 @@ fn lowest_value(
     f: Filling,
     k: Column,
     v: Cell,
-) -> Cell
-    requires { (f.column.place < 8) × Backed (cells_in cells.now issues.now) tables.now }
-    ensures { cell_of result ≡ Reading.lowest_value (database_of (cells_in cells.now issues.now)
-        tables.now) (reached levels.now) (column_of k) (cell_of v) (filling_of f) }
+) -> Option<Cell>
+    requires { (f.column.place < 8) × Backed (cells_in cells.now issues.now) tables.now × (1 ≤ f.low) }
+    ensures { Reading.Reads result (Reading.lowest_value (database_of (cells_in cells.now issues.now)
+        tables.now) (reached levels.now) (column_of k) (cell_of v) (filling_of f)) }
 {
     let mut w = own_value(f, k, v);
     for r in 0..Design::ROWS {
@@ -122,13 +100,13 @@ pub(crate) fn lowest_opener(
     k: Column,
     v: Cell,
 ) -> Answer
-    requires { InRange d × Backed (cells_in cells.now issues.now) tables.now }
+    requires { InRange d × Backed (cells_in cells.now issues.now) tables.now × ((i : ℕ) → i < d.fillings → 1 ≤ (filling_at d i).low) }
     ensures { answer_of result ≡ Reading.reading (scheme_of d) (database_of (cells_in cells.now issues.now)
         tables.now) (reached levels.now) (column_of k) (cell_of v) }
 {
     for i in 0..d.fillings {
-        let w = lowest_value(cells, issues, tables, levels, d.filling[i], k, v);
-        if !is_numberless(w) {
+        let f = d.filling[i];
+        if let Some(w) = lowest_value(cells, issues, tables, levels, f, k, v) {
             return Answer::OpenedBy(i as u8, w.number, w.issue);
         }
     }

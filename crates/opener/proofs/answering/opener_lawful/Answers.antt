@@ -5,7 +5,7 @@ use borrow.Author.Tests.{not-true, not-false}
 use Rattle.state.proofs.Arrays.{sized}
 use Rattle.state.proofs.HeldWords.{words-sized}
 use Rattle.lawful.proofs.Asked.{sound-range, sound-backed, sound-marks, sound-bounded, sound-table, sound-column}
-use Rattle.opener.proofs.AskedLaws.{cell-small, opener-5, opener-9, opener-open, opener-read}
+use Rattle.opener.proofs.AskedLaws.{fillings-low, cell-small, opener-5, opener-9, opener-open, opener-read}
 use Rattle.opener.proofs.answering.opener_lawful.Goals as goal
 
 pub returns-then-not-is_column : goal.returns-then-not-is_column
@@ -39,7 +39,7 @@ leading_rows-requires c = let s = c in
     record { in_range = (sound-range _ s.requires.held_value (sized s.args.design _ s.well_formed.0), sound-table _ s.requires.held_value _ k, sound-column _ s.requires.held_value _ k); catalogued = (_, s.requires.catalogued) }
 
 pub lowest_opener-requires : goal.lowest_opener-requires
-lowest_opener-requires c = let s = c in (sound-range _ s.requires.held_value (sized s.args.design _ s.well_formed.0), sound-backed _ s.requires.held_value)
+lowest_opener-requires c = let s = c in (sound-range _ s.requires.held_value (sized s.args.design _ s.well_formed.0), sound-backed _ s.requires.held_value, fillings-low _ s.requires.held_value)
 
 pub returns : goal.returns
 returns c = let s = c in

@@ -7,12 +7,6 @@ use Rattle.finite.proofs.Tables.{tab-same}
 use mathlib.Core.Path.{refl, sym, ◌∙◌}
 use Rattle.opener.proofs.giving.giving_rows.Goals as goal
 
-pub source_rows-requires : goal.source_rows-requires
-source_rows-requires c = (c.requires.0, c.requires.3)
-
-pub mark_having-requires : goal.mark_having-requires
-mark_having-requires c = (c.requires.1, c.requires.2, c.requires.3)
-
 pub returns-then-is_unique : goal.returns-then-is_unique
 unfolding Turned.gives scheme_of
 returns-then-is_unique c = λ D x.

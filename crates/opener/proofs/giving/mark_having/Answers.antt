@@ -5,14 +5,8 @@ use Rattle.state.specs.Meaning.{column_of}
 use native.Mathlib.Omega.{arith}
 use Rattle.opener.proofs.giving.mark_having.Goals as goal
 
-pub find-r-requires : goal.find-r-requires
-find-r-requires c = (c.requires.0, c.requires.1)
-
 pub loop-r-init : goal.loop-r-init
 loop-r-init c = λ D x v e z. mark-none _ _ _ e
-
-pub next_row-r-requires : goal.next_row-r-requires
-next_row-r-requires c = (c.loop-r-test.true, c.requires.1)
 
 pub loop-r-smaller : goal.loop-r-smaller
 loop-r-smaller c = let x = c.requires.2 in omega (arith, next-rises x.0 _ _ _ c.loop-r-test.true (c.next_row-r.ensures x.0 x.1.links))

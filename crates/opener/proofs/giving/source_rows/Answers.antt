@@ -15,12 +15,6 @@ pub loop-i-init : goal.loop-i-init
 loop-i-init c = let a = c.args in
     (omega arith, refl, length-replicate {A = Bool} 512 false, λ D x. mark-start (λ i r. same_column (constraint_of (constraint_at a.d i)).target (column_of a.k) && has D (constraint_of (constraint_at a.d i)).source (cell_of a.v) r))
 
-pub bounds-d-i : goal.bounds-d-i
-bounds-d-i c = let s = c in omega (arith, c.loop-i-test.true, c.loop-i.invariant.1, s.requires.0.constraints)
-
-pub mark_having-requires : goal.mark_having-requires
-mark_having-requires c = (c.requires.0.source-table _, c.requires.0.source _, c.requires.1)
-
 pub loop-i-preserved : goal.loop-i-preserved
 loop-i-preserved c = let a = c.args in
     let v = c.loop-i.invariant in

@@ -1,16 +1,16 @@
 -- `opener::reading::lower` meets its contract, test by test. Assumes nothing.
 use mathlib.Core.Path.{sym, ◌∙◌}
-use Rattle.opener.proofs.ValueLaws.{lower-none, lower_only, lower-new, lower-old}
+use Rattle.opener.proofs.ValueLaws.{reads-other, reads-only, reads-new, reads-old}
 use Rattle.opener.proofs.reading.lower.Goals as goal
 
-pub returns-then-is_numberless : goal.returns-then-is_numberless
-returns-then-is_numberless c = lower-none _ _ (sym c.is_numberless.ensures ∙ c.if-is_numberless.true)
+pub returns-in_default : goal.returns-in_default
+returns-in_default c x y p q = reads-other _ _ _ _ p q c.in_default.is
 
-pub returns-then-is_numberless-2 : goal.returns-then-is_numberless-2
-returns-then-is_numberless-2 c = lower_only _ _ (sym c.is_numberless.ensures ∙ c.if-is_numberless.false) (sym c.is_numberless-2.ensures ∙ c.if-is_numberless-2.true)
+pub returns-in_default-b : goal.returns-in_default-b
+returns-in_default-b c x y p q = reads-only c.args.a c.args.b _ _ p q _ c.in-Some.is c.in_default-b.is
 
 pub returns-then-is_before : goal.returns-then-is_before
-returns-then-is_before c = lower-new _ _ (sym c.is_numberless.ensures ∙ c.if-is_numberless.false) (sym c.is_numberless-2.ensures ∙ c.if-is_numberless-2.false) (sym c.is_before.ensures ∙ c.if-is_before.true)
+returns-then-is_before c x y p q = reads-new c.args.a c.args.b _ _ p q _ c.in-Some.is _ c.in-Some-b.is (sym c.is_before.ensures ∙ c.if-is_before.true)
 
 pub returns : goal.returns
-returns c = lower-old _ _ (sym c.is_numberless.ensures ∙ c.if-is_numberless.false) (sym c.is_numberless-2.ensures ∙ c.if-is_numberless-2.false) (sym c.is_before.ensures ∙ c.if-is_before.false)
+returns c x y p q = reads-old c.args.a c.args.b _ _ p q _ c.in-Some.is _ c.in-Some-b.is (sym c.is_before.ensures ∙ c.if-is_before.false)
