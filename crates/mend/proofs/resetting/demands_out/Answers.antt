@@ -8,19 +8,10 @@ use Rattle.mend.proofs.resetting.demands_out.Goals as goal
 pub loop-i-init : goal.loop-i-init
 loop-i-init c = (omega arith, beside-start _, λ E w y h. turning-start _ _ _ _ h)
 
-pub offset_bounds-d-i : goal.offset_bounds-d-i
-offset_bounds-d-i c = omega (arith, c.requires.in_range.0.constraints, c.loop-i-test.true)
-
-pub bounds-d-i : goal.bounds-d-i
-bounds-d-i c = omega (arith, c.requires.in_range.0.constraints, c.loop-i-test.true)
-
 pub demand_out-requires : goal.demand_out-requires
 demand_out-requires c = let v = c.loop-i.invariant in
     let i = c.loop-i.i in
     record { r_bound = (c.requires.in_range.1, c.requires.in_range.2); i_bound = (omega (arith, c.requires.in_range.0.constraints, c.loop-i-test.true), c.requires.in_range.0.source-table i, c.requires.in_range.0.source i, c.requires.in_range.0.target-table i, c.requires.in_range.0.target i); without = (c.requires.without.0, c.requires.without.1, beside-indexed _ _ _ _ v.1 c.requires.without.2) }
-
-pub overflow_step-i : goal.overflow_step-i
-overflow_step-i c = omega (arith, c.requires.in_range.0.constraints, c.loop-i-test.true)
 
 pub loop-i-preserved : goal.loop-i-preserved
 unfolding scheme_of

@@ -19,9 +19,6 @@ overflow_cast-first c = omega (arith, (first-hit _ _ _ (c.find-h.ensures c.requi
 pub loop-s-init : goal.loop-s-init
 loop-s-init c = (only_same _ _, λ D k v x q e. (first-hit _ _ _ e, reset-start _ _ _ _ _ e))
 
-pub next_row-n-requires : goal.next_row-n-requires
-next_row-n-requires c = (c.loop-s-test.true, c.requires.i_bound.2)
-
 pub loop-s-smaller : goal.loop-s-smaller
 loop-s-smaller c = omega (arith, next-rises c.requires.indexed.0 _ _ _ c.loop-s-test.true (c.next_row-n.ensures c.requires.indexed.0 (only-links _ _ _ _ c.loop-s.invariant.0 c.requires.indexed.1.links)))
 
