@@ -9,7 +9,7 @@ use borrow.Author.Tests.{eq-eqb, ne_eqb, ltb-true, ltb-false, lt-ltb, le-leb, lt
 use lib.Dec.{eqb, leb, ltb}
 use lib.ListN.{get_or, take}
 use lib.Seq.{get_or-take}
-use Rattle.finite.specs.Finite.{any, first_from, tab}
+use Rattle.finite.specs.Finite.{any, first_from}
 use Rattle.finite.proofs.Bools.{clash, cond-true, cond-false, dec, refute, or-second}
 use Rattle.finite.proofs.First.{first-from, first-is, first-through, first-here, first_past, first-none}
 use Rattle.model.specs.Cache.{RowSet}
@@ -21,25 +21,18 @@ use Rattle.model.specs.Ranges.{Range}
 use Rattle.model.specs.Runs.{marked}
 use Rattle.model.specs.Scheme.{Column, Scheme}
 use Rattle.model.proofs.MissingLaws.{spanned-known}
-use Rattle.model.proofs.MissingLoops.{first_any, lack-hit, lack-more, lack-end, lack-append, lack-tab}
+use Rattle.model.proofs.MissingLoops.{first_any, lack-hit, lack-more, lack-end, lack-append}
 use Rattle.state.specs.Cells.{Cells}
 use Rattle.state.specs.declared.cell.Cell as Declared-cell
 use Rattle.state.specs.declared.design.Design.{Design}
 use Rattle.state.specs.Design.{constraint_at}
 use Rattle.state.specs.Meaning.{cell_of, cell_at, column_of, scheme_of, database_of}
 use Rattle.slice.specs.declared.fetch.Fetch.{Fetch}
-use Rattle.slice.specs.declared.fetch.Lack.{Lack}
-use Rattle.slice.specs.Fetches.{fetch_of, value_fetch, span_fetch, as_lack, NextSpan, Shut}
+use Rattle.std.specs.Bool.{then_some}
+use Rattle.slice.specs.Fetches.{fetch_of, value_fetch, span_fetch, as_lack, IsNextSpan, IsShut, NextSpan}
+use Rattle.std.specs.Prelude.{None}
 
 -- ---- answers
-
-pub found-says : (l : Lack) → l.found ≡ true → as_lack l ≡ Model.lacks (fetch_of l.fetch)
-unfolding as_lack
-found-says l e = cond-true l.found _ _ e
-
-pub unfound-says : (l : Lack) → l.found ≡ false → as_lack l ≡ Model.nothing
-unfolding as_lack
-unfound-says l e = cond-false l.found _ _ e
 
 pub value_of : (k : Column) (v : Cell) → fetch_of (value_fetch k v) ≡ Model.value k v
 unfolding fetch_of
@@ -69,38 +62,27 @@ module _ (S : Scheme) (D : Database) (fs : List Model.Fetch) (k : Column) (v : C
   unfolding Model.is_open
   open_full e h = ap not h ∙ sym (ap (λ (b : Bool). not (b || Model.known S D fs k v)) e)
 
-  pub value-lack : (b : Bool) (f : Fetch) → b ≡ Model.is_open S D fs k v → f ≡ value_fetch k v → as_lack (record { found = b; fetch = f }) ≡ Model.lack_of S D fs k v
-  unfolding as_lack Model.lack_of
+  pub value-lack : (b : Bool) (f : Fetch) → b ≡ Model.is_open S D fs k v → f ≡ value_fetch k v → as_lack (then_some b f) ≡ Model.lack_of S D fs k v
+  unfolding Model.lack_of
   value-lack b f e g =
-      ap (λ (x : Bool). cond x (Model.lacks (fetch_of f)) Model.nothing) e ∙
+      ap (λ (x : Bool). as_lack (then_some x f)) e ∙ go (Model.is_open S D fs k v) ∙
       ap (λ (x : Model.Fetch). cond (Model.is_open S D fs k v) (Model.lacks x) Model.nothing) (ap fetch_of g ∙ value_of k v)
+    where
+      go : (x : Bool) → as_lack (then_some x f) ≡ cond x (Model.lacks (fetch_of f)) Model.nothing
+      go true = refl
+      go false = refl
 
 -- ---- loops that leave at the first lack
 
 module _ (f : ℕ → Model.Lack) where
-  pub leaves : (n i : ℕ) (l : Lack) → i < n → Model.lack_below i f ≡ Model.nothing → as_lack l ≡ f i → l.found ≡ true → as_lack l ≡ Model.lack_below n f
-  leaves n i l h e g t = found-says l t ∙ sym (lack-hit f n i h e (sym g ∙ found-says l t))
+  pub leaves : (n i : ℕ) {g : Model.Fetch} → i < n → Model.lack_below i f ≡ Model.nothing → Model.lacks g ≡ f i → Model.lacks g ≡ Model.lack_below n f
+  leaves n i h e g = sym (lack-hit f n i h e (sym g))
 
-  pub goes_on : (i : ℕ) (l : Lack) → Model.lack_below i f ≡ Model.nothing → as_lack l ≡ f i → l.found ≡ false → Model.lack_below (i + 1) f ≡ Model.nothing
-  goes_on i l e g t = lack-more f i e (sym g ∙ unfound-says l t)
+  pub goes_on : (i : ℕ) → Model.lack_below i f ≡ Model.nothing → Model.nothing ≡ f i → Model.lack_below (i + 1) f ≡ Model.nothing
+  goes_on i e g = lack-more f i e (sym g)
 
-  pub ends : (n i : ℕ) {l : Model.Lack} → i ≤ n → n ≤ i → Model.lack_below i f ≡ Model.nothing → l ≡ Model.nothing → l ≡ Model.lack_below n f
-  ends n i a b e g = g ∙ sym (lack-end f n i a b e)
-
--- the same over a list of n places, where x stands at place i
-module _ {A B : Type 0} (g : B → Model.Lack) (e : A → B) (f : ℕ → A) where
-  pub leaves_at : {m n : ℕ} (i : ℕ) (x : A) (l : Lack) → m ≡ n → i < m → Model.lack_below i (λ j. g (e (f j))) ≡ Model.nothing → x ≡ f i → as_lack l ≡ g (e x) →
-      l.found ≡ true → as_lack l ≡ Model.lack_in g (tab n (λ j. e (f j)))
-  leaves_at {m} {n} i x l z h b q a t =
-      leaves (λ j. g (e (f j))) n i l (omega (arith, z)) b (a ∙ ap (λ (y : A). g (e y)) q) t ∙ sym (lack-tab g n (λ j. e (f j)))
-
-  pub goes_at : (i : ℕ) (x : A) (l : Lack) → Model.lack_below i (λ j. g (e (f j))) ≡ Model.nothing → x ≡ f i → as_lack l ≡ g (e x) → l.found ≡ false →
-      Model.lack_below (i + 1) (λ j. g (e (f j))) ≡ Model.nothing
-  goes_at i x l b q a t = goes_on (λ j. g (e (f j))) i l b (a ∙ ap (λ (y : A). g (e y)) q) t
-
-  pub ends_at : {m n : ℕ} (i : ℕ) {l : Model.Lack} → m ≡ n → i ≤ m → m ≤ i → Model.lack_below i (λ j. g (e (f j))) ≡ Model.nothing → l ≡ Model.nothing →
-      l ≡ Model.lack_in g (tab n (λ j. e (f j)))
-  ends_at {m} {n} i z a b h q = ends (λ j. g (e (f j))) n i (omega (arith, z)) (omega (arith, z)) h q ∙ sym (lack-tab g n (λ j. e (f j)))
+  pub ends : (n i : ℕ) → i ≤ n → n ≤ i → Model.lack_below i f ≡ Model.nothing → Model.nothing ≡ Model.lack_below n f
+  ends n i a b e = sym (lack-end f n i a b e)
 
 -- all desks' lists
 pub lack-all : (g : Range → Model.Lack) (rss : List (List Range)) → Model.lack_in g (all_ranges rss) ≡ Model.lack_in (Model.lack_in g) rss
@@ -140,15 +122,11 @@ module _ (S : Scheme) (D : Database) (fs : List Model.Fetch) (r : ℕ) (m : List
 -- ---- gaps
 
 module _ (S : Scheme) (D : Database) (fs : List Model.Fetch) (k : Column) (x : ℕ) where
-  pub shut-here : Model.is_open S D fs k (numbered x) ≡ true → Shut S D fs k x x
-  shut-here e = record { order = omega arith; shut = λ z a b. absurd (omega arith); first = λ _. e }
-
-  pub shut_one : Model.is_open S D fs k (numbered x) ≡ false → Shut S D fs k x (x + 1)
+  pub shut_one : Model.is_open S D fs k (numbered x) ≡ false → IsShut S D fs k x (x + 1)
   shut_one e =
       record {
         order = omega arith;
         shut = λ z a b. let q : x ≡ z = omega arith in subst (λ (y : ℕ). Model.is_open S D fs k (numbered y) ≡ false) q e;
-        first = λ l. absurd (omega arith);
       }
 
   -- a number that a span has is known
@@ -156,51 +134,59 @@ module _ (S : Scheme) (D : Database) (fs : List Model.Fetch) (k : Column) (x : �
   unfolding Model.is_open
   spanned-shut z e = ap not (ap (λ (b : Bool). is_blank (numbered z) || b) (spanned-known S D fs k z e) ∙ or-true (is_blank (numbered z)))
 
-  pub shut-span : (l : Lack) → NextSpan fs k x l → l.found ≡ true → l.fetch.number ≤ x → Shut S D fs k x (l.fetch.end + 1)
-  shut-span l n t b =
-      let r = n.reaches t in
-      record { order = omega arith; shut = λ z a c. spanned-shut z (n.has t z (omega arith) (omega arith)); first = λ c. absurd (omega arith) }
+  pub shut-span : (f : Fetch) → IsNextSpan fs k x f → f.number ≤ x → IsShut S D fs k x (f.end + 1)
+  shut-span f n b =
+      let r = n.reaches in
+      record { order = omega arith; shut = λ z a c. spanned-shut z (n.has z (omega arith) (omega arith)) }
 
   -- the walk along a range
-  pub walk-hit : (high y : ℕ) → x ≤ high → Shut S D fs k x y → y ≤ x → x ≡ Model.first_open S D fs k high x
+  pub walk-hit : (high : ℕ) → x ≤ high → Model.is_open S D fs k (numbered x) ≡ true → x ≡ Model.first_open S D fs k high x
   unfolding Model.first_open
-  walk-hit high y l s b = sym (first-here (suc high) _ x (omega arith) (s.first b))
+  walk-hit high l s = sym (first-here (suc high) _ x (omega arith) s)
 
-  pub walk-on : (high y : ℕ) → x ≤ high → Shut S D fs k x y → Model.first_open S D fs k high x ≡ Model.first_open S D fs k high y
+  pub walk-on : (high y : ℕ) → x ≤ high → IsShut S D fs k x y → Model.first_open S D fs k high x ≡ Model.first_open S D fs k high y
   unfolding Model.first_open
   walk-on high y l s =
       ⊎_elim
-      (λ (t : leb y (suc high) ≡ true). first-through (suc high) _ x y s.order (leb-true _ _ t) (λ z a b. s.shut z a b))
+      (λ (t : leb y (suc high) ≡ true). first-through (suc high) _ x y (omega (arith, s.order)) (leb-true _ _ t) (λ z a b. s.shut z a b))
       (λ (t : leb y (suc high) ≡ false).
       let m = leb-false y (suc high) t in
       first-none (suc high) _ x (λ z a b. s.shut z a (omega arith)) ∙ sym (first_past (suc high) _ y (omega arith)))
       (dec (leb y (suc high)))
 
-  pub walk_end : (high : ℕ) → high < x → high + 1 ≡ Model.first_open S D fs k high x
+  pub walk_end : (high : ℕ) → high < x → high < Model.first_open S D fs k high x
   unfolding Model.first_open
   walk_end high l = omega (arith, first_past (suc high) (λ y. Model.is_open S D fs k (numbered y)) x (omega arith))
 
 -- where the gap ends in which x lies
-module _ (fs : List Model.Fetch) (k : Column) (x high : ℕ) (l : Lack) (n : NextSpan fs k x l) (b : x ≤ high) (e : Model.is_spanned fs k x ≡ false) where
-  pub gap-whole : (l.found ≡ true → high < l.fetch.number) → high ≡ Model.gap_end fs k high x
+module _ (fs : List Model.Fetch) (k : Column) (x high : ℕ) where
+  -- no span from x on begins before high's end
+  gap-whole : x ≤ high → ((z : ℕ) → x ≤ z → z < suc high → Model.is_spanned fs k z ≡ false) → high ≡ Model.gap_end fs k high x
   unfolding Model.gap_end
-  gap-whole h = omega (arith, first-none (suc high) (Model.is_spanned fs k) x (λ z a c. n.none z a (λ t. omega (arith, h t))))
+  gap-whole b h = omega (arith, first-none (suc high) (Model.is_spanned fs k) x h)
 
-  -- a span that reaches x begins behind it
-  pub gap-begins : l.found ≡ true → x < l.fetch.number
-  gap-begins t = ⊎_elim (λ (u : ltb x l.fetch.number ≡ true). ltb-true _ _ u)
-      (λ (u : ltb x l.fetch.number ≡ false). clash (n.has t x (ltb-false _ _ u) (n.reaches t)) e) (dec (ltb x l.fetch.number))
+  pub gap-bare : NextSpan fs k x None → x ≤ high → high ≡ Model.gap_end fs k high x
+  gap-bare n b = gap-whole b (λ z a c. n z a)
 
-  pub gap-part : l.found ≡ true → l.fetch.number ≤ high → l.fetch.number - 1 ≡ Model.gap_end fs k high x
-  unfolding Model.gap_end
-  gap-part t c =
-      let y = gap-begins t in
-      ap (λ (m : ℕ). m - 1) (first-is (suc high) (Model.is_spanned fs k) x l.fetch.number (record {
-        start = omega arith;
-        bound = omega arith;
-        none = λ z a d. n.none z a (λ _. d);
-        here = λ _. n.has t l.fetch.number (omega arith) (n.order t);
-      }))
+  module _ (f : Fetch) (n : IsNextSpan fs k x f) (b : x ≤ high) where
+    pub gap-before : high < f.number → high ≡ Model.gap_end fs k high x
+    gap-before h = gap-whole b (λ z a c. n.none z a (omega arith))
+
+    -- a span that reaches x begins behind it
+    pub gap-begins : Model.is_spanned fs k x ≡ false → x < f.number
+    gap-begins e = ⊎_elim (λ (u : ltb x f.number ≡ true). ltb-true _ _ u)
+        (λ (u : ltb x f.number ≡ false). clash (n.has x (ltb-false _ _ u) n.reaches) e) (dec (ltb x f.number))
+
+    pub gap-part : Model.is_spanned fs k x ≡ false → f.number ≤ high → f.number - 1 ≡ Model.gap_end fs k high x
+    unfolding Model.gap_end
+    gap-part e c =
+        let y = gap-begins e in
+        ap (λ (m : ℕ). m - 1) (first-is (suc high) (Model.is_spanned fs k) x f.number (record {
+          start = omega arith;
+          bound = omega arith;
+          none = λ z a d. n.none z a d;
+          here = λ _. n.has f.number (omega arith) n.order;
+        }))
 
 -- a range's answer
 module _ (fs : List Model.Fetch) (k : Column) (high x : ℕ) where
@@ -208,8 +194,8 @@ module _ (fs : List Model.Fetch) (k : Column) (high x : ℕ) where
   unfolding Model.gap_lack
   range_none l = sym (cond-false _ _ _ (lt-leb x high l))
 
-  pub range-gap : (y : ℕ) (f : Fetch) → x ≤ high → f ≡ span_fetch k x y → y ≡ Model.gap_end fs k high x → as_lack (record { found = true; fetch = f }) ≡ Model.gap_lack fs k high x
-  unfolding as_lack Model.gap_lack
+  pub range-gap : (y : ℕ) (f : Fetch) → x ≤ high → f ≡ span_fetch k x y → y ≡ Model.gap_end fs k high x → Model.lacks (fetch_of f) ≡ Model.gap_lack fs k high x
+  unfolding Model.gap_lack
   range-gap y f l e g =
       ap (λ (z : Model.Fetch). Model.lacks z) (ap fetch_of e ∙ span-of k x y) ∙ ap (λ (z : ℕ). Model.lacks (Model.span k x z)) g ∙ sym (cond-true _ _ _ (le-leb x high l))
 
@@ -253,18 +239,17 @@ module _ (S : Scheme) (cells : Cells) (tables : List ℕ) (h : Holding) (X : Row
   unfolding Model.missing database_of
   whole = refl
 
-  passed : (p : Lack) {a b c : Model.Lack} → as_lack p ≡ a → p.found ≡ false → c ≡ b → c ≡ Model.or_lack a b
-  passed p {a} {b} e t q = q ∙ sym (ap (λ (x : Model.Lack). Model.or_lack x b) (sym e ∙ unfound-says p t))
+  passed : {a b c : Model.Lack} → Model.nothing ≡ a → c ≡ b → c ≡ Model.or_lack a b
+  passed {a} {b} e q = q ∙ ap (λ (x : Model.Lack). Model.or_lack x b) e
 
-  hit : (p : Lack) {a : Model.Lack} (b : Model.Lack) → as_lack p ≡ a → p.found ≡ true → as_lack p ≡ Model.or_lack a b
-  hit p b e t = found-says p t ∙ sym (ap (λ (x : Model.Lack). Model.or_lack x b) (sym e ∙ found-says p t))
+  hit : {a : Model.Lack} (b : Model.Lack) {g : Model.Fetch} → Model.lacks g ≡ a → Model.lacks g ≡ Model.or_lack a b
+  hit b e = ap (λ (x : Model.Lack). Model.or_lack x b) e
 
-  pub missing-pairs : (p : Lack) → as_lack p ≡ pairs → p.found ≡ true → as_lack p ≡ Model.missing S (database_of cells tables) h X fs
-  missing-pairs p e t = hit p (Model.or_lack ranges rows) e t ∙ whole
+  pub missing-pairs : {g : Model.Fetch} → Model.lacks g ≡ pairs → Model.lacks g ≡ Model.missing S (database_of cells tables) h X fs
+  missing-pairs e = hit (Model.or_lack ranges rows) e ∙ whole
 
-  pub missing-ranges : (p q : Lack) → as_lack p ≡ pairs → p.found ≡ false → as_lack q ≡ ranges → q.found ≡ true → as_lack q ≡ Model.missing S (database_of cells tables) h X fs
-  missing-ranges p q e t f u = passed p e t (hit q rows f u) ∙ whole
+  pub missing-ranges : {g : Model.Fetch} → Model.nothing ≡ pairs → Model.lacks g ≡ ranges → Model.lacks g ≡ Model.missing S (database_of cells tables) h X fs
+  missing-ranges e f = passed e (hit rows f) ∙ whole
 
-  pub missing-rows : (p q : Lack) {l : Model.Lack} → as_lack p ≡ pairs → p.found ≡ false → as_lack q ≡ ranges → q.found ≡ false → l ≡ rows →
-      l ≡ Model.missing S (database_of cells tables) h X fs
-  missing-rows p q e t f u g = passed p e t (passed q f u g) ∙ whole
+  pub missing-rows : {l : Model.Lack} → Model.nothing ≡ pairs → Model.nothing ≡ ranges → l ≡ rows → l ≡ Model.missing S (database_of cells tables) h X fs
+  missing-rows e f g = passed e (passed f g) ∙ whole

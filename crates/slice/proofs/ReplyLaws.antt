@@ -15,10 +15,8 @@ use Rattle.state.specs.declared.held.Held.{Held}
 use Rattle.state.specs.HeldWords.{first_words, words_held}
 use Rattle.state.specs.Lent.{State, lent, scheme, cause_of}
 use Rattle.guard.proofs.CauseWords.{own-means}
-use Rattle.slice.specs.declared.fetch.Lack.{Lack}
-use Rattle.slice.specs.Fetches.{fetch_of, fetches_in, fetches_fit, as_lack}
+use Rattle.slice.specs.Fetches.{fetches_in, fetches_fit}
 use Rattle.slice.specs.Replies.{Reply, lack, refused, missing_at, reply_in, reply_at}
-use Rattle.slice.proofs.LackLaws.{found-says, unfound-says}
 
 -- ---- a sound state
 
@@ -39,13 +37,8 @@ module _ (s : State) (words : List ℕ) (n : ℕ) where
     unfolding reply_in
     reply-lack f = sym (cond-false _ _ _ long ∙ cond-false _ _ _ (ap not f))
 
-    pub reply-found : (k : Lack) → fetches_fit (scheme s) words n ≡ true → as_lack k ≡ missing_at s (fetches_in words n) → k.found ≡ true →
-        lack (Model.lacks (fetch_of k.fetch)) ≡ reply_in s words n
-    reply-found k f g t = ap lack (sym (found-says k t) ∙ g) ∙ reply-lack f
-
-    pub reply-none : (k : Lack) → fetches_fit (scheme s) words n ≡ true → as_lack k ≡ missing_at s (fetches_in words n) → k.found ≡ false →
-        lack Model.nothing ≡ reply_in s words n
-    reply-none k f g t = ap lack (sym (unfound-says k t) ∙ g) ∙ reply-lack f
+    pub reply-says : {l : Model.Lack} → fetches_fit (scheme s) words n ≡ true → l ≡ missing_at s (fetches_in words n) → lack l ≡ reply_in s words n
+    reply-says f g = ap lack g ∙ reply-lack f
 
 -- ---- whatever is lent
 

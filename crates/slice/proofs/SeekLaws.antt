@@ -1,12 +1,16 @@
 -- What a search by halves finds: a turn of it, whether a value is fetched, and the next span of a column. Assumes nothing.
-use Prim.Native.Nat.{ℕ, zero, suc, ◌+◌, ◌≤◌, ◌<◌}
+use Prim.Native.Nat.{ℕ, zero, suc, ◌+◌, ◌*◌, ◌/◌, ◌≤◌, ◌<◌}
 use native.Mathlib.Omega.{arith}
 use mathlib.Core.Path.{◌≡◌, refl, sym, ap, subst, ◌∙◌}
 use mathlib.Core.Logic.{◌⊎◌, inl, inr, ⊎_elim}
 use mathlib.Core.Bool.{Bool, true, false, ◌&&◌, ◌||◌, and-eq-true_iff}
-use mathlib.Core.List.{List}
+use mathlib.Core.List.{List, []}
 use borrow.Author.Tests.{ltb-true, ltb-false, lt-ltb, le-ltb}
 use lib.Dec.{ltb}
+use lib.ListN.{drop, get_or, length, take}
+use lib.Seq.{get_or-take, get_or-drop, length-take-le}
+use Rattle.std.specs.Simd.{first_chunks}
+use Rattle.std.specs.List.Sorted.{IsPartitionedBy, IsPartitionPoint}
 use Rattle.finite.specs.Finite.{any}
 use Rattle.finite.proofs.Bools.{bool-ext, both, clash, dec, or_cases, or-go, or_left, order, refute, same_number, or-second}
 use Rattle.finite.proofs.Order.{lower-self}
@@ -16,38 +20,94 @@ use Rattle.model.specs.Missing as Model
 use Rattle.model.specs.Scheme.{Column}
 use Rattle.model.proofs.MissingLoops.{some-tab}
 use Rattle.slice.specs.declared.fetch.Fetch.{Fetch}
-use Rattle.slice.specs.Fetches.{fetch_of, value_fetch, span_fetch, fetch_at, fetches_in, end_before, fetch_before, Ordered, Sought, span_of, NextSpan}
+use Rattle.std.specs.Prelude.{None}
+use Rattle.std.specs.Bool.{then_some}
+use Rattle.slice.specs.Fetches.{fetch_of, value_fetch, span_fetch, fetch_at, fetches_in, end_before, fetch_before, Ordered, Sought, span_of, IsNextSpan, NextSpan}
 use Rattle.slice.proofs.OrderLaws.{same_kind, kinds, kind-less, table-less, column-less, before-end, end-less, less-end, before-trans}
 use Rattle.slice.proofs.CoverLaws.{Spans, value-says, span-covers, spans-say, says-span, span-of, of-span}
 
 -- ---- the search
 
--- those below a stand before q, and the one at e doesn't
-pub record Halved (ws : List ℕ) (n : ℕ) (q : Fetch) (a e : ℕ) : Type 0 where
-  pub bound : e ≤ n
-  pub before : (i : ℕ) → i < a → fetch_before (fetch_at ws i) q ≡ true
-  pub behind : e < n → fetch_before (fetch_at ws e) q ≡ false
+-- the words in fives: each five is a fetch
+length-chunks : (k : ℕ) (ws : List ℕ) → length (first_chunks 5 k ws) ≡ k
+length-chunks zero ws = refl
+length-chunks (suc k) ws = ap suc (length-chunks k (drop 5 ws))
 
-module _ (ws : List ℕ) (n : ℕ) (q : Fetch) where
-  pub halved-start : Halved ws n q 0 n
-  halved-start = record { bound = omega arith; before = λ i l. absurd (omega arith); behind = λ l. absurd (omega arith) }
+five-first : (ws : List ℕ) → fetch_at (take 5 ws) 0 ≡ fetch_at ws 0
+unfolding fetch_at
+five-first ws =
+    λ i. record {
+      kind = get_or-take 5 ws 0 0 (omega arith) i;
+      table = get_or-take 5 ws 1 0 (omega arith) i;
+      column = get_or-take 5 ws 2 0 (omega arith) i;
+      number = get_or-take 5 ws 3 0 (omega arith) i;
+      end = get_or-take 5 ws 4 0 (omega arith) i;
+    }
 
-  -- the middle one stands before q, and so do those before it
-  pub halved-up : (a e m : ℕ) → Ordered ws n → Halved ws n q a e → m < e → fetch_before (fetch_at ws m) q ≡ true → Halved ws n q (m + 1) e
-  halved-up a e m o h l t = record { bound = h.bound; before = λ i b. go i (order i m) b; behind = h.behind }
+next-word : (ws : List ℕ) (j m : ℕ) → 5 + j ≡ m → get_or (drop 5 ws) j 0 ≡ get_or ws m 0
+next-word ws j m e = get_or-drop 5 ws j 0 ∙ ap (λ (x : ℕ). get_or ws x 0) e
+
+five-next : (ws : List ℕ) (i : ℕ) → fetch_at (drop 5 ws) i ≡ fetch_at ws (suc i)
+unfolding fetch_at
+five-next ws i =
+    λ j. record {
+      kind = next-word ws (5 * i) (5 * suc i) (omega arith) j;
+      table = next-word ws (5 * i + 1) (5 * suc i + 1) (omega arith) j;
+      column = next-word ws (5 * i + 2) (5 * suc i + 2) (omega arith) j;
+      number = next-word ws (5 * i + 3) (5 * suc i + 3) (omega arith) j;
+      end = next-word ws (5 * i + 4) (5 * suc i + 4) (omega arith) j;
+    }
+
+chunk-at : (k i : ℕ) (ws : List ℕ) (d : List ℕ) → i < k → fetch_at (get_or (first_chunks 5 k ws) i d) 0 ≡ fetch_at ws i
+chunk-at zero i ws d l = absurd (omega arith)
+chunk-at (suc k) zero ws d l = five-first ws
+chunk-at (suc k) (suc i) ws d l = chunk-at k i (drop 5 ws) d (omega arith) ∙ five-next ws i
+
+module _ (ws : List ℕ) (n : ℕ) (q : Fetch) (o : Ordered ws n) where
+  abbrev chunks : List (List ℕ)
+  chunks = take n (first_chunks 5 (length ws / 5) ws)
+
+  abbrev is_before : List ℕ → Bool
+  is_before y = fetch_before (fetch_at y 0) q
+
+  number-of-chunks : length chunks ≡ n
+  number-of-chunks = length-take-le n (first_chunks 5 (length ws / 5) ws) (omega (arith, length-chunks (length ws / 5) ws, o.long))
+
+  before-at : (i : ℕ) (d : List ℕ) → i < n → is_before (get_or chunks i d) ≡ fetch_before (fetch_at ws i) q
+  before-at i d l =
+      ap is_before (get_or-take n (first_chunks 5 (length ws / 5) ws) i d l) ∙
+      ap (λ (f : Fetch). fetch_before f q) (chunk-at (length ws / 5) i ws d (omega (arith, o.long)))
+
+  chunks-part : IsPartitionedBy is_before chunks
+  chunks-part i j d a l e = go (order i j)
     where
-      go : (i : ℕ) → (i < m) ⊎ ((i ≡ m) ⊎ (m < i)) → i < m + 1 → fetch_before (fetch_at ws i) q ≡ true
-      go i (inl x) b = before-trans (fetch_at ws i) (fetch_at ws m) q (o.full m (omega (arith, h.bound))) (o.rising i m x (omega (arith, h.bound))) t
-      go i (inr (inl x)) b = subst (λ (j : ℕ). fetch_before (fetch_at ws j) q ≡ true) (sym x) t
-      go i (inr (inr x)) b = absurd (omega arith)
+      below : j < n
+      below = omega (arith, l, number-of-chunks)
 
-  pub halved-down : (a e m : ℕ) → Halved ws n q a e → m < e → fetch_before (fetch_at ws m) q ≡ false → Halved ws n q a m
-  halved-down a e m h l t = record { bound = omega (arith, h.bound); before = h.before; behind = λ b. t }
+      t : fetch_before (fetch_at ws j) q ≡ true
+      t = sym (before-at j d below) ∙ e
 
-  pub halved-end : (a e : ℕ) → Halved ws n q a e → a ≤ e → e ≤ a → Sought ws n q a
-  halved-end a e h x y =
-      let z : e ≡ a = omega arith in
-      record { bound = omega (arith, h.bound); before = h.before; behind = λ l. subst (λ (j : ℕ). fetch_before (fetch_at ws j) q ≡ false) z (h.behind (omega arith)) }
+      go : (i < j) ⊎ ((i ≡ j) ⊎ (j < i)) → is_before (get_or chunks i d) ≡ true
+      go (inl x) = before-at i d (omega (arith, below)) ∙ before-trans (fetch_at ws i) (fetch_at ws j) q (o.full j below) (o.rising i j x below) t
+      go (inr (inl x)) = subst (λ (m : ℕ). is_before (get_or chunks m d) ≡ true) (sym x) e
+      go (inr (inr x)) = absurd (omega arith)
+
+  parted-sought : (r : ℕ) → r ≤ length chunks → IsPartitionPoint (λ y. is_before y ≡ true) (λ y. is_before y ≡ false) chunks r → Sought ws n q r
+  parted-sought r b p =
+      record {
+        bound = omega (arith, b, number-of-chunks);
+        before = λ i l. let h : i < n = omega (arith, b, number-of-chunks, l) in sym (before-at i [] h) ∙ p.0 i [] (omega arith) l;
+        behind = λ l. sym (before-at r [] l) ∙ p.1 r [] (omega arith) (omega (arith, number-of-chunks, l));
+      }
+
+  -- as the code makes them
+  pub chunks-sought : (cs : List (List ℕ)) → cs ≡ first_chunks 5 (length ws / 5) ws → (r : ℕ) → r ≤ length (take n cs) →
+      (IsPartitionedBy is_before (take n cs) → IsPartitionPoint (λ y. is_before y ≡ true) (λ y. is_before y ≡ false) (take n cs) r) → Sought ws n q r
+  chunks-sought cs e r b p =
+      let z : take n cs ≡ chunks = ap (take n) e in
+      parted-sought r (subst (λ (xs : List (List ℕ)). r ≤ length xs) z b)
+      (subst (λ (xs : List (List ℕ)). IsPartitionPoint (λ y. is_before y ≡ true) (λ y. is_before y ≡ false) xs r) z
+      (p (subst (IsPartitionedBy is_before) (sym z) chunks-part)))
 
 -- the same fetch is sought
 pub sought-as : {ws : List ℕ} {n i : ℕ} {p q : Fetch} → p ≡ q → Sought ws n p i → Sought ws n q i
@@ -129,50 +189,49 @@ module _ (ws : List ℕ) (n : ℕ) (o : Ordered ws n) (k : Column) (x i : ℕ) (
       spanned y ∙ any-refuted n _ (λ m l. refute (Model.spans (fetch_of (fetch_at ws m)) k y) (λ e. let q = spans-say (fetch_at ws m) k y e in h m l q.0 q.1))
 
   -- there is none from x on
-  pub next-none : (f : Fetch) → n ≤ i → NextSpan (fetches_in ws n) k x (record { found = false; fetch = f })
-  next-none f b =
-      record {
-        reaches = λ e. clash e refl;
-        order = λ e. clash e refl;
-        has = λ e. clash e refl;
-        none = λ y a h. no_span y (λ m l z p. absurd (omega (arith, earlier m l (omega arith) z p.table p.column, p.high)));
-      }
+  pub next-none : n ≤ i → NextSpan (fetches_in ws n) k x None
+  next-none b = λ y a. no_span y (λ m l z p. absurd (omega (arith, earlier m l (omega arith) z p.table p.column, p.high)))
 
-  pub next-is : (b : Bool) → i < n → b ≡ span_of (fetch_at ws i) k → NextSpan (fetches_in ws n) k x (record { found = b; fetch = fetch_at ws i })
-  next-is b l e =
-      record {
-        reaches = λ t. reach (span-of (fetch_at ws i) k (sym e ∙ t));
-        order = λ t. o.full i l (omega (arith, is_one i l (span-of (fetch_at ws i) k (sym e ∙ t)).0));
-        has = λ t y u w.
-            let p = span-of (fetch_at ws i) k (sym e ∙ t) in
-            spanned y ∙ any-true n _ i l (says-span (fetch_at ws i) k y p.0 (record { table = p.1; column = p.2; low = u; high = w }));
-        none = λ y a h. no_span y (λ m d z p. lost y a h m d z p (order m i));
-      }
-    where
-      reach : ((fetch_at ws i).kind ≡ 0 → ⊥) × ((fetch_at ws i).table ≡ k.table) × ((fetch_at ws i).column ≡ k.place) → x ≤ (fetch_at ws i).end
-      reach p =
-          let u = is_one i l p.0 in
-          ⊎_elim
-          (λ (t : ltb (fetch_at ws i).end x ≡ true).
-          clash (sym (before-end (fetch_at ws i) (span_fetch k x x) u p.1 p.2) ∙ less-end (fetch_at ws i) (span_fetch k x x) (omega arith) (ltb-true _ _ t)) (s.behind l))
-          (λ (t : ltb (fetch_at ws i).end x ≡ false). ltb-false _ _ t)
-          (dec (ltb (fetch_at ws i).end x))
+  module _ (l : i < n) where
+    -- a span that has y is the one sought, which then begins at y or before
+    lost : (y : ℕ) → x ≤ y → (span_of (fetch_at ws i) k ≡ true → y < (fetch_at ws i).number) → (m : ℕ) → m < n → ((fetch_at ws m).kind ≡ 0 → ⊥) →
+        Spans (fetch_at ws m) k y → (m < i) ⊎ ((m ≡ i) ⊎ (i < m)) → ⊥
+    lost y a h m d z p (inl c) = omega (arith, earlier m d c z p.table p.column, p.high)
+    lost y a h m d z p (inr (inl c)) =
+        let f = subst (λ (j : ℕ). ((fetch_at ws j).kind ≡ 0 → ⊥) × Spans (fetch_at ws j) k y) c (z, p) in
+        omega (arith, h (of-span (fetch_at ws i) k f.0 f.1.table f.1.column), f.1.low)
+    lost y a h m d z p (inr (inr c)) =
+        let q = later m d c z p.table p.column in
+        let u = span-of (fetch_at ws i) k q.0 in
+        omega (arith, h q.0, q.1, p.low, o.full i l (omega (arith, is_one i l u.0)))
 
-      lost : (y : ℕ) → x ≤ y → (b ≡ true → y < (fetch_at ws i).number) → (m : ℕ) → m < n → ((fetch_at ws m).kind ≡ 0 → ⊥) → Spans (fetch_at ws m) k y →
-          (m < i) ⊎ ((m ≡ i) ⊎ (i < m)) → ⊥
-      lost y a h m d z p (inl c) = omega (arith, earlier m d c z p.table p.column, p.high)
-      lost y a h m d z p (inr (inl c)) =
-          let f = subst (λ (j : ℕ). ((fetch_at ws j).kind ≡ 0 → ⊥) × Spans (fetch_at ws j) k y) c (z, p) in
-          omega (arith, h (e ∙ of-span (fetch_at ws i) k f.0 f.1.table f.1.column), f.1.low)
-      lost y a h m d z p (inr (inr c)) =
-          let q = later m d c z p.table p.column in
-          let u = span-of (fetch_at ws i) k q.0 in
-          omega (arith, h (e ∙ q.0), q.1, p.low, o.full i l (omega (arith, is_one i l u.0)))
+    reach : ((fetch_at ws i).kind ≡ 0 → ⊥) × ((fetch_at ws i).table ≡ k.table) × ((fetch_at ws i).column ≡ k.place) → x ≤ (fetch_at ws i).end
+    reach p =
+        let u = is_one i l p.0 in
+        ⊎_elim
+        (λ (t : ltb (fetch_at ws i).end x ≡ true).
+        clash (sym (before-end (fetch_at ws i) (span_fetch k x x) u p.1 p.2) ∙ less-end (fetch_at ws i) (span_fetch k x x) (omega arith) (ltb-true _ _ t)) (s.behind l))
+        (λ (t : ltb (fetch_at ws i).end x ≡ false). ltb-false _ _ t)
+        (dec (ltb (fetch_at ws i).end x))
 
-  -- as the code makes it
-  pub next-by : (b : Bool) (f : Fetch) → i < n → f ≡ fetch_at ws i → b ≡ span_of f k → NextSpan (fetches_in ws n) k x (record { found = b; fetch = f })
-  next-by b f l e h =
-      subst (λ (g : Fetch). NextSpan (fetches_in ws n) k x (record { found = b; fetch = g })) (sym e) (next-is b l (h ∙ ap (λ (g : Fetch). span_of g k) e))
+    next-is : span_of (fetch_at ws i) k ≡ true → IsNextSpan (fetches_in ws n) k x (fetch_at ws i)
+    next-is t =
+        let p = span-of (fetch_at ws i) k t in
+        record {
+          reaches = reach p;
+          order = o.full i l (omega (arith, is_one i l p.0));
+          has = λ y u w. spanned y ∙ any-true n _ i l (says-span (fetch_at ws i) k y p.0 (record { table = p.1; column = p.2; low = u; high = w }));
+          none = λ y a h. no_span y (λ m d z q. lost y a (λ _. h) m d z q (order m i));
+        }
+
+    found : (b : Bool) → b ≡ span_of (fetch_at ws i) k → NextSpan (fetches_in ws n) k x (then_some b (fetch_at ws i))
+    found true e = next-is (sym e)
+    found false e = λ y a. no_span y (λ m d z q. lost y a (λ t. clash t (sym e)) m d z q (order m i))
+
+    -- as the code makes it
+    pub next-by : (b : Bool) (f : Fetch) → f ≡ fetch_at ws i → b ≡ span_of f k → NextSpan (fetches_in ws n) k x (then_some b f)
+    next-by b f e h =
+        subst (λ (g : Fetch). NextSpan (fetches_in ws n) k x (then_some b g)) (sym e) (found b (h ∙ ap (λ (g : Fetch). span_of g k) e))
 
 -- ---- whether a value is fetched
 

@@ -1,6 +1,6 @@
 -- The fetches that were made as lent u32 words, five for each: 0 for a value or 1 for a span, table, column, then number and issue of the value, or first and last number
 -- of the span. They stand in rising order, so that one is found by halving. Assumes nothing.
-use Rattle.std.specs.Prelude.{ℕ, ◌+◌, ◌-◌, ◌*◌, ◌≤◌, ◌<◌, ◌≡◌, Bool, true, false, not, cond, ◌&&◌, List, eqb, leb, ltb, length, get_or}
+use Rattle.std.specs.Prelude.{Option, None, Some, ℕ, ◌+◌, ◌-◌, ◌*◌, ◌≤◌, ◌<◌, ◌≡◌, Bool, true, false, not, cond, ◌&&◌, List, eqb, leb, ltb, length, get_or}
 use Rattle.finite.specs.Finite.{all, tab, lower_then}
 use Rattle.model.specs.Cell.{Cell, issued, numbered}
 use Rattle.model.specs.Scheme.{Column, Scheme, is_column}
@@ -11,7 +11,6 @@ use Rattle.state.specs.declared.design.Design.{Design}
 use Rattle.state.specs.Design.{constraint_at}
 use Rattle.state.specs.Meaning.{column_of, scheme_of}
 use Rattle.slice.specs.declared.fetch.Fetch.{Fetch}
-use Rattle.slice.specs.declared.fetch.Lack.{Lack}
 
 -- ---- what they mean
 
@@ -44,8 +43,9 @@ unfoldable pub fetches_in : List ℕ → ℕ → List Model.Fetch
 fetches_in ws n = tab n (λ i. fetch_of (fetch_at ws i))
 
 -- what an answer means
-unfoldable pub as_lack : Lack → Model.Lack
-as_lack l = cond l.found (Model.lacks (fetch_of l.fetch)) Model.nothing
+abbrev pub as_lack : Option Fetch → Model.Lack
+as_lack None = Model.nothing
+as_lack (Some f) = Model.lacks (fetch_of f)
 
 -- ---- which are accepted
 
@@ -88,18 +88,32 @@ pub record Sought (ws : List ℕ) (n : ℕ) (q : Fetch) (r : ℕ) : Type 0 where
 unfoldable pub span_of : Fetch → Column → Bool
 span_of f k = not (eqb f.kind 0) && (eqb f.table k.table && eqb f.column k.place)
 
--- l is the first span of column k that has x or a later number, if there is one
-pub record NextSpan (fs : List Model.Fetch) (k : Column) (x : ℕ) (l : Lack) : Type 0 where
-  pub reaches : l.found ≡ true → x ≤ l.fetch.end
-  pub order : l.found ≡ true → l.fetch.number ≤ l.fetch.end
-  pub has : l.found ≡ true → (y : ℕ) → l.fetch.number ≤ y → y ≤ l.fetch.end → Model.is_spanned fs k y ≡ true
-  pub none : (y : ℕ) → x ≤ y → (l.found ≡ true → y < l.fetch.number) → Model.is_spanned fs k y ≡ false
+-- f is the first span of column k that has x or a later number
+pub record IsNextSpan (fs : List Model.Fetch) (k : Column) (x : ℕ) (f : Fetch) : Type 0 where
+  pub reaches : x ≤ f.end
+  pub order : f.number ≤ f.end
+  pub has : (y : ℕ) → f.number ≤ y → y ≤ f.end → Model.is_spanned fs k y ≡ true
+  pub none : (y : ℕ) → x ≤ y → y < f.number → Model.is_spanned fs k y ≡ false
 
--- the numbers from x on and below y need no fetch in column k; x itself must be fetched if y is x
-pub record Shut (S : Scheme) (D : Database) (fs : List Model.Fetch) (k : Column) (x y : ℕ) : Type 0 where
-  pub order : x ≤ y
+-- if there is one
+abbrev pub NextSpan : List Model.Fetch → Column → ℕ → Option Fetch → Type 0
+NextSpan fs k x None = (y : ℕ) → x ≤ y → Model.is_spanned fs k y ≡ false
+NextSpan fs k x (Some f) = IsNextSpan fs k x f
+
+-- the numbers from x on and below y need no fetch in column k, x among them
+pub record IsShut (S : Scheme) (D : Database) (fs : List Model.Fetch) (k : Column) (x y : ℕ) : Type 0 where
+  pub order : x < y
   pub shut : (z : ℕ) → x ≤ z → z < y → Model.is_open S D fs k (numbered z) ≡ false
-  pub first : y ≤ x → Model.is_open S D fs k (numbered x) ≡ true
+
+-- where there is no y, x itself must be fetched
+abbrev pub Shut : Scheme → Database → List Model.Fetch → Column → ℕ → Option ℕ → Type 0
+Shut S D fs k x None = Model.is_open S D fs k (numbered x) ≡ true
+Shut S D fs k x (Some y) = IsShut S D fs k x y
+
+-- x is the first number from low to high that must be fetched in column k, if there is one
+abbrev pub FirstOpen : Scheme → Database → List Model.Fetch → Column → ℕ → ℕ → Option ℕ → Type 0
+FirstOpen S D fs k high low None = high < Model.first_open S D fs k high low
+FirstOpen S D fs k high low (Some x) = (x ≤ high) × (x ≡ Model.first_open S D fs k high low)
 
 -- ---- constraints
 

@@ -1,8 +1,7 @@
-// A fetch as a value, read from the lent words, the order of fetches, and what lacks. Constant time.
-ghost use Rattle.std.specs.Prelude.{◌+◌, ◌*◌, ◌<◌, false, ◌≡◌, length};
-ghost use Rattle.model.specs.Missing as Model;
+// A fetch as a value, read from the lent words, and the order of fetches. Constant time.
+ghost use Rattle.std.specs.Prelude.{◌+◌, ◌*◌, ◌<◌, ◌≡◌, length};
 ghost use Rattle.state.specs.Meaning.{cell_of, column_of};
-ghost use Rattle.slice.specs.Fetches.{value_fetch, span_fetch, fetch_at, end_before, fetch_before, as_lack};
+ghost use Rattle.slice.specs.Fetches.{value_fetch, span_fetch, fetch_at, end_before, fetch_before};
 
 use state::{Cell, Column};
 
@@ -15,20 +14,6 @@ pub struct Fetch {
     pub column: u32,
     pub number: u32,
     pub end: u32,
-}
-
-// A fetch that lacks, or none.
-#[derive(Clone, Copy)]
-pub struct Lack {
-    pub found: bool,
-    pub fetch: Fetch,
-}
-
-// A u8 as a u32.
-pub(crate) fn wide(x: u8) -> u32
-    ensures { result ≡ x }
-{
-    x as u32
 }
 
 // Fetch number i.
@@ -81,10 +66,10 @@ pub(crate) fn value_fetch(k: Column, v: Cell) -> Fetch
 {
     Fetch {
         kind: 0,
-        table: wide(k.table),
-        column: wide(k.place),
+        table: u32::from(k.table),
+        column: u32::from(k.place),
         number: v.number,
-        end: wide(v.issue),
+        end: u32::from(v.issue),
     }
 }
 
@@ -93,20 +78,9 @@ pub(crate) fn span_fetch(k: Column, low: u32, high: u32) -> Fetch
 {
     Fetch {
         kind: 1,
-        table: wide(k.table),
-        column: wide(k.place),
+        table: u32::from(k.table),
+        column: u32::from(k.place),
         number: low,
         end: high,
-    }
-}
-
-// Nothing lacks, and this fetch does.
-pub(crate) fn nothing() -> Lack
-    ensures { (as_lack result ≡ Model.nothing) × (result.found ≡ false) }
-{
-    let k = Column { table: 0, place: 0 };
-    Lack {
-        found: false,
-        fetch: span_fetch(k, 0, 0),
     }
 }

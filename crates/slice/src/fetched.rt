@@ -5,7 +5,7 @@ ghost use Rattle.model.specs.Missing.{covers, is_fetched};
 ghost use Rattle.state.specs.Meaning.{cell_of, column_of};
 ghost use Rattle.slice.specs.Fetches.{fetch_of, fetch_at, fetches_in, Ordered, Sought};
 
-use crate::fetch::{Fetch, fetch_at, fetch_before, span_fetch, value_fetch, wide};
+use crate::fetch::{Fetch, fetch_at, fetch_before, span_fetch, value_fetch};
 use state::{Cell, Column, is_blank};
 
 // The first fetch that doesn't stand before q. A step for each halving: at most 1 + log2(n).
@@ -13,18 +13,8 @@ pub(crate) fn seek(words: &[u32], n: usize, q: Fetch) -> usize
     requires { 5 * n ≤ length words.now }
     ensures { Ordered words.now n → Sought words.now n q result }
 {
-    let mut a: usize = 0;
-    let mut e = n;
-    while a < e {
-        let m = (a + e) / 2;
-        let f = fetch_at(words, m);
-        if fetch_before(f, q) {
-            a = m + 1;
-        } else {
-            e = m;
-        }
-    }
-    a
+    let (fetches, _) = words.as_chunks::<5>();
+    fetches[..n].partition_point(|f| fetch_before(fetch_at(f, 0), q))
 }
 
 // Whether the value of number a and issue b is v: the two are equal, and not blank. Constant time.
@@ -37,7 +27,7 @@ fn is_value(a: u32, b: u32, v: Cell) -> bool
     if a != v.number {
         return false;
     }
-    b == wide(v.issue)
+    b == u32::from(v.issue)
 }
 
 // Whether v is at issue 0 and its number lies from a to b. Constant time.
@@ -57,10 +47,10 @@ fn is_between(a: u32, b: u32, v: Cell) -> bool
 fn covers_value(f: Fetch, k: Column, v: Cell) -> bool
     ensures { result ≡ covers (fetch_of f) (column_of k) (cell_of v) }
 {
-    if f.table != wide(k.table) {
+    if f.table != u32::from(k.table) {
         return false;
     }
-    if f.column != wide(k.place) {
+    if f.column != u32::from(k.place) {
         return false;
     }
     if f.kind == 0 {
@@ -74,11 +64,7 @@ pub(crate) fn covers_at(words: &[u32], n: usize, i: usize, k: Column, v: Cell) -
     requires { 5 * n ≤ length words.now }
     ensures { result ≡ ltb i n && covers (fetch_of (fetch_at words.now i)) (column_of k) (cell_of v) }
 {
-    if n <= i {
-        return false;
-    }
-    let f = fetch_at(words, i);
-    covers_value(f, k, v)
+    i < n && covers_value(fetch_at(words, i), k, v)
 }
 
 // Whether one of the first n fetches has the value v of column k: the first that doesn't stand before it does, of the values or of the spans.
@@ -86,10 +72,12 @@ pub(crate) fn is_fetched(words: &[u32], n: usize, k: Column, v: Cell) -> bool
     requires { Ordered words.now n }
     ensures { result ≡ is_fetched (fetches_in words.now n) (column_of k) (cell_of v) }
 {
-    let i = seek(words, n, value_fetch(k, v));
-    if covers_at(words, n, i, k, v) {
-        return true;
-    }
-    let j = seek(words, n, span_fetch(k, v.number, v.number));
-    covers_at(words, n, j, k, v)
+    covers_at(words, n, seek(words, n, value_fetch(k, v)), k, v)
+        || covers_at(
+            words,
+            n,
+            seek(words, n, span_fetch(k, v.number, v.number)),
+            k,
+            v,
+        )
 }

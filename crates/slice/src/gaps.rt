@@ -4,7 +4,7 @@ ghost use Rattle.model.specs.Missing.{is_spanned, gap_end};
 ghost use Rattle.state.specs.Meaning.{column_of};
 ghost use Rattle.slice.specs.Fetches.{span_of, fetches_in, Ordered, NextSpan};
 
-use crate::fetch::{Fetch, Lack, fetch_at, span_fetch, wide};
+use crate::fetch::{Fetch, fetch_at, span_fetch};
 use crate::fetched::seek;
 use state::Column;
 
@@ -15,30 +15,23 @@ fn is_span_of(f: Fetch, k: Column) -> bool
     if f.kind == 0 {
         return false;
     }
-    if f.table != wide(k.table) {
+    if f.table != u32::from(k.table) {
         return false;
     }
-    f.column == wide(k.place)
+    f.column == u32::from(k.place)
 }
 
 // The first span of column k that has x or a later number.
-pub(crate) fn next_span(words: &[u32], n: usize, k: Column, x: u32) -> Lack
+pub(crate) fn next_span(words: &[u32], n: usize, k: Column, x: u32) -> Option<Fetch>
     requires { Ordered words.now n }
     ensures { NextSpan (fetches_in words.now n) (column_of k) x result }
 {
-    let q = span_fetch(k, x, x);
-    let i = seek(words, n, q);
+    let i = seek(words, n, span_fetch(k, x, x));
     if n <= i {
-        return Lack {
-            found: false,
-            fetch: q,
-        };
+        return None;
     }
     let f = fetch_at(words, i);
-    Lack {
-        found: is_span_of(f, k),
-        fetch: f,
-    }
+    is_span_of(f, k).then_some(f)
 }
 
 // The last number from x to `high` before the first that a span has, where none has x; `high` if none has any, or one has x.
@@ -46,11 +39,9 @@ pub(crate) fn gap_end(words: &[u32], n: usize, k: Column, x: u32, high: u32) -> 
     requires { Ordered words.now n }
     ensures { x ≤ high → is_spanned (fetches_in words.now n) (column_of k) x ≡ false → result ≡ gap_end (fetches_in words.now n) (column_of k) high x }
 {
-    let l = next_span(words, n, k, x);
-    if !l.found {
+    let Some(f) = next_span(words, n, k, x) else {
         return high;
-    }
-    let f = l.fetch;
+    };
     if f.number <= x {
         return high;
     }

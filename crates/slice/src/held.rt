@@ -1,34 +1,35 @@
 // The first held value that lacks.
-ghost use Rattle.std.specs.Prelude.{◌≡◌};
+ghost use Rattle.std.specs.Prelude.{◌<◌, ◌≡◌};
 ghost use Rattle.model.specs.Database.{Database};
 ghost use Rattle.model.specs.Missing as Model;
 ghost use Rattle.state.specs.Design.{InRange};
-ghost use Rattle.state.specs.Held.{Bounded};
+ghost use Rattle.state.specs.Held.{Bounded, held_at};
 ghost use Rattle.state.specs.HeldWords.{words_held};
 ghost use Rattle.state.specs.Meaning.{owned_of, scheme_of, values_of};
 ghost use Rattle.catalog.specs.Catalog.{Indexed};
 ghost use Rattle.slice.specs.Fetches.{fetches_in, as_lack, Ordered};
 
-use crate::fetch::{Lack, nothing};
+use crate::fetch::Fetch;
 use crate::lack::lack_of;
-use state::{Design, OwnedValue, filling_at, value_at, value_count};
+use state::{Design, filling_at, value_at, value_count};
 
-// Of one held value.
+// Of held value i.
 fn pair_lack(
     d: Design,
     catalog: &[u16; 16449],
     keys: &[u64; 4096],
+    held: &[u32; 358],
     words: &[u32],
     n: usize,
-    o: OwnedValue,
-) -> Lack
-    requires { InRange d × Ordered words.now n }
+    i: usize,
+) -> Option<Fetch>
+    requires { InRange d × (i < 64) × Ordered words.now n }
     ensures { (D : Database) → Indexed D catalog.now keys.now
-        → as_lack result ≡ Model.pair_lack (scheme_of d) D (fetches_in words.now n) (owned_of o) }
+        → as_lack result ≡ Model.pair_lack (scheme_of d) D (fetches_in words.now n) (owned_of (held_at (words_held held.now) i)) }
 {
-    let p = o.pair;
-    let f = filling_at(d, p.filling as usize);
-    lack_of(d, catalog, keys, words, n, f.column, p.value)
+    let o = value_at(held, i);
+    let f = filling_at(d, o.pair.filling as usize);
+    lack_of(d, catalog, keys, words, n, f.column, o.pair.value)
 }
 
 // Of all, in order of reference.
@@ -39,17 +40,10 @@ pub(crate) fn pairs_lack(
     held: &[u32; 358],
     words: &[u32],
     n: usize,
-) -> Lack
+) -> Option<Fetch>
     requires { InRange d × Bounded (words_held held.now) × Ordered words.now n }
     ensures { (D : Database) → Indexed D catalog.now keys.now
         → as_lack result ≡ Model.lack_in (Model.pair_lack (scheme_of d) D (fetches_in words.now n)) (values_of (words_held held.now)) }
 {
-    let m = value_count(held);
-    for i in 0..m {
-        let l = pair_lack(d, catalog, keys, words, n, value_at(held, i));
-        if l.found {
-            return l;
-        }
-    }
-    nothing()
+    (0..value_count(held)).find_map(|i| pair_lack(d, catalog, keys, held, words, n, i))
 }

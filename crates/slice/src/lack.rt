@@ -7,7 +7,7 @@ ghost use Rattle.state.specs.Meaning.{cell_of, column_of, scheme_of};
 ghost use Rattle.catalog.specs.Catalog.{Indexed};
 ghost use Rattle.slice.specs.Fetches.{fetches_in, as_lack, Ordered};
 
-use crate::fetch::{Lack, value_fetch};
+use crate::fetch::{Fetch, value_fetch};
 use crate::fetched::is_fetched;
 use catalog::find;
 use lawful::is_unique;
@@ -19,10 +19,7 @@ fn is_only(d: Design, catalog: &[u16; 16449], keys: &[u64; 4096], k: Column, v: 
     ensures { (D : Database) → Indexed D catalog.now keys.now
         → result ≡ (scheme_of d).unique (column_of k) && any D.size (has D (column_of k) (cell_of v)) }
 {
-    if !is_unique(d, k) {
-        return false;
-    }
-    find(catalog, keys, k, v) < Design::ROWS
+    is_unique(d, k) && find(catalog, keys, k, v) < Design::ROWS
 }
 
 // Whether the value is known to be whole: it is the only one, or was fetched.
@@ -39,10 +36,7 @@ fn is_known(
     ensures { (D : Database) → Indexed D catalog.now keys.now
         → result ≡ Model.known (scheme_of d) D (fetches_in words.now n) (column_of k) (cell_of v) }
 {
-    if is_only(d, catalog, keys, k, v) {
-        return true;
-    }
-    is_fetched(words, n, k, v)
+    is_only(d, catalog, keys, k, v) || is_fetched(words, n, k, v)
 }
 
 // Whether it must still be fetched: it is neither blank nor known.
@@ -59,10 +53,7 @@ pub(crate) fn is_open(
     ensures { (D : Database) → Indexed D catalog.now keys.now
         → result ≡ Model.is_open (scheme_of d) D (fetches_in words.now n) (column_of k) (cell_of v) }
 {
-    if is_blank(v) {
-        return false;
-    }
-    !is_known(d, catalog, keys, words, n, k, v)
+    !is_blank(v) && !is_known(d, catalog, keys, words, n, k, v)
 }
 
 // Its fetch, if it must.
@@ -74,13 +65,10 @@ pub(crate) fn lack_of(
     n: usize,
     k: Column,
     v: Cell,
-) -> Lack
+) -> Option<Fetch>
     requires { (k.table < 8) × (k.place < 8) × Ordered words.now n }
     ensures { (D : Database) → Indexed D catalog.now keys.now
         → as_lack result ≡ Model.lack_of (scheme_of d) D (fetches_in words.now n) (column_of k) (cell_of v) }
 {
-    Lack {
-        found: is_open(d, catalog, keys, words, n, k, v),
-        fetch: value_fetch(k, v),
-    }
+    is_open(d, catalog, keys, words, n, k, v).then_some(value_fetch(k, v))
 }

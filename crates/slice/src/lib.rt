@@ -12,5 +12,5 @@ mod ranges;
 mod rows;
 mod whole;
 
-pub use fetch::{Fetch, Lack};
+pub use fetch::Fetch;
 pub use whole::{Next, missing, missing_catalogued, missing_lawful};

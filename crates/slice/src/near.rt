@@ -11,7 +11,7 @@ ghost use Rattle.state.specs.Meaning.{cell_of, column_of};
 ghost use Rattle.catalog.specs.Catalog.{Demands};
 ghost use Rattle.slice.specs.Fetches.{fetches_in, as_lack, Ordered};
 
-use crate::fetch::{Lack, fetch_at, span_fetch, value_fetch};
+use crate::fetch::{Fetch, fetch_at, span_fetch, value_fetch};
 use crate::fetched::{covers_at, seek};
 use catalog::first_row;
 use state::{Cell, Column, Design, is_blank};
@@ -22,20 +22,14 @@ pub(crate) fn others_whole(sole: bool, catalog: &[u16; 16449], r: usize, i: usiz
     ensures { (S : Scheme) (D : Database) → Demands S D catalog.now → i < S.constraints
         → result ≡ sole && ltb (first_from 512 (leads D (S.constraint i) r) 0) 512 }
 {
-    if !sole {
-        return false;
-    }
-    first_row(catalog, i, r) < Design::ROWS
+    sole && first_row(catalog, i, r) < Design::ROWS
 }
 
 // The place behind h; the first one behind the last. Constant time.
 fn next_place(h: usize, n: usize) -> usize
     ensures { result ≤ n }
 {
-    if h < n {
-        return h + 1;
-    }
-    0
+    if h < n { h + 1 } else { 0 }
 }
 
 // Where a value of this number would stand if the numbers between it and the one at place h had no gaps. Constant time.
@@ -48,17 +42,10 @@ fn guessed_place(words: &[u32], n: usize, h: usize, number: u32) -> usize
     }
     let f = fetch_at(words, h);
     if number < f.number {
-        let back = (f.number - number) as usize;
-        if h < back {
-            return 0;
-        }
-        return h - back;
+        h.saturating_sub((f.number - number) as usize)
+    } else {
+        h.saturating_add((number - f.number) as usize).min(n)
     }
-    let on = (number - f.number) as usize;
-    if n - h < on {
-        return n;
-    }
-    h + on
 }
 
 // Whether one of the first n fetches has the value v of column k, which constraint i demands. `places[i]` is where its last one was found, and what stands there decides
@@ -90,11 +77,14 @@ fn is_fetched_near(
     }
     let a = seek(words, n, value_fetch(k, v));
     places[i] = a;
-    if covers_at(words, n, a, k, v) {
-        return true;
-    }
-    let b = seek(words, n, span_fetch(k, v.number, v.number));
-    covers_at(words, n, b, k, v)
+    covers_at(words, n, a, k, v)
+        || covers_at(
+            words,
+            n,
+            seek(words, n, span_fetch(k, v.number, v.number)),
+            k,
+            v,
+        )
 }
 
 // Whether the value must still be fetched: it is neither blank nor known. `only` says that a row has it and no other of the database does.
@@ -129,13 +119,10 @@ pub(crate) fn near_lack(
     v: Cell,
     places: &mut [usize; 16],
     i: usize,
-) -> Lack
+) -> Option<Fetch>
     requires { Ordered words.now n × (i < 16) }
     ensures { (S : Scheme) (D : Database) → only ≡ S.unique (column_of k) && any D.size (has D (column_of k) (cell_of v))
         → as_lack result ≡ Model.lack_of S D (fetches_in words.now n) (column_of k) (cell_of v) }
 {
-    Lack {
-        found: is_open_near(only, words, n, k, v, places, i),
-        fetch: value_fetch(k, v),
-    }
+    is_open_near(only, words, n, k, v, places, i).then_some(value_fetch(k, v))
 }

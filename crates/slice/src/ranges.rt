@@ -1,21 +1,21 @@
 // The first gap in the held ranges.
-ghost use Rattle.std.specs.Prelude.{◌<◌, ◌≡◌};
+ghost use Rattle.std.specs.Prelude.{IfSome, ◌<◌, ◌≡◌};
 ghost use Rattle.model.specs.Database.{Database};
 ghost use Rattle.model.specs.Holding.{all_ranges};
 ghost use Rattle.model.specs.Missing as Model;
 ghost use Rattle.state.specs.Design.{InRange};
-ghost use Rattle.state.specs.Held.{Bounded, ranges_at};
+ghost use Rattle.state.specs.Held.{Bounded, range_at, ranges_at};
 ghost use Rattle.state.specs.HeldWords.{words_held};
 ghost use Rattle.state.specs.Meaning.{column_of, range_of, scheme_of, list_of, lists_of};
 ghost use Rattle.catalog.specs.Catalog.{Indexed};
-ghost use Rattle.slice.specs.Fetches.{fetches_in, as_lack, Ordered, Shut};
+ghost use Rattle.slice.specs.Fetches.{fetches_in, as_lack, FirstOpen, Ordered, Shut};
 
-use crate::fetch::{Lack, nothing, span_fetch};
+use crate::fetch::{Fetch, span_fetch};
 use crate::gaps::{gap_end, next_span};
 use crate::lack::is_open;
-use state::{Cell, Column, Design, Range, filling_at, range_at, range_count};
+use state::{Cell, Column, Design, filling_at, range_at, range_count};
 
-// The number behind the numbers from x on that are known not to lack: behind the span that has x, or behind x; x itself if it lacks.
+// The number behind the numbers from x on that are known not to lack: behind the span that has x, or behind x; none if x itself lacks.
 fn shut_past(
     d: Design,
     catalog: &[u16; 16449],
@@ -24,30 +24,28 @@ fn shut_past(
     n: usize,
     k: Column,
     x: u32,
-) -> u64
+) -> Option<u64>
     requires { (k.table < 8) × (k.place < 8) × Ordered words.now n }
-    ensures { (D : Database) → Indexed D catalog.now keys.now
-        → Shut (scheme_of d) D (fetches_in words.now n) (column_of k) x result }
+    ensures { IfSome result (λ y. x < y) × ((D : Database) → Indexed D catalog.now keys.now
+        → Shut (scheme_of d) D (fetches_in words.now n) (column_of k) x result) }
 {
     let v = Cell {
         number: x,
         issue: 0,
     };
     if is_open(d, catalog, keys, words, n, k, v) {
-        return x as u64;
+        return None;
     }
-    let l = next_span(words, n, k, x);
-    if !l.found {
-        return x as u64 + 1;
-    }
-    let f = l.fetch;
+    let Some(f) = next_span(words, n, k, x) else {
+        return Some(x as u64 + 1);
+    };
     if x < f.number {
-        return x as u64 + 1;
+        return Some(x as u64 + 1);
     }
-    f.end as u64 + 1
+    Some(f.end as u64 + 1)
 }
 
-// The first number from `low` to `high` that lacks; `high` and one more if none does. A step for each span and each value that was fetched there, and for each row that
+// The first number from `low` to `high` that lacks. A step for each span and each value that was fetched there, and for each row that
 // has one of the numbers in a unique column.
 fn first_open(
     d: Design,
@@ -58,48 +56,41 @@ fn first_open(
     k: Column,
     low: u32,
     high: u32,
-) -> u64
+) -> Option<u32>
     requires { (k.table < 8) × (k.place < 8) × Ordered words.now n }
     ensures { (D : Database) → Indexed D catalog.now keys.now
-        → result ≡ Model.first_open (scheme_of d) D (fetches_in words.now n) (column_of k) high low }
+        → FirstOpen (scheme_of d) D (fetches_in words.now n) (column_of k) high low result }
 {
-    let end = high as u64;
     let mut x = low as u64;
-    while x <= end {
-        let y = shut_past(d, catalog, keys, words, n, k, x as u32);
-        if y <= x {
-            return x;
-        }
-        x = y;
+    while x <= high as u64 {
+        let y = x as u32;
+        let Some(z) = shut_past(d, catalog, keys, words, n, k, y) else {
+            return Some(y);
+        };
+        x = z;
     }
-    end + 1
+    None
 }
 
-// The first gap of a range: all of its numbers are held, and the first lacks.
+// The first gap of desk e's range i: all of its numbers are held, and the first lacks.
 fn range_lack(
     d: Design,
     catalog: &[u16; 16449],
     keys: &[u64; 4096],
+    held: &[u32; 358],
     words: &[u32],
     n: usize,
-    q: Range,
-) -> Lack
-    requires { InRange d × Ordered words.now n }
+    e: usize,
+    i: usize,
+) -> Option<Fetch>
+    requires { InRange d × (e < 4) × (i < 8) × Ordered words.now n }
     ensures { (D : Database) → Indexed D catalog.now keys.now
-        → as_lack result ≡ Model.range_lack (scheme_of d) D (fetches_in words.now n) (range_of q) }
+        → as_lack result ≡ Model.range_lack (scheme_of d) D (fetches_in words.now n) (range_of (range_at (ranges_at (words_held held.now) e) i)) }
 {
-    let f = filling_at(d, q.filling as usize);
-    let k = f.column;
-    let x = first_open(d, catalog, keys, words, n, k, q.low, q.high);
-    let high = q.high as u64;
-    if high < x {
-        return nothing();
-    }
-    let y = gap_end(words, n, k, x as u32, q.high);
-    Lack {
-        found: true,
-        fetch: span_fetch(k, x as u32, y),
-    }
+    let q = range_at(held, e, i);
+    let k = filling_at(d, q.filling as usize).column;
+    let x = first_open(d, catalog, keys, words, n, k, q.low, q.high)?;
+    Some(span_fetch(k, x, gap_end(words, n, k, x, q.high)))
 }
 
 // Of desk e's ranges.
@@ -111,19 +102,12 @@ fn desk_lack(
     words: &[u32],
     n: usize,
     e: usize,
-) -> Lack
+) -> Option<Fetch>
     requires { InRange d × Bounded (words_held held.now) × Ordered words.now n × (e < 4) }
     ensures { (D : Database) → Indexed D catalog.now keys.now
         → as_lack result ≡ Model.lack_in (Model.range_lack (scheme_of d) D (fetches_in words.now n)) (list_of (ranges_at (words_held held.now) e)) }
 {
-    let m = range_count(held, e);
-    for i in 0..m {
-        let l = range_lack(d, catalog, keys, words, n, range_at(held, e, i));
-        if l.found {
-            return l;
-        }
-    }
-    nothing()
+    (0..range_count(held, e)).find_map(|i| range_lack(d, catalog, keys, held, words, n, e, i))
 }
 
 // Of all desks' ranges.
@@ -134,16 +118,10 @@ pub(crate) fn ranges_lack(
     held: &[u32; 358],
     words: &[u32],
     n: usize,
-) -> Lack
+) -> Option<Fetch>
     requires { InRange d × Bounded (words_held held.now) × Ordered words.now n }
     ensures { (D : Database) → Indexed D catalog.now keys.now
         → as_lack result ≡ Model.lack_in (Model.range_lack (scheme_of d) D (fetches_in words.now n)) (all_ranges (lists_of (words_held held.now))) }
 {
-    for e in 0..4usize {
-        let l = desk_lack(d, catalog, keys, held, words, n, e);
-        if l.found {
-            return l;
-        }
-    }
-    nothing()
+    (0..4).find_map(|e| desk_lack(d, catalog, keys, held, words, n, e))
 }

@@ -9,7 +9,7 @@ ghost use Rattle.state.specs.Meaning.{column_of, database_of, scheme_of};
 ghost use Rattle.catalog.specs.Catalog.{Demands};
 ghost use Rattle.slice.specs.Fetches.{fetches_in, as_lack, Ends, Ordered};
 
-use crate::fetch::{Lack, nothing};
+use crate::fetch::Fetch;
 use crate::near::{near_lack, others_whole};
 use lawful::is_unique;
 use state::{Constraint, Design, cell_at};
@@ -42,7 +42,7 @@ fn link_lack(
     places: &mut [usize; 16],
     r: usize,
     i: usize,
-) -> Lack
+) -> Option<Fetch>
     requires in_range { InRange d × Backed (cells_in cells.now issues.now) tables.now × Ordered words.now n × (r < 512) × (i < d.constraints) }
     requires c_value { (c ≡ constraint_at d i) × (sole ≡ (scheme_of d).unique (column_of c.target)) }
     ensures { Demands (scheme_of d) (database_of (cells_in cells.now issues.now) tables.now) catalog.now
@@ -50,7 +50,7 @@ fn link_lack(
 {
     let source = c.source;
     if tables[r] != source.table {
-        return nothing();
+        return None;
     }
     let v = cell_at(cells, issues, r, source.place as usize);
     let only = others_whole(sole, catalog, r, i);
@@ -70,23 +70,23 @@ fn links_lack(
     n: usize,
     places: &mut [usize; 16],
     r: usize,
-) -> Lack
+) -> Option<Fetch>
     requires { InRange d × Backed (cells_in cells.now issues.now) tables.now × Ordered words.now n × (r < 512) × Ends d constraint soles.now }
     ensures { Demands (scheme_of d) (database_of (cells_in cells.now issues.now) tables.now) catalog.now
         → as_lack result ≡ Model.lack_below (scheme_of d).constraints
         (Model.link_lack (scheme_of d) (database_of (cells_in cells.now issues.now) tables.now) (fetches_in words.now n) r) }
 {
     let m = d.constraints;
+    // a loop: each look notes a place, and no chain is proved through a closure that changes what it captures
     for i in 0..m {
         let c = constraint[i];
-        let l = link_lack(
+        if let Some(f) = link_lack(
             d, c, soles[i], cells, issues, tables, catalog, words, n, places, r, i,
-        );
-        if l.found {
-            return l;
+        ) {
+            return Some(f);
         }
     }
-    nothing()
+    None
 }
 
 // The same, if row r is cached.
@@ -103,14 +103,14 @@ fn row_lack(
     n: usize,
     places: &mut [usize; 16],
     r: usize,
-) -> Lack
+) -> Option<Fetch>
     requires { InRange d × Backed (cells_in cells.now issues.now) tables.now × Ordered words.now n × (512 ≤ length marks.now) × (r < 512) × Ends d constraint soles.now }
     ensures { Demands (scheme_of d) (database_of (cells_in cells.now issues.now) tables.now) catalog.now
         → as_lack result ≡ Model.row_lack (scheme_of d) (database_of (cells_in cells.now issues.now) tables.now) (fetches_in words.now n)
         (marked (take 512 marks.now)) r }
 {
     if marks[r] != 1 {
-        return nothing();
+        return None;
     }
     links_lack(
         d, constraint, soles, cells, issues, tables, catalog, words, n, places, r,
@@ -128,7 +128,7 @@ pub(crate) fn rows_lack(
     marks: &[u8],
     words: &[u32],
     n: usize,
-) -> Lack
+) -> Option<Fetch>
     requires { InRange d × Backed (cells_in cells.now issues.now) tables.now × Ordered words.now n × (512 ≤ length marks.now) }
     ensures { Demands (scheme_of d) (database_of (cells_in cells.now issues.now) tables.now) catalog.now
         → as_lack result ≡ Model.lack_below 512 (Model.row_lack (scheme_of d) (database_of (cells_in cells.now issues.now) tables.now)
@@ -137,8 +137,9 @@ pub(crate) fn rows_lack(
     let constraint = d.constraint;
     let soles = sole_targets(d);
     let mut places = [0usize; 16];
+    // a loop for the same reason
     for r in 0..Design::ROWS {
-        let l = row_lack(
+        if let Some(f) = row_lack(
             d,
             constraint,
             &soles,
@@ -151,10 +152,9 @@ pub(crate) fn rows_lack(
             n,
             &mut places,
             r,
-        );
-        if l.found {
-            return l;
+        ) {
+            return Some(f);
         }
     }
-    nothing()
+    None
 }

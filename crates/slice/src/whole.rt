@@ -9,7 +9,7 @@ ghost use Rattle.slice.specs.Fetches.{fetches_in, fetches_fit, as_lack};
 ghost use Rattle.slice.specs.Replies.{missing_at, reply_of, reply_in, reply_at};
 
 use crate::accepted::fetches_fit;
-use crate::fetch::{Fetch, Lack};
+use crate::fetch::Fetch;
 use crate::held::pairs_lack;
 use crate::ranges::ranges_lack;
 use crate::rows::rows_lack;
@@ -37,20 +37,18 @@ pub fn missing_lawful(
     held: &[u32; 358],
     words: &[u32],
     n: usize,
-) -> Lack
+) -> Option<Fetch>
     requires { (sound (lent design (cells_in cells.now issues.now) tables.now marks.now (words_held held.now)) ≡ true)
         × Catalogued (scheme_of design) (database_of (cells_in cells.now issues.now) tables.now) catalog.now keys.now
         × (5 * n ≤ length words.now) × (fetches_fit (scheme_of design) words.now n ≡ true) }
     ensures { as_lack result ≡ missing_at (lent design (cells_in cells.now issues.now) tables.now marks.now (words_held held.now))
         (fetches_in words.now n) }
 {
-    let p = pairs_lack(design, catalog, keys, held, words, n);
-    if p.found {
-        return p;
+    if let Some(f) = pairs_lack(design, catalog, keys, held, words, n) {
+        return Some(f);
     }
-    let q = ranges_lack(design, catalog, keys, held, words, n);
-    if q.found {
-        return q;
+    if let Some(f) = ranges_lack(design, catalog, keys, held, words, n) {
+        return Some(f);
     }
     rows_lack(design, cells, issues, tables, catalog, marks, words, n)
 }
@@ -80,14 +78,12 @@ pub fn missing_catalogued(
     if !fetches_fit(design, words, n) {
         return Next::Refused(5);
     }
-    let l = missing_lawful(
+    match missing_lawful(
         design, cells, issues, tables, catalog, keys, marks, held, words, n,
-    );
-    if l.found {
-        let f = l.fetch;
-        return Next::Lacks(f);
+    ) {
+        Some(f) => Next::Lacks(f),
+        None => Next::Nothing,
     }
-    Next::Nothing
 }
 
 // The same for whatever is lent: 7 for buffers too short for rows or for what is held, 12 for an unlawful state, then as above. The cost of `cause`, besides.

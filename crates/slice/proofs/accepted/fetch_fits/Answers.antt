@@ -1,6 +1,5 @@
 -- `slice::accepted::fetch_fits` meets its contract. Assumes nothing.
 use mathlib.Core.Path.{sym, ◌∙◌}
-use borrow.Author.Tests.{not-true, not-false}
 use Rattle.slice.proofs.AcceptedLaws.{fits-kind, fits-column, fits-number, fits-value, fits-span}
 use Rattle.slice.proofs.accepted.fetch_fits.Goals as goal
 
@@ -8,13 +7,13 @@ pub returns-then-f-gt1 : goal.returns-then-f-gt1
 returns-then-f-gt1 c = fits-kind _ _ c.if-f-gt1.true
 
 pub returns-then-not-names_column : goal.returns-then-not-names_column
-returns-then-not-names_column c = fits-column _ _ c.if-f-gt1.false (sym c.names_column.ensures ∙ not-true _ c.if-not-names_column.true-raw)
+returns-then-not-names_column c = fits-column _ _ c.if-f-gt1.false (sym c.names_column.ensures ∙ c.if-not-names_column.true)
 
 pub returns-then-f-lt1 : goal.returns-then-f-lt1
-returns-then-f-lt1 c = fits-number _ _ c.if-f-gt1.false (sym c.names_column.ensures ∙ not-false _ c.if-not-names_column.false-raw) c.if-f-lt1.true
+returns-then-f-lt1 c = fits-number _ _ c.if-f-gt1.false (sym c.names_column.ensures ∙ c.if-not-names_column.false) c.if-f-lt1.true
 
 pub returns-then-f-eq0 : goal.returns-then-f-eq0
-returns-then-f-eq0 c = fits-value _ _ c.if-f-gt1.false (sym c.names_column.ensures ∙ not-false _ c.if-not-names_column.false-raw) c.if-f-lt1.false c.if-f-eq0.true
+returns-then-f-eq0 c = fits-value _ _ c.if-f-gt1.false (sym c.names_column.ensures ∙ c.if-not-names_column.false) c.if-f-lt1.false c.if-f-eq0.true
 
 pub returns : goal.returns
-returns c = fits-span _ _ c.if-f-gt1.false (sym c.names_column.ensures ∙ not-false _ c.if-not-names_column.false-raw) c.if-f-lt1.false c.if-f-eq0.false
+returns c = fits-span _ _ c.if-f-gt1.false (sym c.names_column.ensures ∙ c.if-not-names_column.false) c.if-f-lt1.false c.if-f-eq0.false

@@ -2,4 +2,4 @@
 use Rattle.slice.proofs.fetch.value_fetch.Goals as goal
 
 pub returns : goal.returns
-returns c = let s = c in λ i. record { kind = 0; table = c.wide.ensures i; column = c.wide-2.ensures i; number = s.args.v.number; end = c.wide-3.ensures i }
+returns c = let s = c in λ i. record { kind = 0; table = c.from.ensures i; column = c.from-2.ensures i; number = s.args.v.number; end = c.from-3.ensures i }

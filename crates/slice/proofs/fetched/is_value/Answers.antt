@@ -10,4 +10,4 @@ pub returns-then-a-v : goal.returns-then-a-v
 returns-then-a-v c = value-other _ _ _ c.if-a-v.true
 
 pub returns : goal.returns
-returns c = value_same _ _ _ _ (sym c.is_blank.ensures ∙ c.if-is_blank.false) c.if-a-v.false c.wide.ensures
+returns c = value_same _ _ _ _ (sym c.is_blank.ensures ∙ c.if-is_blank.false) c.if-a-v.false c.from.ensures

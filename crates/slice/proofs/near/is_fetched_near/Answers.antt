@@ -13,14 +13,8 @@ pub returns-then-covers_at-3 : goal.returns-then-covers_at-3
 returns-then-covers_at-3 c = sym (fetched-hit _ _ _ _ _ (sym c.covers_at-3.ensures ∙ c.if-covers_at-3.true))
 
 pub returns-then-covers_at-4 : goal.returns-then-covers_at-4
-returns-then-covers_at-4 c = sym (fetched-hit _ _ _ _ _ (sym c.covers_at-4.ensures ∙ c.if-covers_at-4.true))
+returns-then-covers_at-4 c = c.if-covers_at-4.true ∙ sym (fetched-hit _ _ _ _ _ (sym c.covers_at-4.ensures ∙ c.if-covers_at-4.true))
 
-pub seek-b-requires : goal.seek-b-requires
-seek-b-requires c = c.requires.0.long
-
-pub covers_at-requires-5 : goal.covers_at-requires-5
-covers_at-requires-5 c = c.requires.0.long
-
-pub returns : goal.returns
-returns c = let o = c.requires.0 in
-    fetched-by _ _ o _ _ _ _ _ _ c.value_fetch.ensures c.span_fetch.ensures (c.seek-a.ensures o) (c.seek-b.ensures o) c.covers_at-4.ensures c.if-covers_at-4.false c.covers_at-5.ensures
+pub returns-else-covers_at-4 : goal.returns-else-covers_at-4
+returns-else-covers_at-4 c = let o = c.requires.0 in
+    fetched-by _ _ o _ _ _ _ _ _ c.value_fetch.ensures c.span_fetch.ensures (c.seek-a.ensures o) (c.seek.ensures o) c.covers_at-4.ensures c.if-covers_at-4.false c.covers_at-else-covers_at-4.ensures

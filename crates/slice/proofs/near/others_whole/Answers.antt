@@ -4,16 +4,10 @@ use Rattle.model.specs.Rounds.{leads}
 use mathlib.Core.Path.{ap}
 use lib.Dec.{ltb}
 use Prim.Native.Nat.{ℕ}
-use borrow.Author.Tests.{not-true, not-false}
-use Rattle.finite.proofs.Bools.{and-go, and-stop}
+use Rattle.finite.proofs.Bools.{and-go}
 use Rattle.slice.proofs.near.others_whole.Goals as goal
 
-pub returns-then-not-sole : goal.returns-then-not-sole
-returns-then-not-sole c = λ S D x l.
+pub returns-then-sole : goal.returns-then-sole
+returns-then-sole c = λ S D x l.
     let a = c.args in
-    and-stop a.sole (ltb (first_from 512 (leads D (S.constraint a.i) a.r) 0) 512) (not-true _ c.if-not-sole.true-raw)
-
-pub returns : goal.returns
-returns c = λ S D x l.
-    let a = c.args in
-    and-go a.sole (ltb (first_from 512 (leads D (S.constraint a.i) a.r) 0) 512) (not-false _ c.if-not-sole.false-raw) (ap (λ (n : ℕ). ltb n 512) (c.first_row.ensures S D x l))
+    and-go a.sole (ltb (first_from 512 (leads D (S.constraint a.i) a.r) 0) 512) c.if-sole.true (ap (λ (n : ℕ). ltb n 512) (c.first_row.ensures S D x l))

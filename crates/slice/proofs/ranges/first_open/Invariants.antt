@@ -12,4 +12,4 @@ abbrev pub invariant-loop-x : goal.invariant-loop-x
 invariant-loop-x l = (D : Database) → Indexed D l.catalog l.keys → Model.first_open (scheme_of l.d) D (fetches_in l.words l.n) (column_of l.k) l.high l.low ≡ Model.first_open (scheme_of l.d) D (fetches_in l.words l.n) (column_of l.k) l.high l.x
 
 abbrev pub decreases-loop-x : goal.decreases-loop-x
-decreases-loop-x l = l.end + 1 - l.x
+decreases-loop-x l = l.high + 1 - l.x

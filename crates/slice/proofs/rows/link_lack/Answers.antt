@@ -10,7 +10,7 @@ use native.Mathlib.Omega.{arith}
 use Rattle.slice.proofs.rows.link_lack.Goals as goal
 
 pub returns-then-tables-r : goal.returns-then-tables-r
-returns-then-tables-r c = λ x. c.nothing.ensures.0 ∙ row_other _ _ _ _ _ _ (λ h. c.if-tables-r.true (h ∙ sym (ap (λ (k : Constraint). k.source.table) c.requires.c_value.0)))
+returns-then-tables-r c = λ x. row_other _ _ _ _ _ _ (λ h. c.if-tables-r.true (h ∙ sym (ap (λ (k : Constraint). k.source.table) c.requires.c_value.0)))
 
 pub cell_at-v-requires : goal.cell_at-v-requires
 cell_at-v-requires c = (c.requires.in_range.3, subst (λ (k : Constraint). k.source.place < 8) (sym c.requires.c_value.0) (c.requires.in_range.0.source _), c.requires.in_range.1.rows, c.requires.in_range.1.issued)

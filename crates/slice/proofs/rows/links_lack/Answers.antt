@@ -18,17 +18,17 @@ bounds-constraint-i c = omega (arith, c.loop-i-test.true, c.requires.0.constrain
 pub bounds-soles-i : goal.bounds-soles-i
 bounds-soles-i c = omega (arith, c.loop-i-test.true, c.requires.0.constraints)
 
-pub link_lack-l-requires : goal.link_lack-l-requires
-link_lack-l-requires c = let t = c.loop-i-test.true in
+pub link_lack-requires : goal.link_lack-requires
+link_lack-requires c = let t = c.loop-i-test.true in
     record { in_range = (c.requires.0, c.requires.1, c.requires.2, c.requires.3, t); c_value = ends_at _ _ _ _ c.requires.4 (omega (arith, t, c.requires.0.constraints)) }
 
-pub returns-then-l : goal.returns-then-l
+pub returns-in-Some : goal.returns-in-Some
 unfolding scheme_of
-returns-then-l c = λ x. leaves _ _ _ _ c.loop-i-test.true (c.loop-i.invariant.1 x) (c.link_lack-l.ensures x) c.if-l.true
+returns-in-Some c = λ x. leaves _ _ _ c.loop-i-test.true (c.loop-i.invariant.1 x) (c.in-Some.ensures x)
 
 pub loop-i-preserved : goal.loop-i-preserved
-loop-i-preserved c = (omega arith, λ x. goes_on _ _ _ (c.loop-i.invariant.1 x) (c.link_lack-l.ensures x) c.if-l.false)
+loop-i-preserved c = (omega arith, λ x. goes_on _ _ (c.loop-i.invariant.1 x) (c.in_default.ensures x))
 
 pub returns : goal.returns
 unfolding scheme_of
-returns c = λ x. ends _ _ _ c.loop-i.invariant.0 c.loop-i-test.false (c.loop-i.invariant.1 x) c.nothing.ensures.0
+returns c = λ x. ends _ _ _ c.loop-i.invariant.0 c.loop-i-test.false (c.loop-i.invariant.1 x)

@@ -1,7 +1,6 @@
 -- `slice::whole::missing_catalogued` meets its contract. Assumes nothing.
 use mathlib.Core.Path.{sym, ◌∙◌}
-use borrow.Author.Tests.{not-true, not-false}
-use Rattle.slice.proofs.ReplyLaws.{reply-short, reply-unfit, reply-found, reply-none}
+use Rattle.slice.proofs.ReplyLaws.{reply-short, reply-unfit, reply-says}
 use native.Mathlib.Omega.{arith}
 use Rattle.slice.proofs.whole.missing_catalogued.Goals as goal
 
@@ -9,13 +8,13 @@ pub returns-then-words-n : goal.returns-then-words-n
 returns-then-words-n c = reply-short _ _ _ c.if-words-n.true
 
 pub returns-then-not-fetches_fit : goal.returns-then-not-fetches_fit
-returns-then-not-fetches_fit c = reply-unfit _ _ _ c.if-words-n.false (sym c.fetches_fit.ensures ∙ not-true _ c.if-not-fetches_fit.true-raw)
+returns-then-not-fetches_fit c = reply-unfit _ _ _ c.if-words-n.false (sym c.fetches_fit.ensures ∙ c.if-not-fetches_fit.true)
 
-pub missing_lawful-l-requires : goal.missing_lawful-l-requires
-missing_lawful-l-requires c = let s = c in (s.requires.0, s.requires.1, omega (arith, c.if-words-n.false), sym c.fetches_fit.ensures ∙ not-false _ c.if-not-fetches_fit.false-raw)
+pub missing_lawful-requires : goal.missing_lawful-requires
+missing_lawful-requires c = let s = c in (s.requires.0, s.requires.1, omega (arith, c.if-words-n.false), sym c.fetches_fit.ensures ∙ c.if-not-fetches_fit.false)
 
-pub returns-then-l : goal.returns-then-l
-returns-then-l c = reply-found _ _ _ c.if-words-n.false _ (sym c.fetches_fit.ensures ∙ not-false _ c.if-not-fetches_fit.false-raw) c.missing_lawful-l.ensures c.if-l.true
+pub returns-in-Some : goal.returns-in-Some
+returns-in-Some c = reply-says _ _ _ c.if-words-n.false (sym c.fetches_fit.ensures ∙ c.if-not-fetches_fit.false) c.in-Some.ensures
 
-pub returns : goal.returns
-returns c = reply-none _ _ _ c.if-words-n.false _ (sym c.fetches_fit.ensures ∙ not-false _ c.if-not-fetches_fit.false-raw) c.missing_lawful-l.ensures c.if-l.false
+pub returns-in-None : goal.returns-in-None
+returns-in-None c = reply-says _ _ _ c.if-words-n.false (sym c.fetches_fit.ensures ∙ c.if-not-fetches_fit.false) c.in-None.ensures

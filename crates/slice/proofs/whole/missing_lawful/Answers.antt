@@ -7,23 +7,23 @@ use Rattle.slice.proofs.AcceptedLaws.{fit-ordered}
 use Rattle.slice.proofs.LackLaws.{missing-pairs, missing-ranges, missing-rows}
 use Rattle.slice.proofs.whole.missing_lawful.Goals as goal
 
-pub pairs_lack-p-requires : goal.pairs_lack-p-requires
-pairs_lack-p-requires c = let s = c in (sound-range _ s.requires.0 (sized s.args.design _ s.well_formed.0), sound-bounded _ s.requires.0 (words-sized s.args.held.now), fit-ordered _ _ _ s.requires.3 s.requires.2)
+pub pairs_lack-requires : goal.pairs_lack-requires
+pairs_lack-requires c = let s = c in (sound-range _ s.requires.0 (sized s.args.design _ s.well_formed.0), sound-bounded _ s.requires.0 (words-sized s.args.held.now), fit-ordered _ _ _ s.requires.3 s.requires.2)
 
-pub returns-then-p : goal.returns-then-p
+pub returns-in-Some : goal.returns-in-Some
 unfolding missing_at
-returns-then-p c = let s = c in missing-pairs _ _ _ _ _ _ _ (c.pairs_lack-p.ensures _ s.requires.1.index) c.if-p.true
+returns-in-Some c = let s = c in missing-pairs _ _ _ _ _ _ (c.in-Some.ensures _ s.requires.1.index)
 
-pub ranges_lack-q-requires : goal.ranges_lack-q-requires
-ranges_lack-q-requires c = let s = c in (sound-range _ s.requires.0 (sized s.args.design _ s.well_formed.0), sound-bounded _ s.requires.0 (words-sized s.args.held.now), fit-ordered _ _ _ s.requires.3 s.requires.2)
+pub ranges_lack-requires : goal.ranges_lack-requires
+ranges_lack-requires c = let s = c in (sound-range _ s.requires.0 (sized s.args.design _ s.well_formed.0), sound-bounded _ s.requires.0 (words-sized s.args.held.now), fit-ordered _ _ _ s.requires.3 s.requires.2)
 
-pub returns-then-q : goal.returns-then-q
+pub returns-in-Some-ranges_lack : goal.returns-in-Some-ranges_lack
 unfolding missing_at
-returns-then-q c = let s = c in missing-ranges _ _ _ _ _ _ _ _ (c.pairs_lack-p.ensures _ s.requires.1.index) c.if-p.false (c.ranges_lack-q.ensures _ s.requires.1.index) c.if-q.true
+returns-in-Some-ranges_lack c = let s = c in missing-ranges _ _ _ _ _ _ (c.in_default.ensures _ s.requires.1.index) (c.in-Some-ranges_lack.ensures _ s.requires.1.index)
 
 pub rows_lack-requires : goal.rows_lack-requires
 rows_lack-requires c = let s = c in (sound-range _ s.requires.0 (sized s.args.design _ s.well_formed.0), sound-backed _ s.requires.0, fit-ordered _ _ _ s.requires.3 s.requires.2, sound-marks _ s.requires.0)
 
 pub returns : goal.returns
 unfolding missing_at
-returns c = let s = c in missing-rows _ _ _ _ _ _ _ _ (c.pairs_lack-p.ensures _ s.requires.1.index) c.if-p.false (c.ranges_lack-q.ensures _ s.requires.1.index) c.if-q.false (c.rows_lack.ensures s.requires.1.demands)
+returns c = let s = c in missing-rows _ _ _ _ _ _ (c.in_default.ensures _ s.requires.1.index) (c.in_default-ranges_lack.ensures _ s.requires.1.index) (c.rows_lack.ensures s.requires.1.demands)
