@@ -10,7 +10,6 @@ mod lister;
 mod listing;
 mod operands;
 mod plan;
-mod tables;
 mod totalling;
 
 pub use counting::count_fitting;
