@@ -137,15 +137,3 @@ module _ (f : Fetch) (k : Column) where
   pub of-span : (f.kind ≡ 0 → ⊥) → f.table ≡ k.table → f.column ≡ k.place → span_of f k ≡ true
   unfolding span_of
   of-span z t c = both (ap not (ne_eqb f.kind 0 z)) (both (eq-eqb _ _ t) (eq-eqb _ _ c))
-
-  pub not_span : f.kind ≡ 0 → false ≡ span_of f k
-  unfolding span_of
-  not_span z = and-stop _ _ (ap not (eq-eqb f.kind 0 z))
-
-  pub other-table : (f.kind ≡ 0 → ⊥) → (f.table ≡ k.table → ⊥) → false ≡ span_of f k
-  unfolding span_of
-  other-table z n = and-go _ _ (ap not (ne_eqb f.kind 0 z)) (and-stop _ _ (ne_eqb _ _ n))
-
-  pub same-table : {r : Bool} → (f.kind ≡ 0 → ⊥) → f.table ≡ k.table → r ≡ eqb f.column k.place → r ≡ span_of f k
-  unfolding span_of
-  same-table z t h = and-go _ _ (ap not (ne_eqb f.kind 0 z)) (and-go _ _ (eq-eqb _ _ t) h)

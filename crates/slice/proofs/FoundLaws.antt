@@ -1,10 +1,15 @@
--- What `find_map` over the numbers below n answers, where the closure gives the lack at each: the first. Assumes nothing.
-use Prim.Native.Nat.{ℕ, zero, suc, ◌+◌, ◌<◌}
+-- What `find_map` over the numbers below n answers, where the closure gives the lack at each: the first. And what `map` makes of an array. Assumes nothing.
+use Prim.Native.Nat.{ℕ, zero, suc, ◌+◌, ◌<◌, ◌≤◌}
 use native.Mathlib.Omega.{arith}
 use mathlib.Core.Path.{◌≡◌, refl, sym, ap, ap₂, subst, ◌∙◌}
+use mathlib.Core.Logic.{◌⊎◌, inl, inr}
 use mathlib.Core.Bool.{true}
 use mathlib.Core.List.{List, [], ◌∷◌}
 use denote.Param.Members.{Mut}
+use lib.ListN.{get_or}
+use Rattle.finite.proofs.Bools.{order}
+use Rattle.finite.proofs.Tables.{tab-of}
+use Rattle.std.specs.Array.{IsMapOf, MapsFrom}
 use Rattle.std.specs.Prelude.{Option, None, Some, MatchOption, IfSome, IsSomeAnd, slice_get}
 use Rattle.std.specs.Fn.{Called}
 use Rattle.std.specs.Iterator.{AlwaysYields, Yields}
@@ -94,3 +99,23 @@ lack_in-range n h = ap (Model.lack_in h) (tab-range 0 n) ∙ lack-tab h n (λ i.
   where
     e : (i : ℕ) → 0 + i ≡ i
     e i = omega arith
+
+-- ---- an array's elements, each under the same function
+
+maps-at : {F A B : Type 0} {g : Mut F (A × Unit {0}) B} (h : A → B) (f : F) → ((x : A) (b : B) (q : F) → Called g f (x, tt) b q → (q ≡ f) × (b ≡ h x)) →
+    (n i : ℕ) (xs : List A) (ys : List B) → MapsFrom g f xs ys i n → (k : ℕ) (d : A) (e : B) → i ≤ k → k < i + n → get_or ys k e ≡ h (get_or xs k d)
+maps-at h f c zero i xs ys m k d e a b = absurd (omega arith)
+maps-at {F} {A} {B} {g} h f c (suc n) i xs ys m k d e a b =
+    go (order i k) (λ l. maps-at h f c n (i + 1) xs ys (subst (λ (p : F). MapsFrom g p xs ys (i + 1) n) s.0 m.6) k d e (omega arith) (omega arith))
+  where
+    s : (m.0 ≡ f) × (m.2 ≡ h m.1)
+    s = c m.1 m.2 m.0 m.5
+
+    go : (i < k) ⊎ ((i ≡ k) ⊎ (k < i)) → (i < k → get_or ys k e ≡ h (get_or xs k d)) → get_or ys k e ≡ h (get_or xs k d)
+    go (inl l) r = r l
+    go (inr (inl q)) r = subst (λ (j : ℕ). get_or ys j e ≡ h (get_or xs j d)) q (m.4.1 e ∙ s.1 ∙ ap h (sym (m.3.1 d)))
+    go (inr (inr l)) r = absurd (omega arith)
+
+pub map-tab : {F A B : Type 0} {g : Mut F (A × Unit {0}) B} (h : A → B) (d : A) (e : B) (n : ℕ) (f : F) (xs : List A) (ys : List B) → IsMapOf g f xs ys n →
+    ((x : A) (b : B) (q : F) → Called g f (x, tt) b q → (q ≡ f) × (b ≡ h x)) → ys ≡ tab n (λ i. h (get_or xs i d))
+map-tab h d e n f xs ys m c = tab-of e n (λ i. h (get_or xs i d)) ys m.long (λ i l. maps-at h f c n 0 xs ys m.each i d e (omega arith) (omega arith))

@@ -34,13 +34,7 @@ fn is_value(a: u32, b: u32, v: Cell) -> bool
 fn is_between(a: u32, b: u32, v: Cell) -> bool
     ensures { result ≡ eqb v.issue 0 && (leb a v.number && leb v.number b) }
 {
-    if v.issue != 0 {
-        return false;
-    }
-    if v.number < a {
-        return false;
-    }
-    v.number <= b
+    v.issue == 0 && a <= v.number && v.number <= b
 }
 
 // Whether the fetch has the value v of column k. Constant time.

@@ -12,13 +12,7 @@ use state::Column;
 fn is_span_of(f: Fetch, k: Column) -> bool
     ensures { result ≡ span_of f (column_of k) }
 {
-    if f.kind == 0 {
-        return false;
-    }
-    if f.table != u32::from(k.table) {
-        return false;
-    }
-    f.column == u32::from(k.place)
+    f.kind != 0 && f.table == u32::from(k.table) && f.column == u32::from(k.place)
 }
 
 // The first span of column k that has x or a later number.

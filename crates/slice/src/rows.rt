@@ -18,13 +18,7 @@ use state::{Constraint, Design, cell_at};
 fn sole_targets(d: Design) -> [bool; 16]
     ensures { result ≡ tab 16 (λ i. (scheme_of d).unique (column_of (constraint_at d i).target)) }
 {
-    let constraint = d.constraint;
-    let mut soles = [false; 16];
-    for i in 0..Design::CONSTRAINTS {
-        let j = constraint[i];
-        soles[i] = is_unique(d, j.target);
-    }
-    soles
+    d.constraint.map(|c| is_unique(d, c.target))
 }
 
 // Of what constraint i, which is c, demands of row r. `sole` says that it ends at a unique column. The design is there for the contract alone, here and in the next two,

@@ -1,15 +1,12 @@
--- `slice::rows::sole_targets` meets its contract: a loop that stores. Assumes nothing.
-use mathlib.Core.Bool.{Bool, false}
-use lib.ListN.{length-replicate}
-use Rattle.finite.proofs.Tables.{upto-end, upto-set, upto-start}
-use native.Mathlib.Omega.{arith}
+-- `slice::rows::sole_targets` meets its contract. Assumes nothing.
+use Rattle.std.proofs.Common.{rules}
+use Rattle.state.specs.Design.{no_constraint}
+use Rattle.state.specs.Meaning.{column_of, scheme_of}
+use Rattle.state.specs.declared.design.Constraint.{Constraint}
+use mathlib.Core.Bool.{false}
+use Rattle.slice.proofs.FoundLaws.{map-tab}
 use Rattle.slice.proofs.rows.sole_targets.Goals as goal
 
-pub loop-i-init : goal.loop-i-init
-loop-i-init c = (omega arith, upto-start false _ _ _ (length-replicate {A = Bool} 16 false))
-
-pub loop-i-preserved : goal.loop-i-preserved
-loop-i-preserved c = (omega arith, upto-set false _ _ _ _ _ c.loop-i.invariant.1 c.loop-i-test.true _ c.is_unique.ensures)
-
 pub returns : goal.returns
-returns c = upto-end _ _ _ _ _ _ c.loop-i.invariant.1 c.loop-i.invariant.0 c.loop-i-test.false
+returns c = let d = c.args.d in
+    map-tab (λ (k : Constraint). (scheme_of d).unique (column_of k.target)) no_constraint false 16 _ d.constraint _ c.map.ensures.items (λ x b q k. search rules)
