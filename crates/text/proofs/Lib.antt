@@ -1,2 +1,3 @@
--- Reach: how far a writer gets with bytes and numbers.
+-- Copying: a part of a lent buffer that a text is copied over. Reach: how far a writer gets with bytes and numbers.
+pub mod Copying
 pub mod Reach

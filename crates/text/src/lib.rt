@@ -11,11 +11,7 @@ pub fn put_bytes(out: &mut [u8], at: usize, text: &[u8], n: usize) -> usize
     requires { (n ≤ length text.now) × (at + n ≤ length out.old) }
     ensures { Wrote out.old out.new at result (take n text.now) }
 {
-    let mut i: usize = 0;
-    while i < n {
-        out[at + i] = text[i];
-        i += 1;
-    }
+    out[at..at + n].copy_from_slice(&text[..n]);
     at + n
 }
 
@@ -34,10 +30,10 @@ fn put_digits(out: &mut [u8], at: usize, n: u64) -> usize
     ensures { Wrote out.old out.new at result (decimal n) }
 {
     if n < 10 {
-        return put_byte(out, at, 48 + n as u8);
+        return put_byte(out, at, b'0' + n as u8);
     }
     let z = put_digits(out, at, n / 10);
-    put_byte(out, z, 48 + (n % 10) as u8)
+    put_byte(out, z, b'0' + (n % 10) as u8)
 }
 
 // Writes a number of two digits.
@@ -45,8 +41,8 @@ fn put_two(out: &mut [u8], at: usize, n: u64) -> usize
     requires { (10 ≤ n) × (n < 100) × (at + 2 ≤ length out.old) }
     ensures { Wrote out.old out.new at result (decimal n) }
 {
-    let z = put_byte(out, at, 48 + (n / 10) as u8);
-    put_byte(out, z, 48 + (n % 10) as u8)
+    let z = put_byte(out, at, b'0' + (n / 10) as u8);
+    put_byte(out, z, b'0' + (n % 10) as u8)
 }
 
 // Writes a number in decimal: at most 20 bytes. Those of rows and constraints have at most three digits, and are written without a call for each.
@@ -55,14 +51,14 @@ pub fn put_decimal(out: &mut [u8], at: usize, n: u64) -> usize
     ensures { Wrote out.old out.new at result (decimal n) }
 {
     if n < 10 {
-        return put_byte(out, at, 48 + n as u8);
+        return put_byte(out, at, b'0' + n as u8);
     }
     if n < 100 {
         return put_two(out, at, n);
     }
     if n < 1000 {
         let z = put_two(out, at, n / 10);
-        return put_byte(out, z, 48 + (n % 10) as u8);
+        return put_byte(out, z, b'0' + (n % 10) as u8);
     }
     put_digits(out, at, n)
 }
@@ -72,6 +68,6 @@ pub fn put_spaced(out: &mut [u8], at: usize, n: u64) -> usize
     requires { at + 21 ≤ length out.old }
     ensures { Wrote out.old out.new at result (spaced n) }
 {
-    let z = put_byte(out, at, 32);
+    let z = put_byte(out, at, b' ');
     put_decimal(out, z, n)
 }

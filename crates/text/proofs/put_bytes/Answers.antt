@@ -1,15 +1,8 @@
--- `text::put_bytes` meets its contract. The invariant: the bytes below i are written. Assumes nothing.
+-- `text::put_bytes` meets its contract. Assumes nothing.
 use native.Mathlib.Omega.{arith}
-use mathlib.Core.Path.{refl}
-use lib.ListN.{length-set}
-use Rattle.finite.proofs.Writing.{copied_more, copied-end}
+use lib.Seq.{length-take-le}
+use Rattle.text.proofs.Copying.{copied}
 use Rattle.text.proofs.put_bytes.Goals as goal
 
-pub loop-i-init : goal.loop-i-init
-loop-i-init c = (omega arith, refl, record { next = refl; text = refl })
-
-pub loop-i-preserved : goal.loop-i-preserved
-loop-i-preserved c = (omega arith, simp length-set c.loop-i.invariant.1, copied_more 0 _ _ _ _ _ (omega arith) c.loop-i.invariant.2)
-
 pub returns : goal.returns
-returns c = copied-end _ _ _ _ _ _ c.loop-i.invariant.0 c.loop-i-test.false c.loop-i.invariant.2
+returns c = rw c.copy_from_slice.ensures.after (copied _ _ _ _ (omega (arith, length-take-le c.args.n c.args.text.now c.requires.0)) c.requires.1)
