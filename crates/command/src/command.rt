@@ -1,13 +1,15 @@
-// A command of a script, and the command that stands at a place of the lent bytes: its byte is looked at first, then how many bytes are left. Bytes
-// below 0x10 are the design's, 0x1D and 0x1E change the rows, and the others are the operations'.
+// A command of a script, and the command that stands at a place of the lent bytes: its byte is looked at first, then how many bytes are left.
 ghost use Rattle.std.specs.Prelude.{◌≡◌, ◌+◌, ◌-◌, ◌≤◌, ◌<◌, length};
 ghost use Rattle.command.specs.Bytes.{byte_at, u32_at};
-ghost use Rattle.command.specs.Commands.{design_width, operation_width, width_of, column_at, value_at, join_at, held_value_at, range_at, query_at, total_at, design_command_at, issued_at, operation_at, command_at, row_cell_at, row_issue_at, put_row_at};
+ghost use Rattle.command.specs.Opcodes.{byte_of};
+ghost use Rattle.command.specs.Commands.{width_of, column_at, value_at, join_at, held_value_at, range_at, query_at, total_at, operands_at, command_at, row_cell_at, row_issue_at, put_row_at};
 
 use crate::bytes::{u16_at, u32_at};
+use crate::opcode::Opcode;
 use state::{
     Cell, Column, Constraint, Filling, HeldValue, Join, Operation, Query, Range, Row, Table, Total,
 };
+use std::array::from_fn;
 
 // The cells and issues of a ROW and of a Put are read from the bytes by place (an enum holds no array).
 #[derive(Clone, Copy)]
@@ -29,62 +31,14 @@ pub enum Command {
     Short,
 }
 
-// ---- widths: how many bytes the command with this byte takes, 0 if there is none. Constant time, as everything in this file.
-
-#[tactic(auto, unfolding(crate::specs::Commands::design_width))]
-fn design_width(b: u8) -> usize
-    ensures { result ≡ design_width b }
-{
-    match b {
-        0x01 => 3,
-        0x02 => 5,
-        0x03 => 11,
-        0x04 => 34,
-        0x05 => 1,
-        0x07 => 42,
-        _ => 0,
-    }
-}
-
-#[tactic(auto, unfolding(crate::specs::Commands::operation_width))]
-fn operation_width(b: u8) -> usize
-    ensures { result ≡ operation_width b }
-{
-    match b {
-        0x10 => 6,
-        0x11 => 6,
-        0x12 => 7,
-        0x13 => 16,
-        0x14 => 1,
-        0x15 => 18,
-        0x17 => 2,
-        0x18 => 3,
-        0x19 => 8,
-        0x1A => 10,
-        0x1B => 10,
-        0x1C => 1,
-        0x20 => 7,
-        0x21 => 7,
-        0x22 => 8,
-        0x23 => 17,
-        0x25 => 19,
-        _ => 0,
-    }
-}
-
+// How many bytes the command with this byte takes; 0 if no command has it. Constant time, as everything in this file.
 pub fn width_of(b: u8) -> usize
     ensures { result ≡ width_of b }
 {
-    if b < 0x10 {
-        return design_width(b);
+    match Opcode::try_from(b) {
+        Ok(opcode) => opcode.width(),
+        Err(_) => 0,
     }
-    if b == 0x1D {
-        return 44;
-    }
-    if b == 0x1E {
-        return 3;
-    }
-    operation_width(b)
 }
 
 // ---- operands
@@ -202,6 +156,7 @@ fn total_at(script: &[u8], issue: u8, i: usize) -> Total
 }
 
 // The number of cell c of the ROW at place `at`, and its issue.
+#[tactic(auto, unfolding(crate::specs::Commands::row_cell_at))]
 pub fn row_cell(script: &[u8], at: usize, c: usize) -> u32
     requires { (c < 8) × (at + 34 ≤ length script.now) }
     ensures { result ≡ row_cell_at script.now at c }
@@ -209,6 +164,7 @@ pub fn row_cell(script: &[u8], at: usize, c: usize) -> u32
     u32_at(script, at + 2 + 4 * c)
 }
 
+#[tactic(auto, unfolding(crate::specs::Commands::row_issue_at))]
 pub fn row_issue(script: &[u8], at: usize, c: usize) -> u8
     requires { (c < 8) × (at < length script.now) × (byte_at script.now at ≡ 0x07 → at + 42 ≤ length script.now) }
     ensures { result ≡ row_issue_at script.now at c }
@@ -219,143 +175,86 @@ pub fn row_issue(script: &[u8], at: usize, c: usize) -> u8
     script[at + 34 + c]
 }
 
-// The numbers and the issues of the row of the 0x1D at place `at`, and the whole row, its table with them.
-fn put_numbers(script: &[u8], at: usize) -> [u32; 8]
-    requires { at + 44 ≤ length script.now }
-    ensures { result ≡ (put_row_at script.now at).numbers }
-{
-    let mut xs = [0u32; 8];
-    for c in 0..8usize {
-        xs[c] = u32_at(script, at + 4 + 4 * c);
-    }
-    xs
-}
-
-fn put_issues(script: &[u8], at: usize) -> [u8; 8]
-    requires { at + 44 ≤ length script.now }
-    ensures { result ≡ (put_row_at script.now at).issues }
-{
-    let mut xs = [0u8; 8];
-    for c in 0..8usize {
-        xs[c] = script[at + 36 + c];
-    }
-    xs
-}
-
+// The row of the 0x1D at place `at`, behind its number.
 pub fn row_at(script: &[u8], at: usize) -> Row
     requires { at + 44 ≤ length script.now }
     ensures { result ≡ put_row_at script.now at }
 {
     Row {
         table: script[at + 3],
-        numbers: put_numbers(script, at),
-        issues: put_issues(script, at),
+        numbers: from_fn(|c| u32_at(script, at + 4 + 4 * c)),
+        issues: from_fn(|c| script[at + 36 + c]),
     }
 }
 
-// ---- the command whose byte is b, with its operands behind place i
+// ---- the command at a place
 
-fn design_operands(b: u8, script: &[u8], i: usize) -> Command
-    requires { (design_width b ≡ 0 → ⊥) × (i + design_width b ≤ length script.now) }
-    ensures { result ≡ design_command_at b script.now i }
+// The command with this opcode, whose byte stands at place i. An operation whose opcode has no issue has issue 0; Opener has one of its own behind PROBE's
+// operands.
+#[tactic(auto, unfolding(crate::specs::Opcodes::byte_of, crate::specs::Commands::width_of, crate::specs::Commands::design_width, crate::specs::Commands::operation_width, crate::specs::Commands::operands_at, crate::specs::Commands::design_command_at, crate::specs::Commands::operation_at, crate::specs::Commands::issued_at,))]
+fn operands_at(opcode: Opcode, script: &[u8], i: usize) -> Command
+    requires { i + width_of (byte_of opcode) ≤ length script.now }
+    ensures { result ≡ operands_at (byte_of opcode) script.now i }
 {
-    if b == 0x01 {
-        return Command::Table(table_operands(script, i));
-    }
-    if b == 0x02 {
-        return Command::Constraint(constraint_operands(script, i));
-    }
-    if b == 0x03 {
-        return Command::Filling(filling_operands(script, i));
-    }
-    if b == 0x05 {
-        return Command::End;
-    }
-    Command::Row(script[i + 1])
-}
-
-// The operation of a byte below 0x20, whose value has this issue; 0x19 has one of its own behind PROBE's operands.
-#[tactic(auto, unfolding(crate::specs::Commands::operation_width, crate::specs::Commands::issued_at))]
-fn issued_at(b: u8, script: &[u8], issue: u8, i: usize) -> Operation
-    requires { (operation_width b ≡ 0 → ⊥) × (b < 0x20) × (i + operation_width b ≤ length script.now) }
-    ensures { result ≡ issued_at b script.now issue i }
-{
-    match b {
-        0x10 => Operation::Refer(held_value_at(script, issue, i)),
-        0x11 => Operation::Drop(held_value_at(script, issue, i)),
-        0x12 => Operation::Probe(column_at(script, i + 1), value_at(script, issue, i + 3)),
-        0x14 => Operation::Evenness,
-        0x15 => Operation::Total(total_at(script, issue, i)),
-        0x17 => {
-            let desk = script[i + 1];
-            Operation::Name(desk)
+    match opcode {
+        Opcode::Table => Command::Table(table_operands(script, i)),
+        Opcode::Constraint => Command::Constraint(constraint_operands(script, i)),
+        Opcode::Filling => Command::Filling(filling_operands(script, i)),
+        Opcode::Row | Opcode::IssuedRow => Command::Row(script[i + 1]),
+        Opcode::End => Command::End,
+        Opcode::Put => Command::Put(u16_at(script, i + 1), script[i + 3]),
+        Opcode::Remove => Command::Remove(u16_at(script, i + 1)),
+        Opcode::Refer => Command::Operate(Operation::Refer(held_value_at(script, 0, i))),
+        Opcode::Drop => Command::Operate(Operation::Drop(held_value_at(script, 0, i))),
+        Opcode::Probe => Command::Operate(Operation::Probe(
+            column_at(script, i + 1),
+            value_at(script, 0, i + 3),
+        )),
+        Opcode::Query => Command::Operate(Operation::Query(query_at(script, 0, i))),
+        Opcode::Evenness => Command::Operate(Operation::Evenness),
+        Opcode::Total => Command::Operate(Operation::Total(total_at(script, 0, i))),
+        Opcode::Name => Command::Operate(Operation::Name(script[i + 1])),
+        Opcode::Reason => Command::Operate(Operation::Reason(u16_at(script, i + 1))),
+        Opcode::Opener => Command::Operate(Operation::Opener(
+            column_at(script, i + 1),
+            value_at(script, script[i + 7], i + 3),
+        )),
+        Opcode::ReferRange => Command::Operate(Operation::ReferRange(range_at(script, i))),
+        Opcode::DropRange => Command::Operate(Operation::DropRange(range_at(script, i))),
+        Opcode::SmallestKnot => Command::Operate(Operation::SmallestKnot),
+        Opcode::IssuedRefer => {
+            Command::Operate(Operation::Refer(held_value_at(script, script[i + 6], i)))
         }
-        0x18 => Operation::Reason(u16_at(script, i + 1)),
-        0x19 => {
-            let own = script[i + 7];
-            Operation::Opener(column_at(script, i + 1), value_at(script, own, i + 3))
+        Opcode::IssuedDrop => {
+            Command::Operate(Operation::Drop(held_value_at(script, script[i + 6], i)))
         }
-        0x1A => Operation::ReferRange(range_at(script, i)),
-        0x1B => Operation::DropRange(range_at(script, i)),
-        0x1C => Operation::SmallestKnot,
-        _ => Operation::Query(query_at(script, issue, i)),
+        Opcode::IssuedProbe => Command::Operate(Operation::Probe(
+            column_at(script, i + 1),
+            value_at(script, script[i + 7], i + 3),
+        )),
+        Opcode::IssuedQuery => {
+            Command::Operate(Operation::Query(query_at(script, script[i + 16], i)))
+        }
+        Opcode::IssuedTotal => {
+            Command::Operate(Operation::Total(total_at(script, script[i + 18], i)))
+        }
     }
-}
-
-// The byte of the same operation without an issue: those from 0x20 on stand 0x10 above it.
-fn plain_byte(b: u8) -> u8
-    ensures { (b < 0x20 → result ≡ b) × (0x20 ≤ b → result + 0x10 ≡ b) }
-{
-    if b < 0x20 {
-        return b;
-    }
-    b - 0x10
-}
-
-// The issue stands at the end of the operations from 0x20 on, each of which is one byte wider than the same without it; the others have issue 0.
-fn issue_at(b: u8, script: &[u8], i: usize) -> u8
-    requires { (operation_width b ≡ 0 → ⊥) × (i + operation_width b ≤ length script.now) }
-    ensures { (b < 0x20 → result ≡ 0) × (0x20 ≤ b → result ≡ byte_at script.now (i + operation_width b - 1)) }
-{
-    if b < 0x20 {
-        return 0;
-    }
-    script[i + operation_width(b) - 1]
-}
-
-// The operation of a byte, with or without an issue. `issued_at` is called here alone, so that the compiler makes one function of the two and what is read
-// stays in registers.
-fn operation_at(b: u8, script: &[u8], i: usize) -> Operation
-    requires { (operation_width b ≡ 0 → ⊥) × (i + operation_width b ≤ length script.now) }
-    ensures { result ≡ operation_at b script.now i }
-{
-    let issue = issue_at(b, script, i);
-    issued_at(plain_byte(b), script, issue, i)
 }
 
 // The command at a place.
+#[tactic(auto, unfolding(crate::specs::Commands::command_at))]
 pub(crate) fn read_at(script: &[u8], at: usize) -> Command
     ensures { result ≡ command_at script.now at }
 {
-    if script.len() <= at {
+    let Some(&b) = script.get(at) else {
         return Command::Short;
-    }
-    let b = script[at];
-    let w = width_of(b);
-    if w == 0 {
+    };
+    let Ok(opcode) = Opcode::try_from(b) else {
         return Command::Unknown;
-    }
+    };
+    let w = opcode.width();
     if script.len() - at < w {
         return Command::Short;
     }
-    if b < 0x10 {
-        return design_operands(b, script, at);
-    }
-    if b == 0x1D {
-        return Command::Put(u16_at(script, at + 1), script[at + 3]);
-    }
-    if b == 0x1E {
-        return Command::Remove(u16_at(script, at + 1));
-    }
-    Command::Operate(operation_at(b, script, at))
+    operands_at(opcode, script, at)
 }

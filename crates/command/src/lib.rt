@@ -3,6 +3,7 @@
 
 mod bytes;
 mod command;
+mod opcode;
 mod reader;
 
 pub use command::{Command, row_at, row_cell, row_issue, width_of};

@@ -11,30 +11,32 @@ pub struct ScriptReader<'a> {
     pub at: usize,
 }
 
-// The reader at the start. Constant time, as everything in this file.
-pub(crate) fn new<'a>(bytes: &'a [u8]) -> ScriptReader<'a>
-    ensures { (result.bytes ≡ bytes.entry) × (result.at ≡ 0) }
-{
-    ScriptReader { bytes, at: 0 }
-}
+impl<'a> ScriptReader<'a> {
+    // The reader at the start. Constant time, as everything in this file.
+    pub(crate) fn new(bytes: &'a [u8]) -> ScriptReader<'a>
+        ensures { (result.bytes ≡ bytes.entry) × (result.at ≡ 0) }
+    {
+        ScriptReader { bytes, at: 0 }
+    }
 
-// The reader at another place.
-pub(crate) fn moved<'a>(r: ScriptReader<'a>, at: usize) -> ScriptReader<'a>
-    ensures { (result.bytes ≡ r.entry.bytes) × (result.at ≡ at) }
-{
-    ScriptReader { bytes: r.bytes, at }
-}
+    // The reader at another place.
+    pub(crate) fn moved(self, at: usize) -> ScriptReader<'a>
+        ensures { (result.bytes ≡ self.entry.bytes) × (result.at ≡ at) }
+    {
+        ScriptReader { at, ..self }
+    }
 
-// The command at the place reached.
-pub(crate) fn next<'a>(r: ScriptReader<'a>) -> Command
-    ensures { result ≡ command_at r.entry.bytes.now r.entry.at }
-{
-    read_at(r.bytes, r.at)
+    // The command at the place reached.
+    pub(crate) fn next(self) -> Command
+        ensures { result ≡ command_at self.entry.bytes.now self.entry.at }
+    {
+        read_at(self.bytes, self.at)
+    }
 }
 
 // The command at a place of a script.
 pub fn command_at(bytes: &[u8], at: usize) -> Command
     ensures { result ≡ command_at bytes.now at }
 {
-    next(moved(new(bytes), at))
+    ScriptReader::new(bytes).moved(at).next()
 }

@@ -1,5 +1,0 @@
--- `command::command::value_at` meets its contract. Assumes nothing.
-use Rattle.command.proofs.command.value_at.Goals as goal
-
-pub returns : goal.returns
-returns c = cc
