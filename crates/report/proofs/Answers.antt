@@ -1,52 +1,47 @@
 -- An answer's text: its word, its numbers, and the place of a refusal; or what was written with it. Assumes nothing.
-use Prim.Native.Nat.{ℕ, ◌+◌, ◌≤◌}
+use Prim.Native.Nat.{ℕ, ◌+◌, ◌-◌, ◌≤◌}
 use native.Mathlib.Omega.{arith}
-use mathlib.Core.Path.{◌≡◌, refl, sym, ap, subst, ◌∙◌}
+use mathlib.Core.Path.{◌≡◌, refl, sym, ap, ◌∙◌}
 use mathlib.Core.Bool.{Bool, true, cond}
 use mathlib.Core.List.{List, [], ◌∷◌, ◌++◌, append_assoc, append-nil}
+use denote.Laws.{Is}
+use denote.Struct.Declared.{row}
+use mir.Val.{Val}
 use borrow.Author.Tests.{eq-eqb, ne_eqb}
 use lib.Dec.{eqb}
-use lib.ListN.{length, get_or, take, get_or-eq_default}
-use lib.Seq.{take_all, take-length}
+use lib.ListN.{length, get_or, take, drop, length-drop}
+use lib.Seq.{length-take-le, get_or-take, get_or-drop}
 use Rattle.finite.proofs.Bools.{cond-true, cond-false}
 use Rattle.finite.specs.Finite.{collect}
 use Rattle.finite.specs.Writing.{Wrote}
 use Rattle.finite.proofs.Collecting.{collect-same}
 use Rattle.finite.proofs.Tables.{tab-at}
-use Rattle.finite.proofs.Writing.{wrote_none, wrote_as}
+use Rattle.finite.proofs.Writing.{wrote_as}
 use Rattle.state.specs.declared.answer.Answer.{Answer}
 use Rattle.state.specs.declared.answer.Shown.{Shown}
+use Rattle.state.specs.contracts.answer.Shown.{the_type}
 use Rattle.state.specs.Meaning.{answer_of, sixteen, shown_of}
 use Rattle.state.proofs.AnswerLaws.{few-numbers}
 use Rattle.model.specs.Answers.{shown, is_refusal, has_text, refused_word, explained_word}
 use Rattle.finite.specs.Decimal.{space, spaced}
-use Rattle.report.specs.Report.{answer-words, spaced_word, word_text, numbers_text, plain_text, shown_text, bytes_in, answer_text}
+use Rattle.report.specs.Report.{word_text, numbers_text, plain_text, shown_text, bytes_in, answer_text}
 
--- the word with number w, which is k
-pub in-word : {o o' : List ℕ} {n z : ℕ} {w k : ℕ} → w ≡ k → Wrote o o' n z (word_text k) → Wrote o o' n z (word_text w)
-in-word {o} {o'} {n} {z} e h = subst (λ (x : ℕ). Wrote o o' n z (word_text x)) (sym e) h
+-- the array of what is shown has its sixteen places
+pub shown-sized : (s : Shown) (vs : List Val) → Is (row the_type) s vs → length s.numbers ≡ 16
+shown-sized s vs g = g.1.1.1.1.0.1.0.1
 
--- a number that is not one of the words' lies past them, and there is no word
-least : (w : ℕ) → 0 ≤ w
-least w = omega arith
+-- the first k numbers
+pub first-numbers : (k : ℕ) (ns : List ℕ) → k ≤ length ns → numbers_text (take k ns) ≡ collect k (λ _. true) (λ i. spaced (get_or ns i 0))
+unfolding numbers_text
+first-numbers k ns h =
+    ap (λ (n : ℕ). collect n (λ _. true) (λ i. spaced (get_or (take k ns) i 0))) (length-take-le k ns h) ∙
+    collect-same k (λ _. true) (λ _. true) _ _ (λ _ _. refl) (λ i l _. ap spaced (get_or-take k ns i 0 l))
 
-next : (w n : ℕ) → (w ≡ n → ⊥) → n ≤ w → n + 1 ≤ w
-next w n m l = omega arith
-
-pub past_words : (w : ℕ) → (w ≡ 0 → ⊥) → (w ≡ 1 → ⊥) → (w ≡ 2 → ⊥) → (w ≡ 3 → ⊥) → (w ≡ 4 → ⊥) → (w ≡ 5 → ⊥) → (w ≡ 6 → ⊥) → (w ≡ 7 → ⊥) →
-    (w ≡ 8 → ⊥) → (w ≡ 9 → ⊥) → (w ≡ 10 → ⊥) → (w ≡ 11 → ⊥) → (w ≡ 12 → ⊥) → (w ≡ 13 → ⊥) → (w ≡ 14 → ⊥) → (w ≡ 15 → ⊥) → (w ≡ 16 → ⊥) → (w ≡ 17 → ⊥) → (w ≡ 18 → ⊥) → 19 ≤ w
-past_words w a b c d e f g h i j k l m n o p q r s =
-    next w 18 s (next w 17 r (next w 16 q (next w 15 p (next w 14 o (next w 13 n (next w 12 m (next w 11 l (next w 10 k (next w 9 j (next w 8 i (next w 7 h (next w 6 g (next w 5 f (next w 4 e
-    (next w 3 d (next w 2 c (next w 1 b (next w 0 a (least w)))))))))))))))))))
-
-pub no_word : (o : List ℕ) (n w : ℕ) → 19 ≤ w → Wrote o o n n (word_text w)
-unfolding word_text
-no_word o n w l = wrote_as o o n n n [] (word_text w) refl (ap spaced_word (sym (get_or-eq_default answer-words [] l))) (wrote_none o n)
-
--- the words with numbers 14 and 17 are none
-pub empty-word : (o : List ℕ) (n : ℕ) → Wrote o o n n (word_text 14) × Wrote o o n n (word_text 17)
-unfolding word_text
-empty-word o n = (wrote_none o n, wrote_none o n)
+-- all numbers of a list but the first
+pub later-numbers : (list : List ℕ) → numbers_text (take (length list - 1) (drop 1 list)) ≡ collect (length list - 1) (λ _. true) (λ j. spaced (get_or list (0 + 1 + j) 0))
+later-numbers list =
+    first-numbers (length list - 1) (drop 1 list) (omega (arith, length-drop 1 list)) ∙
+    collect-same (length list - 1) (λ _. true) (λ _. true) _ _ (λ _ _. refl) (λ j l _. ap spaced (get_or-drop 1 list j 0))
 
 -- ---- a word, its numbers, and the place of a refusal
 
@@ -110,7 +105,3 @@ module _ (s : Shown) (a : Answer) (place : ℕ) (text : List ℕ) (e : s ≡ sho
   with-text m =
       wrote_as o o' n z z _ _ refl
       (ap (λ (k : ℕ). space ∷ take k text) bytes-are ∙ sym (cond-true (has_text (answer_of a)) _ _ (has-text ∙ eq-eqb s.word explained_word m)))
-
--- a text of n bytes at the most, which is all of it
-pub whole-text : {o o' : List ℕ} {k z : ℕ} (n : ℕ) (text : List ℕ) → length text ≤ n → Wrote o o' k z (take (length text) text) → Wrote o o' k z (take n text)
-whole-text {o} {o'} {k} {z} n text l = wrote_as o o' k z z _ _ refl (take-length text ∙ sym (take_all n text l))

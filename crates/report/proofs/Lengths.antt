@@ -2,13 +2,14 @@
 use Prim.Native.Nat.{ℕ, zero, suc, ◌+◌, ◌-◌, ◌*◌, ◌^◌, ◌≤◌, ◌<◌}
 use native.Mathlib.Nat.{suc-mul, mul-add, mul_comm, mul-one, mul-le-mul_left}
 use native.Mathlib.Omega.{arith}
-use mathlib.Core.Path.{◌≡◌, ap, ◌∙◌}
+use mathlib.Core.Path.{◌≡◌, refl, ap, ap₂, ◌∙◌}
 use mathlib.Core.Bool.{Bool, true, false, cond}
-use mathlib.Core.List.{List, [], ◌∷◌}
-use lib.ListN.{length, length-append, length-take, get_or, take}
+use mathlib.Core.List.{List, [], ◌∷◌, ◌++◌}
+use lib.ListN.{length, length-append, length-take, length-drop, get_or, take, drop}
+use lib.Seq.{length-take-le, get_or-take, get_or-drop}
 use Rattle.finite.specs.Finite.{collect}
 use Rattle.finite.specs.Writing.{Wrote}
-use Rattle.finite.proofs.Collecting.{collect-most}
+use Rattle.finite.proofs.Collecting.{collect-most, collect-same}
 use Rattle.finite.proofs.Writing.{reach}
 pub use Rattle.text.proofs.Reach.{bytes-reach, decimal-reach, decimal-reach-32, spaced-reach, spaced-reach-32}
 use Rattle.state.specs.declared.design.Design.{Design}
@@ -16,13 +17,13 @@ use Rattle.state.specs.declared.answer.Answer.{Answer}
 use Rattle.state.specs.Meaning.{answer_of}
 use Rattle.state.proofs.AnswerLaws.{few-numbers}
 use Rattle.model.specs.Answers.{shown, is_refusal, has_text}
-use Rattle.finite.specs.Decimal.{space, spaced}
-use Rattle.report.specs.Report.{word_text, numbers_text, plain_text, bytes_in, answer_text, command_line, design_line, refusal_line, list_line, list_lines}
+use Rattle.finite.specs.Decimal.{space, decimal, spaced}
+use Rattle.report.specs.Report.{newline, word_text, numbers_text, plain_text, bytes_in, answer_text, command_line, design_line, refusal_line, list_line, list_lines}
 use Rattle.finite.proofs.Decimals.{decimal-short, decimal-short-32}
 
 -- ---- how long
 
-word-short : (w : ℕ) → length (word_text w) ≤ 13
+pub word-short : (w : ℕ) → length (word_text w) ≤ 13
 unfolding word_text
 word-short zero = omega arith
 word-short (suc zero) = omega arith
@@ -138,6 +139,28 @@ module _ (o o' : List ℕ) (n z : ℕ) where
 
     pub list-lines-reach : (k p : ℕ) → 1 ≤ p → Wrote o o' n z (list_lines words k p) → z ≤ n + 11 * (k * p)
     list-lines-reach k p h = reach o o' n z (list_lines words k p) (11 * (k * p)) (list-lines-short words small k p h)
+
+-- ---- p words from word w on, as a list of their own
+
+module _ (words : List ℕ) (w p : ℕ) (room : w + p ≤ length words) where
+  abbrev pub part : List ℕ
+  part = take (w + p - w) (drop w words)
+
+  pub part-long : length part ≡ p
+  part-long = let e : w + p - w ≡ p = omega arith in
+      ap (λ (k : ℕ). length (take k (drop w words))) e ∙ length-take-le p (drop w words) (omega (arith, length-drop w words))
+
+  part-at : (j : ℕ) → j < p → get_or part j 0 ≡ get_or words (w + j) 0
+  part-at j l = get_or-take (w + p - w) (drop w words) j 0 (omega arith) ∙ get_or-drop w words j 0
+
+  -- the line of that list
+  pub part-line : 1 ≤ p → list_line part 0 (length part) ≡ list_line words w p
+  unfolding list_line
+  part-line h =
+      ap (λ (k : ℕ). list_line part 0 k) part-long ∙
+      ap₂ (λ (x : ℕ) (xs : List ℕ). decimal x ++ (xs ++ (newline ∷ []))) (part-at 0 (omega arith) ∙ ap (λ (k : ℕ). get_or words k 0) (omega arith))
+      (collect-same (p - 1) (λ _. true) (λ _. true) _ _ (λ _ _. refl)
+      (λ j l _. ap spaced (part-at (0 + 1 + j) (omega arith) ∙ ap (λ (k : ℕ). get_or words k 0) (omega arith))))
 
 -- ---- where list i of n lists of p words stands
 

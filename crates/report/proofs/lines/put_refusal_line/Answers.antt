@@ -17,4 +17,4 @@ put_byte-requires c = omega (
 
 pub returns : goal.returns
 unfolding refusal_line
-returns c = behind c.put_bytes-z.ensures (behind c.put_spaced-y.ensures (behind c.put_spaced-x.ensures c.put_byte.ensures))
+returns c = behind c.put_bytes-z.ensures (behind (rw c.from.ensures at c.put_spaced-y.ensures) (behind c.put_spaced-x.ensures c.put_byte.ensures))
