@@ -1,31 +1,46 @@
 -- Places of a design that are read as far as they are in use: the others are empty, as they are in a lawful design. Assumes nothing.
-use Prim.Native.Nat.{ℕ, ◌+◌, ◌*◌, ◌≤◌}
+use Prim.Native.Nat.{ℕ, zero, suc, ◌+◌, ◌*◌, ◌≤◌, ◌<◌}
 use native.Mathlib.Omega.{arith}
-use mathlib.Core.Path.{◌≡◌, sym, ◌∙◌}
-use mathlib.Core.Bool.{true, false}
+use mathlib.Core.Path.{◌≡◌, sym, subst, ◌∙◌}
+use mathlib.Core.Bool.{true, false, cond}
 use mathlib.Core.List.{List}
 use mathlib.Core.Logic.{⊎_elim}
 use borrow.Author.Tests.{ltb-false}
 use lib.Dec.{ltb}
-use lib.ListN.{replicate, get_or-replicate}
-use Rattle.finite.proofs.Bools.{dec, cond-true, cond-false}
+use lib.ListN.{get_or}
+use denote.Param.Members.{Mut}
+use Rattle.std.specs.Fn.{Called}
+use Rattle.std.specs.Array.{IsFromFnResult, IsFromFnResultFrom}
+use Rattle.finite.proofs.Bools.{dec, same_number, cond-true, cond-false}
 use Rattle.finite.proofs.Tables.{tab-at, tab-of}
 use Rattle.state.specs.Design.{no_table, no_constraint, no_filling}
 use Rattle.state.specs.HeldWords.{places_from, word_at}
 use Rattle.state.specs.Lawful.{lawful_design}
-use Rattle.state.proofs.WordPlaces.{Reading}
 use Rattle.lawful.specs.LawfulState.{LawfulDesign}
 use Rattle.lawful.proofs.DesignLaws.{design-says}
 use Rattle.words.specs.Words.{table_from, constraint_from, filling_from, EmptyFrom, words_design}
 
--- the first m places are read, and all others are empty
-pub reading-rest : {A : Type 0} {n a w : ℕ} {none : A} {from : List ℕ → ℕ → A} {ws : List ℕ} {xs : List A} {i m : ℕ} →
-    Reading n a w none from ws (replicate n none) xs i → m ≤ i → EmptyFrom n a w none from ws m → xs ≡ places_from n a w from ws
-reading-rest {A} {n} {a} {w} {none} {from} {ws} {xs} {i} {m} r g rest =
-    tab-of none n _ xs r.places.long (λ j l. r.places.at j l ∙
-    ⊎_elim (λ (e : ltb j i ≡ true). cond-true (ltb j i) _ _ e)
-    (λ (e : ltb j i ≡ false). cond-false (ltb j i) _ _ e ∙ get_or-replicate n j none none l ∙ sym (rest j l (let h = ltb-false j i e in omega arith)))
-    (dec (ltb j i)))
+-- the first m places are read, and all others are empty: what a closure of the place makes, given that it is f at each call
+module _ {F A : Type 0} {g : Mut F (ℕ × Unit {0}) A} (n a w : ℕ) (none : A) (from : List ℕ → ℕ → A) (ws : List ℕ) (m : ℕ) (f : F) (xs : List A)
+    (rest : EmptyFrom n a w none from ws m)
+    (made : (i : ℕ) (x : A) (q : F) → i < n → Called g f (i, tt) x q → (q ≡ f) × (x ≡ cond (ltb i m) (from ws (a + w * i)) none)) where
+  place-at : (k i : ℕ) → IsFromFnResultFrom g f xs i k → i + k ≤ n → (j : ℕ) → i ≤ j → j < i + k → get_or xs j none ≡ from ws (a + w * j)
+  place-at zero i r h j l u = absurd (omega arith)
+  place-at (suc k) i (q, x, at, call, later) h j l u =
+      let s = made i x q (omega arith) call in
+      ⊎_elim
+      (λ (e : j ≡ i). subst (λ (t : ℕ). get_or xs t none ≡ from ws (a + w * t)) (sym e) (at.1 none ∙ s.1 ∙ kept i (omega arith)))
+      (λ (e : j ≡ i → ⊥). place-at k (i + 1) (subst (λ (p : F). IsFromFnResultFrom g p xs (i + 1) k) s.0 later) (omega arith) j (omega (arith, e)) (omega arith))
+      (same_number j i)
+    where
+      kept : (t : ℕ) → t < n → cond (ltb t m) (from ws (a + w * t)) none ≡ from ws (a + w * t)
+      kept t o =
+          ⊎_elim (λ (e : ltb t m ≡ true). cond-true (ltb t m) _ _ e)
+          (λ (e : ltb t m ≡ false). cond-false (ltb t m) _ _ e ∙ sym (rest t o (let h = ltb-false t m e in omega arith)))
+          (dec (ltb t m))
+
+  pub places-made : IsFromFnResult g f xs n → xs ≡ places_from n a w from ws
+  places-made r = tab-of none n _ xs r.long (λ i l. place-at n 0 r.each (omega arith) i (omega arith) (omega arith))
 
 -- no place is past the last
 pub all_read : {A : Type 0} (n a w : ℕ) (none : A) (from : List ℕ → ℕ → A) (ws : List ℕ) → EmptyFrom n a w none from ws n

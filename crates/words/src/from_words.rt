@@ -5,6 +5,7 @@ ghost use Rattle.state.specs.Lawful.{lawful_design};
 ghost use Rattle.words.specs.Words.{table_from, column_from, constraint_from, filling_from, EmptyFrom, tables_from, constraints_from, fillings_from, words_design};
 
 use state::{Column, Constraint, Design, Filling, Table, byte_at, count_at};
+use std::array::from_fn;
 
 // One place each, from word `at` on. Constant time.
 fn table_from(words: &[u32], at: usize) -> Table
@@ -49,15 +50,17 @@ fn tables_from(words: &[u32], n: usize) -> [Table; 8]
     requires { (115 ≤ length words.now) × (n ≤ 8) × EmptyFrom 8 3 2 no_table table_from words.now n }
     ensures { result ≡ tables_from words.now }
 {
-    let mut ts = [Table {
+    let empty = Table {
         columns: 0,
         unique: 0,
-    }; 8];
-    for i in 0..n {
-        let t = table_from(words, 3 + 2 * i);
-        ts[i] = t;
-    }
-    ts
+    };
+    from_fn(|i| {
+        if i < n {
+            table_from(words, 3 + 2 * i)
+        } else {
+            empty
+        }
+    })
 }
 
 fn constraints_from(words: &[u32], n: usize) -> [Constraint; 16]
@@ -65,15 +68,17 @@ fn constraints_from(words: &[u32], n: usize) -> [Constraint; 16]
     ensures { result ≡ constraints_from words.now }
 {
     let k = Column { table: 0, place: 0 };
-    let mut cs = [Constraint {
+    let empty = Constraint {
         source: k,
         target: k,
-    }; 16];
-    for i in 0..n {
-        let c = constraint_from(words, 19 + 4 * i);
-        cs[i] = c;
-    }
-    cs
+    };
+    from_fn(|i| {
+        if i < n {
+            constraint_from(words, 19 + 4 * i)
+        } else {
+            empty
+        }
+    })
 }
 
 fn fillings_from(words: &[u32], n: usize) -> [Filling; 8]
@@ -81,16 +86,18 @@ fn fillings_from(words: &[u32], n: usize) -> [Filling; 8]
     ensures { result ≡ fillings_from words.now }
 {
     let k = Column { table: 0, place: 0 };
-    let mut fs = [Filling {
+    let empty = Filling {
         column: k,
         low: 0,
         high: 0,
-    }; 8];
-    for i in 0..n {
-        let f = filling_from(words, 83 + 4 * i);
-        fs[i] = f;
-    }
-    fs
+    };
+    from_fn(|i| {
+        if i < n {
+            filling_from(words, 83 + 4 * i)
+        } else {
+            empty
+        }
+    })
 }
 
 // The design that the first 115 words stand for, where all its places but the first so many tables, constraints and fillings are empty. One step for each of

