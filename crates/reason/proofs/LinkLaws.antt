@@ -5,7 +5,7 @@ use native.Mathlib.Decide.{dec_lt}
 use native.Mathlib.Omega.{arith}
 use mathlib.Core.Path.{◌≡◌, refl, sym, ap, subst, ◌∙◌}
 use mathlib.Core.Logic.{◌⊎◌, inl, inr, ⊎_elim}
-use mathlib.Core.Bool.{Bool, true, false, cond, not, ◌&&◌, and-eq-true_iff}
+use mathlib.Core.Bool.{true, false, cond, not, ◌&&◌, and-eq-true_iff}
 use mathlib.Core.List.{List}
 use borrow.Author.Tests.{eqb-true, eq-eqb, ne_eqb, lt-ltb, le-ltb, ltb-true, ltb-false}
 use lib.Dec.{eqb, ltb}
@@ -75,14 +75,6 @@ module _ (cells : Cells) (tables : List ℕ) (j : Constraint) (s r : ℕ) (l : r
     -- row r has its value x or not
     pub leads-value : (x : State.Cell) → x ≡ source → get_or tables s 0 ≡ j.source.table → has B j.target (cell_of x) r ≡ leads B j s r
     leads-value x e t = ap (λ (y : State.Cell). has B j.target (cell_of y) r) e ∙ and-go _ _ h (and-go _ _ (eq-eqb _ _ t) refl) ∙ sym leads-at
-
--- none of the constraints below n does, nor does constraint n
-pub none_more : (p : ℕ → Bool) (n : ℕ) → ((x : ℕ) → x < n → p x ≡ false) → p n ≡ false → (x : ℕ) → x < n + 1 → p x ≡ false
-none_more p n h e x l = go (same_number n x)
-  where
-    go : (n ≡ x) ⊎ (n ≡ x → ⊥) → p x ≡ false
-    go (inl q) = subst (λ (y : ℕ). p y ≡ false) q e
-    go (inr q) = h x (omega arith)
 
 -- ---- the rows of each level
 

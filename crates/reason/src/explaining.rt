@@ -19,7 +19,7 @@ ghost use Rattle.reason.specs.Links.{Graded, Traceable, links_text, root_by};
 
 use crate::linking::find_links;
 use crate::lowest::lowest_held;
-use crate::nearing::{levels_below, list_levels, wide};
+use crate::nearing::{levels_below, list_levels};
 use crate::wording::{put_link, put_origin};
 use load::load_held;
 use state::{Answer, Design, is_live};
@@ -49,8 +49,8 @@ fn put_links(
     if n == 0 {
         return Traced { row: r, at };
     }
-    let s = wide(from[n]);
-    let i = wide(by[n]);
+    let s = usize::from(from[n]);
+    let i = usize::from(by[n]);
     let z = put_link(out, at, i, s);
     put_links(by, from, s, n - 1, out, z)
 }
@@ -77,8 +77,7 @@ fn put_chain(
     if n == 0 {
         return Traced { row: r, at };
     }
-    let mut low = [0u16; 512];
-    levels_below(levels, n + 2, &mut low);
+    let low = levels_below(levels, n + 2);
     let mut heads = [512u16; 514];
     let mut next = [512u16; 512];
     list_levels(&low, &mut heads, &mut next);

@@ -8,7 +8,6 @@ ghost use Rattle.state.specs.Design.{Backed, InRange, no_constraint};
 ghost use Rattle.state.specs.Meaning.{constraint_of, database_of, scheme_of};
 ghost use Rattle.reason.specs.Links.{Chained, Graded, Ranked, lower_link};
 
-use crate::nearing::wide;
 use state::{Constraint, Design, cell_at, is_live, row_has};
 
 // A constraint's number, and the row that it demands another of.
@@ -59,26 +58,24 @@ fn first_constraint(
     ensures { result ≡ first most (λ x. leads (database_of (cells_in cells.now issues.now) tables.now)
         (constraint_of (get_or constraint x no_constraint)) s r) }
 {
-    for i in 0..most {
-        let j = constraint[i];
-        if demands_row(cells, issues, tables, j, s, r) {
-            return i;
-        }
-    }
-    most
+    (0..most)
+        .find(|&i| demands_row(cells, issues, tables, constraint[i], s, r))
+        .unwrap_or(most)
 }
 
 // The link by constraint i from row s, if i is lower than that of the lowest so far. Constant time.
+#[tactic(auto, unfolding(crate::specs::Links::lower_link))]
 fn lower_link(best: Link, i: usize, s: usize) -> Link
     ensures { result ≡ lower_link best i s }
 {
     if i < best.constraint {
-        return Link {
+        Link {
             constraint: i,
             row: s,
-        };
+        }
+    } else {
+        best
     }
-    best
 }
 
 // The last link of the chain of row r, which is n + 1 constraints away from what is held. A look at each constraint for each row that is n away. The levels
@@ -105,12 +102,12 @@ fn last_link(
         constraint: d.constraints,
         row: Design::ROWS,
     };
-    let mut s = wide(heads[n + 2]);
+    let mut s = usize::from(heads[n + 2]);
+    // each row's entry names the next row of its level
     while s < Design::ROWS {
         let i = first_constraint(constraint, best.constraint, cells, issues, tables, s, r);
-        let lower = lower_link(best, i, s);
-        best = lower;
-        s = wide(next[s]);
+        best = lower_link(best, i, s);
+        s = usize::from(next[s]);
     }
     best
 }
@@ -140,8 +137,7 @@ pub(crate) fn find_links(
     *from = [0u16; 512];
     let constraint = d.constraint;
     let mut s = r;
-    let mut k = n;
-    while 0 < k {
+    for k in (1..=n).rev() {
         let link = last_link(
             d,
             constraint,
@@ -157,6 +153,5 @@ pub(crate) fn find_links(
         by[k] = link.constraint as u16;
         from[k] = link.row as u16;
         s = link.row;
-        k -= 1;
     }
 }

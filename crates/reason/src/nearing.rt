@@ -4,32 +4,20 @@ ghost use Rattle.model.specs.Rounds.{level};
 ghost use Rattle.reason.specs.Links.{Below, Ranked};
 
 use state::Design;
-
-// A u16 as a usize.
-pub(crate) fn wide(x: u16) -> usize
-    ensures { result ≡ x }
-{
-    x as usize
-}
+use std::array::from_fn;
 
 // The level, if it is below m, else 0. Constant time.
 fn level_below(l: u16, m: u16) -> u16
     ensures { result ≡ cond (ltb l m) l 0 }
 {
-    if l < m {
-        return l;
-    }
-    0
+    if l < m { l } else { 0 }
 }
 
-// The levels below m, and 0 in place of the others, whatever stood there. One pass over the row numbers.
-pub(crate) fn levels_below(levels: &[u16; 512], m: u16, low: &mut [u16; 512])
-    ensures { Below levels.now m low.new }
+// The levels below m, and 0 in place of the others. One pass over the row numbers.
+pub(crate) fn levels_below(levels: &[u16; 512], m: u16) -> [u16; 512]
+    ensures { Below levels.now m result }
 {
-    *low = [0u16; 512];
-    for s in 0..Design::ROWS {
-        low[s] = level_below(levels[s], m);
-    }
+    from_fn(|s| level_below(levels[s], m))
 }
 
 // For each level from 1 on the first of its rows, and for each row of such a level the next one of it; 512 where there is none, whatever stood there. One step
@@ -40,10 +28,8 @@ pub(crate) fn list_levels(levels: &[u16; 512], heads: &mut [u16; 514], next: &mu
 {
     *heads = [512u16; 514];
     *next = [512u16; 512];
-    let mut s = Design::ROWS;
-    while 0 < s {
-        s -= 1;
-        let l = wide(levels[s]);
+    for s in (0..Design::ROWS).rev() {
+        let l = usize::from(levels[s]);
         if 0 < l {
             next[s] = heads[l];
             heads[l] = s as u16;

@@ -16,8 +16,8 @@ put_link-z-requires t c =
     let x = p.2 in
     let o = c.if-n-eq0.false in
     let u = chained-last x.0 x.1 x.2 _ _ _ _ o x.3.links in
-    let a = c.wide-i.ensures ∙ u.0 in
-    let b = c.wide-s.ensures ∙ u.1 in (
+    let a = c.from-i.ensures ∙ u.0 in
+    let b = c.from-s.ensures ∙ u.1 in (
       omega (arith, constraint-below x.0 x.1 x.2 _ _ o _ _ a b x.3.graded x.3.away, x.3.few),
       row_below x.0 x.1 x.2 _ _ o _ _ a b x.3.graded x.3.away x.3.size_is,
       omega (arith, p.1),
@@ -29,8 +29,8 @@ put_links-requires t c =
     let x = p.2 in
     let o = c.if-n-eq0.false in
     let u = chained-last x.0 x.1 x.2 _ _ _ _ o x.3.links in
-    let a = c.wide-i.ensures ∙ u.0 in
-    let b = c.wide-s.ensures ∙ u.1 in
+    let a = c.from-i.ensures ∙ u.0 in
+    let b = c.from-s.ensures ∙ u.1 in
     let i = constraint-below x.0 x.1 x.2 _ _ o _ _ a b x.3.graded x.3.away in
     let s = row_below x.0 x.1 x.2 _ _ o _ _ a b x.3.graded x.3.away x.3.size_is in
     let z = link-reach _ _ _ _ _ _ (omega (arith, i, x.3.few)) s c.put_link-z.ensures in (
@@ -57,8 +57,8 @@ pub returns : goal.returns
 returns t c = λ S D L x.
     let o = c.if-n-eq0.false in
     let u = chained-last S D L _ _ _ _ o x.links in
-    let a = c.wide-i.ensures ∙ u.0 in
-    let b = c.wide-s.ensures ∙ u.1 in
+    let a = c.from-i.ensures ∙ u.0 in
+    let b = c.from-s.ensures ∙ u.1 in
     let i = constraint-below S D L _ _ o _ _ a b x.graded x.away in
     let s = row_below S D L _ _ o _ _ a b x.graded x.away x.size_is in
     let z = link-reach _ _ _ _ _ _ (omega (arith, i, x.few)) s c.put_link-z.ensures in

@@ -46,4 +46,4 @@ loop-k-preserved c = let w = c.loop-k.invariant in
     (row-nearer _ _ _ _ _ (λ z. omega (arith, z, o)) _ _ c.last_link-link.ensures.0 c.last_link-link.ensures.1 c.requires.ranked.1 w.away)
 
 pub returns : goal.returns
-returns c = noted-end _ _ _ _ _ _ _ _ _ c.loop-k.invariant c.loop-k-test.false
+returns c = noted-end _ _ _ _ _ _ _ _ _ c.loop-k.invariant (omega (arith, c.loop-k-test.false))

@@ -6,6 +6,3 @@ use Rattle.reason.proofs.linking.find_links.Given as goal
 
 abbrev pub invariant-loop-k : goal.invariant-loop-k
 invariant-loop-k l = Noted (scheme_of l.d) (database_of (cells_in l.cells l.issues) l.tables) l.levels l.n l.r l.by l.from l.k l.s
-
-abbrev pub decreases-loop-k : goal.decreases-loop-k
-decreases-loop-k l = l.k

@@ -8,7 +8,7 @@ use Rattle.reason.proofs.linking.last_link.Goals as goal
 
 pub loop-s-init : goal.loop-s-init
 loop-s-init c = let n = c.args.n in
-    let e = c.wide-s.ensures ∙ c.requires.ranked.0.head (n + 2) (omega arith) (omega arith) in
+    let e = c.from-s.ensures ∙ c.requires.ranked.0.head (n + 2) (omega arith) (omega arith) in
     let f = of-level c.args.levels.now (n + 2) 0 _ (omega arith) e in
     (f.0, f.1, λ d a b. design-none d _ a _ _ _ _ _ _ b e)
 
@@ -22,7 +22,7 @@ loop-s-smaller c = let n = c.args.n in
     let s = c.loop-s.s in
     let h = c.loop-s-test.true in
     let w = c.loop-s.invariant in
-    let e = ranked-next _ _ _ _ c.requires.ranked.0 (n + 2) s _ h (w.1 h) (omega arith) (omega arith) c.wide-s-in-loop-s.ensures in
+    let e = ranked-next _ _ _ _ c.requires.ranked.0 (n + 2) s _ h (w.1 h) (omega arith) (omega arith) c.from-s-in-loop-s.ensures in
     omega (arith, (of-level c.args.levels.now (n + 2) (s + 1) _ (omega (arith, h)) e).2, h)
 
 pub loop-s-preserved : goal.loop-s-preserved
@@ -30,9 +30,9 @@ loop-s-preserved c = let n = c.args.n in
     let s = c.loop-s.s in
     let h = c.loop-s-test.true in
     let w = c.loop-s.invariant in
-    let e = ranked-next _ _ _ _ c.requires.ranked.0 (n + 2) s _ h (w.1 h) (omega arith) (omega arith) c.wide-s-in-loop-s.ensures in
+    let e = ranked-next _ _ _ _ c.requires.ranked.0 (n + 2) s _ h (w.1 h) (omega arith) (omega arith) c.from-s-in-loop-s.ensures in
     let f = of-level c.args.levels.now (n + 2) (s + 1) _ (omega (arith, h)) e in
-    (f.0, f.1, λ d a b. design-next d _ a _ _ _ _ _ _ _ _ _ c.lower_link-lower.ensures h (w.1 h) (w.2 d a b) e c.first_constraint-i.ensures)
+    (f.0, f.1, λ d a b. design-next d _ a _ _ _ _ _ _ _ _ _ c.lower_link-best.ensures h (w.1 h) (w.2 d a b) e c.first_constraint-i.ensures)
 
 pub returns : goal.returns
 returns c = let w = c.loop-s.invariant in

@@ -1,16 +1,13 @@
 -- `reason::nearing::levels_below` meets its contract. Assumes nothing.
+use borrow.Author.Tests.{tests}
+use lib.Dec.{ltb}
+use mathlib.Core.Bool.{cond}
+use Rattle.std.proofs.Common.{rules}
+use Rattle.model.specs.Rounds.{level}
 use Rattle.reason.proofs.LinkLaws.{below-made}
-use Rattle.finite.proofs.Tables.{upto-start, upto-set, upto-end}
-use lib.ListN.{length-replicate}
-use Prim.Native.Nat.{ℕ}
-use native.Mathlib.Omega.{arith}
+use Rattle.reason.proofs.Tabulated.{tabulated}
 use Rattle.reason.proofs.nearing.levels_below.Goals as goal
 
-pub loop-s-init : goal.loop-s-init
-loop-s-init c = (omega arith, upto-start 0 _ _ _ (length-replicate {A = ℕ} 512 0))
-
-pub loop-s-preserved : goal.loop-s-preserved
-loop-s-preserved c = (omega arith, upto-set 0 _ _ _ _ _ c.loop-s.invariant.1 c.loop-s-test.true _ c.level_below.ensures)
-
 pub returns : goal.returns
-returns c = below-made _ _ _ (upto-end _ _ _ _ _ _ c.loop-s.invariant.1 c.loop-s.invariant.0 c.loop-s-test.false)
+returns c = below-made _ _ _
+    (tabulated 0 _ (λ s. cond (ltb (level c.args.levels.now s) c.args.m) (level c.args.levels.now s) 0) (λ x y q k. search (rules, tests)) _ 512 c.from_fn.ensures.items)

@@ -5,6 +5,3 @@ use Rattle.reason.proofs.nearing.list_levels.Given as goal
 
 abbrev pub invariant-loop-s : goal.invariant-loop-s
 invariant-loop-s l = (l.s ≤ 512) × RankedFrom l.levels l.s l.heads l.next
-
-abbrev pub decreases-loop-s : goal.decreases-loop-s
-decreases-loop-s l = l.s
