@@ -132,8 +132,7 @@ fn lowest_value(
         let f = filling[v.filling as usize];
         let k = f.column;
         let has = row_has(cells, issues, tables, k, v.value, r);
-        let next = lower_of(low, Origin::Value(v), has);
-        low = next;
+        low = lower_of(low, Origin::Value(v), has);
     }
     low
 }
@@ -161,8 +160,7 @@ fn lowest_range(
         let f = filling[q.filling as usize];
         let k = f.column;
         let has = row_has_range(cells, issues, tables, k, q, r);
-        let next = lower_of(low, Origin::Range(q), has);
-        low = next;
+        low = lower_of(low, Origin::Range(q), has);
     }
     low
 }
@@ -184,8 +182,7 @@ fn lowest_ranges(
     let mut low = start;
     for e in 0..4usize {
         let ranges = ranges_at(held, e);
-        let next = lowest_range(d, cells, issues, tables, ranges, r, low);
-        low = next;
+        low = lowest_range(d, cells, issues, tables, ranges, r, low);
     }
     low
 }

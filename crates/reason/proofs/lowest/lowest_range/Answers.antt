@@ -32,7 +32,7 @@ loop-i-smaller c = omega (arith, c.loop-i-test.true)
 pub loop-i-preserved : goal.loop-i-preserved
 loop-i-preserved c = (
   omega (arith, c.loop-i-test.true),
-  λ d e. below-turn _ _ _ _ _ _ _ _ _ _ (c.loop-i.invariant.1 d e) c.lower_of-next.ensures refl (range-has _ _ d _ e _ _ c.row_has_range-has.ensures),
+  λ d e. below-turn _ _ _ _ _ _ _ _ _ _ (c.loop-i.invariant.1 d e) c.lower_of-low.ensures refl (range-has _ _ d _ e _ _ c.row_has_range-has.ensures),
 )
 
 pub returns : goal.returns

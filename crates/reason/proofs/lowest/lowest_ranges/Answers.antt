@@ -13,8 +13,8 @@ loop-e-init c = (omega arith, desks-start _ _ _ _ _)
 pub ranges_at-ranges-requires : goal.ranges_at-ranges-requires
 ranges_at-ranges-requires c = c.loop-e-test.true
 
-pub lowest_range-next-requires : goal.lowest_range-next-requires
-lowest_range-next-requires c = let q = subst (λ (s : DeskRanges). (s.count ≤ 8) × ((i : ℕ) → (range_at s i).filling < 8)) (sym c.ranges_at-ranges.ensures) (c.requires.3.ranges c.loop-e.e, c.requires.3.range c.loop-e.e) in
+pub lowest_range-low-requires : goal.lowest_range-low-requires
+lowest_range-low-requires c = let q = subst (λ (s : DeskRanges). (s.count ≤ 8) × ((i : ℕ) → (range_at s i).filling < 8)) (sym c.ranges_at-ranges.ensures) (c.requires.3.ranges c.loop-e.e, c.requires.3.range c.loop-e.e) in
     (c.requires.0, c.requires.1, c.requires.2, q.0, q.1)
 
 pub overflow_step-e : goal.overflow_step-e
@@ -24,7 +24,7 @@ pub loop-e-smaller : goal.loop-e-smaller
 loop-e-smaller c = omega (arith, c.loop-e-test.true)
 
 pub loop-e-preserved : goal.loop-e-preserved
-loop-e-preserved c = (omega (arith, c.loop-e-test.true), desks-turn _ _ _ _ _ _ _ _ c.loop-e.invariant.1 (rw c.ranges_at-ranges.ensures at c.lowest_range-next.ensures))
+loop-e-preserved c = (omega (arith, c.loop-e-test.true), desks-turn _ _ _ _ _ _ _ _ c.loop-e.invariant.1 (rw c.ranges_at-ranges.ensures at c.lowest_range-low.ensures))
 
 pub returns : goal.returns
 returns c = desks-end _ _ _ _ _ _ _ c.loop-e.invariant.0 c.loop-e-test.false c.loop-e.invariant.1

@@ -34,7 +34,7 @@ loop-i-smaller c = omega (arith, c.loop-i-test.true)
 pub loop-i-preserved : goal.loop-i-preserved
 loop-i-preserved c = let a = c.args in (
   omega (arith, c.loop-i-test.true),
-  λ d e. below-turn _ _ _ _ _ _ _ _ _ _ (c.loop-i.invariant.1 d e) c.lower_of-next.ensures (ap (λ (w : OwnedValue). O.Value w.pair) c.value_at-o.ensures)
+  λ d e. below-turn _ _ _ _ _ _ _ _ _ _ (c.loop-i.invariant.1 d e) c.lower_of-low.ensures (ap (λ (w : OwnedValue). O.Value w.pair) c.value_at-o.ensures)
       (value-has _ _ d _ e _ _ c.row_has-has.ensures ∙ ap (λ (w : OwnedValue). has_origin (scheme_of d) (database_of (cells_in a.cells.now a.issues.now) a.tables.now) a.r (origin_of (O.Value w.pair))) c.value_at-o.ensures),
 )
 
