@@ -1,6 +1,7 @@
 -- A match on an operation's case: which cases inspect. Assumes nothing.
 use Prim.Native.Nat.{ℕ}
-use mathlib.Core.Path.{◌≡◌, refl}
+use mathlib.Core.Path.{◌≡◌, refl, ap}
+use mathlib.Core.Logic.{◌⊎◌, inl, inr}
 use mathlib.Core.Bool.{true}
 use Rattle.finite.proofs.Bools.{clash}
 use Rattle.state.specs.declared.cell.Cell.{Cell}
@@ -24,3 +25,11 @@ not-inspecting (O.Opener k v) e s p r h = p k v refl
 not-inspecting (O.Reason x) e s p r h = r x refl
 not-inspecting (O.ReferRange x) e s p r h = clash h refl
 not-inspecting (O.DropRange x) e s p r h = clash h refl
+
+-- and each of the four does
+pub inspecting : (o : Operation) → (o ≡ O.Evenness) ⊎ ((o ≡ O.SmallestKnot) ⊎ (((k : Column) × (v : Cell) × (o ≡ O.Opener k v)) ⊎ ((r : ℕ) × (o ≡ O.Reason r)))) →
+    inspects o ≡ true
+inspecting o (inl e) = ap inspects e
+inspecting o (inr (inl e)) = ap inspects e
+inspecting o (inr (inr (inl p))) = ap inspects p.2
+inspecting o (inr (inr (inr p))) = ap inspects p.1

@@ -2,7 +2,7 @@
 use Prim.Native.Nat.{ℕ}
 use mathlib.Core.Path.{◌≡◌, sym, ap, subst, ◌∙◌}
 use mathlib.Core.Bool.{true, false}
-use mathlib.Core.List.{List, [], ◌++◌}
+use mathlib.Core.List.{List, ◌++◌}
 use lib.ListN.{length, take, drop as past}
 use Rattle.model.specs.Holding.{Pair}
 use Rattle.model.specs.Query.{full_lists}
@@ -19,14 +19,14 @@ use Rattle.state.proofs.Arrays.{HeldSized}
 use Rattle.lawful.proofs.RowsLaws.{Stored}
 use Rattle.query.proofs.MarkedRows.{marked_lists}
 use Rattle.operate.specs.Queries.{Drawn, Referring}
-use Rattle.operate.proofs.ReferredCopy.{copy_of, copied, copy-sound, copy-held, copy-marks, referred-lists}
+use Rattle.operate.proofs.ReferredCopy.{copied, copy-sound, copy-held, copy-marks, referred-lists}
 use Rattle.operate.proofs.QueryCases.{query-past-limit, query-referred}
 
--- c is the copy of the first 512 marks, with nothing behind them
-module _ (s : State) (e : sound s ≡ true) (x c : List ℕ) (none : x ≡ []) (copy : c ≡ take 512 s.marks ++ x) where
+-- c is the copy of the first 512 marks
+module _ (s : State) (e : sound s ≡ true) (c : List ℕ) (copy : c ≡ take 512 s.marks) where
   -- it can be worked on
   pub copied-sound : sound (lent s.design s.cells s.tables c s.held) ≡ true
-  copied-sound = subst (λ (m : List ℕ). sound (lent s.design s.cells s.tables m s.held) ≡ true) (sym (copy_of s.marks x none c copy)) (copy-sound s e)
+  copied-sound = subst (λ (m : List ℕ). sound (lent s.design s.cells s.tables m s.held) ≡ true) (sym copy) (copy-sound s e)
 
   module _ (u : Stored s.cells) (q : Query) (v : HeldValue) (out : Output) (r : Referring s q out v) (b : Answer) (m : List ℕ) (h : Held)
       (refers : Answered (lent s.design s.cells s.tables c s.held) (refer (pair_of v)) b (lent s.design s.cells s.tables m h)) where
@@ -40,7 +40,7 @@ module _ (s : State) (e : sound s ≡ true) (x c : List ℕ) (none : x ≡ []) (
     on-copy =
         subst (λ (p : Pair). Answered (copied s e) (refer p) b (lent s.design s.cells s.tables m h)) r.pair
         (subst (λ (y : List ℕ). Answered (lent s.design s.cells s.tables y s.held) (refer (pair_of v)) b (lent s.design s.cells s.tables m h))
-        (copy_of s.marks x none c copy) refers)
+        copy refers)
 
     marks-are : m ≡ (referred (scheme s) (database s) (cache s) pair).marks
     marks-are = copy-marks s e pair takes b m h on-copy

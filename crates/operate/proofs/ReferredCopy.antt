@@ -4,7 +4,7 @@ use Prim.Native.Nat.{ℕ}
 use native.Mathlib.Omega.{arith}
 use mathlib.Core.Path.{◌≡◌, ap, subst, ◌∙◌}
 use mathlib.Core.Bool.{true, false, and-eq-true_iff}
-use mathlib.Core.List.{List, [], ◌++◌, append-nil}
+use mathlib.Core.List.{List, ◌++◌, append-nil}
 use borrow.Author.Tests.{eq-eqb, eqb-true}
 use lib.ListN.{length, take, drop_of_length-le}
 use lib.Seq.{get_or-take, length-take-le, take-take}
@@ -27,10 +27,6 @@ use Rattle.state.specs.Lent.{State, lent, scheme, database, cache, long_enough, 
 use Rattle.lawful.proofs.RowsLaws.{Stored}
 use Rattle.lawful.proofs.LawfulState.{lawful-says}
 use Rattle.lawful.proofs.SoundState.{parts, from_parts, after, held-after, marks-after}
-
--- the first 512 bytes, copied over 512 others
-pub copy_of : (m x : List ℕ) → x ≡ [] → (c : List ℕ) → c ≡ take 512 m ++ x → c ≡ take 512 m
-copy_of m x n c e = e ∙ ap (λ (y : List ℕ). take 512 m ++ y) n ∙ append-nil (take 512 m)
 
 module _ (s : State) (e : sound s ≡ true) where
   -- the state with the copy in place of the marks

@@ -13,8 +13,9 @@ use opener::opener_lawful;
 use reason::reason_lawful;
 use state::{Answer, Design, Operation};
 
-// The operation on a state known sound, if it is one of these; any other is the caller's to perform. It is called at four places, so that the compiler
-// leaves it apart: its 36 KB of stack would else be part of every step of a script, at a fifth of the cost of a short one. The cost of its operation.
+// The operation on a state known sound, if it is one of these; any other is the caller's to perform. It stands apart, since its 36 KB of stack would else be
+// part of every step of a script, at a fifth of the cost of a short one. The cost of its operation.
+#[inline(never)]
 pub(crate) fn inspect_lawful(
     op: Operation,
     design: Design,

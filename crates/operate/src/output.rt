@@ -12,7 +12,7 @@ ghost use Rattle.operate.specs.Queries.{output_of, Drawn};
 use query::{list_fitting, operands_fit, position_fits, total_fitting};
 use state::{Answer, Design, Query};
 
-// Its lists, or the total of a position and a column.
+// Its lists, or the total of a position and a column. (No Option: the lists are as much a choice as the total.)
 #[derive(Clone, Copy)]
 pub enum Output {
     Lists,
@@ -24,13 +24,11 @@ pub(crate) fn output_fits(d: Design, q: Query, output: Output) -> bool
     requires { InRange d }
     ensures { (room : ℕ) → result ≡ output_fits (scheme_of d) (query_of q) (output_of output room) }
 {
-    if !operands_fit(d, q) {
-        return false;
-    }
-    match output {
-        Output::Lists => true,
-        Output::Total(position, column) => position_fits(d, q, position, column),
-    }
+    operands_fit(d, q)
+        && match output {
+            Output::Lists => true,
+            Output::Total(position, column) => position_fits(d, q, position, column),
+        }
 }
 
 // What the query draws from marked rows, whatever stands in the others: the cost of `list_fitting`, or of `total_fitting`.

@@ -47,7 +47,10 @@ pub fn perform_lawful(
     match op {
         Operation::Refer(v) => refer_lawful(design, catalog, keys, marks, held, v),
         Operation::Drop(v) => drop_lawful(design, catalog, keys, marks, held, v),
-        Operation::Probe(k, v) => { probe_lawful(design, catalog, keys, marks, held, k, v) }
+        Operation::ReferRange(r) => refer_range_lawful(design, catalog, keys, marks, held, r),
+        Operation::DropRange(r) => drop_range_lawful(design, catalog, keys, marks, held, r),
+        Operation::Name(desk) => name_lawful(held, desk),
+        Operation::Probe(k, v) => probe_lawful(design, catalog, keys, marks, held, k, v),
         Operation::Query(q) => query_lawful(
             design,
             cells,
@@ -63,37 +66,19 @@ pub fn perform_lawful(
             counts,
             places,
         ),
-        Operation::Evenness => {
-            inspect_lawful(
-                op, design, cells, issues, tables, catalog, keys, marks, held, text,
-            )
-        }
         Operation::Total(t) => {
-            let q = t.query;
             let output = Output::Total(t.position, t.column);
             query_lawful(
-                design, cells, issues, tables, catalog, keys, marks, held, q, output, words,
+                design, cells, issues, tables, catalog, keys, marks, held, t.query, output, words,
                 counts, places,
             )
         }
-        Operation::SmallestKnot => {
-            inspect_lawful(
-                op, design, cells, issues, tables, catalog, keys, marks, held, text,
-            )
-        }
-        Operation::Name(desk) => name_lawful(held, desk),
-        Operation::Opener(_, _) => {
-            inspect_lawful(
-                op, design, cells, issues, tables, catalog, keys, marks, held, text,
-            )
-        }
-        Operation::Reason(_) => {
-            inspect_lawful(
-                op, design, cells, issues, tables, catalog, keys, marks, held, text,
-            )
-        }
-        Operation::ReferRange(r) => refer_range_lawful(design, catalog, keys, marks, held, r),
-        Operation::DropRange(r) => drop_range_lawful(design, catalog, keys, marks, held, r),
+        Operation::Evenness
+        | Operation::SmallestKnot
+        | Operation::Opener(_, _)
+        | Operation::Reason(_) => inspect_lawful(
+            op, design, cells, issues, tables, catalog, keys, marks, held, text,
+        ),
     }
 }
 

@@ -12,7 +12,7 @@ ghost use Rattle.operate.specs.Queries.{output_of, Referring};
 use crate::output::{Output, draw, output_fits};
 use cache::{filling_for, refer_lawful, takes};
 use probe::search;
-use state::{Answer, Design, HeldValue, Query, copy_bytes, is_numberless, is_refusal};
+use state::{Answer, Design, HeldValue, Query, is_numberless, is_refusal};
 
 // Refers the query's pair v on a copy of the marks and of what is held, and draws the answer from the copy, so that causes 11 and 13 find nothing to undo; else the copies
 // take their place. Two copies of the marks and of what is held, one load, and the cost of the lists or the total.
@@ -40,7 +40,7 @@ fn refer_and_draw(
         (lent design (cells_in cells.now issues.now) tables.now marks.new (words_held held.new)) words.new × Whole held.new }
 {
     let mut copy = [0u8; 512];
-    copy_bytes(&marks[..Design::ROWS], &mut copy, Design::ROWS);
+    copy.copy_from_slice(&marks[..Design::ROWS]);
     let mut more = *held;
     refer_lawful(design, catalog, keys, &mut copy, &mut more, v);
     let answer = draw(
@@ -49,7 +49,7 @@ fn refer_and_draw(
     if is_refusal(answer) {
         return answer;
     }
-    copy_bytes(&copy, marks, Design::ROWS);
+    marks[..Design::ROWS].copy_from_slice(&copy);
     *held = more;
     answer
 }
@@ -92,11 +92,9 @@ pub(crate) fn query_lawful(
             design, cells, issues, tables, catalog, keys, marks, q, output, words, counts, places,
         );
     }
-    let f = filling_for(design, k);
-    let value = q.value;
     let v = HeldValue {
-        filling: f as u8,
-        value: value,
+        filling: filling_for(design, k) as u8,
+        value: q.value,
     };
     if !takes(design, held, v) {
         return Answer::Sent;

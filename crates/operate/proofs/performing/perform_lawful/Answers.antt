@@ -3,8 +3,7 @@ use mathlib.Core.Path.{refl}
 use Rattle.model.specs.Effects.{reply}
 use Rattle.state.proofs.HeldWords.{words-sized}
 use Rattle.operate.proofs.ReadyLaws.{ready}
-use Rattle.operate.specs.Inspecting.{inspects}
-use Rattle.std.proofs.Common.{ap}
+use Rattle.operate.proofs.Inspected.{inspecting}
 use Rattle.operate.proofs.Performed.{refer-performs, drop-performs, name-performs, range-performs, drop-range-performs, query-performs, ask-performs, in-case}
 use Rattle.operate.proofs.performing.perform_lawful.Goals as goal
 
@@ -26,17 +25,8 @@ inspect_lawful-requires c = (c.requires.0, c.requires.1)
 pub query_lawful-requires-in-Total : goal.query_lawful-requires-in-Total
 query_lawful-requires-in-Total c = let b = c in (b.requires.0, b.requires.1, b.requires.2)
 
-pub inspect_lawful-requires-in-SmallestKnot : goal.inspect_lawful-requires-in-SmallestKnot
-inspect_lawful-requires-in-SmallestKnot c = (c.requires.0, c.requires.1)
-
 pub name_lawful-requires : goal.name_lawful-requires
 name_lawful-requires c = let b = c in b.requires.2
-
-pub inspect_lawful-requires-in-Opener : goal.inspect_lawful-requires-in-Opener
-inspect_lawful-requires-in-Opener c = (c.requires.0, c.requires.1)
-
-pub inspect_lawful-requires-in-Reason : goal.inspect_lawful-requires-in-Reason
-inspect_lawful-requires-in-Reason c = (c.requires.0, c.requires.1)
 
 pub refer_range_lawful-requires : goal.refer_range_lawful-requires
 refer_range_lawful-requires c = let b = c in record { whole = b.requires.2; by_index = (_, _, (ready _ _ _ _ _ _ _ b.requires.0 b.requires.1)) }
@@ -62,24 +52,15 @@ returns-in-Query c = let b = c in
     (in-case _ _ _ _ _ _ _ _ _ _ _ c.in-Query.is (query-performs _ b.requires.0 _ _ _ _ _ _ _ c.query_lawful.ensures.0), c.query_lawful.ensures.1)
 
 pub returns-in-Evenness : goal.returns-in-Evenness
-returns-in-Evenness c = (c.inspect_lawful.ensures _ (ap inspects c.in-Evenness.is), c.requires.2)
+returns-in-Evenness c = (c.inspect_lawful.ensures _ (inspecting _ c.in-Evenness.is), c.requires.2)
 
 pub returns-in-Total : goal.returns-in-Total
 returns-in-Total c = let b = c in
     (in-case _ _ _ _ _ _ _ _ _ _ _ c.in-Total.is (query-performs _ b.requires.0 _ _ _ _ _ _ _ c.query_lawful-in-Total.ensures.0), c.query_lawful-in-Total.ensures.1)
 
-pub returns-in-SmallestKnot : goal.returns-in-SmallestKnot
-returns-in-SmallestKnot c = (c.inspect_lawful-in-SmallestKnot.ensures _ (ap inspects c.in-SmallestKnot.is), c.requires.2)
-
 pub returns-in-Name : goal.returns-in-Name
 returns-in-Name c = let b = c in
     (in-case _ _ _ _ _ _ _ _ _ _ _ c.in-Name.is (name-performs _ b.requires.0 _ _ _ _ _ (c.name_lawful.ensures.0 _ _ _ _ b.requires.0)), c.name_lawful.ensures.1)
-
-pub returns-in-Opener : goal.returns-in-Opener
-returns-in-Opener c = (c.inspect_lawful-in-Opener.ensures _ (ap inspects c.in-Opener.is), c.requires.2)
-
-pub returns-in-Reason : goal.returns-in-Reason
-returns-in-Reason c = (c.inspect_lawful-in-Reason.ensures _ (ap inspects c.in-Reason.is), c.requires.2)
 
 pub returns-in-ReferRange : goal.returns-in-ReferRange
 returns-in-ReferRange c = let b = c in

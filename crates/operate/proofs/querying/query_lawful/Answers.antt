@@ -2,7 +2,6 @@
 use native.Mathlib.Omega.{arith}
 use mathlib.Core.Path.{sym, ◌∙◌}
 use mathlib.Core.List.{[]}
-use borrow.Author.Tests.{not-true, not-false}
 use Rattle.model.proofs.Demand2.{fits-operands}
 use Rattle.state.proofs.Arrays.{sized}
 use Rattle.state.proofs.HeldWords.{words-sized}
@@ -19,15 +18,15 @@ output_fits-requires c = let s = c in sound-range _ s.requires.0 (sized s.args.d
 
 pub returns-then-not-output_fits : goal.returns-then-not-output_fits
 returns-then-not-output_fits c = let s = c in
-    (query-misfit _ s.requires.0 (words-sized s.args.held.now) _ _ _ (sym (c.output_fits.ensures _) ∙ not-true _ c.if-not-output_fits.true-raw), s.requires.2)
+    (query-misfit _ s.requires.0 (words-sized s.args.held.now) _ _ _ (sym (c.output_fits.ensures _) ∙ c.if-not-output_fits.true), s.requires.2)
 
 pub returns-then-is_numberless : goal.returns-then-is_numberless
 returns-then-is_numberless c = let s = c in
-    (query-numberless _ s.requires.0 (words-sized s.args.held.now) _ _ _ (sym (c.output_fits.ensures _) ∙ not-false _ c.if-not-output_fits.false-raw) (sym c.is_numberless.ensures ∙ c.if-is_numberless.true), s.requires.2)
+    (query-numberless _ s.requires.0 (words-sized s.args.held.now) _ _ _ (sym (c.output_fits.ensures _) ∙ c.if-not-output_fits.false) (sym c.is_numberless.ensures ∙ c.if-is_numberless.true), s.requires.2)
 
 pub search-found-requires : goal.search-found-requires
 search-found-requires c = let s = c in
-    let f = fits-operands _ _ _ (sym (c.output_fits.ensures 0) ∙ not-false _ c.if-not-output_fits.false-raw) in
+    let f = fits-operands _ _ _ (sym (c.output_fits.ensures 0) ∙ c.if-not-output_fits.false) in
     let r = sound-range _ s.requires.0 (sized s.args.design _ s.well_formed.0) in record {
       in_range = (
         r,
@@ -41,10 +40,10 @@ search-found-requires c = let s = c in
 
 pub draw-requires : goal.draw-requires
 draw-requires c = let s = c in
-    let f = sym (c.output_fits.ensures _) ∙ not-false _ c.if-not-output_fits.false-raw in record {
+    let f = sym (c.output_fits.ensures _) ∙ c.if-not-output_fits.false in record {
       in_range = (
         sound-range _ s.requires.0 (sized s.args.design _ s.well_formed.0),
-        sound-place _ s.requires.0 s.args.q (fits-operands _ _ _ (sym (c.output_fits.ensures 0) ∙ not-false _ c.if-not-output_fits.false-raw)),
+        sound-place _ s.requires.0 s.args.q (fits-operands _ _ _ (sym (c.output_fits.ensures 0) ∙ c.if-not-output_fits.false)),
         sound-backed _ s.requires.0,
         s.requires.1,
         sound-marks _ s.requires.0,
@@ -54,30 +53,30 @@ draw-requires c = let s = c in
 
 pub returns-then-g-ne0 : goal.returns-then-g-ne0
 returns-then-g-ne0 c = let s = c in (
-  step-drawn _ s.requires.0 _ s.args.q _ (sym (c.output_fits.ensures _) ∙ not-false _ c.if-not-output_fits.false-raw) (sym c.is_numberless.ensures ∙ c.if-is_numberless.false) _
-      (c.search-found.ensures _ s.requires.1.index).0 (words-sized s.args.held.now) (record { number = λ i. omega (arith, c.shared_slice_known-1.given i); issue = λ i. omega (arith, c.shared_slice_known-2-1.given i) }) c.if-g-ne0.true _ _ c.draw.ensures,
+  step-drawn _ s.requires.0 _ s.args.q _ (sym (c.output_fits.ensures _) ∙ c.if-not-output_fits.false) (sym c.is_numberless.ensures ∙ c.if-is_numberless.false) _
+      (c.search-found.ensures _ s.requires.1.index).0 (words-sized s.args.held.now) (record { number = λ i. omega (arith, c.type_inv.cells i); issue = λ i. omega (arith, c.type_inv.issues i) }) c.if-g-ne0.true _ _ c.draw.ensures,
   s.requires.2,
 )
 
-pub filling_for-f-requires : goal.filling_for-f-requires
-filling_for-f-requires c = sound-fillings _ c.requires.0
+pub filling_for-requires : goal.filling_for-requires
+filling_for-requires c = sound-fillings _ c.requires.0
 
 pub overflow_cast-v : goal.overflow_cast-v
-overflow_cast-v c = omega (arith, filling-byte _ c.requires.0 c.args.q _ c.filling_for-f.ensures)
+overflow_cast-v c = omega (arith, filling-byte _ c.requires.0 c.args.q _ c.filling_for.ensures)
 
 pub takes-requires : goal.takes-requires
 takes-requires c = (sound-fillings _ c.requires.0, (sound-tidy _ c.requires.0).few)
 
 pub returns-then-not-takes : goal.returns-then-not-takes
 returns-then-not-takes c = let s = c in (
-  step-sent _ s.requires.0 _ s.args.q _ (sym (c.output_fits.ensures _) ∙ not-false _ c.if-not-output_fits.false-raw) (sym c.is_numberless.ensures ∙ c.if-is_numberless.false) _ (c.search-found.ensures _ s.requires.1.index).0
-      c.if-g-ne0.false _ c.filling_for-f.ensures (words-sized s.args.held.now) (sym c.takes.ensures ∙ not-true _ c.if-not-takes.true-raw),
+  step-sent _ s.requires.0 _ s.args.q _ (sym (c.output_fits.ensures _) ∙ c.if-not-output_fits.false) (sym c.is_numberless.ensures ∙ c.if-is_numberless.false) _ (c.search-found.ensures _ s.requires.1.index).0
+      c.if-g-ne0.false _ c.filling_for.ensures (words-sized s.args.held.now) (sym c.takes.ensures ∙ c.if-not-takes.true),
   s.requires.2,
 )
 
 pub refer_and_draw-requires : goal.refer_and_draw-requires
 refer_and_draw-requires c = let s = c in record {
   held_value = (s.requires.0, s.requires.1, s.requires.2);
-  referring = step-refers _ s.requires.0 [] s.args.q _ (sym (c.output_fits.ensures _) ∙ not-false _ c.if-not-output_fits.false-raw) (sym c.is_numberless.ensures ∙ c.if-is_numberless.false) _ (c.search-found.ensures _ s.requires.1.index).0
-      c.if-g-ne0.false _ c.filling_for-f.ensures (sym c.takes.ensures ∙ not-false _ c.if-not-takes.false-raw);
+  referring = step-refers _ s.requires.0 [] s.args.q _ (sym (c.output_fits.ensures _) ∙ c.if-not-output_fits.false) (sym c.is_numberless.ensures ∙ c.if-is_numberless.false) _ (c.search-found.ensures _ s.requires.1.index).0
+      c.if-g-ne0.false _ c.filling_for.ensures (sym c.takes.ensures ∙ c.if-not-takes.false);
 }

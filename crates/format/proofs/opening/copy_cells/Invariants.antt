@@ -1,8 +1,0 @@
--- What the loops of `format::opening::copy_cells` keep.
-use Prim.Native.Nat.{◌≤◌}
-use lib.ListN.{length, get_or}
-use Rattle.finite.proofs.Tables.{Upto}
-use Rattle.format.proofs.opening.copy_cells.Given as goal
-
-abbrev pub invariant-loop-i : goal.invariant-loop-i
-invariant-loop-i l = (l.i ≤ 4096) × Upto 0 (length l.initial.to) l.i (λ r. get_or l.from r 0) (λ r. get_or l.initial.to r 0) l.to
