@@ -1,5 +1,5 @@
 -- The first row that repeats a value of an earlier row in a unique column is the lowest next row of a cell in such a column. Assumes nothing.
-use Prim.Native.Nat.{ℕ, zero, suc, ◌+◌, ◌*◌, ◌/◌, ◌%◌, ◌≤◌, ◌<◌}
+use Prim.Native.Nat.{ℕ, zero, suc, ◌+◌, ◌*◌, ◌/◌, ◌%◌, ◌≤◌, ◌<◌, min}
 use native.Mathlib.Decide.{dec_lt}
 use native.Mathlib.Numerals.{add-one}
 use native.Mathlib.Omega.{arith}
@@ -28,6 +28,7 @@ use Rattle.finite.specs.Finite.{first_from}
 use Rattle.catalog.specs.Catalog.{column_at, next_of, nexts}
 use Rattle.finite.proofs.First.{first-from}
 use Rattle.catalog.proofs.CatalogLaws.{has-table, has-cell, next-from}
+use Rattle.std.specs.List.{fold, range_with_len}
 use Rattle.format.specs.Admitting.{again, None, Earliest, unique_next, lower, lowest}
 
 -- ---- the lowest of some numbers
@@ -38,16 +39,23 @@ lower-left a b = cond-case (λ x. x ≤ a) (ltb b a) b a (λ e. let h = ltb-true
 lower-right : (a b : ℕ) → lower a b ≤ b
 lower-right a b = cond-case (λ x. x ≤ b) (ltb b a) b a (λ e. omega arith) (ltb-false b a)
 
-pub lowest_start : (f : ℕ → ℕ) → 512 ≡ lowest 0 f
-unfolding lowest
-lowest_start f = refl
+-- ... as `min` tells the lower of two, and as a fold takes them in turn
+pub min-lower : (a b : ℕ) → min a b ≡ lower a b
+min-lower a b = cond-case (λ x. min a b ≡ x) (ltb b a) b a (λ e. let h = ltb-true b a e in omega arith) (λ e. let h = ltb-false b a e in omega arith)
 
-pub lowest-more : (n : ℕ) (f : ℕ → ℕ) (a b r : ℕ) → a ≡ lowest n f → b ≡ f n → r ≡ lower a b → r ≡ lowest (n + 1) f
-unfolding lowest
-lowest-more n f a b r e g h = h ∙ ap₂ lower e g ∙ ap (λ (m : ℕ). lowest m f) (sym (add-one n))
+abbrev folded : (ℕ → ℕ) → ℕ → List ℕ → ℕ
+folded f m xs = fold (λ r x. lower r (f x)) m xs
 
-pub lowest-at : (n m : ℕ) (f : ℕ → ℕ) → n ≡ m → lowest n f ≡ lowest m f
-lowest-at n m f e = ap (λ (x : ℕ). lowest x f) e
+folded-last : (f : ℕ → ℕ) (m a n : ℕ) → folded f m (range_with_len a (suc n)) ≡ lower (folded f m (range_with_len a n)) (f (a + n))
+folded-last f m a zero = ap (λ (k : ℕ). lower m (f k)) (omega arith)
+folded-last f m a (suc n) = folded-last f (lower m (f a)) (a + 1) n
+    ∙ ap (λ (k : ℕ). lower (folded f (lower m (f a)) (range_with_len (a + 1) n)) (f k)) (omega arith)
+
+pub lowest-fold : (f : ℕ → ℕ) (n : ℕ) → fold (λ r x. lower r (f x)) 512 (range_with_len 0 n) ≡ lowest n f
+unfolding lowest
+lowest-fold f zero = refl
+lowest-fold f (suc n) = folded-last f 512 0 n ∙ ap (λ (k : ℕ). lower (folded f 512 (range_with_len 0 n)) (f k)) (omega arith)
+    ∙ ap (λ (r : ℕ). lower r (f n)) (lowest-fold f n)
 
 lowest-under : (n : ℕ) (f : ℕ → ℕ) (i : ℕ) → i < n → lowest n f ≤ f i
 unfolding lowest

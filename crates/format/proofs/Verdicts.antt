@@ -96,11 +96,11 @@ module _ (w : DesignRead) (p : Stop) (cells : Cells) (tables catalog keys : List
     once v e = h.once (found_none p.design p.rows cells tables _ h.most refl r f l) ∙
         ap (λ (y : Verdict). read_as y (draft p.design p.rows cells tables)) e
 
-    pub rows-refused : (n i : ℕ) → p.verdict ≡ Refused n i → (d : Design) → d ≡ empty_design → let x : DesignReading = record { verdict = p.verdict; design = d; rows = 0 } in
-        Read w x cells tables × Opens x cells tables catalog keys
-    rows-refused n i e d g = (
-      read-refused w (record { verdict = p.verdict; design = d; rows = 0 }) cells tables n i (once (Refused n i) e) (ap₂ (λ a b. let z : DesignReading = record { verdict = a; design = b; rows = 0 } in z) e g),
-      opens-refused p.verdict d n i e cells tables catalog keys,
+    pub rows-refused : (n i : ℕ) → p.verdict ≡ Refused n i → (x : DesignReading) → x ≡ record { verdict = Refused n i; design = empty_design; rows = 0 }
+        → Read w x cells tables × Opens x cells tables catalog keys
+    rows-refused n i e x g = (
+      read-refused w x cells tables n i (once (Refused n i) e) g,
+      opens-refused x.verdict x.design n i (ap (λ y. y.verdict) g) cells tables catalog keys,
     )
 
     pub rows-accepted : (j : ℕ) → p.verdict ≡ Accepted j → let x : DesignReading = record { verdict = p.verdict; design = p.design; rows = p.rows } in

@@ -32,19 +32,13 @@ fn most_of(b: u8) -> usize
 fn after_tables(d: Design, rows: usize) -> bool
     ensures { result ≡ after_tables d rows }
 {
-    if 0 < d.constraints {
-        return true;
-    }
-    after_constraints(d, rows)
+    0 < d.constraints || after_constraints(d, rows)
 }
 
 fn after_constraints(d: Design, rows: usize) -> bool
     ensures { result ≡ after_constraints d rows }
 {
-    if 0 < d.fillings {
-        return true;
-    }
-    0 < rows
+    0 < d.fillings || 0 < rows
 }
 
 fn is_late(d: Design, rows: usize, b: u8) -> bool

@@ -11,7 +11,7 @@ use crate::places::row_place;
 use crate::reading::read_commands;
 use crate::repeating::first_repeat;
 use crate::verdict::{DesignReading, Verdict};
-use state::{Design, copy_bytes};
+use state::Design;
 
 pub const MOST_BYTES: usize = 65536;
 
@@ -49,32 +49,17 @@ fn read_rows(
     if r < n {
         return refusal(6, row_place(d, issues, r));
     }
-    let v = stop.verdict;
-    let Verdict::Accepted(_) = v else {
-        return DesignReading {
-            verdict: v,
-            design: Design::empty(),
-            rows: 0,
-        };
-    };
-    DesignReading {
-        verdict: v,
-        design: d,
-        rows: n,
+    match stop.verdict {
+        Verdict::Accepted(_) => DesignReading {
+            verdict: stop.verdict,
+            design: d,
+            rows: n,
+        },
+        Verdict::Refused(cause, at) => refusal(cause, at),
     }
 }
 
 // ---- into lent buffers
-
-// Stores the cells of an accepted design. Longer buffers are untouched past these.
-fn copy_cells(from: &[u32], to: &mut [u32])
-    requires { (length from.now ≡ 4096) × (4096 ≤ length to.old) }
-    ensures { to.new ≡ from.now ++ drop 4096 to.old }
-{
-    for i in 0..Design::CELLS {
-        to[i] = from[i];
-    }
-}
 
 // Reads into buffers that are long enough. No row is written until the whole design is accepted; the catalog's arrays are written in any case.
 fn read_into(
@@ -94,17 +79,15 @@ fn read_into(
     let mut x = [0u32; 4096];
     let mut v = [0u8; 4096];
     let mut y = [Design::FREE; 512];
-    let z = [0u8; 512];
-    let r = read_rows(script, &mut x, &mut v, &mut y, catalog, keys);
-    let read = r.verdict;
-    let Verdict::Accepted(_) = read else {
-        return r;
+    let reading = read_rows(script, &mut x, &mut v, &mut y, catalog, keys);
+    let Verdict::Accepted(_) = reading.verdict else {
+        return reading;
     };
-    copy_cells(&x, cells);
-    copy_bytes(&v, issues, Design::CELLS);
-    copy_bytes(&y, tables, Design::ROWS);
-    copy_bytes(&z, marks, Design::ROWS);
-    r
+    cells[..Design::CELLS].copy_from_slice(&x);
+    issues[..Design::CELLS].copy_from_slice(&v);
+    tables[..Design::ROWS].copy_from_slice(&y);
+    marks[..Design::ROWS].fill(0);
+    reading
 }
 
 // Reads into whatever buffers are lent. Where the design is refused, the catalog's arrays are left anyhow.
@@ -121,16 +104,11 @@ fn read_lent(
         (cells_in cells.new issues.new) tables.old tables.new marks.old marks.new }
     ensures opens { Opens result (cells_in cells.new issues.new) tables.new catalog.new keys.new }
 {
-    if cells.len() < Design::CELLS {
-        return refusal(7, 0);
-    }
-    if issues.len() < Design::CELLS {
-        return refusal(7, 0);
-    }
-    if tables.len() < Design::ROWS {
-        return refusal(7, 0);
-    }
-    if marks.len() < Design::ROWS {
+    if cells.len() < Design::CELLS
+        || issues.len() < Design::CELLS
+        || tables.len() < Design::ROWS
+        || marks.len() < Design::ROWS
+    {
         return refusal(7, 0);
     }
     if MOST_BYTES < script.len() {
@@ -159,12 +137,10 @@ pub fn read_catalogued(
     let mut a = [0u16; 16449];
     let mut k = [0u64; 4096];
     let r = read_lent(script, cells, issues, tables, marks, &mut a, &mut k);
-    let answer = r.verdict;
-    let Verdict::Accepted(_) = answer else {
-        return r;
-    };
-    *catalog = a;
-    *keys = k;
+    if let Verdict::Accepted(_) = r.verdict {
+        *catalog = a;
+        *keys = k;
+    }
     r
 }
 

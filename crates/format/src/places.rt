@@ -13,12 +13,7 @@ pub fn is_issued(issues: &[u8], r: usize) -> bool
     requires { (r < 512) × (4096 ≤ length issues.now) }
     ensures { (numbers : List ℕ) → result ≡ is_issued (cells_in numbers issues.now) r }
 {
-    for c in 0..Design::COLUMNS {
-        if issues[8 * r + c] != 0 {
-            return true;
-        }
-    }
-    false
+    (0..Design::COLUMNS).any(|c| issues[8 * r + c] != 0)
 }
 
 // How many of the first n rows have an issue that isn't 0. Eight looks at each.
@@ -26,13 +21,7 @@ fn issued_rows(issues: &[u8], n: usize) -> usize
     requires { (n ≤ 512) × (4096 ≤ length issues.now) }
     ensures { (numbers : List ℕ) → result ≡ count n (is_issued (cells_in numbers issues.now)) }
 {
-    let mut m: usize = 0;
-    for r in 0..n {
-        if is_issued(issues, r) {
-            m += 1;
-        }
-    }
-    m
+    (0..n).filter(|&r| is_issued(issues, r)).count()
 }
 
 // Where the written design goes on behind m rows, k of them with issues. Constant time.

@@ -81,7 +81,7 @@ fn store_cells(script: &[u8], at: usize, cells: &mut [u32], r: usize)
     requires { (r < 512) × (at + 34 ≤ length script.now) × (length cells.old ≡ 4096) }
     ensures { cells.new ≡ sets cells.old (8 * r) (tab 8 (row_cell_at script.now at)) }
 {
-    for c in 0..8usize {
+    for c in 0..Design::COLUMNS {
         cells[8 * r + c] = row_cell(script, at, c);
     }
 }
@@ -90,7 +90,7 @@ fn store_issues(script: &[u8], at: usize, issues: &mut [u8], r: usize)
     requires { (r < 512) × (at < length script.now) × (byte_at script.now at ≡ 0x07 → at + 42 ≤ length script.now) × (length issues.old ≡ 4096) }
     ensures { issues.new ≡ sets issues.old (8 * r) (tab 8 (row_issue_at script.now at)) }
 {
-    for c in 0..8usize {
+    for c in 0..Design::COLUMNS {
         issues[8 * r + c] = row_issue(script, at, c);
     }
 }
@@ -100,12 +100,7 @@ fn is_plain(script: &[u8], at: usize) -> bool
     requires { (at < length script.now) × (byte_at script.now at ≡ 0x07 → at + 42 ≤ length script.now) }
     ensures { result ≡ all 8 (λ c. eqb (row_issue_at script.now at c) 0) }
 {
-    for c in 0..8usize {
-        if row_issue(script, at, c) != 0 {
-            return false;
-        }
-    }
-    true
+    (0..Design::COLUMNS).all(|c| row_issue(script, at, c) == 0)
 }
 
 // Whether the ROW at place `at` has issue bytes, and no issue.
@@ -113,10 +108,7 @@ fn is_needless(script: &[u8], at: usize) -> bool
     requires { (at < length script.now) × (byte_at script.now at ≡ 0x07 → at + 42 ≤ length script.now) }
     ensures { result ≡ needless script.now at }
 {
-    if script[at] != 0x07 {
-        return false;
-    }
-    is_plain(script, at)
+    script[at] == 0x07 && is_plain(script, at)
 }
 
 // ---- one command

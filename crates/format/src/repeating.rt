@@ -3,19 +3,9 @@
 ghost use Rattle.std.specs.Prelude.{◌≡◌, ◌*◌, ◌≤◌, ◌<◌, length};
 ghost use Rattle.model.specs.Database.{Database};
 ghost use Rattle.catalog.specs.Catalog.{nexts, Links};
-ghost use Rattle.format.specs.Admitting.{unique_next, lower, lowest};
+ghost use Rattle.format.specs.Admitting.{unique_next, lowest};
 
 use state::{Column, Design};
-
-// The lower of two numbers. Constant time.
-fn lower_of(a: usize, b: usize) -> usize
-    ensures { result ≡ lower a b }
-{
-    if b < a {
-        return b;
-    }
-    a
-}
 
 // The next row of cell number x in its column, if the column is unique; 512 if it isn't or there is none. Constant time.
 fn unique_next(d: Design, tables: &[u8], catalog: &[u16; 16449], x: usize) -> usize
@@ -38,9 +28,7 @@ pub(crate) fn first_repeat(d: Design, rows: usize, tables: &[u8], catalog: &[u16
     requires { (rows ≤ 512) × (512 ≤ length tables.now) }
     ensures { (D : Database) → Links D catalog.now → result ≡ lowest (8 * rows) (unique_next d tables.now (nexts D)) }
 {
-    let mut r = Design::ROWS;
-    for x in 0..8 * rows {
-        r = lower_of(r, unique_next(d, tables, catalog, x));
-    }
-    r
+    (0..8 * rows).fold(Design::ROWS, |r, x| {
+        r.min(unique_next(d, tables, catalog, x))
+    })
 }

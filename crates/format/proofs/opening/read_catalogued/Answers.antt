@@ -11,8 +11,8 @@ returns-in_default c = record {
   keeps = record { catalog = λ n i e. refl; keys = λ n i e. refl };
 }
 
-pub returns : goal.returns
-returns c = record {
+pub returns-in-Accepted : goal.returns-in-Accepted
+returns-in-Accepted c = record {
   leaves = c.read_lent-r.ensures.leaves;
   opens = c.read_lent-r.ensures.opens;
   keeps = keeps-accepted _ _ c.in-Accepted.is _ _ _ _;

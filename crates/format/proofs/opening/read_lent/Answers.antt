@@ -3,29 +3,17 @@ use mathlib.Core.Path.{ap}
 use Rattle.format.proofs.Lent.{short-cells, short-issues, short-tables, short-marks, long-script, leaves-through}
 use Rattle.format.proofs.Verdicts.{opens-refused}
 use Rattle.format.proofs.opening.read_lent.Goals as goal
+use Rattle.format.proofs.opening.read_lent.Goals.{then-cells-lt-CELLS-via-then-cells-lt-CELLS, then-cells-lt-CELLS-via-else-cells-lt-CELLS+then-issues-lt-CELLS, then-cells-lt-CELLS-via-else-cells-lt-CELLS+else-issues-lt-CELLS+then-tables-lt-ROWS, then-cells-lt-CELLS-via-else-cells-lt-CELLS+else-issues-lt-CELLS+else-tables-lt-ROWS+then-marks-lt-ROWS}
 
 pub returns-then-cells-lt-CELLS : goal.returns-then-cells-lt-CELLS
 returns-then-cells-lt-CELLS c = record {
-  leaves = short-cells _ _ _ _ _ c.if-cells-lt-CELLS.true c.refusal.ensures;
+  leaves = elim c.then-cells-lt-CELLS.branch [
+    | then-cells-lt-CELLS-via-then-cells-lt-CELLS w ↦ short-cells _ _ _ _ _ w.if-cells-lt-CELLS.true c.refusal.ensures
+    | then-cells-lt-CELLS-via-else-cells-lt-CELLS+then-issues-lt-CELLS w ↦ short-issues _ _ _ _ _ w.if-issues-lt-CELLS.true c.refusal.ensures
+    | then-cells-lt-CELLS-via-else-cells-lt-CELLS+else-issues-lt-CELLS+then-tables-lt-ROWS w ↦ short-tables _ _ _ _ _ w.if-tables-lt-ROWS.true c.refusal.ensures
+    | then-cells-lt-CELLS-via-else-cells-lt-CELLS+else-issues-lt-CELLS+else-tables-lt-ROWS+then-marks-lt-ROWS w ↦ short-marks _ _ _ _ _ w.if-marks-lt-ROWS.true c.refusal.ensures
+  ];
   opens = opens-refused _ _ _ _ (ap (λ y. y.verdict) c.refusal.ensures) _ _ _ _;
-}
-
-pub returns-then-issues-lt-CELLS : goal.returns-then-issues-lt-CELLS
-returns-then-issues-lt-CELLS c = record {
-  leaves = short-issues _ _ _ _ _ c.if-issues-lt-CELLS.true c.refusal-then-issues-lt-CELLS.ensures;
-  opens = opens-refused _ _ _ _ (ap (λ y. y.verdict) c.refusal-then-issues-lt-CELLS.ensures) _ _ _ _;
-}
-
-pub returns-then-tables-lt-ROWS : goal.returns-then-tables-lt-ROWS
-returns-then-tables-lt-ROWS c = record {
-  leaves = short-tables _ _ _ _ _ c.if-tables-lt-ROWS.true c.refusal-then-tables-lt-ROWS.ensures;
-  opens = opens-refused _ _ _ _ (ap (λ y. y.verdict) c.refusal-then-tables-lt-ROWS.ensures) _ _ _ _;
-}
-
-pub returns-then-marks-lt-ROWS : goal.returns-then-marks-lt-ROWS
-returns-then-marks-lt-ROWS c = record {
-  leaves = short-marks _ _ _ _ _ c.if-marks-lt-ROWS.true c.refusal-then-marks-lt-ROWS.ensures;
-  opens = opens-refused _ _ _ _ (ap (λ y. y.verdict) c.refusal-then-marks-lt-ROWS.ensures) _ _ _ _;
 }
 
 pub returns-then-script-gt-MOST_BYTES : goal.returns-then-script-gt-MOST_BYTES

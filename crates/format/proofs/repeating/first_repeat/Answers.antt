@@ -1,18 +1,18 @@
 -- `format::repeating::first_repeat` meets its contract: the lowest of the cells passed. Assumes nothing.
 use Prim.Native.Nat.{◌*◌}
 use native.Mathlib.Omega.{arith}
-use mathlib.Core.Path.{◌≡◌, ◌∙◌}
-use Rattle.format.proofs.RepeatLaws.{lowest_start, lowest-more, lowest-at}
+use mathlib.Core.Path.{refl, ◌∙◌}
+use borrow.Author.Tests.{tests}
+use Rattle.std.proofs.Common.{rules}
+use Rattle.std.proofs.lemmas.Iterator.{YieldsList-from_range}
+use Rattle.std.proofs.lemmas.Iterator.Consumers.{fold_from_yields_List}
+use Rattle.format.specs.Admitting.{unique_next, lower}
+use Rattle.catalog.specs.Catalog.{nexts}
+use Rattle.format.proofs.RepeatLaws.{lowest-fold, min-lower}
 use Rattle.format.proofs.repeating.first_repeat.Goals as goal
 
-pub loop-x-init : goal.loop-x-init
-loop-x-init c = (omega arith, λ D y. lowest_start _)
-
-pub unique_next-requires : goal.unique_next-requires
-unique_next-requires c = (omega arith, omega arith)
-
-pub loop-x-preserved : goal.loop-x-preserved
-loop-x-preserved c = (omega arith, λ D y. lowest-more _ _ _ _ _ (c.loop-x.invariant.1 D y) (c.unique_next.ensures D y) c.lower_of-r.ensures)
-
 pub returns : goal.returns
-returns c = λ D y. let e : c.loop-x.x ≡ 8 * c.args.rows = omega arith in c.loop-x.invariant.1 D y ∙ lowest-at _ _ _ e
+returns c = λ D y.
+    let n = 8 * c.args.rows in
+    fold_from_yields_List _ (λ r x. lower r (unique_next c.args.d c.args.tables.now (nexts D) x)) _ _ c.fold.ensures.ran (YieldsList-from_range 0 n n (cc) (omega arith))
+    (λ a x b q k. let e = min-lower a (unique_next c.args.d c.args.tables.now (nexts D) x) in search (rules, tests)) ∙ lowest-fold (unique_next c.args.d c.args.tables.now (nexts D)) n
