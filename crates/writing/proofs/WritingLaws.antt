@@ -1,15 +1,20 @@
 -- Each command as it is stored, and all of them one behind the other. Assumes nothing.
-use Prim.Native.Nat.{ℕ, zero, suc, ◌+◌, ◌≤◌, ◌<◌}
+use Prim.Native.Nat.{ℕ, zero, suc, ◌+◌, ◌*◌, ◌≤◌, ◌<◌}
 use native.Mathlib.Numerals.{add-one, add-two}
 use native.Mathlib.Omega.{arith}
 use mathlib.Core.Path.{◌≡◌, refl, sym, ap, subst, ◌∙◌}
 use mathlib.Core.Logic.{⊎_elim}
 use mathlib.Core.Bool.{true, false}
-use mathlib.Core.List.{List, [], ◌∷◌, ◌++◌}
+use mathlib.Core.List.{List, [], ◌∷◌, ◌++◌, append_assoc}
 use borrow.Author.Tests.{ne_eqb}
-use lib.ListN.{length, get_or, set, length-append}
-use lib.Seq.{sets}
-use Rattle.finite.specs.Finite.{collect}
+use borrow.Rule.Slice.PartMut.{put_mid}
+use lib.ListN.{length, get_or, set, length-append, take, drop}
+use lib.Seq.{sets, sets-eq}
+use Rattle.std.specs.List.{between}
+use Rattle.std.proofs.lemmas.List.{drop-drop}
+use Rattle.std.proofs.lemmas.List.Edits.{length-between, get_or-between}
+use Rattle.finite.specs.Finite.{collect, tab}
+use Rattle.finite.proofs.Tables.{tab-of}
 use Rattle.finite.proofs.Search.{below_suc}
 use Rattle.finite.proofs.Bools.{cond-true, cond-false}
 use Rattle.finite.proofs.Collecting.{collect-blocks}
@@ -29,6 +34,21 @@ use Rattle.format.specs.Kinds.{count_of}
 use Rattle.format.specs.Writing.{table_bytes, constraint_bytes, filling_bytes, number_bytes, cells_bytes, issues_bytes, is_issued, row_bytes, design_bytes, row_at, item_bytes, kind_bytes}
 use Rattle.format.proofs.RowText.{row_width}
 use Rattle.format.proofs.Lengths.{length-u32, length-filling, length-cells, length-row}
+
+-- ---- a part that is copied into
+
+-- k bytes from place i on, which are those of ys
+pub part-stored : (l xs ys : List ℕ) (i k : ℕ) → xs ≡ ys → length ys ≡ k → i + k ≤ length l → put_mid i k l xs ≡ sets l i ys
+part-stored l xs ys i k e z h =
+    ap (put_mid i k l) e ∙ ap (λ (zs : List ℕ). take i l ++ (ys ++ zs)) (drop-drop k i l ∙ ap (λ (n : ℕ). drop (i + n) l) (sym z)) ∙
+    sym (append_assoc (take i l) ys (drop (i + length ys) l)) ∙ sym (sets-eq ys l i (omega arith))
+
+-- the eight issues of a row, copied
+pub issues-copied : (issues xs : List ℕ) (r : ℕ) → xs ≡ between (8 * r) (8 * r + 8) issues → 8 * r + 8 ≤ length issues →
+    xs ≡ tab 8 (λ c. get_or issues (8 * r + c) 0)
+issues-copied issues xs r e l =
+    e ∙ tab-of 0 8 (λ c. get_or issues (8 * r + c) 0) (between (8 * r) (8 * r + 8) issues) (length-between issues (8 * r) (8 * r + 8) l ∙ omega arith)
+    (λ c h. get_or-between issues (8 * r) (8 * r + 8) c 0 (omega arith))
 
 -- ---- a value and each command, as they are stored
 

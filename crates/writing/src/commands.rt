@@ -27,13 +27,11 @@ fn put_constraint(out: &mut [u8], at: usize, c: Constraint) -> usize
     requires { at + 5 ≤ length out.old }
     ensures { Wrote out.old out.new at result (constraint_bytes c) }
 {
-    let s = c.source;
-    let t = c.target;
     out[at] = 0x02;
-    out[at + 1] = s.table;
-    out[at + 2] = s.place;
-    out[at + 3] = t.table;
-    out[at + 4] = t.place;
+    out[at + 1] = c.source.table;
+    out[at + 2] = c.source.place;
+    out[at + 3] = c.target.table;
+    out[at + 4] = c.target.place;
     at + 5
 }
 
@@ -41,10 +39,9 @@ fn put_filling(out: &mut [u8], at: usize, f: Filling) -> usize
     requires { at + 11 ≤ length out.old }
     ensures { Wrote out.old out.new at result (filling_bytes f) }
 {
-    let k = f.column;
     out[at] = 0x03;
-    out[at + 1] = k.table;
-    out[at + 2] = k.place;
+    out[at + 1] = f.column.table;
+    out[at + 2] = f.column.place;
     put_u32(out, at + 3, f.low);
     put_u32(out, at + 7, f.high);
     at + 11
@@ -62,7 +59,7 @@ fn put_cells(out: &mut [u8], at: usize, cells: &[u32], issues: &[u8], r: usize)
     requires { (r < 512) × (4096 ≤ length cells.now) × (4096 ≤ length issues.now) × (at + 32 ≤ length out.old) }
     ensures { out.new ≡ sets out.old at (cells_bytes (cells_in cells.now issues.now) r) }
 {
-    for c in 0..8usize {
+    for c in 0..Design::COLUMNS {
         put_number(out, at + 4 * c, cell_at(cells, issues, r, c));
     }
 }
@@ -71,9 +68,7 @@ fn put_issues(out: &mut [u8], at: usize, issues: &[u8], r: usize)
     requires { (r < 512) × (4096 ≤ length issues.now) × (at + 8 ≤ length out.old) }
     ensures { (numbers : List ℕ) → out.new ≡ sets out.old at (issues_bytes (cells_in numbers issues.now) r) }
 {
-    for c in 0..Design::COLUMNS {
-        out[at + c] = issues[8 * r + c];
-    }
+    out[at..at + 8].copy_from_slice(&issues[8 * r..8 * r + 8]);
 }
 
 // A row's command up to its cells: the byte b, the table, the numbers.

@@ -14,36 +14,23 @@ fn live_rows(tables: &[u8]) -> usize
     requires { 512 ≤ length tables.now }
     ensures { (cells : Cells) → result ≡ count 512 (database_of cells tables.now).live }
 {
-    let mut m: usize = 0;
-    for r in 0..Design::ROWS {
-        if is_live(tables, r) {
-            m += 1;
-        }
-    }
-    m
+    (0..Design::ROWS).filter(|&r| is_live(tables, r)).count()
 }
 
 fn is_live_issued(issues: &[u8], tables: &[u8], r: usize) -> bool
     requires { (r < 512) × (4096 ≤ length issues.now) × (512 ≤ length tables.now) }
     ensures { (numbers : List ℕ) → result ≡ (database_of (cells_in numbers issues.now) tables.now).live r && is_issued (cells_in numbers issues.now) r }
 {
-    if !is_live(tables, r) {
-        return false;
-    }
-    is_issued(issues, r)
+    is_live(tables, r) && is_issued(issues, r)
 }
 
 fn live_issued_rows(issues: &[u8], tables: &[u8]) -> usize
     requires { (4096 ≤ length issues.now) × (512 ≤ length tables.now) }
     ensures { (numbers : List ℕ) → result ≡ count 512 (λ r. (database_of (cells_in numbers issues.now) tables.now).live r && is_issued (cells_in numbers issues.now) r) }
 {
-    let mut m: usize = 0;
-    for r in 0..Design::ROWS {
-        if is_live_issued(issues, tables, r) {
-            m += 1;
-        }
-    }
-    m
+    (0..Design::ROWS)
+        .filter(|&r| is_live_issued(issues, tables, r))
+        .count()
 }
 
 // How many bytes the design is written in: at most 21,697. The cost of `live_issued_rows`.

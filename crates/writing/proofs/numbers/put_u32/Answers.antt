@@ -1,17 +1,12 @@
--- `writing::numbers::put_u32` meets its contract: four stores are `sets` of four bytes. Assumes nothing.
+-- `writing::numbers::put_u32` meets its contract. Assumes nothing.
 use native.Mathlib.Omega.{arith}
-use lib.ListN.{length-set}
-use Rattle.command.proofs.BytesLaws.{stored-u32}
+use mathlib.Core.Path.{◌∙◌}
+use Rattle.command.specs.Bytes.{u32_bytes}
+use Rattle.format.proofs.Lengths.{length-u32}
+use Rattle.writing.proofs.WritingLaws.{part-stored}
 use Rattle.writing.proofs.numbers.put_u32.Goals as goal
 
-pub bounds-out-at-2 : goal.bounds-out-at-2
-bounds-out-at-2 c = simp length-set (omega arith)
-
-pub bounds-out-at-3 : goal.bounds-out-at-3
-bounds-out-at-3 c = simp length-set (omega arith)
-
-pub bounds-out-at-4 : goal.bounds-out-at-4
-bounds-out-at-4 c = simp length-set (omega arith)
-
 pub returns : goal.returns
-returns c = stored-u32 c.args.out.now c.args.at c.args.v
+unfolding u32_bytes
+returns c = part-stored c.args.out.now c.copy_from_slice.new.self (u32_bytes c.args.v) c.args.at _ (c.copy_from_slice.ensures.after ∙ c.to_le_bytes.ensures)
+    (length-u32 c.args.v ∙ omega arith) (omega arith)
