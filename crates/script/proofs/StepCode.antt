@@ -3,6 +3,7 @@ use Prim.Native.Nat.{ℕ, ◌+◌, ◌≤◌}
 use mathlib.Core.Path.{◌≡◌, refl, sym, ap, subst, ◌∙◌}
 use mathlib.Core.Bool.{Bool, true, false}
 use mathlib.Core.List.{List}
+use mathlib.Core.Logic.{◌⊎◌, inl, inr}
 use lib.ListN.{length}
 use lib.Seq.{sets}
 use Rattle.model.specs.Answers as Model
@@ -17,7 +18,11 @@ use Rattle.state.specs.declared.design.Design.{Design}
 use Rattle.state.specs.HeldWords.{first_words, words_held, Whole}
 use Rattle.state.specs.Lent.{State, lent, sound, cause_at, cause_of, Performed}
 use Rattle.state.specs.Changes.{Change, put, Changed}
+use Rattle.state.specs.declared.design.Table as Tables
+use Rattle.state.specs.declared.design.Constraint as Constraints
+use Rattle.state.specs.declared.design.Filling as Fillings
 use Rattle.command.specs.declared.command.Command.{Command}
+use Rattle.command.specs.declared.command.Command.TheVariants as C
 use Rattle.command.specs.Bytes.{byte_at}
 use Rattle.command.specs.Commands.{width_of, command_at}
 use Rattle.format.specs.Reading.{most_bytes}
@@ -95,6 +100,17 @@ placed n p q next more t e x = e ∙ ap (λ (z : ℕ). refusal n z next more) x
 pub in-case : (s : State) (out : Outputs) (script : List ℕ) (i j : ℕ) (c d : Command) (t : Step) (s' : State) (w : Outputs) → c ≡ d →
     Does (carried s out script i j d) t s' w → Does (carried s out script i j c) t s' w
 in-case s out script i j c d t s' w e h = rw e h
+
+-- a command of a design, behind its END
+pub late-does : (s : State) (out : Outputs) (script : List ℕ) (i j : ℕ) (c : Command) (t : Step) (s' : State) (w : Outputs) →
+    ((x : Tables.Table) × (c ≡ C.Table x)) ⊎ (((x : Constraints.Constraint) × (c ≡ C.Constraint x)) ⊎ (((x : Fillings.Filling) × (c ≡ C.Filling x)) ⊎ (((x : ℕ) × (c ≡ C.Row x)) ⊎ (c ≡ C.End)))) →
+    Does (refusing s out 3 i j true) t s' w → Does (carried s out script i j c) t s' w
+unfolding carried
+late-does s out script i j c t s' w (inl p) h = rw p.1 h
+late-does s out script i j c t s' w (inr (inl p)) h = rw p.1 h
+late-does s out script i j c t s' w (inr (inr (inl p))) h = rw p.1 h
+late-does s out script i j c t s' w (inr (inr (inr (inl p)))) h = rw p.1 h
+late-does s out script i j c t s' w (inr (inr (inr (inr e)))) h = rw e h
 
 -- the command that stands there, as the code has read it
 pub as_read : (s : State) (out : Outputs) (script : List ℕ) (i j : ℕ) → j ≡ i + width_of (byte_at script i) → (c : Command) → c ≡ command_at script i →

@@ -61,13 +61,6 @@ fn place_after(script: &[u8], at: usize) -> usize
     at + width_of(script[at])
 }
 
-// The lower of two places. Constant time.
-fn lower(a: usize, b: usize) -> usize
-    ensures { result ≡ min a b }
-{
-    if a <= b { a } else { b }
-}
-
 // Puts in the row that stands at place `at`, followed by place `after`. The cost is `put_lawful`'s.
 fn put_at(
     script: &[u8],
@@ -167,13 +160,13 @@ fn carry_out(
         Command::Remove(r) => remove_at(
             at, after, r, design, cells, issues, tables, catalog, keys, marks, held,
         ),
-        Command::Table(_) => refusing(3, at, after, true),
-        Command::Constraint(_) => refusing(3, at, after, true),
-        Command::Filling(_) => refusing(3, at, after, true),
-        Command::Row(_) => refusing(3, at, after, true),
-        Command::End => refusing(3, at, after, true),
+        Command::Table(_)
+        | Command::Constraint(_)
+        | Command::Filling(_)
+        | Command::Row(_)
+        | Command::End => refusing(3, at, after, true),
         Command::Unknown => refusing(2, at, at, false),
-        Command::Short => refusing(1, lower(at, script.len()), at, false),
+        Command::Short => refusing(1, at.min(script.len()), at, false),
     }
 }
 

@@ -2,7 +2,7 @@
 use mathlib.Core.Path.{sym, ◌∙◌}
 use Rattle.script.specs.Step.{carried}
 use Rattle.script.proofs.Places.{put_whole}
-use Rattle.script.proofs.StepCode.{operated-does, refusing-does, placed, in-case, as_read}
+use Rattle.script.proofs.StepCode.{operated-does, refusing-does, placed, in-case, late-does, as_read}
 use Rattle.script.proofs.steps.carry_out.Goals as goal
 
 pub put_at-requires : goal.put_at-requires
@@ -21,24 +21,7 @@ unfolding carried
 returns-in-Remove c = let s = c in record { does = as_read _ _ _ _ _ c.place_after-after.ensures _ c.command_at-command.ensures _ _ _ (in-case _ _ _ _ _ _ _ _ _ _ c.in-Remove.is (c.remove_at.ensures.does _)); catalogued = (c.remove_at.ensures.catalogued, s.requires.2) }
 
 pub returns-in-Table : goal.returns-in-Table
-unfolding carried
-returns-in-Table c = let s = c in record { does = as_read _ _ _ _ _ c.place_after-after.ensures _ c.command_at-command.ensures _ _ _ (in-case _ _ _ _ _ _ _ _ _ _ c.in-Table.is (refusing-does _ _ _ _ _ _ _ c.refusing.ensures)); catalogued = (s.requires.1, s.requires.2) }
-
-pub returns-in-Constraint : goal.returns-in-Constraint
-unfolding carried
-returns-in-Constraint c = let s = c in record { does = as_read _ _ _ _ _ c.place_after-after.ensures _ c.command_at-command.ensures _ _ _ (in-case _ _ _ _ _ _ _ _ _ _ c.in-Constraint.is (refusing-does _ _ _ _ _ _ _ c.refusing-in-Constraint.ensures)); catalogued = (s.requires.1, s.requires.2) }
-
-pub returns-in-Filling : goal.returns-in-Filling
-unfolding carried
-returns-in-Filling c = let s = c in record { does = as_read _ _ _ _ _ c.place_after-after.ensures _ c.command_at-command.ensures _ _ _ (in-case _ _ _ _ _ _ _ _ _ _ c.in-Filling.is (refusing-does _ _ _ _ _ _ _ c.refusing-in-Filling.ensures)); catalogued = (s.requires.1, s.requires.2) }
-
-pub returns-in-Row : goal.returns-in-Row
-unfolding carried
-returns-in-Row c = let s = c in record { does = as_read _ _ _ _ _ c.place_after-after.ensures _ c.command_at-command.ensures _ _ _ (in-case _ _ _ _ _ _ _ _ _ _ c.in-Row.is (refusing-does _ _ _ _ _ _ _ c.refusing-in-Row.ensures)); catalogued = (s.requires.1, s.requires.2) }
-
-pub returns-in-End : goal.returns-in-End
-unfolding carried
-returns-in-End c = let s = c in record { does = as_read _ _ _ _ _ c.place_after-after.ensures _ c.command_at-command.ensures _ _ _ (in-case _ _ _ _ _ _ _ _ _ _ c.in-End.is (refusing-does _ _ _ _ _ _ _ c.refusing-in-End.ensures)); catalogued = (s.requires.1, s.requires.2) }
+returns-in-Table c = let s = c in record { does = as_read _ _ _ _ _ c.place_after-after.ensures _ c.command_at-command.ensures _ _ _ (late-does _ _ _ _ _ _ _ _ _ c.in-Table.is (refusing-does _ _ _ _ _ _ _ c.refusing.ensures)); catalogued = (s.requires.1, s.requires.2) }
 
 pub returns-in-Unknown : goal.returns-in-Unknown
 unfolding carried
@@ -46,4 +29,4 @@ returns-in-Unknown c = let s = c in record { does = as_read _ _ _ _ _ c.place_af
 
 pub returns-in-Short : goal.returns-in-Short
 unfolding carried
-returns-in-Short c = let s = c in record { does = as_read _ _ _ _ _ c.place_after-after.ensures _ c.command_at-command.ensures _ _ _ (in-case _ _ _ _ _ _ _ _ _ _ c.in-Short.is (refusing-does _ _ _ _ _ _ _ (placed _ _ _ _ _ _ c.refusing-in-Short.ensures c.lower.ensures))); catalogued = (s.requires.1, s.requires.2) }
+returns-in-Short c = let s = c in record { does = as_read _ _ _ _ _ c.place_after-after.ensures _ c.command_at-command.ensures _ _ _ (in-case _ _ _ _ _ _ _ _ _ _ c.in-Short.is (refusing-does _ _ _ _ _ _ _ (placed _ _ _ _ _ _ c.refusing-in-Short.ensures c.min.ensures))); catalogued = (s.requires.1, s.requires.2) }
