@@ -45,6 +45,7 @@ pub fn run_lawful(
         × Whole held.new }
 {
     let mut i = at;
+    // no iterator: where the next step begins, this one says
     while i < script.len() {
         let t = step_lawful(
             script, i, design, cells, issues, tables, catalog, keys, marks, held, words, text,

@@ -17,8 +17,9 @@ use Rattle.model.specs.Answers.{Answer, refused, absent, explained, unless, or_a
 use Rattle.model.specs.Effects.{effect, reply}
 use Rattle.model.specs.Sentence.{reason_text}
 use Rattle.model.proofs.ReasonCases.{Replies, reason-unnamed, reason-absent, reason-long, reason-given}
-use Rattle.state.specs.declared.answer.Shown.{Shown}
-use Rattle.state.specs.Meaning.{scheme_of, holding_of, shown_of}
+use Rattle.state.specs.declared.answer.Answer as State-answer
+use Rattle.state.specs.declared.answer.Answer.TheVariants as A
+use Rattle.state.specs.Meaning.{answer_of, scheme_of, holding_of}
 use Rattle.state.specs.Lent.{State, scheme, database, cache, sound, answer_at, text_at}
 use Rattle.lawful.proofs.DesignLaws.{design-says}
 use Rattle.lawful.proofs.SoundState.{parts, answer-at, text-at}
@@ -40,17 +41,32 @@ told t false true z = refl
 told t false false true = refl
 told t false false false = refl
 
--- what the code reads of an answer as it is shown
-module _ (x : Shown) (a : Answer) (h : x ≡ shown_of (shown a)) where
-  pub tells_none : (x.word ≡ 17 → ⊥) → 0 ≡ bytes_in a
-  unfolding bytes_in has_text
-  tells_none n = sym (cond-false (has_text a) _ _ (ne_eqb _ _ (λ k. n (ap (λ (y : Shown). y.word) h ∙ k))))
+-- what the code reads of an answer: the length of a reason's text, and 0 with any other
+pub tells_none : (a : State-answer.Answer) → ((n : ℕ) → a ≡ A.Explained n → ⊥) → 0 ≡ bytes_in (answer_of a)
+unfolding bytes_in has_text shown
+tells_none (A.Loaded rows rounds) h = refl
+tells_none A.Held h = refl
+tells_none A.NoCandidate h = refl
+tells_none (A.Dropped rows) h = refl
+tells_none (A.Ground g rows) h = refl
+tells_none A.Sent h = refl
+tells_none (A.Lists n) h = refl
+tells_none (A.Refused n) h = refl
+tells_none A.Even h = refl
+tells_none (A.Uneven i j) h = refl
+tells_none (A.Total n) h = refl
+tells_none (A.Knot mask) h = refl
+tells_none (A.Named d) h = refl
+tells_none A.Open h = refl
+tells_none (A.OpenedBy f n i) h = refl
+tells_none A.NoOpener h = refl
+tells_none A.Absent h = refl
+tells_none (A.Explained n) h = absurd (h n refl)
+tells_none (A.Changed came went) h = refl
 
-  pub tells-some : x.word ≡ 17 → get_or x.numbers 0 0 ≡ bytes_in a
-  unfolding bytes_in has_text
-  tells-some k =
-      ap (λ (y : Shown). get_or y.numbers 0 0) h ∙ tab-at 0 16 (λ i. get_or (shown a).numbers i 0) 0 (omega arith) ∙
-      sym (cond-true (has_text a) _ _ (eq-eqb _ _ (sym (ap (λ (y : Shown). y.word) h) ∙ k)))
+pub tells-some : (a : State-answer.Answer) (n : ℕ) → a ≡ A.Explained n → n ≡ bytes_in (answer_of a)
+unfolding bytes_in has_text shown
+tells-some a n e = sym (ap (λ (x : State-answer.Answer). bytes_in (answer_of x)) e)
 
 module _ (s : State) (e : sound s ≡ true) (r : ℕ) where
   abbrev answers : ℕ → Answer

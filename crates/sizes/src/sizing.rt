@@ -18,7 +18,7 @@ use cache::{filling_for, refer_lawful, takes};
 use probe::search;
 use query::{count_fitting, operands_fit};
 use reason::reason_lawful;
-use state::{Answer, Design, HeldValue, Operation, Query, copy_bytes, is_numberless, show};
+use state::{Answer, Design, HeldValue, Operation, Query, is_numberless};
 
 // The answer words and the bytes of text that an operation takes.
 #[derive(Clone, Copy)]
@@ -43,8 +43,7 @@ fn listed_words(
         → result ≡ length (words_of (fitting (scheme_of d) D (marked marks.now) (column_of q.column) (cell_of q.value) (joins_of (query_of q)))) }
 {
     let lists = count_fitting(d, catalog, keys, marks, q, counts, places);
-    let joins = q.joins as u64;
-    lists * (joins + 1)
+    lists * (u64::from(q.joins) + 1)
 }
 
 // The words of a query that is referred first: its pair v is referred on a copy of the marks, and the lists are those of the copy. One copy of the marks,
@@ -70,7 +69,7 @@ fn referred_words(
         (query_of q))) }
 {
     let mut copy = [0u8; 512];
-    copy_bytes(&marks[..Design::ROWS], &mut copy, Design::ROWS);
+    copy.copy_from_slice(&marks[..Design::ROWS]);
     let mut more = *held;
     refer_lawful(design, catalog, keys, &mut copy, &mut more, v);
     listed_words(design, catalog, keys, &copy, q, counts, places)
@@ -97,10 +96,7 @@ fn query_words(
     ensures { result ≡ length (words_at (lent design (cells_in cells.now issues.now) tables.now marks.now (words_held held.now))
         (Runs.query (query_of q) (Runs.as_lists ample))) }
 {
-    if !operands_fit(design, q) {
-        return 0;
-    }
-    if is_numberless(q.value) {
+    if !operands_fit(design, q) || is_numberless(q.value) {
         return 0;
     }
     let k = q.column;
@@ -109,11 +105,9 @@ fn query_words(
     if g != 0 {
         return listed_words(design, catalog, keys, marks, q, counts, places);
     }
-    let f = filling_for(design, k);
-    let value = q.value;
     let v = HeldValue {
-        filling: f as u8,
-        value: value,
+        filling: filling_for(design, k) as u8,
+        value: q.value,
     };
     if !takes(design, held, v) {
         return 0;
@@ -127,12 +121,10 @@ fn query_words(
 fn told_bytes(answer: Answer) -> usize
     ensures { result ≡ bytes_in (answer_of answer) }
 {
-    let shown = show(answer);
-    if shown.word != 17 {
-        return 0;
+    match answer {
+        Answer::Explained(length) => length,
+        _ => 0,
     }
-    let numbers = shown.numbers;
-    numbers[0] as usize
 }
 
 // The bytes of text that a reason takes: none where its number names nothing or its row isn't cached. The reason is written into memory of its own, which

@@ -1,7 +1,6 @@
--- `operate::sizing::query_words` meets its contract: causes 5 and 9, then the lists, "sent", or the reference. Assumes nothing.
+-- `sizes::sizing::query_words` meets its contract: causes 5 and 9, then the lists, "sent", or the reference. Assumes nothing.
 use native.Mathlib.Omega.{arith}
 use mathlib.Core.Path.{sym, ap, ◌∙◌}
-use borrow.Author.Tests.{not-true, not-false}
 use lib.ListN.{length}
 use Rattle.state.proofs.Arrays.{sized}
 use Rattle.state.proofs.HeldWords.{words-sized}
@@ -12,25 +11,24 @@ use Rattle.operate.proofs.QuerySteps.{filling-byte}
 use Rattle.sizes.proofs.QuerySizes.{given-misfit, given-numberless}
 use Rattle.sizes.proofs.SizeSteps.{listed-taken, sent-taken, refers-pair, referred-taken}
 use Rattle.sizes.proofs.sizing.query_words.Goals as goal
+use Rattle.sizes.proofs.sizing.query_words.Goals.{then-not-operands_fit-via-then-not-operands_fit, then-not-operands_fit-via-else-not-operands_fit+then-is_numberless}
 
 pub operands_fit-requires : goal.operands_fit-requires
 operands_fit-requires c = let s = c in sound-range _ s.requires.0 (sized s.args.design _ s.well_formed.0)
 
 pub returns-then-not-operands_fit : goal.returns-then-not-operands_fit
-returns-then-not-operands_fit c = let s = c in
-    sym (ap length (given-misfit _ s.requires.0 s.args.q (sym c.operands_fit.ensures ∙ not-true _ c.if-not-operands_fit.true-raw) _).1)
-
-pub returns-then-is_numberless : goal.returns-then-is_numberless
-returns-then-is_numberless c = let s = c in
-    let f = (sym c.operands_fit.ensures ∙ not-false _ c.if-not-operands_fit.false-raw) in
-    sym (ap length (given-numberless _ s.requires.0 s.args.q f (sym c.is_numberless.ensures ∙ c.if-is_numberless.true) _).1)
+returns-then-not-operands_fit c = let s = c in elim c.then-not-operands_fit.branch [
+  | then-not-operands_fit-via-then-not-operands_fit w ↦ sym (ap length (given-misfit _ s.requires.0 s.args.q (sym c.operands_fit.ensures ∙ w.if-not-operands_fit.true) _).1)
+  | then-not-operands_fit-via-else-not-operands_fit+then-is_numberless w ↦
+    sym (ap length (given-numberless _ s.requires.0 s.args.q (sym c.operands_fit.ensures ∙ w.if-not-operands_fit.false) (sym w.is_numberless.ensures ∙ w.if-is_numberless.true) _).1)
+]
 
 pub overflow_cast-v : goal.overflow_cast-v
-overflow_cast-v c = omega (arith, filling-byte _ c.requires.0 c.args.q _ c.filling_for-f.ensures)
+overflow_cast-v c = omega (arith, filling-byte _ c.requires.0 c.args.q _ c.filling_for.ensures)
 
 pub search-found-requires : goal.search-found-requires
 search-found-requires c = let s = c in
-    let f = (sym c.operands_fit.ensures ∙ not-false _ c.if-not-operands_fit.false-raw) in
+    let f = (sym c.operands_fit.ensures ∙ c.if-not-operands_fit.false) in
     let r = sound-range _ s.requires.0 (sized s.args.design _ s.well_formed.0) in record {
       in_range = (
         r,
@@ -44,7 +42,7 @@ search-found-requires c = let s = c in
 
 pub listed_words-requires : goal.listed_words-requires
 listed_words-requires c = let s = c in
-    let f = (sym c.operands_fit.ensures ∙ not-false _ c.if-not-operands_fit.false-raw) in (
+    let f = (sym c.operands_fit.ensures ∙ c.if-not-operands_fit.false) in (
       sound-range _ s.requires.0 (sized s.args.design _ s.well_formed.0),
       sound-place _ s.requires.0 s.args.q f,
       f,
@@ -54,28 +52,28 @@ listed_words-requires c = let s = c in
 
 pub returns-then-g-ne0 : goal.returns-then-g-ne0
 returns-then-g-ne0 c = let s = c in
-    listed-taken _ s.requires.0 s.args.q (sym c.operands_fit.ensures ∙ not-false _ c.if-not-operands_fit.false-raw) (sym c.is_numberless.ensures ∙ c.if-is_numberless.false) _ (c.search-found.ensures _ s.requires.1.index).0
-    (record { number = λ i. omega (arith, c.shared_slice_known-1.given i); issue = λ i. omega (arith, c.shared_slice_known-2-1.given i) }) c.if-g-ne0.true _ (c.listed_words.ensures _ s.requires.1)
+    listed-taken _ s.requires.0 s.args.q (sym c.operands_fit.ensures ∙ c.if-not-operands_fit.false) (sym c.is_numberless.ensures ∙ c.if-is_numberless.false) _ (c.search-found.ensures _ s.requires.1.index).0
+    (record { number = λ i. omega (arith, c.type_inv.cells i); issue = λ i. omega (arith, c.type_inv.issues i) }) c.if-g-ne0.true _ (c.listed_words.ensures _ s.requires.1)
 
-pub filling_for-f-requires : goal.filling_for-f-requires
-filling_for-f-requires c = sound-fillings _ c.requires.0
+pub filling_for-requires : goal.filling_for-requires
+filling_for-requires c = sound-fillings _ c.requires.0
 
 pub takes-requires : goal.takes-requires
 takes-requires c = let s = c in (sound-fillings _ s.requires.0, (sound-tidy _ s.requires.0).few)
 
 pub returns-then-not-takes : goal.returns-then-not-takes
 returns-then-not-takes c = let s = c in
-    sent-taken _ s.requires.0 s.args.q (sym c.operands_fit.ensures ∙ not-false _ c.if-not-operands_fit.false-raw) (sym c.is_numberless.ensures ∙ c.if-is_numberless.false) _ (c.search-found.ensures _ s.requires.1.index).0 c.if-g-ne0.false _ c.filling_for-f.ensures
-    (sym c.takes.ensures ∙ not-true _ c.if-not-takes.true-raw)
+    sent-taken _ s.requires.0 s.args.q (sym c.operands_fit.ensures ∙ c.if-not-operands_fit.false) (sym c.is_numberless.ensures ∙ c.if-is_numberless.false) _ (c.search-found.ensures _ s.requires.1.index).0 c.if-g-ne0.false _ c.filling_for.ensures
+    (sym c.takes.ensures ∙ c.if-not-takes.true)
 
 pub referred_words-requires : goal.referred_words-requires
 referred_words-requires c = let s = c in record {
   held_value = (s.requires.0, s.requires.1, s.requires.2);
-  referring = refers-pair _ s.requires.0 s.args.q (sym c.operands_fit.ensures ∙ not-false _ c.if-not-operands_fit.false-raw) (sym c.is_numberless.ensures ∙ c.if-is_numberless.false) _ (c.search-found.ensures _ s.requires.1.index).0 c.if-g-ne0.false _ c.filling_for-f.ensures
-      (sym c.takes.ensures ∙ not-false _ c.if-not-takes.false-raw);
+  referring = refers-pair _ s.requires.0 s.args.q (sym c.operands_fit.ensures ∙ c.if-not-operands_fit.false) (sym c.is_numberless.ensures ∙ c.if-is_numberless.false) _ (c.search-found.ensures _ s.requires.1.index).0 c.if-g-ne0.false _ c.filling_for.ensures
+      (sym c.takes.ensures ∙ c.if-not-takes.false);
 }
 
 pub returns : goal.returns
 returns c = let s = c in
-    referred-taken _ s.requires.0 s.args.q (sym c.operands_fit.ensures ∙ not-false _ c.if-not-operands_fit.false-raw) (sym c.is_numberless.ensures ∙ c.if-is_numberless.false) _ (c.search-found.ensures _ s.requires.1.index).0 c.if-g-ne0.false _ c.filling_for-f.ensures
-    (sym c.takes.ensures ∙ not-false _ c.if-not-takes.false-raw) _ c.referred_words.ensures
+    referred-taken _ s.requires.0 s.args.q (sym c.operands_fit.ensures ∙ c.if-not-operands_fit.false) (sym c.is_numberless.ensures ∙ c.if-is_numberless.false) _ (c.search-found.ensures _ s.requires.1.index).0 c.if-g-ne0.false _ c.filling_for.ensures
+    (sym c.takes.ensures ∙ c.if-not-takes.false) _ c.referred_words.ensures

@@ -1,4 +1,4 @@
--- `operate::sizing::reason_bytes` meets its contract: what the answer tells, with room for any reason. Assumes nothing.
+-- `sizes::sizing::reason_bytes` meets its contract: what the answer tells, with room for any reason. Assumes nothing.
 use Prim.Native.Nat.{ℕ}
 use lib.ListN.{length-replicate}
 use Rattle.sizes.proofs.ReasonSizes.{taken-text}

@@ -1,4 +1,4 @@
--- `operate::sizing::referred_words` meets its contract: the reference on a copy, and the words of the copy's lists. Assumes nothing.
+-- `sizes::sizing::referred_words` meets its contract: the reference on a copy, and the words of the copy's lists. Assumes nothing.
 use native.Mathlib.Omega.{arith}
 use mathlib.Core.Path.{refl, sym, ap, ◌∙◌}
 use mathlib.Core.List.{List}
@@ -14,14 +14,14 @@ use Rattle.operate.proofs.ReadyLaws.{ready}
 use Rattle.operate.proofs.Referred.{copied-sound, marks-long, lists-full}
 use Rattle.sizes.proofs.sizing.referred_words.Goals as goal
 
-pub slice_bounds-copy_bytes-end : goal.slice_bounds-copy_bytes-end
-slice_bounds-copy_bytes-end c = sym (length-take-le 512 c.args.marks.now (sound-marks _ c.requires.held_value.0))
+pub slice_bounds-copy_from_slice-end-2 : goal.slice_bounds-copy_from_slice-end-2
+slice_bounds-copy_from_slice-end-2 c = sym (length-take-le 512 c.args.marks.now (sound-marks _ c.requires.held_value.0))
 
-pub copy_bytes-requires : goal.copy_bytes-requires
-copy_bytes-requires c = (length-take-le 512 c.args.marks.now (sound-marks _ c.requires.held_value.0), omega arith)
+pub copy_from_slice-requires : goal.copy_from_slice-requires
+copy_from_slice-requires c = sym (length-take-le 512 c.args.marks.now (sound-marks _ c.requires.held_value.0))
 
 pub refer_lawful-requires : goal.refer_lawful-requires
-refer_lawful-requires c = let s = c in record { whole = s.requires.held_value.2; by_index = (_, _, ready _ _ _ _ _ _ _ (copied-sound _ s.requires.held_value.0 _ _ refl c.copy_bytes.ensures) s.requires.held_value.1) }
+refer_lawful-requires c = let s = c in record { whole = s.requires.held_value.2; by_index = (_, _, ready _ _ _ _ _ _ _ (copied-sound _ s.requires.held_value.0 _ c.copy_from_slice.ensures.after) s.requires.held_value.1) }
 
 pub listed_words-requires : goal.listed_words-requires
 listed_words-requires c = let s = c in
@@ -31,9 +31,9 @@ listed_words-requires c = let s = c in
       f,
       omega (
         arith,
-        marks-long _ s.requires.held_value.0 _ _ refl c.copy_bytes.ensures
-            (record { number = λ i. omega (arith, c.shared_slice_known-1.given i); issue = λ i. omega (arith, c.shared_slice_known-2-1.given i) })
-            s.args.q s.args.v _ s.requires.referring _ _ _ (c.refer_lawful.ensures.1 _ _ (ready _ _ _ _ _ _ _ (copied-sound _ s.requires.held_value.0 _ _ refl c.copy_bytes.ensures) s.requires.held_value.1)),
+        marks-long _ s.requires.held_value.0 _ c.copy_from_slice.ensures.after
+            (record { number = λ i. omega (arith, c.type_inv.cells i); issue = λ i. omega (arith, c.type_inv.issues i) })
+            s.args.q s.args.v _ s.requires.referring _ _ _ (c.refer_lawful.ensures.1 _ _ (ready _ _ _ _ _ _ _ (copied-sound _ s.requires.held_value.0 _ c.copy_from_slice.ensures.after) s.requires.held_value.1)),
       ),
       (_, s.requires.held_value.1),
     )
@@ -42,6 +42,6 @@ pub returns : goal.returns
 returns c = let s = c in
     c.listed_words.ensures _ s.requires.held_value.1 ∙
     ap (λ (ls : List (List ℕ)). length (words_of ls))
-    (lists-full _ s.requires.held_value.0 _ _ refl c.copy_bytes.ensures
-    (record { number = λ i. omega (arith, c.shared_slice_known-1.given i); issue = λ i. omega (arith, c.shared_slice_known-2-1.given i) })
-    s.args.q s.args.v _ s.requires.referring _ _ _ (c.refer_lawful.ensures.1 _ _ (ready _ _ _ _ _ _ _ (copied-sound _ s.requires.held_value.0 _ _ refl c.copy_bytes.ensures) s.requires.held_value.1)))
+    (lists-full _ s.requires.held_value.0 _ c.copy_from_slice.ensures.after
+    (record { number = λ i. omega (arith, c.type_inv.cells i); issue = λ i. omega (arith, c.type_inv.issues i) })
+    s.args.q s.args.v _ s.requires.referring _ _ _ (c.refer_lawful.ensures.1 _ _ (ready _ _ _ _ _ _ _ (copied-sound _ s.requires.held_value.0 _ c.copy_from_slice.ensures.after) s.requires.held_value.1)))

@@ -1,4 +1,4 @@
--- `operate::sizing::sizes_lawful` meets its contract: the words of a query, the text of a reason, and nothing of any other. Assumes nothing.
+-- `sizes::sizing::sizes_lawful` meets its contract: the words of a query, the text of a reason, and nothing of any other. Assumes nothing.
 use Rattle.sizes.proofs.SizeLaws.{query-takes, reason-takes, plain-takes}
 use Rattle.sizes.proofs.sizing.sizes_lawful.Goals as goal
 

@@ -1,9 +1,9 @@
--- `operate::sizing::told_bytes` meets its contract: a test of the word, and the number behind it. Assumes nothing.
+-- `sizes::sizing::told_bytes` meets its contract: a reason's length, and 0 with any other answer. Assumes nothing.
 use Rattle.sizes.proofs.ReasonSizes.{tells_none, tells-some}
 use Rattle.sizes.proofs.sizing.told_bytes.Goals as goal
 
-pub returns-then-shown-ne17 : goal.returns-then-shown-ne17
-returns-then-shown-ne17 c = tells_none _ _ c.show-shown.ensures c.if-shown-ne17.true
+pub returns-in-Explained : goal.returns-in-Explained
+returns-in-Explained c = tells-some _ _ c.in-Explained.is
 
-pub returns : goal.returns
-returns c = tells-some _ _ c.show-shown.ensures c.if-shown-ne17.false
+pub returns-in_default : goal.returns-in_default
+returns-in_default c = tells_none c.args.answer c.in_default.not-Explained
