@@ -4,6 +4,8 @@ use native.Mathlib.Omega.{arith}
 use mathlib.Core.Path.{◌≡◌, refl, sym, ap, subst, ◌∙◌}
 use mathlib.Core.Bool.{Bool, true, false, not, ◌&&◌}
 use mathlib.Core.List.{List}
+use mathlib.Core.Logic.{◌⊎◌, inl, inr}
+use Rattle.std.specs.Prelude.{Result, Ok, Err}
 use lib.Dec.{leb}
 use lib.ListN.{get_or, set}
 use lib.Seq.{get_or-set_other}
@@ -11,7 +13,6 @@ use Rattle.finite.specs.Finite.{tab}
 use Rattle.finite.proofs.Bools.{both, and_left, and_right}
 use Rattle.state.specs.Cells.{Cells}
 use Rattle.state.specs.declared.operation.Operation.{Operation}
-use Rattle.state.specs.declared.design.Design.{Design}
 use Rattle.state.specs.declared.design.Table as State-table
 use Rattle.state.specs.declared.design.Constraint as State-constraint
 use Rattle.state.specs.declared.design.Filling as State-filling
@@ -20,8 +21,9 @@ use Rattle.state.specs.Lawful.{table_fits, constraint_fits, filling_fits, row_fi
 use Rattle.command.specs.declared.command.Command.{Command}
 use Rattle.command.specs.declared.command.Command.TheVariants.{Table, Constraint, Filling, Row, End, Operate, Put, Remove, Unknown, Short}
 use Rattle.command.specs.Commands.{row_cell_at, row_issue_at}
-use Rattle.format.specs.declared.reading.Outcome.TheVariants.{On, Complete, Cause}
-use Rattle.format.specs.declared.reading.Advance.{Advance}
+use Rattle.format.specs.declared.reading.Progress.{Progress}
+use Rattle.format.specs.declared.reading.Progress.TheVariants.{On, Complete}
+use Rattle.format.specs.declared.reading.SoFar.{SoFar}
 use Rattle.format.specs.Reading.{Draft, draft, Advanced, refused_if, advanced, needless, redesigned, with_table, with_constraint, with_filling, with_row}
 use Rattle.format.specs.Reading.Advanced.{on, complete, refused}
 use Rattle.format.specs.Kinds.{count_of, most_of, is_late, order_cause}
@@ -32,33 +34,36 @@ use Rattle.format.proofs.AdvancedLaws.{not_on, not-complete, on_same, on-complet
 
 -- ---- the three answers
 
-module _ (p : Draft) (s : List ℕ) (i : ℕ) (c : Command) (r : Advance) (cells : Cells) (tables : List ℕ) where
-  pub advances-refused : (n : ℕ) (d : Design) (m : ℕ) → r ≡ record { outcome = Cause n; design = d; rows = m } → admitted p s i c ≡ refused n
-      → Kept p.rows p.cells p.tables cells tables → Advances p s i c r cells tables
-  advances-refused n d m f e k =
+module _ (p : Draft) (s : List ℕ) (i : ℕ) (c : Command) (o : Result Progress ℕ) (r : SoFar) (cells : Cells) (tables : List ℕ) where
+  pub advances-refused : (n : ℕ) → o ≡ Err n → r ≡ record { design = p.design; rows = p.rows } → admitted p s i c ≡ refused n
+      → Kept p.rows p.cells p.tables cells tables → Advances p s i c o r cells tables
+  advances-refused n f g e k =
       record {
-        outcome = ap (λ x. x.outcome) f ∙ sym (ap outcome_of e);
+        outcome = f ∙ sym (ap outcome_of e);
         goes = λ q h. absurd (not_on n q (sym e ∙ h));
         whole = λ h. absurd (not-complete n (sym e ∙ h));
+        stays = λ m h. (ap (λ (x : SoFar). x.design) g, ap (λ (x : SoFar). x.rows) g);
         kept = k;
       }
 
-  pub advances-complete : r.outcome ≡ Complete → p ≡ draft r.design r.rows cells tables → admitted p s i c ≡ complete → Advances p s i c r cells tables
+  pub advances-complete : o ≡ Ok Complete → p ≡ draft r.design r.rows cells tables → admitted p s i c ≡ complete → Advances p s i c o r cells tables
   advances-complete f k e =
       record {
         outcome = f ∙ sym (ap outcome_of e);
         goes = λ q h. absurd (on-complete q (sym h ∙ e));
         whole = λ h. k;
+        stays = λ m h. absurd (not-complete m (sym h ∙ e));
         kept = record { cell = λ x l. ap (λ (q : Draft). cell_in q.cells x) (sym k); table = λ n l. ap (λ (q : Draft). get_or q.tables n 0) (sym k) };
       }
 
-  pub advances-on : r.outcome ≡ On → admitted p s i c ≡ on (draft r.design r.rows cells tables)
-      → Kept p.rows p.cells p.tables cells tables → Advances p s i c r cells tables
+  pub advances-on : o ≡ Ok On → admitted p s i c ≡ on (draft r.design r.rows cells tables)
+      → Kept p.rows p.cells p.tables cells tables → Advances p s i c o r cells tables
   advances-on f e k =
       record {
         outcome = f ∙ sym (ap outcome_of e);
         goes = λ q h. on_same q (draft r.design r.rows cells tables) (sym h ∙ e);
         whole = λ h. absurd (on-complete (draft r.design r.rows cells tables) (sym e ∙ h));
+        stays = λ m h. absurd (not_on m (draft r.design r.rows cells tables) (sym h ∙ e));
         kept = k;
       }
 
@@ -78,8 +83,8 @@ kept_put n t i cells tables s cells' e =
     }
 
 -- a command that is known
-pub advances-as : (p : Draft) (s : List ℕ) (i : ℕ) (c k : Command) (r : Advance) (cells : Cells) (tables : List ℕ) → c ≡ k → Advances p s i k r cells tables → Advances p s i c r cells tables
-advances-as p s i c k r cells tables e t = subst (λ (x : Command). Advances p s i x r cells tables) (sym e) t
+pub advances-as : (p : Draft) (s : List ℕ) (i : ℕ) (c k : Command) (o : Result Progress ℕ) (r : SoFar) (cells : Cells) (tables : List ℕ) → c ≡ k → Advances p s i k o r cells tables → Advances p s i c o r cells tables
+advances-as p s i c k o r cells tables e t = subst (λ (x : Command). Advances p s i x o r cells tables) (sym e) t
 
 -- ---- a command of each kind is an item
 
@@ -142,17 +147,11 @@ row_put p s i t cells e = ap (λ (l : Cells). draft p.design (p.rows + 1) l (set
 -- ---- an operation or a change of the rows in a design, a command that is none, and END
 
 module _ (p : Draft) (s : List ℕ) (i : ℕ) where
-  pub operation-refused : (o : Operation) → admitted p s i (Operate o) ≡ refused 3
+  pub late-refused : (c : Command) → ((o : Operation) × (c ≡ Operate o)) ⊎ (((r : ℕ) × (t : ℕ) × (c ≡ Put r t)) ⊎ ((r : ℕ) × (c ≡ Remove r))) → admitted p s i c ≡ refused 3
   unfolding admitted advanced
-  operation-refused o = refl
-
-  pub put_refused : (r t : ℕ) → admitted p s i (Put r t) ≡ refused 3
-  unfolding admitted advanced
-  put_refused r t = refl
-
-  pub remove-refused : (r : ℕ) → admitted p s i (Remove r) ≡ refused 3
-  unfolding admitted advanced
-  remove-refused r = refl
+  late-refused c (inl h) = rw h.1 refl
+  late-refused c (inr (inl h)) = rw h.2 refl
+  late-refused c (inr (inr h)) = rw h.1 refl
 
   pub unknown-refused : admitted p s i Unknown ≡ refused 2
   unfolding admitted advanced

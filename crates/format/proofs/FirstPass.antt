@@ -24,15 +24,17 @@ use Rattle.command.specs.declared.command.Command.{Command}
 use Rattle.command.specs.declared.command.Command.TheVariants.{Row}
 use Rattle.format.specs.declared.verdict.Verdict.{Verdict}
 use Rattle.format.specs.declared.verdict.Verdict.TheVariants.{Accepted, Refused}
-use Rattle.format.specs.declared.reading.Outcome.{Outcome}
-use Rattle.format.specs.declared.reading.Outcome.TheVariants.{On, Complete, Cause}
-use Rattle.format.specs.declared.reading.Advance.{Advance}
+use Rattle.std.specs.Prelude.{Result, Ok, Err}
+use Rattle.format.specs.declared.reading.Progress.{Progress}
+use Rattle.format.specs.declared.reading.Progress.TheVariants.{On, Complete}
+use Rattle.format.specs.declared.reading.SoFar.{SoFar}
+use Rattle.format.specs.declared.reading.Stop.{Stop}
 use Rattle.command.specs.Bytes.{byte_at}
 use Rattle.command.specs.Commands.{width_of, command_at}
 use Rattle.format.specs.Reading.{Draft, draft, Advanced, advanced, with_table, with_constraint, with_filling, with_row, needless, DesignRead, read_from}
 use Rattle.format.specs.Reading.Advanced.{on, complete, refused}
 use Rattle.format.specs.Reading.DesignRead.{accepted, refused_at}
-use Rattle.format.specs.Admitting.{admitted, outcome_of, cause_of, Kept, Advances, again, None, Earliest, read_as, Stopped}
+use Rattle.format.specs.Admitting.{admitted, outcome_of, Kept, Advances, again, None, Earliest, read_as, Stopped}
 use Rattle.format.specs.Writing.{is_issued, place_after, row_place}
 use Rattle.command.proofs.CommandLaws.{RowByte}
 use Rattle.format.proofs.RowText.{row_width, width-tells}
@@ -206,44 +208,33 @@ along-admitted s w p i a q e = go (seen s i)
 
 -- ---- one turn of the loop: the command c at place i, read into the draft p, with the answer r
 
-pub no-cause : (o : Outcome) → ((n : ℕ) → o ≡ Cause n → ⊥) → 0 ≡ cause_of o
-no-cause On h = refl
-no-cause Complete h = refl
-no-cause (Cause n) h = absurd (h n refl)
-
--- neither complete nor going on
-pub is-cause : (o : Outcome) → (o ≡ Complete → ⊥) → (o ≡ On → ⊥) → o ≡ Cause (cause_of o)
-is-cause On h g = absurd (g refl)
-is-cause Complete h g = absurd (h refl)
-is-cause (Cause n) h g = refl
-
-on-is : (t : Advanced) → outcome_of t ≡ On → (q : Draft) × (t ≡ on q)
+on-is : (t : Advanced) → outcome_of t ≡ Ok On → (q : Draft) × (t ≡ on q)
 on-is (on q) e = (q, refl)
 on-is complete e = absurd (let z : ◌≡◌ {A = ℕ} 0 1 = cc in omega arith)
 on-is (refused n) e = absurd (let z : ◌≡◌ {A = ℕ} 0 1 = cc in omega arith)
 
-complete-is : (t : Advanced) → outcome_of t ≡ Complete → t ≡ complete
+complete-is : (t : Advanced) → outcome_of t ≡ Ok Complete → t ≡ complete
 complete-is (on q) e = absurd (let z : ◌≡◌ {A = ℕ} 0 1 = cc in omega arith)
 complete-is complete e = refl
 complete-is (refused n) e = absurd (let z : ◌≡◌ {A = ℕ} 0 1 = cc in omega arith)
 
-cause-is : (t : Advanced) (n : ℕ) → outcome_of t ≡ Cause n → t ≡ refused n
+cause-is : (t : Advanced) (n : ℕ) → outcome_of t ≡ Err n → t ≡ refused n
 cause-is (on q) n e = absurd (let z : ◌≡◌ {A = ℕ} 0 1 = cc in omega arith)
 cause-is complete n e = absurd (let z : ◌≡◌ {A = ℕ} 0 1 = cc in omega arith)
 cause-is (refused m) n e = let z : m ≡ n = cc in ap refused z
 
-module _ (s : List ℕ) (w : DesignRead) (p : Draft) (i : ℕ) (a : Along s w p i) (c : Command) (r : Advance) (cells : Cells) (tables : List ℕ)
-    (at : c ≡ command_at s i) (t : Advances p s i c r cells tables) where
-  told : (o : Outcome) → r.outcome ≡ o → outcome_of (admitted p s i (command_at s i)) ≡ o
-  told o e = ap (λ (x : Command). outcome_of (admitted p s i x)) (sym at) ∙ sym t.outcome ∙ e
+module _ (s : List ℕ) (w : DesignRead) (p : Draft) (i : ℕ) (a : Along s w p i) (c : Command) (o : Result Progress ℕ) (r : SoFar) (cells : Cells) (tables : List ℕ)
+    (at : c ≡ command_at s i) (t : Advances p s i c o r cells tables) where
+  told : (x : Result Progress ℕ) → o ≡ x → outcome_of (admitted p s i (command_at s i)) ≡ x
+  told x e = ap (λ (k : Command). outcome_of (admitted p s i k)) (sym at) ∙ sym t.outcome ∙ e
 
   -- it goes on
-  pub on-whole : r.outcome ≡ On → Whole s i
-  on-whole e = let q = on-is (admitted p s i (command_at s i)) (told On e) in admitted-whole s i p q.0 q.1
+  pub on-whole : o ≡ Ok On → Whole s i
+  on-whole e = let q = on-is (admitted p s i (command_at s i)) (told (Ok On) e) in admitted-whole s i p q.0 q.1
 
-  pub along-on : r.outcome ≡ On → (u : ℕ) → u ≡ width_of (byte_at s i) → Along s w (draft r.design r.rows cells tables) (i + u)
+  pub along-on : o ≡ Ok On → (u : ℕ) → u ≡ width_of (byte_at s i) → Along s w (draft r.design r.rows cells tables) (i + u)
   along-on e u f =
-      let q = on-is (admitted p s i (command_at s i)) (told On e) in
+      let q = on-is (admitted p s i (command_at s i)) (told (Ok On) e) in
       subst (λ (k : ℕ). Along s w (draft r.design r.rows cells tables) (i + k)) (sym f)
       (subst (λ (x : Draft). Along s w x (i + width_of (byte_at s i))) (t.goes q.0 (ap (admitted p s i) at ∙ q.1)) (along-admitted s w p i a q.0 q.1))
 
@@ -265,21 +256,29 @@ module _ (s : List ℕ) (w : DesignRead) (p : Draft) (i : ℕ) (a : Along s w p 
       same : (q : ℕ) → q < p.rows → again p.design cells tables q ≡ twice_in p q
       same q l = kept_again (scheme_of p.design) p.rows p.cells p.tables cells tables t.kept q l
 
-  completed : r.outcome ≡ Complete → admitted p s i (command_at s i) ≡ complete
-  completed e = complete-is (admitted p s i (command_at s i)) (told Complete e)
+  -- with the design and the rows that the code has left
+  left : (v : Verdict) → r.design ≡ p.design → r.rows ≡ p.rows → Stopped w (record { verdict = v; design = p.design; rows = p.rows }) cells tables
+      → Stopped w (record { verdict = v; design = r.design; rows = r.rows }) cells tables
+  left v e f h =
+      subst (λ (x : Stop). Stopped w x cells tables) (ap₂ (λ (d : Design) (n : ℕ). let z : Stop = record { verdict = v; design = d; rows = n } in z) (sym e) (sym f)) h
 
-  pub complete-ends : r.outcome ≡ Complete → Ends s i
+  completed : o ≡ Ok Complete → admitted p s i (command_at s i) ≡ complete
+  completed e = complete-is (admitted p s i (command_at s i)) (told (Ok Complete) e)
+
+  pub complete-ends : o ≡ Ok Complete → Ends s i
   complete-ends e = advanced-complete s i p (stops p s i (command_at s i) complete on-complete (completed e))
 
-  pub along-complete : r.outcome ≡ Complete → Stopped w (record { verdict = Accepted (i + 1); design = p.design; rows = p.rows }) cells tables
+  pub along-complete : o ≡ Ok Complete → Stopped w (record { verdict = Accepted (i + 1); design = r.design; rows = r.rows }) cells tables
   along-complete e =
       let g = t.whole (ap (admitted p s i) at ∙ completed e) in
-      stopped-at (Accepted (i + 1))
+      left (Accepted (i + 1)) (sym (ap (λ (y : Draft). y.design) g)) (sym (ap (λ (y : Draft). y.rows) g))
+      (stopped-at (Accepted (i + 1))
       (all-complete s p i (stops p s i (command_at s i) complete on-complete (completed e)) ∙ ap (λ (m : ℕ). accepted p (i + m)) (complete-ends e).width ∙
-      ap₂ (λ (xs : Cells) (ys : List ℕ). accepted (draft p.design p.rows xs ys) (i + 1)) (ap (λ (y : Draft). y.cells) g) (ap (λ (y : Draft). y.tables) g))
+      ap₂ (λ (xs : Cells) (ys : List ℕ). accepted (draft p.design p.rows xs ys) (i + 1)) (ap (λ (y : Draft). y.cells) g) (ap (λ (y : Draft). y.tables) g)))
 
-  pub along-refused : r.outcome ≡ Cause (cause_of r.outcome) → (m : ℕ) → m ≡ cause_of r.outcome
-      → Stopped w (record { verdict = Refused m i; design = p.design; rows = p.rows }) cells tables
-  along-refused e m f =
-      stopped-at (Refused m i)
-      (all-refused s p i m (stops p s i (command_at s i) (refused m) (λ x h. not_on m x (sym h)) (cause-is (admitted p s i (command_at s i)) m (told (Cause m) (e ∙ ap Cause (sym f))))))
+  pub along-refused : (m : ℕ) → o ≡ Err m → Stopped w (record { verdict = Refused m i; design = r.design; rows = r.rows }) cells tables
+  along-refused m e =
+      let f = cause-is (admitted p s i (command_at s i)) m (told (Err m) e) in
+      let g = t.stays m (ap (admitted p s i) at ∙ f) in
+      left (Refused m i) g.0 g.1
+      (stopped-at (Refused m i) (all-refused s p i m (stops p s i (command_at s i) (refused m) (λ x h. not_on m x (sym h)) f)))

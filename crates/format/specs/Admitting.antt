@@ -1,6 +1,6 @@
 -- How the code reads a design: a first pass leaves cause 6 aside, so that each command is looked at once; the catalog of the rows read then tells
 -- the first row that repeats a value. Assumes nothing.
-use Rattle.std.specs.Prelude.{ℕ, zero, suc, ◌*◌, ◌/◌, ◌%◌, ◌≤◌, ◌<◌, ◌≡◌, Bool, true, false, not, cond, List, leb, ltb, get_or}
+use Rattle.std.specs.Prelude.{Result, Ok, Err, ℕ, zero, suc, ◌*◌, ◌/◌, ◌%◌, ◌≤◌, ◌<◌, ◌≡◌, Bool, true, false, not, cond, List, leb, ltb, get_or}
 use Rattle.state.specs.Cells.{Cells}
 use Rattle.state.specs.declared.design.Design.{Design}
 use Rattle.state.specs.Design.{InRange}
@@ -12,9 +12,9 @@ use Rattle.command.specs.declared.command.Command.TheVariants.{Table, Constraint
 use Rattle.format.specs.declared.verdict.Verdict.{Verdict}
 use Rattle.format.specs.declared.verdict.Verdict.TheVariants.{Accepted, Refused}
 use Rattle.format.specs.declared.verdict.DesignReading.{DesignReading}
-use Rattle.format.specs.declared.reading.Outcome.{Outcome}
-use Rattle.format.specs.declared.reading.Outcome.TheVariants.{On, Complete, Cause}
-use Rattle.format.specs.declared.reading.Advance.{Advance}
+use Rattle.format.specs.declared.reading.Progress.{Progress}
+use Rattle.format.specs.declared.reading.Progress.TheVariants.{On, Complete}
+use Rattle.format.specs.declared.reading.SoFar.{SoFar}
 use Rattle.format.specs.declared.reading.Stop.{Stop}
 use Rattle.format.specs.Reading.{Draft, draft, Advanced, refused_if, needless, advanced, with_row, DesignRead}
 use Rattle.format.specs.Reading.Advanced.{on, complete, refused}
@@ -41,27 +41,23 @@ admitted p s i (Remove r) = advanced p s i (Remove r)
 admitted p s i Unknown = advanced p s i Unknown
 admitted p s i Short = advanced p s i Short
 
--- what the code answers for a command, and the draft that it leaves: the design and the number of rows beside the answer (an enum holds no array), and the arrays
-abbrev pub outcome_of : Advanced → Outcome
-outcome_of (on p) = On
-outcome_of complete = Complete
-outcome_of (refused n) = Cause n
-
-abbrev pub cause_of : Outcome → ℕ
-cause_of (Cause n) = n
-cause_of On = 0
-cause_of Complete = 0
+-- what the code answers for a command
+abbrev pub outcome_of : Advanced → Result Progress ℕ
+outcome_of (on p) = Ok On
+outcome_of complete = Ok Complete
+outcome_of (refused n) = Err n
 
 -- the first n rows are as they were
 pub record Kept (n : ℕ) (cells : Cells) (tables : List ℕ) (cells' : Cells) (tables' : List ℕ) : Type 0 where
   pub cell : (x : ℕ) → x < 8 * n → cell_in cells' x ≡ cell_in cells x
   pub table : (r : ℕ) → r < n → get_or tables' r 0 ≡ get_or tables r 0
 
--- the command c at place i, read into the draft p: the code has answered r and left the arrays
-pub record Advances (p : Draft) (s : List ℕ) (i : ℕ) (c : Command) (r : Advance) (cells : Cells) (tables : List ℕ) : Type 0 where
-  pub outcome : r.outcome ≡ outcome_of (admitted p s i c)
+-- the command c at place i, read into the draft p: the code has answered o, and left the design and the number of rows r and the arrays
+pub record Advances (p : Draft) (s : List ℕ) (i : ℕ) (c : Command) (o : Result Progress ℕ) (r : SoFar) (cells : Cells) (tables : List ℕ) : Type 0 where
+  pub outcome : o ≡ outcome_of (admitted p s i c)
   pub goes : (q : Draft) → admitted p s i c ≡ on q → q ≡ draft r.design r.rows cells tables
   pub whole : admitted p s i c ≡ complete → p ≡ draft r.design r.rows cells tables
+  pub stays : (n : ℕ) → admitted p s i c ≡ refused n → (r.design ≡ p.design) × (r.rows ≡ p.rows)
   pub kept : Kept p.rows p.cells p.tables cells tables
 
 -- ---- the first pass

@@ -1,6 +1,6 @@
 // The four kinds of commands before a design's END, each by its byte: 0x01 TABLE, 0x02 CONSTRAINT, 0x03 FILLING, 0x04 ROW. How many of a kind a
 // design with so many rows has and can have, and the causes of refusal that a command has whatever its operands. Constant time.
-ghost use Rattle.std.specs.Prelude.{◌≡◌};
+ghost use Rattle.std.specs.Prelude.{◌≡◌, ℕ, Ok, Err};
 ghost use Rattle.format.specs.Reading.{after_tables, after_constraints};
 ghost use Rattle.format.specs.Kinds.{count_of, most_of, is_late, order_cause};
 
@@ -52,15 +52,16 @@ fn is_late(d: Design, rows: usize, b: u8) -> bool
     }
 }
 
-// Cause 3 or 4 of one more command of a kind, 0 if neither applies.
-pub(crate) fn order_cause(d: Design, rows: usize, b: u8) -> u8
-    ensures { result ≡ order_cause d rows b }
+// Cause 3 or 4 of one more command of a kind, if one applies.
+pub(crate) fn in_order(d: Design, rows: usize, b: u8) -> Result<(), u8>
+    ensures ordered { result ≡ Ok tt → 0 ≡ order_cause d rows b }
+    ensures refused { (n : ℕ) → result ≡ Err n → (n ≡ order_cause d rows b) × (n ≡ 0 → ⊥) }
 {
     if is_late(d, rows, b) {
-        return 3;
+        return Err(3);
     }
     if most_of(b) <= count_of(d, rows, b) {
-        return 4;
+        return Err(4);
     }
-    0
+    Ok(())
 }

@@ -1,4 +1,4 @@
-// The first pass over a design with its rows: command by command into a draft, which is a design and a number of rows by value and three arrays that are lent. Causes 1 to
+// The first pass over a design with its rows: command by command into a draft, which is a design, a number of rows and three arrays that are lent. Causes 1 to
 // 5 are tested in document 01's order; cause 6 is left aside, and opening.rt finds it through the catalog of the rows read.
 ghost use Rattle.std.specs.Prelude.{◌≡◌, List, ℕ, suc, ◌+◌, ◌*◌, ◌≤◌, ◌<◌, eqb, length};
 ghost use Rattle.std.proofs.lemmas.List.Edits.{sets};
@@ -6,29 +6,26 @@ ghost use Rattle.finite.specs.Finite.{all, tab};
 ghost use Rattle.state.specs.Cells.{Cells, cells_in};
 ghost use Rattle.state.specs.Design.{empty_design};
 ghost use Rattle.command.specs.declared.command.Command.TheVariants as C;
-ghost use Rattle.format.specs.declared.reading.Outcome.TheVariants as O;
 ghost use Rattle.command.specs.Bytes.{byte_at};
 ghost use Rattle.command.specs.Commands.{command_at, row_cell_at, row_issue_at};
 ghost use Rattle.format.specs.Reading.{with_table, with_constraint, with_filling, needless, draft, read_from};
-ghost use Rattle.format.specs.Admitting.{cause_of, Advances, Stopped};
+ghost use Rattle.format.specs.Admitting.{Advances, Stopped};
 
-use crate::kinds::order_cause;
+use crate::kinds::in_order;
 use crate::verdict::Verdict;
 use command::{Command, command_at, row_cell, row_issue, width_of};
 use state::{Constraint, Design, Filling, Table};
 
-// What a command gives: the reading goes on, the design is complete, or the command is refused, with its cause.
+// What a command that isn't refused gives: the reading goes on behind it, or the design is complete.
 #[derive(Clone, Copy)]
-pub enum Outcome {
+pub enum Progress {
     On,
     Complete,
-    Cause(u8),
 }
 
-// The outcome with the design and the number of rows afterwards.
+// A design as far as it has been read, and how many of its rows.
 #[derive(Clone, Copy)]
-pub struct Advance {
-    pub outcome: Outcome,
+pub struct SoFar {
     pub design: Design,
     pub rows: usize,
 }
@@ -111,150 +108,98 @@ fn is_needless(script: &[u8], at: usize) -> bool
     script[at] == 0x07 && is_plain(script, at)
 }
 
-// ---- one command
+// ---- one command: it is read into the draft, or refused by its cause, which leaves the draft as it was
 
-// A command that is refused leaves the design and the number of rows as they were.
-fn refused(d: Design, rows: usize, cause: u8) -> Advance
-    ensures { result ≡ record { outcome = O.Cause cause; design = d; rows = rows } }
+// A TABLE. Constant time.
+fn take_table(d: &mut SoFar, t: Table) -> Result<Progress, u8>
+    ensures { (s : List ℕ) (cells : Cells) (tables : List ℕ) (i : ℕ) → Advances (draft d.old.design d.old.rows cells tables) s i (C.Table t) result d.new cells tables }
 {
-    Advance {
-        outcome: Outcome::Cause(cause),
-        design: d,
-        rows,
-    }
-}
-
-// A TABLE read into the draft. Constant time.
-fn take_table(d: Design, rows: usize, t: Table) -> Advance
-    ensures { (s : List ℕ) (cells : Cells) (tables : List ℕ) (i : ℕ) → Advances (draft d rows cells tables) s i (C.Table t) result cells tables }
-{
-    let cause = order_cause(d, rows, 0x01);
-    if cause != 0 {
-        return refused(d, rows, cause);
-    }
+    in_order(d.design, d.rows, 0x01)?;
     if !lawful::table_fits(t) {
-        return refused(d, rows, 5);
+        return Err(5);
     }
-    Advance {
-        outcome: Outcome::On,
-        design: with_table(d, t),
-        rows,
-    }
+    d.design = with_table(d.design, t);
+    Ok(Progress::On)
 }
 
 // A CONSTRAINT. One look at each constraint before it.
-fn take_constraint(d: Design, rows: usize, c: Constraint) -> Advance
-    ensures { (s : List ℕ) (cells : Cells) (tables : List ℕ) (i : ℕ) → Advances (draft d rows cells tables) s i (C.Constraint c) result cells tables }
+fn take_constraint(d: &mut SoFar, c: Constraint) -> Result<Progress, u8>
+    ensures { (s : List ℕ) (cells : Cells) (tables : List ℕ) (i : ℕ) → Advances (draft d.old.design d.old.rows cells tables) s i (C.Constraint c) result d.new cells tables }
 {
-    let cause = order_cause(d, rows, 0x02);
-    if cause != 0 {
-        return refused(d, rows, cause);
+    in_order(d.design, d.rows, 0x02)?;
+    if !lawful::constraint_fits(d.design, d.design.constraints, c) {
+        return Err(5);
     }
-    if !lawful::constraint_fits(d, d.constraints, c) {
-        return refused(d, rows, 5);
-    }
-    Advance {
-        outcome: Outcome::On,
-        design: with_constraint(d, c),
-        rows,
-    }
+    d.design = with_constraint(d.design, c);
+    Ok(Progress::On)
 }
 
 // A FILLING. One look at each filling before it.
-fn take_filling(d: Design, rows: usize, f: Filling) -> Advance
-    ensures { (s : List ℕ) (cells : Cells) (tables : List ℕ) (i : ℕ) → Advances (draft d rows cells tables) s i (C.Filling f) result cells tables }
+fn take_filling(d: &mut SoFar, f: Filling) -> Result<Progress, u8>
+    ensures { (s : List ℕ) (cells : Cells) (tables : List ℕ) (i : ℕ) → Advances (draft d.old.design d.old.rows cells tables) s i (C.Filling f) result d.new cells tables }
 {
-    let cause = order_cause(d, rows, 0x03);
-    if cause != 0 {
-        return refused(d, rows, cause);
+    in_order(d.design, d.rows, 0x03)?;
+    if !lawful::filling_fits(d.design, d.design.fillings, f) {
+        return Err(5);
     }
-    if !lawful::filling_fits(d, d.fillings, f) {
-        return refused(d, rows, 5);
-    }
-    Advance {
-        outcome: Outcome::On,
-        design: with_filling(d, f),
-        rows,
-    }
+    d.design = with_filling(d.design, f);
+    Ok(Progress::On)
 }
 
 // The ROW at place `at`, of table t. One look at each of its cells.
 fn take_row(
-    d: Design,
-    rows: usize,
+    d: &mut SoFar,
     script: &[u8],
     at: usize,
     t: u8,
     cells: &mut [u32],
     issues: &mut [u8],
     tables: &mut [u8],
-) -> Advance
+) -> Result<Progress, u8>
     requires { (at + 34 ≤ length script.now) × (byte_at script.now at ≡ 0x07 → at + 42 ≤ length script.now) × (length cells.old ≡ 4096) × (length issues.old ≡ 4096) × (length tables.old ≡ 512) }
-    ensures { Advances (draft d rows (cells_in cells.old issues.old) tables.old) script.now at (C.Row t) result (cells_in cells.new issues.new) tables.new }
+    ensures { Advances (draft d.old.design d.old.rows (cells_in cells.old issues.old) tables.old) script.now at (C.Row t) result d.new (cells_in cells.new issues.new) tables.new }
 {
-    let cause = order_cause(d, rows, 0x04);
-    if cause != 0 {
-        return refused(d, rows, cause);
-    }
+    in_order(d.design, d.rows, 0x04)?;
     if is_needless(script, at) {
-        return refused(d, rows, 5);
+        return Err(5);
     }
+    let rows = d.rows;
     store_cells(script, at, cells, rows);
     store_issues(script, at, issues, rows);
     tables[rows] = t;
-    if !lawful::row_fits(d, cells, issues, tables, rows) {
-        return refused(d, rows, 5);
+    if !lawful::row_fits(d.design, cells, issues, tables, rows) {
+        return Err(5);
     }
-    Advance {
-        outcome: Outcome::On,
-        design: d,
-        rows: rows + 1,
-    }
+    d.rows = rows + 1;
+    Ok(Progress::On)
 }
 
-// Any command, which stands at place `at`, read into the draft.
+// Any command, which stands at place `at`.
 fn take(
-    d: Design,
-    rows: usize,
+    d: &mut SoFar,
     script: &[u8],
     at: usize,
     c: Command,
     cells: &mut [u32],
     issues: &mut [u8],
     tables: &mut [u8],
-) -> Advance
+) -> Result<Progress, u8>
     requires { (c ≡ command_at script.now at) × (length cells.old ≡ 4096) × (length issues.old ≡ 4096) × (length tables.old ≡ 512) }
-    ensures { Advances (draft d rows (cells_in cells.old issues.old) tables.old) script.now at c result (cells_in cells.new issues.new) tables.new }
+    ensures { Advances (draft d.old.design d.old.rows (cells_in cells.old issues.old) tables.old) script.now at c result d.new (cells_in cells.new issues.new) tables.new }
 {
     match c {
-        Command::Table(t) => take_table(d, rows, t),
-        Command::Constraint(k) => take_constraint(d, rows, k),
-        Command::Filling(f) => take_filling(d, rows, f),
-        Command::Row(t) => take_row(d, rows, script, at, t, cells, issues, tables),
-        Command::End => Advance {
-            outcome: Outcome::Complete,
-            design: d,
-            rows,
-        },
-        Command::Operate(_) => refused(d, rows, 3),
-        Command::Put(_, _) => refused(d, rows, 3),
-        Command::Remove(_) => refused(d, rows, 3),
-        Command::Unknown => refused(d, rows, 2),
-        Command::Short => refused(d, rows, 1),
+        Command::Table(t) => take_table(d, t),
+        Command::Constraint(k) => take_constraint(d, k),
+        Command::Filling(f) => take_filling(d, f),
+        Command::Row(t) => take_row(d, script, at, t, cells, issues, tables),
+        Command::End => Ok(Progress::Complete),
+        Command::Operate(_) | Command::Put(_, _) | Command::Remove(_) => Err(3),
+        Command::Unknown => Err(2),
+        Command::Short => Err(1),
     }
 }
 
 // ---- the whole design
-
-// The cause of a refusal.
-fn cause_of(o: Outcome) -> u8
-    ensures { result ≡ cause_of o }
-{
-    let Outcome::Cause(n) = o else {
-        return 0;
-    };
-    n
-}
 
 // Reads from the first command to the END, or to the first that is refused, cause 6 left aside. Each command is read once.
 pub(crate) fn read_commands(
@@ -267,30 +212,23 @@ pub(crate) fn read_commands(
     ensures { Stopped (read_from (suc (length script.now)) script.now
         (draft empty_design 0 (cells_in cells.old issues.old) tables.old) 0) result (cells_in cells.new issues.new) tables.new }
 {
-    let mut d = Design::empty();
-    let mut rows = 0usize;
+    let mut d = SoFar {
+        design: Design::empty(),
+        rows: 0,
+    };
     let mut at = 0usize;
-    loop {
+    // no iterator: where the next command begins, this one says
+    let verdict = loop {
         let c = command_at(script, at);
-        let step = take(d, rows, script, at, c, cells, issues, tables);
-        let o = step.outcome;
-        if let Outcome::Complete = o {
-            return Stop {
-                verdict: Verdict::Accepted(at + 1),
-                design: d,
-                rows,
-            };
+        match take(&mut d, script, at, c, cells, issues, tables) {
+            Ok(Progress::On) => at += width_of(script[at]),
+            Ok(Progress::Complete) => break Verdict::Accepted(at + 1),
+            Err(cause) => break Verdict::Refused(cause, at),
         }
-        let Outcome::On = o else {
-            return Stop {
-                verdict: Verdict::Refused(cause_of(o), at),
-                design: d,
-                rows,
-            };
-        };
-        let e = step.design;
-        d = e;
-        rows = step.rows;
-        at = at + width_of(script[at]);
+    };
+    Stop {
+        verdict,
+        design: d.design,
+        rows: d.rows,
     }
 }

@@ -1,30 +1,33 @@
 -- `format::reading::take_constraint` meets its contract: each early return is one refusal. Assumes nothing.
 use native.Mathlib.Omega.{arith}
 use mathlib.Core.Path.{refl, sym, ap, ◌∙◌}
+use Rattle.std.specs.Prelude.{Err}
+use Rattle.std.proofs.lemmas.Result.{err_from_is_err_and}
 use Rattle.format.specs.Reading.{draft}
 use Rattle.format.specs.Kinds.{count_of, most_of}
 use Rattle.format.proofs.KindLaws.{item_refused, item-wrong, item-right, order-room}
 use Rattle.format.proofs.AdvancesLaws.{advances-refused, advances-on, kept-all, constraint-item}
 use Rattle.format.proofs.reading.take_constraint.Goals as goal
 
-pub returns-then-cause-ne0 : goal.returns-then-cause-ne0
-returns-then-cause-ne0 c = λ s cells tables i. advances-refused _ _ _ _ _ _ _ _ _ _ c.refused.ensures
-    (constraint-item _ _ _ _ ∙ item_refused _ _ 2 _ _ _ c.order_cause-cause.ensures c.if-cause-ne0.true) (kept-all _ _ _)
+pub returns-in_err-in_order : goal.returns-in_err-in_order
+returns-in_err-in_order c = λ s cells tables i. let p = err_from_is_err_and c.from_residual.result c.from_residual.ensures.1 in
+    let r = c.in_order.ensures.refused _ c.in_err-in_order.was in
+    advances-refused _ _ _ _ _ _ _ _ _ (p.1 ∙ ap Err p.2) refl (constraint-item _ _ _ _ ∙ item_refused _ _ 2 _ _ _ r.0 r.1) (kept-all _ _ _)
 
 pub constraint_fits-requires : goal.constraint_fits-requires
 unfolding count_of most_of
-constraint_fits-requires c = let l = order-room _ _ 2 _ c.order_cause-cause.ensures c.if-cause-ne0.false in omega arith
+constraint_fits-requires c = let l = order-room _ _ 2 _ (c.in_order.ensures.ordered c.in_ok-in_order.was) refl in omega arith
 
 pub returns-then-not-constraint_fits : goal.returns-then-not-constraint_fits
-returns-then-not-constraint_fits c = λ s cells tables i. advances-refused _ _ _ _ _ _ _ 5 _ _ c.refused-then-not-constraint_fits.ensures
-    (constraint-item _ _ _ _ ∙ item-wrong _ _ 2 _ _ _ c.order_cause-cause.ensures c.if-cause-ne0.false (sym c.constraint_fits.ensures ∙ c.if-not-constraint_fits.true))
+returns-then-not-constraint_fits c = λ s cells tables i. advances-refused _ _ _ _ _ _ _ _ 5 refl refl
+    (constraint-item _ _ _ _ ∙ item-wrong _ _ 2 _ _ _ (c.in_order.ensures.ordered c.in_ok-in_order.was) refl (sym c.constraint_fits.ensures ∙ c.if-not-constraint_fits.true))
     (kept-all _ _ _)
 
-pub with_constraint-requires : goal.with_constraint-requires
+pub with_constraint-d-requires : goal.with_constraint-d-requires
 unfolding count_of most_of
-with_constraint-requires c = order-room _ _ 2 _ c.order_cause-cause.ensures c.if-cause-ne0.false
+with_constraint-d-requires c = order-room _ _ 2 _ (c.in_order.ensures.ordered c.in_ok-in_order.was) refl
 
 pub returns : goal.returns
-returns c = λ s cells tables i. advances-on _ _ _ _ _ _ _ refl
-    (constraint-item _ _ _ _ ∙ item-right _ _ 2 _ _ _ c.order_cause-cause.ensures c.if-cause-ne0.false _ (sym c.constraint_fits.ensures ∙ c.if-not-constraint_fits.false) (ap (λ x. draft x c.args.rows cells tables) (sym c.with_constraint.ensures)))
+returns c = λ s cells tables i. advances-on _ _ _ _ _ _ _ _ refl
+    (constraint-item _ _ _ _ ∙ item-right _ _ 2 _ _ _ (c.in_order.ensures.ordered c.in_ok-in_order.was) refl _ (sym c.constraint_fits.ensures ∙ c.if-not-constraint_fits.false) (ap (λ x. draft x c.args.d.now.rows cells tables) (sym c.with_constraint-d.ensures)))
     (kept-all _ _ _)
