@@ -45,8 +45,7 @@ fn read_rows(
     let d = stop.design;
     catalog::build(d, cells, issues, tables, catalog, keys);
     let n = stop.rows;
-    let r = first_repeat(d, n, tables, catalog);
-    if r < n {
+    if let Some(r) = first_repeat(d, n, tables, catalog) {
         return refusal(6, row_place(d, issues, r));
     }
     match stop.verdict {
