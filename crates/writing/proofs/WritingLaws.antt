@@ -22,7 +22,6 @@ use Rattle.finite.specs.Writing.{Wrote}
 use Rattle.finite.proofs.Writing.{wrote_none, wrote_as, wrote-long}
 use Rattle.finite.proofs.Stores.{sets_then, stored-three, stored-five}
 use Rattle.state.specs.Cells.{Cells}
-use Rattle.state.specs.declared.cell.Cell.{Cell}
 use Rattle.state.specs.declared.design.Table.{Table}
 use Rattle.state.specs.declared.design.Constraint.{Constraint}
 use Rattle.state.specs.declared.design.Filling.{Filling}
@@ -31,7 +30,7 @@ use Rattle.state.specs.Design.{table_at, constraint_at, filling_at}
 use Rattle.state.specs.Meaning.{database_of}
 use Rattle.command.specs.Bytes.{u32_bytes}
 use Rattle.format.specs.Kinds.{count_of}
-use Rattle.format.specs.Writing.{table_bytes, constraint_bytes, filling_bytes, number_bytes, cells_bytes, issues_bytes, is_issued, row_bytes, design_bytes, row_at, item_bytes, kind_bytes}
+use Rattle.format.specs.Writing.{table_bytes, constraint_bytes, filling_bytes, cells_bytes, issues_bytes, is_issued, row_bytes, design_bytes, row_at, item_bytes, kind_bytes}
 use Rattle.format.proofs.RowText.{row_width}
 use Rattle.format.proofs.Lengths.{length-u32, length-filling, length-cells, length-row}
 
@@ -50,10 +49,7 @@ issues-copied issues xs r e l =
     e ∙ tab-of 0 8 (λ c. get_or issues (8 * r + c) 0) (between (8 * r) (8 * r + 8) issues) (length-between issues (8 * r) (8 * r + 8) l ∙ omega arith)
     (λ c h. get_or-between issues (8 * r) (8 * r + 8) c 0 (omega arith))
 
--- ---- a value and each command, as they are stored
-
-pub stored-value : (l l' : List ℕ) (i : ℕ) (v w : Cell) → l' ≡ sets l i (number_bytes v) → v ≡ w → l' ≡ sets l i (number_bytes w)
-stored-value l l' i v w h e = h ∙ ap (λ (x : Cell). sets l i (number_bytes x)) e
+-- ---- each command, as it is stored
 
 pub wrote-table : (l : List ℕ) (i : ℕ) (t : Table) → Wrote l (set (set (set l i 1) (i + 1) t.columns) (i + 2) t.unique) i (i + 3) (table_bytes t)
 unfolding table_bytes

@@ -6,11 +6,11 @@ ghost use Rattle.finite.specs.Writing.{Wrote};
 ghost use Rattle.state.specs.Cells.{cells_in};
 ghost use Rattle.state.specs.Design.{InRange, Backed};
 ghost use Rattle.format.specs.Kinds.{count_of};
-ghost use Rattle.format.specs.Writing.{table_bytes, constraint_bytes, filling_bytes, number_bytes, cells_bytes, issues_bytes, row_bytes, row_at, design_bytes, item_bytes, kind_bytes};
+ghost use Rattle.format.specs.Writing.{table_bytes, constraint_bytes, filling_bytes, cells_bytes, issues_bytes, row_bytes, row_at, design_bytes, item_bytes, kind_bytes};
 
 use crate::numbers::put_u32;
 use format::{count_of, is_issued};
-use state::{Cell, Constraint, Design, Filling, Table, cell_at, is_live};
+use state::{Constraint, Design, Filling, Table, is_live};
 
 // One command each, from place `at` on, and the place after it. Constant time.
 fn put_table(out: &mut [u8], at: usize, t: Table) -> usize
@@ -47,20 +47,13 @@ fn put_filling(out: &mut [u8], at: usize, f: Filling) -> usize
     at + 11
 }
 
-fn put_number(out: &mut [u8], at: usize, v: Cell)
-    requires { at + 4 ≤ length out.old }
-    ensures { out.new ≡ sets out.old at (number_bytes v) }
-{
-    put_u32(out, at, v.number);
-}
-
 // The numbers of the eight cells of row r, and their issues.
-fn put_cells(out: &mut [u8], at: usize, cells: &[u32], issues: &[u8], r: usize)
-    requires { (r < 512) × (4096 ≤ length cells.now) × (4096 ≤ length issues.now) × (at + 32 ≤ length out.old) }
-    ensures { out.new ≡ sets out.old at (cells_bytes (cells_in cells.now issues.now) r) }
+fn put_cells(out: &mut [u8], at: usize, cells: &[u32], r: usize)
+    requires { (r < 512) × (4096 ≤ length cells.now) × (at + 32 ≤ length out.old) }
+    ensures { (issues : List ℕ) → out.new ≡ sets out.old at (cells_bytes (cells_in cells.now issues) r) }
 {
     for c in 0..Design::COLUMNS {
-        put_number(out, at + 4 * c, cell_at(cells, issues, r, c));
+        put_u32(out, at + 4 * c, cells[8 * r + c]);
     }
 }
 
@@ -72,22 +65,14 @@ fn put_issues(out: &mut [u8], at: usize, issues: &[u8], r: usize)
 }
 
 // A row's command up to its cells: the byte b, the table, the numbers.
-fn put_front(
-    out: &mut [u8],
-    at: usize,
-    b: u8,
-    cells: &[u32],
-    issues: &[u8],
-    tables: &[u8],
-    r: usize,
-)
-    requires { (r < 512) × Backed (cells_in cells.now issues.now) tables.now × (at + 34 ≤ length out.old) }
-    ensures { out.new ≡ sets out.old at
-        (b ∷ get_or tables.now r 0 ∷ cells_bytes (cells_in cells.now issues.now) r) }
+fn put_front(out: &mut [u8], at: usize, b: u8, cells: &[u32], tables: &[u8], r: usize)
+    requires { (r < 512) × (4096 ≤ length cells.now) × (512 ≤ length tables.now) × (at + 34 ≤ length out.old) }
+    ensures { (issues : List ℕ) → out.new ≡ sets out.old at
+        (b ∷ get_or tables.now r 0 ∷ cells_bytes (cells_in cells.now issues) r) }
 {
     out[at] = b;
     out[at + 1] = tables[r];
-    put_cells(out, at + 2, cells, issues, r);
+    put_cells(out, at + 2, cells, r);
 }
 
 // A row as 0x04, or as 0x07 if it has an issue.
@@ -104,10 +89,10 @@ fn put_row(
     ensures { Wrote out.old out.new at result (row_bytes (cells_in cells.now issues.now) tables.now r) }
 {
     if !is_issued(issues, r) {
-        put_front(out, at, 0x04, cells, issues, tables, r);
+        put_front(out, at, 0x04, cells, tables, r);
         return at + 34;
     }
-    put_front(out, at, 0x07, cells, issues, tables, r);
+    put_front(out, at, 0x07, cells, tables, r);
     put_issues(out, at + 34, issues, r);
     at + 42
 }

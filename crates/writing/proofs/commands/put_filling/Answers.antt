@@ -5,12 +5,6 @@ use lib.ListN.{length-set}
 use Rattle.writing.proofs.WritingLaws.{wrote-filling}
 use Rattle.writing.proofs.commands.put_filling.Goals as goal
 
-pub bounds-out-at-2 : goal.bounds-out-at-2
-bounds-out-at-2 c = simp length-set (omega arith)
-
-pub bounds-out-at-3 : goal.bounds-out-at-3
-bounds-out-at-3 c = simp length-set (omega arith)
-
 pub put_u32-requires : goal.put_u32-requires
 put_u32-requires c = simp length-set (omega arith)
 

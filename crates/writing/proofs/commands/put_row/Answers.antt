@@ -8,17 +8,17 @@ pub is_issued-requires : goal.is_issued-requires
 is_issued-requires c = (c.requires.0, c.requires.1.issued)
 
 pub put_front-requires : goal.put_front-requires
-put_front-requires c = (c.requires.0, c.requires.1, room-plain _ _ _ _ _ c.requires.2 (sym (c.is_issued.ensures _) ∙ c.if-not-is_issued.true))
+put_front-requires c = (c.requires.0, c.requires.1.rows, c.requires.1.members, room-plain _ _ _ _ _ c.requires.2 (sym (c.is_issued.ensures _) ∙ c.if-not-is_issued.true))
 
 pub overflow_add-result : goal.overflow_add-result
 overflow_add-result c = let l = room-plain _ _ _ _ _ c.requires.2 (sym (c.is_issued.ensures _) ∙ c.if-not-is_issued.true) in omega (arith, l)
 
 pub returns-then-not-is_issued : goal.returns-then-not-is_issued
-returns-then-not-is_issued c = wrote-plain _ _ _ _ _ _ (sym (c.is_issued.ensures _) ∙ c.if-not-is_issued.true) c.put_front.ensures
+returns-then-not-is_issued c = wrote-plain _ _ _ _ _ _ (sym (c.is_issued.ensures _) ∙ c.if-not-is_issued.true) (c.put_front.ensures _)
 
 pub put_front-requires-2 : goal.put_front-requires-2
 put_front-requires-2 c = let l = room-issued _ _ _ _ _ c.requires.2 (sym (c.is_issued.ensures _) ∙ c.if-not-is_issued.false) in
-    (c.requires.0, c.requires.1, omega (arith, l))
+    (c.requires.0, c.requires.1.rows, c.requires.1.members, omega (arith, l))
 
 pub overflow_add-at : goal.overflow_add-at
 overflow_add-at c = let l = room-issued _ _ _ _ _ c.requires.2 (sym (c.is_issued.ensures _) ∙ c.if-not-is_issued.false) in omega (arith, l)
@@ -31,4 +31,4 @@ pub overflow_add-result-2 : goal.overflow_add-result-2
 overflow_add-result-2 c = let l = room-issued _ _ _ _ _ c.requires.2 (sym (c.is_issued.ensures _) ∙ c.if-not-is_issued.false) in omega (arith, l)
 
 pub returns : goal.returns
-returns c = wrote-issued _ _ _ _ _ _ _ (sym (c.is_issued.ensures _) ∙ c.if-not-is_issued.false) c.put_front-2.ensures (c.put_issues.ensures _)
+returns c = wrote-issued _ _ _ _ _ _ _ (sym (c.is_issued.ensures _) ∙ c.if-not-is_issued.false) (c.put_front-2.ensures _) (c.put_issues.ensures _)
