@@ -14,12 +14,6 @@ evenness-requires c = let b = c in sound-range _ b.requires.0 (sized b.args.desi
 pub smallest_knot-requires : goal.smallest_knot-requires
 smallest_knot-requires c = let b = c in sound-range _ b.requires.0 (sized b.args.design _ b.well_formed.1.0)
 
-pub opener_lawful-requires : goal.opener_lawful-requires
-opener_lawful-requires c = let b = c in record { held_value = b.requires.0; catalogued = b.requires.1 }
-
-pub reason_lawful-requires : goal.reason_lawful-requires
-reason_lawful-requires c = let b = c in (b.requires.0, b.requires.1)
-
 pub returns-in-Evenness : goal.returns-in-Evenness
 unfolding reply
 returns-in-Evenness c = λ w i. let b = c in in-case _ _ _ _ _ _ _ _ _ _ _ c.in-Evenness.is

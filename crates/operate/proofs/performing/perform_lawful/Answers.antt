@@ -16,18 +16,6 @@ drop_lawful-requires c = let b = c in record { whole = b.requires.2; by_index = 
 pub probe_lawful-requires : goal.probe_lawful-requires
 probe_lawful-requires c = let b = c in (_, _, b.requires.0, b.requires.1.index)
 
-pub query_lawful-requires : goal.query_lawful-requires
-query_lawful-requires c = let b = c in (b.requires.0, b.requires.1, b.requires.2)
-
-pub inspect_lawful-requires : goal.inspect_lawful-requires
-inspect_lawful-requires c = (c.requires.0, c.requires.1)
-
-pub query_lawful-requires-in-Total : goal.query_lawful-requires-in-Total
-query_lawful-requires-in-Total c = let b = c in (b.requires.0, b.requires.1, b.requires.2)
-
-pub name_lawful-requires : goal.name_lawful-requires
-name_lawful-requires c = let b = c in b.requires.2
-
 pub refer_range_lawful-requires : goal.refer_range_lawful-requires
 refer_range_lawful-requires c = let b = c in record { whole = b.requires.2; by_index = (_, _, (ready _ _ _ _ _ _ _ b.requires.0 b.requires.1)) }
 
