@@ -6,12 +6,11 @@ use mathlib.Core.Path.{◌≡◌, refl, sym, ap, ◌∙◌}
 use mathlib.Core.Logic.{⊎_elim}
 use mathlib.Core.Bool.{Bool, true, false, not}
 use mathlib.Core.List.{List}
-use borrow.Author.Tests.{eqb-true, eq-eqb, ne_eqb}
+use borrow.Author.Tests.{eqb-true}
 use lib.Dec.{ltb}
-use lib.ListN.{length, get_or}
+use lib.ListN.{length}
 use lib.Seq.{get_or-take}
-use Rattle.finite.proofs.Bools.{dec, cond-true, cond-false}
-use Rattle.finite.proofs.Tables.{tab-at}
+use Rattle.finite.proofs.Bools.{dec}
 use Rattle.model.specs.Runs.{ask, reason, marked, cached_for}
 use Rattle.model.specs.Answers.{Answer, refused, absent, explained, unless, or_answer, shown, has_text, reason_answer, text_with}
 use Rattle.model.specs.Effects.{effect, reply}

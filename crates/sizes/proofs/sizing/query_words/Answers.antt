@@ -20,7 +20,7 @@ pub returns-then-not-operands_fit : goal.returns-then-not-operands_fit
 returns-then-not-operands_fit c = let s = c in elim c.then-not-operands_fit.branch [
   | then-not-operands_fit-via-then-not-operands_fit w ↦ sym (ap length (given-misfit _ s.requires.0 s.args.q (sym c.operands_fit.ensures ∙ w.if-not-operands_fit.true) _).1)
   | then-not-operands_fit-via-else-not-operands_fit+then-is_numberless w ↦
-    sym (ap length (given-numberless _ s.requires.0 s.args.q (sym c.operands_fit.ensures ∙ w.if-not-operands_fit.false) (sym w.is_numberless.ensures ∙ w.if-is_numberless.true) _).1)
+      sym (ap length (given-numberless _ s.requires.0 s.args.q (sym c.operands_fit.ensures ∙ w.if-not-operands_fit.false) (sym w.is_numberless.ensures ∙ w.if-is_numberless.true) _).1)
 ]
 
 pub overflow_cast-v : goal.overflow_cast-v
