@@ -1,116 +1,81 @@
-// Reading the list of vectors: lines, fields, numbers and bytes. Every function is total: past an end there are zeros, and nothing is written.
+// Reading the list of vectors: fields, numbers and bytes. Every function is total: what isn't there is empty, or 0.
+use std::alloc::{AllocError, Global};
 
-// The byte at an index; 0 past the end. Constant time.
-pub(crate) fn byte_at(text: &[u8], i: usize) -> u8 {
-    if i < text.len() { text[i] } else { 0 }
+// The first n bytes, or all of them where there are fewer. Constant time.
+pub(crate) fn first(n: usize, text: &[u8]) -> &[u8] {
+    text.get(..n).unwrap_or(text)
 }
 
-// The index behind i, but not behind `to`. Constant time.
-pub(crate) fn after(i: usize, to: usize) -> usize {
-    if i < to { i + 1 } else { to }
+// What stands before the next bar, and what stands behind it. One step for each byte.
+fn cut(text: &[u8]) -> (&[u8], &[u8]) {
+    let mut parts = text.splitn(2, |b| *b == b'|');
+    let front = parts.next().unwrap_or(&[]);
+    (front, parts.next().unwrap_or(&[]))
 }
 
-// Where a byte stands next, from an index on and before `to`; else `to`. One step for each byte.
-pub(crate) fn find(text: &[u8], from: usize, to: usize, byte: u8) -> usize {
-    let mut i = from;
-    while i < to {
-        if byte_at(text, i) == byte {
-            return i;
-        }
-        i += 1;
+// A line's three fields, and the last two with the bar between them. A bar ends the first and the second.
+#[derive(Clone, Copy)]
+pub struct Fields<'a> {
+    pub name: &'a [u8],
+    pub expected: &'a [u8],
+    pub rest: &'a [u8],
+    pub behind_name: &'a [u8],
+}
+
+// The fields of a line from behind its kind on, a byte passed over.
+pub(crate) fn fields_of(text: &[u8]) -> Fields<'_> {
+    let (name, behind_name) = cut(text.get(1..).unwrap_or(&[]));
+    let (expected, rest) = cut(behind_name);
+    Fields {
+        name,
+        expected,
+        rest,
+        behind_name,
     }
-    to
 }
 
-// Writes a byte, if it has room, and gives the index behind it. Constant time.
-pub(crate) fn put(bytes: &mut [u8], at: usize, b: u8) -> usize {
-    if at < bytes.len() {
-        bytes[at] = b;
-        return at + 1;
-    }
-    at
-}
-
-// A hexadecimal digit's value; 16 for any other byte. Constant time.
-fn digit(b: u8) -> u8 {
+// A hexadecimal digit's value; capitals are none. Constant time.
+fn digit(b: u8) -> Option<u8> {
     match b {
-        48..=57 => b - 48,
-        97..=102 => b - 87,
-        _ => 16,
+        b'0'..=b'9' => Some(b - b'0'),
+        b'a'..=b'f' => Some(b - b'a' + 10),
+        _ => None,
     }
 }
 
-// Where bytes are written next, and the first digit of one that is begun; 16 if none is.
-#[derive(Clone, Copy)]
-struct Begun {
-    at: usize,
-    high: u8,
-}
-
-// One more digit; what is none is passed over. Constant time.
-fn put_digit(bytes: &mut [u8], b: Begun, d: u8) -> Begun {
-    if 16 <= d {
-        return b;
-    }
-    if 16 <= b.high {
-        return Begun { at: b.at, high: d };
-    }
-    Begun {
-        at: put(bytes, b.at, b.high % 16 * 16 + d % 16),
-        high: 16,
-    }
-}
-
-// Writes the bytes that two digits each stand for. One step for each byte of the text.
-pub(crate) fn put_hex(text: &[u8], from: usize, to: usize, bytes: &mut [u8], at: usize) -> usize {
-    let mut b = Begun { at, high: 16 };
-    let mut i = from;
-    while i < to {
-        let next = put_digit(bytes, b, digit(byte_at(text, i)));
-        b = next;
-        i += 1;
-    }
-    b.at
-}
-
-// A number in decimal, and where it ends.
-#[derive(Clone, Copy)]
-pub struct Number {
-    pub value: usize,
-    pub end: usize,
-}
-
-// The number that stands at an index, spaces before it passed over; 0 where there is none. One step for each byte.
-pub(crate) fn number_at(text: &[u8], from: usize, to: usize) -> Number {
-    let mut value = 0;
-    let mut is_begun = false;
-    let mut i = from;
-    while i < to {
-        let d = digit(byte_at(text, i));
-        if d < 10 {
-            value = value % 1000000 * 10 + d as usize;
-            is_begun = true;
-        } else if is_begun {
-            return Number { value, end: i };
+// The bytes that two digits each stand for; what is no digit is passed over, and so is a last digit alone. One step for each byte of the text.
+pub(crate) fn from_hex(alloc: Global, text: &[u8]) -> Result<Vec<u8>, AllocError> {
+    let mut bytes = Vec::new(alloc);
+    let mut high = None;
+    for low in text.iter().filter_map(|b| digit(*b)) {
+        if let Some(h) = high {
+            bytes.push(h << 4 | low)?;
+            high = None;
+        } else {
+            high = Some(low);
         }
-        i += 1;
     }
-    Number { value, end: to }
+    Ok(bytes)
 }
 
-// Whether the bytes from `from` to `to` of a text are the first n of another. One step for each byte.
-pub(crate) fn is_part(text: &[u8], from: usize, to: usize, other: &[u8], n: usize) -> bool {
-    let mut i = from;
-    let mut j = 0;
-    while i < to {
-        if n <= j {
-            return false;
-        }
-        if byte_at(text, i) != byte_at(other, j) {
-            return false;
-        }
-        i += 1;
-        j += 1;
+// The next number in decimal, of its last seven digits, what stands before it passed over; 0 where there is none. And what stands behind it. One step for each byte.
+pub(crate) fn number(text: &[u8]) -> (usize, &[u8]) {
+    let start = text.iter().position(|b| b.is_ascii_digit());
+    let digits = text.get(start.unwrap_or(text.len())..).unwrap_or(&[]);
+    let end = digits.iter().position(|b| !b.is_ascii_digit());
+    let (digits, rest) = digits.split_at(end.unwrap_or(digits.len()));
+    let value = digits.iter().fold(0, |n, d| {
+        n % 1_000_000 * 10 + usize::from(d.wrapping_sub(b'0'))
+    });
+    (value, rest)
+}
+
+// The next N numbers. One step for each byte.
+pub(crate) fn numbers<const N: usize>(text: &[u8]) -> [usize; N] {
+    let mut values = [0; N];
+    let mut rest = text;
+    for value in &mut values {
+        (*value, rest) = number(rest);
     }
-    j == n
+    values
 }

@@ -15,116 +15,129 @@
 // Any other line is a comment.
 #![tactic(auto)]
 
-ghost use Rattle.std.specs.Prelude.{◌≤◌, length, IfOk};
-
 mod buffers;
-mod held;
 mod lent;
 mod list;
-mod scripts;
 mod vectors;
 
-use crate::list::{after, byte_at, find, number_at, put_hex};
-use crate::vectors::{Tally, fields_of, say_tally, vector};
+use crate::list::{fields_of, first, from_hex, number};
+use crate::vectors::Setting;
+use std::alloc::{AllocError, Global};
 use std::io;
-use std::io::{Read, Stdin, Stdout};
+use std::io::{Read, Stdin, Stdout, Write};
 
-// How far the list has been read: the script's length, the words and the bytes of text lent, and the tally.
-#[derive(Clone, Copy)]
-pub struct Progress {
-    pub length: usize,
-    pub words: usize,
-    pub bytes: usize,
-    pub tally: Tally,
+// A list has no more bytes, and no more lines, than these.
+const MOST_TEXT: u64 = 65536;
+
+const MOST_LINES: usize = 4096;
+
+// More bytes than a script may have: what is longer is cut there, and so is how often bytes are written.
+const MOST_SCRIPT: usize = 65600;
+
+const MOST_TIMES: usize = 65537;
+
+// How far the list has been read: what is lent from here on, how many vectors there were, and how many of them were wrong.
+#[derive(Drop)]
+struct Progress {
+    setting: Setting,
+    vectors: u64,
+    wrong: u64,
 }
 
-// One byte more than a script may have.
-const MOST_BYTES: usize = 65537;
-
-// More of the script, so many times over. The number of bytes.
-fn append(text: &[u8], from: usize, to: usize, script: &mut [u8], at: usize) -> usize {
-    let times = number_at(text, from, to);
-    let mut n = at;
-    let mut i: usize = 0;
-    while i < MOST_BYTES {
-        if times.value <= i {
-            return n;
-        }
-        i += 1;
-        n = put_hex(text, times.end, to, script, n);
-    }
-    n
+// More of the script. One step for each byte.
+fn append(script: &mut Vec<u8>, bytes: &[u8]) -> Result<(), AllocError> {
+    let room = MOST_SCRIPT.saturating_sub(script.len());
+    script.extend_from_slice(first(room, bytes))
 }
 
-// One line of the list, whose first byte is at `from`.
-fn read_line(
-    output: Stdout,
-    text: &[u8],
-    from: usize,
-    to: usize,
-    script: &mut [u8],
-    mut p: Progress,
-) -> io::Result<Progress> {
-    let next = after(from, to);
-    let kind = byte_at(text, from);
-    match kind {
-        b'=' => p.length = put_hex(text, next, to, script, 0),
-        b'+' => p.length = append(text, next, to, script, p.length),
-        b'w' => p.words = number_at(text, next, to).value,
-        b'x' => p.bytes = number_at(text, next, to).value,
-        b'?' | b'a' | b't' | b'!' | b'r' | b'b' => {
-            let f = fields_of(text, next, to);
-            p.tally = vector(
-                output, text, kind, f, script, p.length, p.words, p.bytes, p.tally,
-            )?;
-        }
-        _ => {}
-    }
-    Ok(p)
+// A part of a line, 256 bytes of it at the most.
+fn say(mut output: Stdout, text: &[u8]) -> io::Result<()> {
+    output.write_all(first(256, text))
 }
 
-// All lines; there are fewer than 4,096.
-fn read_lines(output: Stdout, text: &[u8], script: &mut [u8]) -> io::Result<Tally> {
-    let mut p = Progress {
-        length: 0,
-        words: 4096,
-        bytes: 512,
-        tally: Tally {
+// A vector's line: what was expected and what was got.
+fn say_vector(output: Stdout, name: &[u8], expected: &[u8], got: &[u8]) -> io::Result<()> {
+    say(output, name)?;
+    say(output, b": expected ")?;
+    say(output, expected)?;
+    say(output, b", got ")?;
+    say(output, got)?;
+    say(output, b"\n")
+}
+
+impl Progress {
+    fn new(alloc: Global) -> Progress {
+        let setting = Setting {
+            script: Vec::new(alloc),
+            words: 4096,
+            bytes: 512,
+        };
+        Progress {
+            setting,
             vectors: 0,
             wrong: 0,
-        },
-    };
-    let mut at = 0;
-    let mut i: usize = 0;
-    while i < 4096 {
-        let end = find(text, at, text.len(), b'\n');
-        let q = read_line(output, text, at, end, script, p)?;
-        p = q;
-        at = after(end, text.len());
-        i += 1;
+        }
     }
-    Ok(p.tally)
+
+    // A new script, which begins with these bytes.
+    fn begin(&mut self, alloc: Global, text: &[u8]) -> Result<(), AllocError> {
+        let bytes = from_hex(alloc, text)?;
+        self.setting.script.clear();
+        append(&mut self.setting.script, &bytes)
+    }
+
+    // More of the script, so many times over.
+    fn extend(&mut self, alloc: Global, text: &[u8]) -> Result<(), AllocError> {
+        let (times, rest) = number(text);
+        let bytes = from_hex(alloc, rest)?;
+        for _ in 0..times.min(MOST_TIMES) {
+            append(&mut self.setting.script, &bytes)?;
+        }
+        Ok(())
+    }
+
+    // A vector, or a line of another kind, which is passed over.
+    fn judge(&mut self, alloc: Global, output: Stdout, kind: u8, text: &[u8]) -> io::Result<()> {
+        let f = fields_of(text);
+        if let Some(got) = self.setting.got(alloc, kind, f)? {
+            self.vectors = self.vectors.saturating_add(1);
+            self.wrong = self
+                .wrong
+                .saturating_add(u64::from(got.as_slice() != f.expected));
+            say_vector(output, f.name, f.expected, &got)?;
+        }
+        Ok(())
+    }
+
+    // One line of the list.
+    fn read_line(&mut self, alloc: Global, output: Stdout, line: &[u8]) -> io::Result<()> {
+        let Some((kind, text)) = line.split_first() else {
+            return Ok(());
+        };
+        match *kind {
+            b'=' => self.begin(alloc, text)?,
+            b'+' => self.extend(alloc, text)?,
+            b'w' => self.setting.words = number(text).0,
+            b'x' => self.setting.bytes = number(text).0,
+            kind => self.judge(alloc, output, kind, text)?,
+        }
+        Ok(())
+    }
 }
 
-// Reads standard input until it ends or the buffer is full, and gives how many bytes there were.
-fn read_all(mut from: Stdin, text: &mut [u8]) -> io::Result<usize>
-    ensures { IfOk result (λ n. n ≤ length text.new) }
-{
-    let mut n: usize = 0;
-    while n < text.len() {
-        let k = from.read(&mut text[n..])?;
-        if k == 0 {
-            break;
-        }
-        n += k;
-    }
-    Ok(n)
+// Standard input, as far as a list may go.
+fn read_all(alloc: Global, from: Stdin) -> io::Result<Vec<u8>> {
+    let mut text = Vec::new(alloc);
+    from.take(MOST_TEXT).read_to_end(&mut text)?;
+    Ok(text)
 }
 
 fn main(rt: HostRuntime) -> io::Result<()> {
-    let mut text = [0u8; 65536];
-    let mut script = [0u8; 65600];
-    let n = read_all(rt.stdin(), &mut text)?;
-    let tally = read_lines(rt.stdout(), &text[..n], &mut script)?;
-    say_tally(rt.stdout(), tally)
+    let alloc = rt.alloc();
+    let text = read_all(alloc, rt.stdin())?;
+    let mut p = Progress::new(alloc);
+    for line in text.split(|b| *b == b'\n').take(MOST_LINES) {
+        p.read_line(alloc, rt.stdout(), line)?;
+    }
+    println!(rt; "{} vectors, {} wrong", p.vectors, p.wrong)
 }

@@ -1,294 +1,190 @@
 // One vector: what it gives, beside what was expected.
-ghost use Rattle.std.specs.Prelude.{◌≡◌, length, min};
+use crate::buffers::{operations, reading};
+use crate::lent::{Change, Lengths, Room, Rows, State, state_after};
+use crate::list::{Fields, number, numbers};
+use format::Verdict;
+use report::{put_command_line, put_refusal_line};
+use script::Step;
+use std::alloc::{AllocError, Global};
 
-use crate::buffers::{are_bytes_left, are_cells_left, are_same_words, operations, reading};
-use crate::lent::{Causes, State, changed, operated, state_after};
-use crate::list::{after, byte_at, find, is_part, number_at, put};
-use crate::scripts::{Line, bytes_lent, line_at};
-use std::io;
-use std::io::{Stdout, Write};
-
-// How many vectors there were, and how many of them were wrong.
-#[derive(Clone, Copy)]
-pub struct Tally {
-    pub vectors: u64,
-    pub wrong: u64,
+// The script, and the words and bytes of text that are lent for its answers.
+#[derive(Drop)]
+pub struct Setting {
+    pub script: Vec<u8>,
+    pub words: usize,
+    pub bytes: usize,
 }
 
-// A line's three fields: where each begins, and where the last ends. A bar ends the first and the second.
-#[derive(Clone, Copy)]
-pub struct Fields {
-    pub name: usize,
-    pub expected: usize,
-    pub rest: usize,
-    pub end: usize,
+// ---- a command's line
+
+// The line, without its end, of a command with this number.
+fn command_line(
+    alloc: Global,
+    number: usize,
+    step: Step,
+    text: &[u8],
+) -> Result<Vec<u8>, AllocError> {
+    let mut line = vec![in alloc; 0u8; text.len() + 391]?;
+    let n = put_command_line(&mut line, 0, number, step.answer, step.place, text);
+    line.truncate(n.saturating_sub(1));
+    Ok(line)
 }
 
-pub(crate) fn fields_of(text: &[u8], from: usize, to: usize) -> Fields {
-    let name = after(from, to);
-    let bar = find(text, name, to, b'|');
-    let expected = after(bar, to);
-    let second = find(text, expected, to, b'|');
-    Fields {
-        name,
-        expected,
-        rest: after(second, to),
-        end: to,
+fn refusal_line(alloc: Global, cause: u8, place: usize) -> Result<Vec<u8>, AllocError> {
+    let mut line = vec![in alloc; 0u8; 50]?;
+    let n = put_refusal_line(&mut line, 0, cause, place);
+    line.truncate(n.saturating_sub(1));
+    Ok(line)
+}
+
+// What is lent behind a command: words of 9, and a text of full stops, of 512 bytes at the most.
+fn room_of(alloc: Global, words: usize, bytes: usize) -> Result<Room, AllocError> {
+    let words = vec![in alloc; 9u32; words]?;
+    let text = vec![in alloc; b'.'; bytes.min(512)]?;
+    Ok(Room {
+        words,
+        text,
+        out: Vec::new(alloc),
+    })
+}
+
+// The line of the command with this number, or of the refused design; the room has its words and text then. The cost of the operations.
+fn line_at(
+    alloc: Global,
+    script: &[u8],
+    number: usize,
+    room: &mut Room,
+) -> Result<Vec<u8>, AllocError> {
+    let mut rows = Rows::filled(alloc, Lengths::WHOLE, 0)?;
+    let reading = rows.read(script);
+    let mut state = State {
+        design: reading.design,
+        rows,
+    };
+    match reading.verdict {
+        Verdict::Accepted(at) => {
+            let step = state.step_of(script, at, number, room);
+            command_line(alloc, number, step, &room.text)
+        }
+        Verdict::Refused(cause, place) => refusal_line(alloc, cause, place),
     }
 }
 
 // ---- what is got, as text
 
 // Two digits and a space. Constant time.
-fn put_cause(bytes: &mut [u8], at: usize, cause: u8) -> usize {
-    let i = put(bytes, at, 48 + cause / 10 % 10);
-    let j = put(bytes, i, 48 + cause % 10);
-    put(bytes, j, b' ')
+fn put_cause(line: &mut Vec<u8>, cause: u8) -> Result<(), AllocError> {
+    line.extend_from_slice(&[b'0' + cause / 10 % 10, b'0' + cause % 10, b' '])
 }
 
-fn put_left(bytes: &mut [u8], at: usize, is_left: bool) -> usize {
-    let b = if is_left { b'l' } else { b'c' };
-    put(bytes, at, b)
+// Causes, then l if everything was left as it was, and c if something was changed.
+fn causes_line(alloc: Global, causes: &[u8], is_left: bool) -> Result<Vec<u8>, AllocError> {
+    let mut line = Vec::new(alloc);
+    for cause in causes {
+        put_cause(&mut line, *cause)?;
+    }
+    line.push(if is_left { b'l' } else { b'c' })?;
+    Ok(line)
 }
 
-// The causes of the seven operations, then l if everything was left as it was, and c if something was changed.
-fn causes_line(c: Causes, is_left: bool) -> Line {
-    let mut bytes = [0u8; 1024];
-    let n = put_cause(&mut bytes, 0, c.refer);
-    let n = put_cause(&mut bytes, n, c.drop);
-    let n = put_cause(&mut bytes, n, c.probe);
-    let n = put_cause(&mut bytes, n, c.query);
-    let n = put_cause(&mut bytes, n, c.step);
-    let n = put_cause(&mut bytes, n, c.write);
-    let n = put_cause(&mut bytes, n, c.reason);
-    let length = put_left(&mut bytes, n, is_left);
-    Line { bytes, length }
-}
-
-fn reading_line(script: &[u8], kind: usize) -> Line {
-    let o = reading(script, kind);
-    let mut bytes = [0u8; 1024];
-    let n = put_cause(&mut bytes, 0, o.cause);
-    let length = put_left(&mut bytes, n, o.is_left);
-    Line { bytes, length }
+// The last two digits of each word.
+fn words_line(alloc: Global, words: &[u32]) -> Result<Vec<u8>, AllocError> {
+    let mut line = Vec::new(alloc);
+    for word in words {
+        put_cause(&mut line, (*word % 100) as u8)?;
+    }
+    Ok(line)
 }
 
 // The seven operations on a state, and whether they left it, the answer words, the text and the buffer to write into as they were.
-fn state_line(s: State) -> Line {
-    let cells_before = s.cells;
-    let issues_before = s.issues;
-    let tables_before = s.tables;
-    let marks_before = s.marks;
-    let mut cells = s.cells;
-    let mut issues = s.issues;
-    let mut tables = s.tables;
-    let mut marks = s.marks;
-    let design = s.design;
-    let held_before = s.held;
-    let mut held = s.held;
-    let mut words = [9u32; 8];
-    let mut text = [9u8; 512];
-    let mut out = [9u8; 512];
-    let c = operated(
-        design,
-        &mut cells,
-        &mut issues,
-        &mut tables,
-        &mut marks,
-        &mut held,
-        &mut words,
-        &mut text,
-        &mut out,
-    );
-    let is_left = are_same_words(&cells, &cells_before)
-        && issues == issues_before
-        && tables == tables_before
-        && marks == marks_before
-        && are_same_words(&held, &held_before)
-        && are_cells_left(&words, 0)
-        && are_bytes_left(&text, 0)
-        && are_bytes_left(&out, 0);
-    causes_line(c, is_left)
+fn state_line(alloc: Global, mut state: State) -> Result<Vec<u8>, AllocError> {
+    let before = state.rows.clone()?;
+    let mut room = Room::nines(alloc)?;
+    let causes = state.causes(alloc, &mut room)?;
+    let is_left = state.rows == before && room.is_left();
+    causes_line(alloc, &causes, is_left)
 }
 
-// The state behind a command, with two changes.
-fn state_of(text: &[u8], f: Fields, script: &[u8]) -> State {
-    let number = number_at(text, f.rest, f.end);
-    let k = number_at(text, number.end, f.end);
-    let i = number_at(text, k.end, f.end);
-    let v = number_at(text, i.end, f.end);
-    let s = changed(state_after(script, number.value), k.value, i.value, v.value);
-    let k = number_at(text, v.end, f.end);
-    let i = number_at(text, k.end, f.end);
-    let v = number_at(text, i.end, f.end);
-    changed(s, k.value, i.value, v.value)
-}
-
-// Words as text, two digits each. One step for each.
-fn put_words(words: &[u32], bytes: &mut [u8]) -> usize {
-    let mut n = 0;
-    let mut i = 0;
-    while i < words.len() {
-        n = put_cause(bytes, n, low_digits(words[i]));
-        i += 1;
-    }
-    n
-}
-
-fn low_digits(w: u32) -> u8 {
-    (w % 100) as u8
-}
-
-fn words_text(words: &[u32]) -> Line {
-    let mut bytes = [0u8; 1024];
-    let length = put_words(words, &mut bytes);
-    Line { bytes, length }
-}
-
-// The answer words behind a command, each 9 before.
-fn words_line(number: usize, script: &[u8], words: usize) -> Line {
+// How many words are lent: 5, 6, else so many.
+fn words_lent(words: usize, most: usize) -> usize {
     match words {
-        5 => {
-            let mut lent = [9u32; 5];
-            line_at(script, number, &mut lent, 512);
-            words_text(&lent)
+        5 | 6 => words,
+        _ => most,
+    }
+}
+
+impl Setting {
+    // The line of the command whose number the expected line begins with; a refused design's begins with no number.
+    fn line(&self, alloc: Global, f: Fields<'_>) -> Result<Vec<u8>, AllocError> {
+        let at = if f.behind_name.starts_with(b"r") {
+            0
+        } else {
+            number(f.behind_name).0
+        };
+        let mut room = room_of(alloc, words_lent(self.words, 4096), self.bytes)?;
+        line_at(alloc, &self.script, at, &mut room)
+    }
+
+    // The answer words behind a command.
+    fn words_behind(&self, alloc: Global, at: usize) -> Result<Vec<u8>, AllocError> {
+        let mut room = room_of(alloc, words_lent(self.words, 7), 512)?;
+        line_at(alloc, &self.script, at, &mut room)?;
+        words_line(alloc, &room.words)
+    }
+
+    // The text behind a command, as much of it as was lent.
+    fn text_behind(&self, alloc: Global, at: usize) -> Result<Vec<u8>, AllocError> {
+        let mut room = room_of(alloc, 4096, self.bytes)?;
+        line_at(alloc, &self.script, at, &mut room)?;
+        Ok(room.text)
+    }
+
+    // The state behind a command, with two changes.
+    fn spoilt(&self, alloc: Global, text: &[u8]) -> Result<Vec<u8>, AllocError> {
+        let [n, k, i, v, l, j, w] = numbers::<7>(text);
+        let mut state = state_after(alloc, &self.script, n)?;
+        Change {
+            kind: k,
+            at: i,
+            to: v,
         }
-        6 => {
-            let mut lent = [9u32; 6];
-            line_at(script, number, &mut lent, 512);
-            words_text(&lent)
+        .apply(&mut state);
+        Change {
+            kind: l,
+            at: j,
+            to: w,
         }
-        _ => {
-            let mut lent = [9u32; 7];
-            line_at(script, number, &mut lent, 512);
-            words_text(&lent)
-        }
+        .apply(&mut state);
+        state_line(alloc, state)
     }
-}
 
-// The text behind a command, as much of it as was lent.
-fn text_line(number: usize, script: &[u8], room: usize) -> Line {
-    let told = line_at(script, number, &mut [9u32; 4096], room);
-    let text = told.text;
-    let mut bytes = [0u8; 1024];
-    let length = copy(&text, 0, bytes_lent(room), &mut bytes);
-    Line { bytes, length }
-}
-
-// The line of the command whose number the expected line begins with.
-fn command_line(text: &[u8], f: Fields, script: &[u8], words: usize, room: usize) -> Line {
-    let number = first_number(text, f);
-    match words {
-        5 => line_at(script, number, &mut [9u32; 5], room).line,
-        6 => line_at(script, number, &mut [9u32; 6], room).line,
-        _ => line_at(script, number, &mut [9u32; 4096], room).line,
+    fn reading(&self, alloc: Global, kind: usize) -> Result<Vec<u8>, AllocError> {
+        let (cause, is_left) = reading(alloc, &self.script, kind)?;
+        causes_line(alloc, &[cause], is_left)
     }
-}
 
-// A refused design's line begins with no number.
-fn first_number(text: &[u8], f: Fields) -> usize {
-    if byte_at(text, f.expected) == b'r' {
-        return 0;
+    fn operations(&self, alloc: Global, kind: usize) -> Result<Vec<u8>, AllocError> {
+        let design = state_after(alloc, &self.script, 0)?.design;
+        let (causes, is_left) = operations(alloc, &self.script, design, kind)?;
+        causes_line(alloc, &causes, is_left)
     }
-    number_at(text, f.expected, f.end).value
-}
 
-fn line_of(text: &[u8], kind: u8, f: Fields, script: &[u8], words: usize, room: usize) -> Line {
-    match kind {
-        b'?' => command_line(text, f, script, words, room),
-        b'!' => state_line(state_of(text, f, script)),
-        b'a' => words_line(number_at(text, f.rest, f.end).value, script, words),
-        b't' => text_line(number_at(text, f.rest, f.end).value, script, room),
-        b'r' => reading_line(script, number_at(text, f.rest, f.end).value),
-        _ => {
-            let s = state_after(script, 0);
-            let o = operations(script, s.design, number_at(text, f.rest, f.end).value);
-            let c = o.causes;
-            causes_line(c, o.is_left)
-        }
+    // What the vector of this kind gives; nothing where the line is none.
+    pub(crate) fn got(
+        &self,
+        alloc: Global,
+        kind: u8,
+        f: Fields<'_>,
+    ) -> Result<Option<Vec<u8>>, AllocError> {
+        let line = match kind {
+            b'?' => self.line(alloc, f)?,
+            b'!' => self.spoilt(alloc, f.rest)?,
+            b'a' => self.words_behind(alloc, number(f.rest).0)?,
+            b't' => self.text_behind(alloc, number(f.rest).0)?,
+            b'r' => self.reading(alloc, number(f.rest).0)?,
+            b'b' => self.operations(alloc, number(f.rest).0)?,
+            _ => return Ok(None),
+        };
+        Ok(Some(line))
     }
-}
-
-// ---- the line that is printed
-
-fn say(mut output: Stdout, text: &[u8]) -> io::Result<()> {
-    output.write_all(text)
-}
-
-// How many of the first n bytes there are. Constant time.
-fn within(n: usize, bytes: &[u8]) -> usize
-    ensures { result ≡ min n (length bytes.now) }
-{
-    if n < bytes.len() { n } else { bytes.len() }
-}
-
-// Copies a part of a text, as far as there is room. One step for each byte.
-fn copy(text: &[u8], from: usize, to: usize, part: &mut [u8]) -> usize {
-    let mut n = 0;
-    let mut i = from;
-    while i < to {
-        n = put(part, n, byte_at(text, i));
-        i += 1;
-    }
-    n
-}
-
-fn say_part(output: Stdout, text: &[u8], from: usize, to: usize) -> io::Result<()> {
-    let mut part = [0u8; 256];
-    let n = copy(text, from, to, &mut part);
-    let k = within(n, &part);
-    say(output, &part[..k])
-}
-
-fn say_line(output: Stdout, line: Line) -> io::Result<()> {
-    let bytes = line.bytes;
-    say_part(output, &bytes, 0, line.length)?;
-    say(output, b"\n")
-}
-
-// Whether the line is the part of the text. Its bytes.
-fn is_line(text: &[u8], from: usize, to: usize, line: Line) -> bool {
-    let bytes = line.bytes;
-    is_part(text, from, to, &bytes, line.length)
-}
-
-fn counted(t: Tally, is_right: bool) -> Tally {
-    let vectors = t.vectors.wrapping_add(1);
-    let wrong = t.wrong.wrapping_add((!is_right) as u64);
-    Tally { vectors, wrong }
-}
-
-// Where the expected text ends: at the second bar, if there is one.
-fn end_of_expected(text: &[u8], f: Fields) -> usize {
-    find(text, f.expected, f.end, b'|')
-}
-
-// A vector: prints what was expected and what was got.
-pub(crate) fn vector(
-    output: Stdout,
-    text: &[u8],
-    kind: u8,
-    f: Fields,
-    script: &[u8],
-    length: usize,
-    words: usize,
-    room: usize,
-    t: Tally,
-) -> io::Result<Tally> {
-    let n = within(length, script);
-    let got = line_of(text, kind, f, &script[..n], words, room);
-    let end = end_of_expected(text, f);
-    say_part(output, text, f.name, find(text, f.name, f.end, b'|'))?;
-    say(output, b": expected ")?;
-    say_part(output, text, f.expected, end)?;
-    say(output, b", got ")?;
-    say_line(output, got)?;
-    Ok(counted(t, is_line(text, f.expected, end, got)))
-}
-
-// The last line.
-pub(crate) fn say_tally(mut output: Stdout, t: Tally) -> io::Result<()> {
-    let vectors = t.vectors;
-    let wrong = t.wrong;
-    writeln!(output, "{vectors} vectors, {wrong} wrong")
 }
