@@ -13,12 +13,13 @@ mod reporting;
 
 use crate::parts::{begin, next_part};
 use std::io;
-use std::io::{Read, Stdin, Stdout, Write};
+use std::io::{Read, Stderr, Stdin, Stdout, Write};
 use std::process::ExitCode;
 
 // ---- writing
 
-// How many bytes of the report have been handed over, and whether all went well.
+// How many bytes of the report have been handed over, and whether all went well. No Result: the count is promised (specs/Parts.antt `HandedOver`) of a write that
+// failed as well.
 #[derive(Clone, Copy)]
 pub struct Handed {
     pub bytes: usize,
@@ -105,13 +106,6 @@ fn write_report(output: Stdout, script: &[u8]) -> Handed
 
 // ---- reading
 
-// How many bytes have been read, and whether all went well.
-#[derive(Clone, Copy)]
-pub struct Input {
-    pub bytes: usize,
-    pub well: bool,
-}
-
 // One read of standard input into the room behind the first n bytes, which stay. How many bytes came, which fit that room; 0 where the input ends.
 fn read_behind(mut from: Stdin, input: &mut [u8], n: usize) -> io::Result<usize>
     requires { n ≤ length input.old }
@@ -121,45 +115,35 @@ fn read_behind(mut from: Stdin, input: &mut [u8], n: usize) -> io::Result<usize>
     from.read(&mut input[n..])
 }
 
-// Reads standard input until it ends or the buffer is full, or up to the first read that fails.
-fn read_script(from: Stdin, input: &mut [u8]) -> Input
-    ensures { result.bytes ≤ length input.new }
+// Reads standard input until it ends or the buffer is full, or up to the first read that fails. How many bytes there were.
+fn read_script(from: Stdin, input: &mut [u8]) -> io::Result<usize>
+    ensures { IfOk result (λ n. n ≤ length input.new) }
 {
     let mut n: usize = 0;
     while n < input.len() {
-        match read_behind(from, input, n) {
-            Ok(0) => break,
-            Ok(k) => n += k,
-            Err(_) => {
-                return Input {
-                    bytes: n,
-                    well: false,
-                };
-            }
+        let k = read_behind(from, input, n)?;
+        if k == 0 {
+            break;
         }
+        n += k;
     }
-    Input {
-        bytes: n,
-        well: true,
-    }
+    Ok(n)
+}
+
+// Says why on standard error, as far as that can be written, and fails.
+fn failed(mut errors: Stderr, why: &[u8]) -> ExitCode {
+    let _ = errors.write_all(why);
+    ExitCode::FAILURE
 }
 
 fn main(rt: HostRuntime) -> ExitCode {
     let mut input = [0u8; 65537];
-    let script = read_script(rt.stdin(), &mut input);
-    if !script.well {
-        let _ = rt
-            .stderr()
-            .write_all(b"desk: standard input could not be read\n");
-        return ExitCode::FAILURE;
-    }
-    let n = script.bytes;
+    let Ok(n) = read_script(rt.stdin(), &mut input) else {
+        return failed(rt.stderr(), b"desk: standard input could not be read\n");
+    };
     let report = write_report(rt.stdout(), &input[..n]);
     if !report.well {
-        let _ = rt
-            .stderr()
-            .write_all(b"desk: standard output could not be written\n");
-        return ExitCode::FAILURE;
+        return failed(rt.stderr(), b"desk: standard output could not be written\n");
     }
     ExitCode::SUCCESS
 }

@@ -102,8 +102,7 @@ pub(crate) fn next_part(
     ensures catalogued { Catalogued (scheme_of result.design) (database_of (cells_in cells.new issues.new) tables.new) catalog.new keys.new
         × Whole held.new }
 {
-    let mut p = from;
-    p.end = 0;
+    let p = Progress { end: 0, ..from };
     fill(
         script, p, cells, issues, tables, catalog, keys, marks, held, words, text, counts, places,
         out,

@@ -30,10 +30,7 @@ fn positions_at(script: &[u8], at: usize) -> usize
     requires { at < length script.now }
     ensures { result ≡ positions_at script.now at }
 {
-    if script.len() <= at + 7 {
-        return 1;
-    }
-    script[at + 7] as usize + 1
+    script.get(at + 7).map_or(0, |b| usize::from(*b)) + 1
 }
 
 // The first number behind an answer's word; 0 where there is none. Constant time.
@@ -60,10 +57,7 @@ fn put_lists(out: &mut [u8], at: usize, answer: Answer, words: &[u32], p: usize)
 fn goes_on(script: &[u8], more: bool, after: usize) -> bool
     ensures { result ≡ (more && ltb after (length script.now)) }
 {
-    if !more {
-        return false;
-    }
-    after < script.len()
+    more && after < script.len()
 }
 
 // One step, and its lines: at most 391 bytes, 16,384 of text, and 11 for each of 4,096 words; there must be 9 more. The cost of the operation, and of its lines.
@@ -149,17 +143,11 @@ pub(crate) fn fill(
         × Whole held.new }
 {
     let mut p = from;
-    loop {
-        if !p.more {
-            return p;
-        }
-        if FULL < p.end {
-            return p;
-        }
-        let q = report_step(
+    while p.more && p.end <= FULL {
+        p = report_step(
             script, p, cells, issues, tables, catalog, keys, marks, held, words, text, counts,
             places, out,
         );
-        p = q;
     }
+    p
 }

@@ -19,9 +19,7 @@ invariant-loop-p l = Printed l.script (lent l.initial.p.design (cells_in l.initi
     (lent l.p.design (cells_in l.cells l.issues) l.tables l.marks (words_held l.held)) (outputs l.words l.text) l.p ×
     (l.p.more ≡ true → (l.p.at < length l.script) × (l.p.number ≤ l.p.at)) × (l.p.more ≡ true → (l.initial.p.at < l.p.at) ⊎ ((l.p.at ≡ l.initial.p.at) × (l.p.end ≤ 16384))) ×
     (l.p.end ≤ 78215) × (length l.words ≤ 4096) × (length l.text ≤ 16384) × (length l.out ≡ 81920) ×
-    (length l.marks ≡ length l.initial.marks) × (length l.words ≡ length l.initial.words) × (length l.text ≡ length l.initial.text) × (length l.out ≡ length l.initial.out) ×
-    (Catalogued (scheme_of l.p.design) (database_of (cells_in l.cells l.issues) l.tables) l.catalog l.keys × Whole l.held) ×
-    (length l.cells ≡ length l.initial.cells) × (length l.issues ≡ length l.initial.issues) × (length l.tables ≡ length l.initial.tables)
+    (Catalogued (scheme_of l.p.design) (database_of (cells_in l.cells l.issues) l.tables) l.catalog l.keys × Whole l.held)
 
 abbrev pub decreases-loop-p : goal.decreases-loop-p
 decreases-loop-p l = turns l.script l.p
