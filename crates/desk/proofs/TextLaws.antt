@@ -169,15 +169,6 @@ module _ (script : List ℕ) (s : State) (outs : Outputs) (p : Progress) (more :
 
 -- ---- part behind part
 
-pub printed-none : (script : List ℕ) (s : State) (outs : Outputs) (p : Progress) (o : List ℕ) → sound s ≡ true → Printed script s outs p o o s outs p
-printed-none script s outs p o e =
-    record {
-      part = [];
-      wrote = wrote_none o p.end;
-      whole = refl;
-      sound = e;
-    }
-
 pub printed-then : (script : List ℕ) (s : State) (outs : Outputs) (p : Progress) (o o' : List ℕ) (e : State) (w : Outputs) (q : Progress) (o'' : List ℕ) (e' : State) (w' : Outputs) (z : Progress) →
     Printed script s outs p o o' e w q → Printed script e w q o' o'' e' w' z → Printed script s outs p o o'' e' w' z
 printed-then script s outs p o o' e w q o'' e' w' z a b =
