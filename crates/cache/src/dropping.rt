@@ -9,23 +9,22 @@ ghost use Rattle.cache.specs.Ready.{Ready};
 
 use crate::loads::mark_held;
 use crate::values::{close_gap, place};
-use catalog::find;
+use catalog::Index;
 use state::{Answer, Design, HeldValue, is_numberless};
 
 // Lets the named desk's value go, and the cached rows become the smallest set for the values left. One look at each held value, and a search of the directory:
 // where no row has the value, the cached rows stay. Else one reload: a step for each row that is reached and each constraint.
 pub fn drop_lawful(
     design: Design,
-    catalog: &[u16; 16449],
-    keys: &[u64; 4096],
+    index: &Index,
     marks: &mut [u8],
     held: &mut [u32; 358],
     v: HeldValue,
 ) -> Answer
     requires whole { Whole held.old }
-    requires by_index { (cells : Cells) × (tables : List ℕ) × Ready design cells tables marks.old (words_held held.old) catalog.now keys.now }
+    requires by_index { (cells : Cells) × (tables : List ℕ) × Ready design cells tables marks.old (words_held held.old) index.now.catalog.now index.now.keys.now }
     ensures { Whole held.new
-        × ((cells : Cells) (tables : List ℕ) → Ready design cells tables marks.old (words_held held.old) catalog.now keys.now
+        × ((cells : Cells) (tables : List ℕ) → Ready design cells tables marks.old (words_held held.old) index.now.catalog.now index.now.keys.now
         → Answered (lent design cells tables marks.old (words_held held.old)) (Runs.drop (pair_of v)) (answer_of result)
         (lent design cells tables marks.new (words_held held.new))) }
 {
@@ -41,9 +40,9 @@ pub fn drop_lawful(
     };
     close_gap(held, gap);
     let filling = design.filling[f];
-    let first = find(catalog, keys, filling.column, v.value);
+    let first = index.find(filling.column, v.value);
     if Design::ROWS <= first {
         return Answer::Dropped(0);
     }
-    mark_held(design, catalog, keys, marks, held)
+    mark_held(design, index, marks, held)
 }

@@ -9,10 +9,11 @@ ghost use Rattle.state.specs.Design.{InRange};
 ghost use Rattle.state.specs.Held.{Bounded};
 ghost use Rattle.state.specs.HeldWords.{words_held};
 ghost use Rattle.state.specs.Meaning.{answer_of, scheme_of, holding_of};
-ghost use Rattle.catalog.specs.Catalog.{Catalogued};
 ghost use Rattle.load.specs.Ended.{Covers};
 ghost use Rattle.cache.specs.Loads.{value_levels, span_levels, held_levels, settled, gone_rows};
+ghost use Rattle.catalog.specs.Index.{IsCatalogued};
 
+use catalog::Index;
 use load::{load_held, load_range, load_value, rows_marked, settle};
 use state::{Answer, Cell, Column, Design, Range};
 
@@ -20,20 +21,19 @@ use state::{Answer, Cell, Column, Design, Range};
 // constraint.
 pub(crate) fn mark_value(
     design: Design,
-    catalog: &[u16; 16449],
-    keys: &[u64; 4096],
+    index: &Index,
     marks: &mut [u8],
     column: Column,
     value: Cell,
 ) -> Answer
     requires in_range { InRange design × (512 ≤ length marks.old) × (column.table < 8) × (column.place < 8) }
-    requires catalogued { (D : Database) × Catalogued (scheme_of design) D catalog.now keys.now }
-    ensures { (D : Database) → Catalogued (scheme_of design) D catalog.now keys.now
+    requires catalogued { (D : Database) × IsCatalogued (scheme_of design) D index.now }
+    ensures { (D : Database) → IsCatalogued (scheme_of design) D index.now
         → (answer_of result ≡ Answers.loaded (added_rows D (value_levels design D marks.old column value)) (later_rounds D (value_levels design D marks.old column value)))
         × (marks.new ≡ settled D (value_levels design D marks.old column value) marks.old) }
 {
     let mut levels = [0u16; 512];
-    let grown = load_value(design, catalog, keys, marks, column, value, &mut levels);
+    let grown = load_value(design, index, marks, column, value, &mut levels);
     settle(marks, &levels);
     Answer::Loaded(grown.rows, grown.rounds)
 }
@@ -42,20 +42,19 @@ pub(crate) fn mark_value(
 // is added and each constraint. Beside `mark_value`, and not one function of a closure that loads: the clause of that closure would be longer than what the two share.
 pub(crate) fn mark_range(
     design: Design,
-    catalog: &[u16; 16449],
-    keys: &[u64; 4096],
+    index: &Index,
     marks: &mut [u8],
     column: Column,
     range: Range,
 ) -> Answer
     requires in_range { InRange design × (512 ≤ length marks.old) × (column.table < 8) × (column.place < 8) }
-    requires catalogued { (D : Database) × Catalogued (scheme_of design) D catalog.now keys.now }
-    ensures { (D : Database) → Catalogued (scheme_of design) D catalog.now keys.now
+    requires catalogued { (D : Database) × IsCatalogued (scheme_of design) D index.now }
+    ensures { (D : Database) → IsCatalogued (scheme_of design) D index.now
         → (answer_of result ≡ Answers.loaded (added_rows D (span_levels design D marks.old column range)) (later_rounds D (span_levels design D marks.old column range)))
         × (marks.new ≡ settled D (span_levels design D marks.old column range) marks.old) }
 {
     let mut levels = [0u16; 512];
-    let grown = load_range(design, catalog, keys, marks, column, range, &mut levels);
+    let grown = load_range(design, index, marks, column, range, &mut levels);
     settle(marks, &levels);
     Answer::Loaded(grown.rows, grown.rounds)
 }
@@ -65,22 +64,21 @@ pub(crate) fn mark_range(
 // row that is reached and each constraint.
 pub(crate) fn mark_held(
     design: Design,
-    catalog: &[u16; 16449],
-    keys: &[u64; 4096],
+    index: &Index,
     marks: &mut [u8],
     held: &[u32; 358],
 ) -> Answer
     requires in_range { InRange design × (512 ≤ length marks.old) × Bounded (words_held held.now) }
-    requires catalogued { (D : Database) × Catalogued (scheme_of design) D catalog.now keys.now
+    requires catalogued { (D : Database) × IsCatalogued (scheme_of design) D index.now
         × Covers (scheme_of design) D (wanted (scheme_of design) D (holding_of (words_held held.now))) (marked marks.old) }
-    ensures { (D : Database) → Catalogued (scheme_of design) D catalog.now keys.now
+    ensures { (D : Database) → IsCatalogued (scheme_of design) D index.now
         → Covers (scheme_of design) D (wanted (scheme_of design) D (holding_of (words_held held.now))) (marked marks.old)
         → (answer_of result ≡ Answers.dropped (gone_rows D (held_levels design D (words_held held.now)) marks.old))
         × (marks.new ≡ settled D (held_levels design D (words_held held.now)) marks.old) }
 {
     let cached = rows_marked(marks);
     let mut levels = [0u16; 512];
-    let rows = load_held(design, catalog, keys, held, cached, &mut levels);
+    let rows = load_held(design, index, held, cached, &mut levels);
     settle(marks, &levels);
     Answer::Dropped(cached - rows)
 }

@@ -5,8 +5,9 @@ ghost use Rattle.state.specs.Cells.{Cells};
 ghost use Rattle.state.specs.HeldWords.{words_held};
 ghost use Rattle.state.specs.Meaning.{answer_of, cell_of, column_of, database_of};
 ghost use Rattle.state.specs.Lent.{lent, sound, answer_at};
-ghost use Rattle.catalog.specs.Catalog.{Indexed};
+ghost use Rattle.catalog.specs.Index.{IsIndexed};
 
+use catalog::Index;
 use lawful::is_column;
 use probe::search;
 use state::{Answer, Cell, Column, Design, is_numberless};
@@ -15,17 +16,16 @@ use state::{Answer, Cell, Column, Design, is_numberless};
 // is unique; with a yes a step for each row that has the value, too.
 pub fn probe_lawful(
     design: Design,
-    catalog: &[u16; 16449],
-    keys: &[u64; 4096],
+    index: &Index,
     marks: &[u8],
     held: &[u32; 358],
     k: Column,
     v: Cell,
 ) -> Answer
     requires { (cells : Cells) × (tables : List ℕ) × (sound (lent design cells tables marks.now (words_held held.now)) ≡ true)
-        × Indexed (database_of cells tables) catalog.now keys.now }
+        × IsIndexed (database_of cells tables) index.now }
     ensures { (cells : Cells) (tables : List ℕ) → sound (lent design cells tables marks.now (words_held held.now)) ≡ true
-        → Indexed (database_of cells tables) catalog.now keys.now
+        → IsIndexed (database_of cells tables) index.now
         → answer_of result ≡ answer_at (lent design cells tables marks.now (words_held held.now)) (Runs.ask (Runs.probe (column_of k) (cell_of v))) }
 {
     if !is_column(design, k) {
@@ -34,7 +34,7 @@ pub fn probe_lawful(
     if is_numberless(v) {
         return Answer::Refused(9);
     }
-    let found = search(design, catalog, keys, marks, held, k, v);
+    let found = search(design, index, marks, held, k, v);
     if found.ground == 0 {
         return Answer::Sent;
     }

@@ -9,7 +9,7 @@ ghost use Rattle.cache.specs.Ready.{Ready};
 
 use crate::loads::{mark_held, mark_range};
 use crate::ranges::{covers, has_range, joined, own_ranges, removed, set_own};
-use catalog::find_range;
+use catalog::Index;
 use lawful::{is_range, only_candidates};
 use state::{Answer, Design, Held, Range};
 
@@ -17,16 +17,15 @@ use state::{Answer, Design, Held, Range};
 // the desk's ranges, then one load: the walk of the range's values, and a step for each row that is added and each constraint.
 pub fn refer_range_lawful(
     design: Design,
-    catalog: &[u16; 16449],
-    keys: &[u64; 4096],
+    index: &Index,
     marks: &mut [u8],
     held: &mut [u32; 358],
     r: Range,
 ) -> Answer
     requires whole { Whole held.old }
-    requires by_index { (cells : Cells) × (tables : List ℕ) × Ready design cells tables marks.old (words_held held.old) catalog.now keys.now }
+    requires by_index { (cells : Cells) × (tables : List ℕ) × Ready design cells tables marks.old (words_held held.old) index.now.catalog.now index.now.keys.now }
     ensures { Whole held.new
-        × ((cells : Cells) (tables : List ℕ) → Ready design cells tables marks.old (words_held held.old) catalog.now keys.now
+        × ((cells : Cells) (tables : List ℕ) → Ready design cells tables marks.old (words_held held.old) index.now.catalog.now index.now.keys.now
         → Answered (lent design cells tables marks.old (words_held held.old)) (Runs.refer_range (range_of r)) (answer_of result)
         (lent design cells tables marks.new (words_held held.new))) }
 {
@@ -47,7 +46,7 @@ pub fn refer_range_lawful(
     let f = r.filling as usize;
     let filling = design.filling[f];
     let column = filling.column;
-    let answer = mark_range(design, catalog, keys, marks, column, r);
+    let answer = mark_range(design, index, marks, column, r);
     set_own(held, more);
     answer
 }
@@ -56,16 +55,15 @@ pub fn refer_range_lawful(
 // directory: where no row has a value of the range, the cached rows stay. Else one reload: a step for each row that is reached and each constraint.
 pub fn drop_range_lawful(
     design: Design,
-    catalog: &[u16; 16449],
-    keys: &[u64; 4096],
+    index: &Index,
     marks: &mut [u8],
     held: &mut [u32; 358],
     r: Range,
 ) -> Answer
     requires whole { Whole held.old }
-    requires by_index { (cells : Cells) × (tables : List ℕ) × Ready design cells tables marks.old (words_held held.old) catalog.now keys.now }
+    requires by_index { (cells : Cells) × (tables : List ℕ) × Ready design cells tables marks.old (words_held held.old) index.now.catalog.now index.now.keys.now }
     ensures { Whole held.new
-        × ((cells : Cells) (tables : List ℕ) → Ready design cells tables marks.old (words_held held.old) catalog.now keys.now
+        × ((cells : Cells) (tables : List ℕ) → Ready design cells tables marks.old (words_held held.old) index.now.catalog.now index.now.keys.now
         → Answered (lent design cells tables marks.old (words_held held.old)) (Runs.drop_range (range_of r)) (answer_of result)
         (lent design cells tables marks.new (words_held held.new))) }
 {
@@ -79,9 +77,9 @@ pub fn drop_range_lawful(
     let left = removed(own, r);
     set_own(held, left);
     let filling = design.filling[r.filling as usize];
-    let span = find_range(catalog, keys, filling.column, r);
+    let span = index.find_range(filling.column, r);
     if span.count == 0 {
         return Answer::Dropped(0);
     }
-    mark_held(design, catalog, keys, marks, held)
+    mark_held(design, index, marks, held)
 }

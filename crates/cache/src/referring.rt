@@ -9,6 +9,7 @@ ghost use Rattle.cache.specs.Ready.{Ready};
 
 use crate::loads::mark_value;
 use crate::values::{append, has_room, listed};
+use catalog::Index;
 use lawful::is_candidate;
 use state::{Answer, Design, HeldValue, is_numberless};
 
@@ -16,16 +17,15 @@ use state::{Answer, Design, HeldValue, is_numberless};
 // a step for each row that is added and each constraint.
 pub fn refer_lawful(
     design: Design,
-    catalog: &[u16; 16449],
-    keys: &[u64; 4096],
+    index: &Index,
     marks: &mut [u8],
     held: &mut [u32; 358],
     v: HeldValue,
 ) -> Answer
     requires whole { Whole held.old }
-    requires by_index { (cells : Cells) × (tables : List ℕ) × Ready design cells tables marks.old (words_held held.old) catalog.now keys.now }
+    requires by_index { (cells : Cells) × (tables : List ℕ) × Ready design cells tables marks.old (words_held held.old) index.now.catalog.now index.now.keys.now }
     ensures { Whole held.new
-        × ((cells : Cells) (tables : List ℕ) → Ready design cells tables marks.old (words_held held.old) catalog.now keys.now
+        × ((cells : Cells) (tables : List ℕ) → Ready design cells tables marks.old (words_held held.old) index.now.catalog.now index.now.keys.now
         → Answered (lent design cells tables marks.old (words_held held.old)) (Runs.refer (pair_of v)) (answer_of result)
         (lent design cells tables marks.new (words_held held.new))) }
 {
@@ -47,7 +47,7 @@ pub fn refer_lawful(
         return Answer::Refused(8);
     }
     let column = candidates.column;
-    let answer = mark_value(design, catalog, keys, marks, column, v.value);
+    let answer = mark_value(design, index, marks, column, v.value);
     append(held, v);
     answer
 }

@@ -3,8 +3,7 @@
 -- Found: what is found at a value's place. Rows: the tests of a row. PutLaws: one row and all rows put in. ColumnLaws: one column after the other.
 -- LinkLaws: the next row of a cell. DemandLaws: the first rows that constraints demand. Entries: what stands where, for those who walk
 -- the catalog. CatalogLaws: a row that has a value, and its link. Walks: a loop along the links does what a loop over all rows does. SpanLaws: the values of a
--- range. PartLaws: the parts of the array. MakingLaws: the catalog made part by part. MadeLaws: arrays made by a closure.
-pub mod MadeLaws
+-- range. PartLaws: the parts of the array. MakingLaws: the catalog made part by part.
 pub mod PartLaws
 pub mod HitLaws
 pub mod Searching

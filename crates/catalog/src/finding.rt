@@ -3,9 +3,11 @@ ghost use Rattle.std.specs.Prelude.{◌≡◌, ◌&&◌, ◌≤◌, ◌<◌, eqb
 ghost use Rattle.model.specs.Database.{Database, has};
 ghost use Rattle.state.specs.Meaning.{cell_of, column_of};
 ghost use Rattle.finite.specs.Finite.{first_from};
-ghost use Rattle.catalog.specs.Catalog.{key_of, Falls, heads_in, starts_in, Directory};
+ghost use Rattle.catalog.specs.Catalog.{key_of, Falls};
 ghost use Rattle.catalog.specs.Listing.{Searched};
+ghost use Rattle.catalog.specs.Index.{IsDirectory};
 
+use crate::index::Index;
 use crate::reading::{head_at, number_of, start_at};
 use state::{Cell, Column, Design};
 
@@ -37,22 +39,24 @@ pub fn stands(keys: &[u64; 4096], to: usize, a: usize, x: u64) -> bool
     a < to && keys[a] == x
 }
 
-// The first row that has the value v in column k, in any database whose directory this is; 512 if none has, as for a blank. A step for each halving
-// of the column's values: at most 10.
-pub fn find(catalog: &[u16; 16449], keys: &[u64; 4096], k: Column, v: Cell) -> usize
-    requires { (k.table < 8) × (k.place < 8) }
-    ensures { (D : Database) → Directory D keys.now (heads_in catalog.now) (starts_in catalog.now)
-        → result ≡ first_from 512 (has D (column_of k) (cell_of v)) 0 }
-{
-    let i = number_of(k);
-    let to = start_at(catalog, i + 1);
-    if Design::CELLS < to {
-        return Design::ROWS;
+impl Index<'_, '_> {
+    // The first row that has the value v in column k, in any database whose directory this is; 512 if none has, as for a blank. A step for each halving
+    // of the column's values: at most 10.
+    pub fn find(&self, k: Column, v: Cell) -> usize
+        requires { (k.table < 8) × (k.place < 8) }
+        ensures { (D : Database) → IsDirectory D self.now
+            → result ≡ first_from 512 (has D (column_of k) (cell_of v)) 0 }
+    {
+        let i = number_of(k);
+        let to = start_at(self.catalog, i + 1);
+        if Design::CELLS < to {
+            return Design::ROWS;
+        }
+        let x = key_of(v);
+        let a = seat(self.keys, start_at(self.catalog, i), to, x);
+        if stands(self.keys, to, a, x) {
+            return head_at(self.catalog, a);
+        }
+        Design::ROWS
     }
-    let x = key_of(v);
-    let a = seat(keys, start_at(catalog, i), to, x);
-    if stands(keys, to, a, x) {
-        return head_at(catalog, a);
-    }
-    Design::ROWS
 }

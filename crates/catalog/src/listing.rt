@@ -1,14 +1,13 @@
 // Listing the values of one column.
 ghost use Rattle.std.specs.Prelude.{◌≡◌, ◌+◌, ◌≤◌, ◌<◌, length};
 ghost use Rattle.finite.specs.Finite.{count};
-ghost use Rattle.state.specs.Cells.{cells_in};
-ghost use Rattle.state.specs.Design.{Backed};
-ghost use Rattle.state.specs.Meaning.{column_of, database_of};
+ghost use Rattle.state.specs.Meaning.{column_of};
 ghost use Rattle.catalog.specs.Catalog.{Falls, Listed};
 ghost use Rattle.catalog.specs.Listing.{Moved, Entered, in_table, Put, Added};
+ghost use Rattle.state.specs.Rows.{database_in, IsBacked};
 
 use crate::finding::{key_of, seat, stands};
-use state::{Column, Design, cell_at, is_blank};
+use state::{Column, Design, Rows, cell_at, is_blank};
 
 // Moves the elements from place a to place m one place on. A step for each.
 pub fn make_room(keys: &mut [u64; 4096], heads: &mut [u16; 4096], a: usize, m: usize)
@@ -56,9 +55,7 @@ fn enter(
 // Puts row r in, if there is one and it is a row of the column's table, and sets the next row of its cell there; where the column's values end then. The cost is that
 // of `enter`.
 fn put(
-    cells: &[u32],
-    issues: &[u8],
-    tables: &[u8],
+    rows: &Rows,
     k: Column,
     from: usize,
     m: usize,
@@ -67,19 +64,19 @@ fn put(
     next: &mut [u16; 4096],
     r: usize,
 ) -> usize
-    requires backed { Backed (cells_in cells.now issues.now) tables.now }
+    requires backed { IsBacked rows.now }
     requires place_bound { (k.place < 8) × (k.table < 8) × (r < 512)
         × (length keys.old ≡ 4096) × (length heads.old ≡ 4096) × (length next.old ≡ 4096) }
-    requires listed { Listed (database_of (cells_in cells.now issues.now) tables.now) (column_of k) (r + 1) from m keys.old heads.old }
-    requires table_bound { m + count (r + 1) (in_table (database_of (cells_in cells.now issues.now) tables.now) k.table) ≤ 4096 }
-    ensures { Put (database_of (cells_in cells.now issues.now) tables.now) (column_of k) r from m
+    requires listed { Listed (database_in rows.now) (column_of k) (r + 1) from m keys.old heads.old }
+    requires table_bound { m + count (r + 1) (in_table (database_in rows.now) k.table) ≤ 4096 }
+    ensures { Put (database_in rows.now) (column_of k) r from m
         keys.old heads.old next.old result keys.new heads.new next.new }
 {
-    if tables[r] != k.table {
+    if rows.tables[r] != k.table {
         return m;
     }
     let c = k.place as usize;
-    let v = cell_at(cells, issues, r, c);
+    let v = cell_at(rows.cells, rows.issues, r, c);
     let i = 8 * r + c;
     if is_blank(v) {
         next[i] = 512;
@@ -93,24 +90,22 @@ fn put(
 // Lists the values of column k from place `from` on, and sets the next rows of its cells; where the values end. One turn for each row number, from the last
 // to the first.
 pub(crate) fn add_column(
-    cells: &[u32],
-    issues: &[u8],
-    tables: &[u8],
+    rows: &Rows,
     k: Column,
     from: usize,
     keys: &mut [u64; 4096],
     heads: &mut [u16; 4096],
     next: &mut [u16; 4096],
 ) -> usize
-    requires backed { Backed (cells_in cells.now issues.now) tables.now }
+    requires backed { IsBacked rows.now }
     requires place_bound { (k.place < 8) × (k.table < 8) × (length keys.old ≡ 4096) × (length heads.old ≡ 4096) × (length next.old ≡ 4096) }
-    requires table_bound { from + count 512 (in_table (database_of (cells_in cells.now issues.now) tables.now) k.table) ≤ 4096 }
-    ensures { Added (database_of (cells_in cells.now issues.now) tables.now) (column_of k) 0 from
+    requires table_bound { from + count 512 (in_table (database_in rows.now) k.table) ≤ 4096 }
+    ensures { Added (database_in rows.now) (column_of k) 0 from
         keys.old heads.old next.old result keys.new heads.new next.new }
 {
     let mut m = from;
     for r in (0..Design::ROWS).rev() {
-        m = put(cells, issues, tables, k, from, m, keys, heads, next, r);
+        m = put(rows, k, from, m, keys, heads, next, r);
     }
     m
 }

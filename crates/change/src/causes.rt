@@ -7,17 +7,17 @@ ghost use Rattle.state.specs.Lawful.{stood_below};
 ghost use Rattle.state.specs.Meaning.{scheme_of};
 ghost use Rattle.state.specs.Changes.{put, remove, row_cell, rows_in, tables_of, change_cause};
 ghost use Rattle.finite.specs.Finite.{any};
-ghost use Rattle.catalog.specs.Catalog.{Indexed};
 ghost use Rattle.change.specs.Replacing.{unless_zero};
+ghost use Rattle.catalog.specs.Index.{IsIndexed};
 
-use catalog::find;
+use catalog::Index;
 use lawful::{is_unique, operand_cell, operands_fit};
 use state::{Column, Design, Row, is_live};
 
 // Whether column c of x's table is unique and a row has x's value there. The search of a column's values.
-fn stands_at(d: Design, catalog: &[u16; 16449], keys: &[u64; 4096], x: Row, c: u8) -> bool
+fn stands_at(d: Design, index: &Index, x: Row, c: u8) -> bool
     requires { (x.table < 8) × (c < 8) }
-    ensures { (D : Database) → Indexed D catalog.now keys.now
+    ensures { (D : Database) → IsIndexed D index.now
         → result ≡ stood_below (scheme_of d) D 512 (record { table = x.table; place = c }) (row_cell x c) }
 {
     let k = Column {
@@ -25,35 +25,28 @@ fn stands_at(d: Design, catalog: &[u16; 16449], keys: &[u64; 4096], x: Row, c: u
         place: c,
     };
     let v = operand_cell(x, usize::from(c));
-    is_unique(d, k) && find(catalog, keys, k, v) < Design::ROWS
+    is_unique(d, k) && index.find(k, v) < Design::ROWS
 }
 
 // Whether a row has one of x's values in a unique column. Eight such searches at the most.
-fn stands(d: Design, catalog: &[u16; 16449], keys: &[u64; 4096], x: Row) -> bool
+fn stands(d: Design, index: &Index, x: Row) -> bool
     requires { x.table < 8 }
-    ensures { (D : Database) → Indexed D catalog.now keys.now
+    ensures { (D : Database) → IsIndexed D index.now
         → result ≡ any 8 (λ c. stood_below (scheme_of d) D 512 (record { table = x.table; place = c }) (row_cell x c)) }
 {
-    (0..8).any(|c| stands_at(d, catalog, keys, x, c))
+    (0..8).any(|c| stands_at(d, index, x, c))
 }
 
 // The cause for which x isn't put in at number r, if there is one. One look at each of its cells, and eight searches at the most.
-pub(crate) fn put_cause(
-    d: Design,
-    tables: &[u8],
-    catalog: &[u16; 16449],
-    keys: &[u64; 4096],
-    r: usize,
-    x: Row,
-) -> Option<u8>
+pub(crate) fn put_cause(d: Design, tables: &[u8], index: &Index, r: usize, x: Row) -> Option<u8>
     requires { InRange d × (512 ≤ length tables.now) }
-    ensures { (cells : Cells) → Indexed (tables_of (rows_in cells tables.now)) catalog.now keys.now
+    ensures { (cells : Cells) → IsIndexed (tables_of (rows_in cells tables.now)) index.now
         → result ≡ unless_zero (change_cause (scheme_of d) (rows_in cells tables.now) (put r x)) }
 {
     if Design::ROWS <= r || is_live(tables, r) || !operands_fit(d, x) {
         return Some(5);
     }
-    if stands(d, catalog, keys, x) {
+    if stands(d, index, x) {
         return Some(6);
     }
     None

@@ -9,7 +9,7 @@ ghost use Rattle.change.specs.Replacing.{ChangedWords};
 
 use crate::changing::{put_lawful, remove_lawful};
 use guard::cause;
-use state::{Answer, Design, Row, first_words};
+use state::{Answer, Design, Row, Rows, first_words};
 
 // Puts the row x in at number r.
 pub fn put_row(
@@ -28,16 +28,12 @@ pub fn put_row(
 {
     let mut catalog = [0u16; 16449];
     let mut keys = [0u64; 4096];
-    let why = cause(
-        design,
+    let rows = Rows {
         cells,
         issues,
         tables,
-        &mut catalog,
-        &mut keys,
-        marks,
-        held,
-    );
+    };
+    let why = cause(design, &rows, &mut catalog, &mut keys, marks, held);
     if why != 0 {
         return Answer::Refused(why);
     }
@@ -72,16 +68,12 @@ pub fn remove_row(
 {
     let mut catalog = [0u16; 16449];
     let mut keys = [0u64; 4096];
-    let why = cause(
-        design,
+    let rows = Rows {
         cells,
         issues,
         tables,
-        &mut catalog,
-        &mut keys,
-        marks,
-        held,
-    );
+    };
+    let why = cause(design, &rows, &mut catalog, &mut keys, marks, held);
     if why != 0 {
         return Answer::Refused(why);
     }

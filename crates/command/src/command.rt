@@ -1,5 +1,6 @@
 // A command of a script, and the command that stands at a place of the lent bytes: its byte is looked at first, then how many bytes are left.
 ghost use Rattle.std.specs.Prelude.{◌≡◌, ◌+◌, ◌-◌, ◌≤◌, ◌<◌, length};
+ghost use Rattle.state.specs.declared.operation.Operation.TheVariants as O;
 ghost use Rattle.command.specs.Bytes.{byte_at, u32_at};
 ghost use Rattle.command.specs.Opcodes.{byte_of};
 ghost use Rattle.command.specs.Commands.{width_of, column_at, value_at, join_at, held_value_at, range_at, query_at, total_at, operands_at, command_at, row_cell_at, row_issue_at, put_row_at};
@@ -143,6 +144,14 @@ fn query_at(script: &[u8], issue: u8, i: usize) -> Query
     }
 }
 
+// A PROBE, whose value has this issue.
+fn probe_at(script: &[u8], issue: u8, i: usize) -> Operation
+    requires { i + 7 ≤ length script.now }
+    ensures { result ≡ O.Probe (column_at script.now (i + 1)) (value_at script.now issue (i + 3)) }
+{
+    Operation::Probe(column_at(script, i + 1), value_at(script, issue, i + 3))
+}
+
 // The operands of a total: a QUERY's, then its position and its column.
 fn total_at(script: &[u8], issue: u8, i: usize) -> Total
     requires { i + 18 ≤ length script.now }
@@ -206,10 +215,7 @@ fn operands_at(opcode: Opcode, script: &[u8], i: usize) -> Command
         Opcode::Remove => Command::Remove(u16_at(script, i + 1)),
         Opcode::Refer => Command::Operate(Operation::Refer(held_value_at(script, 0, i))),
         Opcode::Drop => Command::Operate(Operation::Drop(held_value_at(script, 0, i))),
-        Opcode::Probe => Command::Operate(Operation::Probe(
-            column_at(script, i + 1),
-            value_at(script, 0, i + 3),
-        )),
+        Opcode::Probe => Command::Operate(probe_at(script, 0, i)),
         Opcode::Query => Command::Operate(Operation::Query(query_at(script, 0, i))),
         Opcode::Evenness => Command::Operate(Operation::Evenness),
         Opcode::Total => Command::Operate(Operation::Total(total_at(script, 0, i))),
@@ -228,10 +234,7 @@ fn operands_at(opcode: Opcode, script: &[u8], i: usize) -> Command
         Opcode::IssuedDrop => {
             Command::Operate(Operation::Drop(held_value_at(script, script[i + 6], i)))
         }
-        Opcode::IssuedProbe => Command::Operate(Operation::Probe(
-            column_at(script, i + 1),
-            value_at(script, script[i + 7], i + 3),
-        )),
+        Opcode::IssuedProbe => Command::Operate(probe_at(script, script[i + 7], i)),
         Opcode::IssuedQuery => {
             Command::Operate(Operation::Query(query_at(script, script[i + 16], i)))
         }

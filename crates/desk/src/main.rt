@@ -74,6 +74,7 @@ fn write_report(output: Stdout, script: &[u8]) -> Handed
         &mut out,
     );
     let mut done: usize = 0;
+    // no iterator: whether a part follows, the part says, and a write that fails ends it
     loop {
         let n = p.end;
         let handed = write_part(output, script, done, &out[..n]);
@@ -120,6 +121,7 @@ fn read_script(from: Stdin, input: &mut [u8]) -> io::Result<usize>
     ensures { IfOk result (λ n. n ≤ length input.new) }
 {
     let mut n: usize = 0;
+    // no count: a read gives as many bytes as it has, and a desk has no heap to read to the end into
     while n < input.len() {
         let k = read_behind(from, input, n)?;
         if k == 0 {

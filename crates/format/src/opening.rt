@@ -11,7 +11,7 @@ use crate::places::row_place;
 use crate::reading::read_commands;
 use crate::repeating::first_repeat;
 use crate::verdict::{DesignReading, Verdict};
-use state::Design;
+use state::{Design, Rows};
 
 pub const MOST_BYTES: usize = 65536;
 
@@ -43,7 +43,12 @@ fn read_rows(
 {
     let stop = read_commands(script, cells, issues, tables);
     let d = stop.design;
-    catalog::build(d, cells, issues, tables, catalog, keys);
+    let rows = Rows {
+        cells,
+        issues,
+        tables,
+    };
+    catalog::build(d, &rows, catalog, keys);
     let n = stop.rows;
     if let Some(r) = first_repeat(d, n, tables, catalog) {
         return refusal(6, row_place(d, issues, r));

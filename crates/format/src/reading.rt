@@ -14,7 +14,7 @@ ghost use Rattle.format.specs.Admitting.{Advances, Stopped};
 use crate::kinds::in_order;
 use crate::verdict::Verdict;
 use command::{Command, command_at, row_cell, row_issue, width_of};
-use state::{Constraint, Design, Filling, Table};
+use state::{Constraint, Design, Filling, Rows, Table};
 
 // What a command that isn't refused gives: the reading goes on behind it, or the design is complete.
 #[derive(Clone, Copy)]
@@ -167,7 +167,12 @@ fn take_row(
     store_cells(script, at, cells, rows);
     store_issues(script, at, issues, rows);
     tables[rows] = t;
-    if !lawful::row_fits(d.design, cells, issues, tables, rows) {
+    let lent = Rows {
+        cells,
+        issues,
+        tables,
+    };
+    if !lawful::row_fits(d.design, &lent, rows) {
         return Err(5);
     }
     d.rows = rows + 1;

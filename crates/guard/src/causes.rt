@@ -1,28 +1,27 @@
 // Causes 7 and 12: whether the lent buffers are long enough, and whether the lent state is lawful.
 ghost use Rattle.std.specs.Prelude.{◌≤◌, true, ◌&&◌, ◌≡◌, length};
-ghost use Rattle.state.specs.Cells.{cells_in};
 ghost use Rattle.state.specs.declared.design.Design.{Design};
 ghost use Rattle.state.specs.declared.held.Held.{Held};
-ghost use Rattle.state.specs.Design.{Backed};
 ghost use Rattle.state.specs.HeldWords.{words_held, narrow_held};
 ghost use Rattle.state.specs.Lent.{lent, long_enough, lawful, cause_of};
-ghost use Rattle.state.specs.Meaning.{scheme_of, database_of};
+ghost use Rattle.state.specs.Meaning.{scheme_of};
 ghost use Rattle.catalog.specs.Catalog.{Catalogued};
+ghost use Rattle.state.specs.Rows.{database_in, cells_of, IsBacked};
 
 use crate::distinct::is_distinct;
-use catalog::build;
+use catalog::{Index, build};
 use lawful::{lawful_design, lawful_held, rows_stand};
 use load::{load_held, marks_agree};
-use state::{Design, HELD_WORDS, first_words};
+use state::{Design, HELD_WORDS, Rows, first_words};
 
 // Whether the buffers have room for 512 rows. Constant time.
 #[tactic(auto, unfolding(state::specs::Lent::long_enough))]
-fn is_long_enough(cells: &[u32], issues: &[u8], tables: &[u8], marks: &[u8]) -> bool
-    ensures { (d : Design) (h : Held) → result ≡ long_enough (lent d (cells_in cells.now issues.now) tables.now marks.now h) }
+fn is_long_enough(rows: &Rows, marks: &[u8]) -> bool
+    ensures { (d : Design) (h : Held) → result ≡ long_enough (lent d (cells_of rows.now) rows.now.tables.now marks.now h) }
 {
-    Design::CELLS <= cells.len()
-        && Design::CELLS <= issues.len()
-        && Design::ROWS <= tables.len()
+    Design::CELLS <= rows.cells.len()
+        && Design::CELLS <= rows.issues.len()
+        && Design::ROWS <= rows.tables.len()
         && Design::ROWS <= marks.len()
 }
 
@@ -30,34 +29,38 @@ fn is_long_enough(cells: &[u32], issues: &[u8], tables: &[u8], marks: &[u8]) -> 
 // cell and at each held value, then the catalog, off which it is read whether unique columns have a value twice, and one load of all held values.
 fn is_lawful_catalog(
     design: Design,
-    cells: &[u32],
-    issues: &[u8],
-    tables: &[u8],
+    rows: &Rows,
     catalog: &mut [u16; 16449],
     keys: &mut [u64; 4096],
     marks: &[u8],
     held: &[u32; 358],
 ) -> bool
-    requires { Backed (cells_in cells.now issues.now) tables.now × (512 ≤ length marks.now) }
-    ensures { (result ≡ narrow_held held.now && lawful (lent design (cells_in cells.now issues.now) tables.now marks.now (words_held held.now)))
-        × (result ≡ true → Catalogued (scheme_of design) (database_of (cells_in cells.now issues.now) tables.now)
+    requires { IsBacked rows.now × (512 ≤ length marks.now) }
+    ensures { (result ≡ narrow_held held.now && lawful (lent design (cells_of rows.now) rows.now.tables.now marks.now (words_held held.now)))
+        × (result ≡ true → Catalogued (scheme_of design) (database_in rows.now)
         catalog.new keys.new) }
 {
     if !lawful_design(design) {
         return false;
     }
-    if !rows_stand(design, cells, issues, tables) {
+    if !rows_stand(design, rows) {
         return false;
     }
     if !lawful_held(design, held) {
         return false;
     }
-    build(design, cells, issues, tables, catalog, keys);
-    if !is_distinct(design, tables, catalog) {
+    build(design, rows, catalog, keys);
+    if !is_distinct(design, rows.tables, catalog) {
         return false;
     }
     let mut levels = [0u16; 512];
-    load_held(design, catalog, keys, held, Design::ROWS, &mut levels);
+    load_held(
+        design,
+        &Index { catalog, keys },
+        held,
+        Design::ROWS,
+        &mut levels,
+    );
     marks_agree(marks, &levels)
 }
 
@@ -65,26 +68,24 @@ fn is_lawful_catalog(
 // `is_lawful_catalog`.
 pub fn cause(
     design: Design,
-    cells: &[u32],
-    issues: &[u8],
-    tables: &[u8],
+    rows: &Rows,
     catalog: &mut [u16; 16449],
     keys: &mut [u64; 4096],
     marks: &[u8],
     held: &[u32],
 ) -> u8
-    ensures { (result ≡ cause_of (lent design (cells_in cells.now issues.now) tables.now marks.now (words_held held.now)) held.now)
-        × (result ≡ 0 → Catalogued (scheme_of design) (database_of (cells_in cells.now issues.now) tables.now)
+    ensures { (result ≡ cause_of (lent design (cells_of rows.now) rows.now.tables.now marks.now (words_held held.now)) held.now)
+        × (result ≡ 0 → Catalogued (scheme_of design) (database_in rows.now)
         catalog.new keys.new) }
 {
     if held.len() < HELD_WORDS {
         return 7;
     }
-    if !is_long_enough(cells, issues, tables, marks) {
+    if !is_long_enough(rows, marks) {
         return 7;
     }
     let own = first_words(held);
-    if !is_lawful_catalog(design, cells, issues, tables, catalog, keys, marks, &own) {
+    if !is_lawful_catalog(design, rows, catalog, keys, marks, &own) {
         return 12;
     }
     0

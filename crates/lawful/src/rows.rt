@@ -3,13 +3,13 @@
 ghost use Rattle.std.specs.Prelude.{List, ◌≡◌, ℕ, ◌≤◌, ◌<◌, length};
 ghost use Rattle.model.specs.Cell as Model;
 ghost use Rattle.state.specs.Cells.{cells_in};
-ghost use Rattle.state.specs.Design.{Backed};
 ghost use Rattle.state.specs.Meaning.{cell_of, database_of, scheme_of};
 ghost use Rattle.state.specs.Lawful.{cell_fits, fits_table, row_fits, blank_row};
 ghost use Rattle.state.specs.Changes.{row_cell};
 ghost use Rattle.lawful.specs.Parts.{row_stands, rows_stand};
+ghost use Rattle.state.specs.Rows.{database_in, cells_of, IsBacked};
 
-use state::{Cell, Design, Row, cell_at, is_blank, is_live, is_numberless, table_at};
+use state::{Cell, Design, Row, Rows, cell_at, is_blank, is_live, is_numberless, table_at};
 
 // Whether cell c of a row, which `cell` reads, fits a table of n columns: a blank does anywhere, an issue without a number nowhere, a number in one of them.
 // One look at the cell.
@@ -37,11 +37,15 @@ fn fits_table<F: Fn(usize) -> Cell>(d: Design, table: u8, cell: F) -> bool
 }
 
 // Whether row r fits so.
-pub fn row_fits(d: Design, cells: &[u32], issues: &[u8], tables: &[u8], r: usize) -> bool
-    requires { (r < 512) × Backed (cells_in cells.now issues.now) tables.now }
-    ensures { result ≡ row_fits (scheme_of d) (database_of (cells_in cells.now issues.now) tables.now) r }
+pub fn row_fits(d: Design, rows: &Rows, r: usize) -> bool
+    requires { (r < 512) × IsBacked rows.now }
+    ensures { result ≡ row_fits (scheme_of d) (database_in rows.now) r }
 {
-    fits_table(d, tables[r], |c| cell_at(cells, issues, r, c))
+    fits_table(
+        d,
+        rows.tables[r],
+        |c| cell_at(rows.cells, rows.issues, r, c),
+    )
 }
 
 // Cell c of a row that is an operand. Constant time.
@@ -71,22 +75,22 @@ fn blank_row(cells: &[u32], issues: &[u8], r: usize) -> bool
 }
 
 // Whether number r stands as a script would leave it, other rows apart: a row that fits, or none and no cell. One look at each of its 8 cells.
-fn row_stands(d: Design, cells: &[u32], issues: &[u8], tables: &[u8], r: usize) -> bool
-    requires { (r < 512) × Backed (cells_in cells.now issues.now) tables.now }
-    ensures { result ≡ row_stands d (cells_in cells.now issues.now) tables.now r }
+fn row_stands(d: Design, rows: &Rows, r: usize) -> bool
+    requires { (r < 512) × IsBacked rows.now }
+    ensures { result ≡ row_stands d (cells_of rows.now) rows.now.tables.now r }
 {
-    if is_live(tables, r) {
-        row_fits(d, cells, issues, tables, r)
+    if is_live(rows.tables, r) {
+        row_fits(d, rows, r)
     } else {
-        blank_row(cells, issues, r)
+        blank_row(rows.cells, rows.issues, r)
     }
 }
 
 // Whether all rows stand so. What a script asks of them besides, that unique columns have no value twice, is read off a catalog of them. One look at each
 // of the 4,096 cells.
-pub fn rows_stand(d: Design, cells: &[u32], issues: &[u8], tables: &[u8]) -> bool
-    requires { Backed (cells_in cells.now issues.now) tables.now }
-    ensures { result ≡ rows_stand d (cells_in cells.now issues.now) tables.now }
+pub fn rows_stand(d: Design, rows: &Rows) -> bool
+    requires { IsBacked rows.now }
+    ensures { result ≡ rows_stand d (cells_of rows.now) rows.now.tables.now }
 {
-    (0..Design::ROWS).all(|r| row_stands(d, cells, issues, tables, r))
+    (0..Design::ROWS).all(|r| row_stands(d, rows, r))
 }

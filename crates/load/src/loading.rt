@@ -10,33 +10,32 @@ ghost use Rattle.state.specs.Design.{InRange};
 ghost use Rattle.state.specs.Held.{Bounded};
 ghost use Rattle.state.specs.HeldWords.{words_held};
 ghost use Rattle.state.specs.Meaning.{cell_of, column_of, range_of, scheme_of, holding_of};
-ghost use Rattle.catalog.specs.Catalog.{Catalogued};
 ghost use Rattle.load.specs.Ended.{Within, Reaches};
+ghost use Rattle.catalog.specs.Index.{IsCatalogued};
 
 use crate::outcome::Growth;
 use crate::reached::Load;
-use catalog::find;
+use catalog::Index;
 use state::{Cell, Column, Design, Range};
 
 // The load of the value v in column k beside the marked rows: its levels. One pass over the marks, a search of the directory, the walk of the value's
 // rows, then a step for each row that is added and each constraint.
 pub fn load_value(
     d: Design,
-    catalog: &[u16; 16449],
-    keys: &[u64; 4096],
+    index: &Index,
     marks: &[u8],
     k: Column,
     v: Cell,
     levels: &mut [u16; 512],
 ) -> Growth
     requires in_range { InRange d × (k.table < 8) × (k.place < 8) × (512 ≤ length marks.now) × (length levels.old ≡ 512) }
-    requires catalogued { (D : Database) × Catalogued (scheme_of d) D catalog.now keys.now }
-    ensures { (D : Database) → Catalogued (scheme_of d) D catalog.now keys.now
+    requires catalogued { (D : Database) × IsCatalogued (scheme_of d) D index.now }
+    ensures { (D : Database) → IsCatalogued (scheme_of d) D index.now
         → (levels.new ≡ Rounds.load (scheme_of d) D (marked marks.now) (has D (column_of k) (cell_of v))) × (result.rows ≡ added_rows D levels.new) × (result.rounds ≡ later_rounds D levels.new) }
 {
     let mut load = Load::beside(marks);
-    load.walk(catalog, usize::from(k.place), find(catalog, keys, k, v), 2);
-    let growth = load.close(d, catalog, Design::ROWS + 1);
+    load.walk(index.catalog, usize::from(k.place), index.find(k, v), 2);
+    let growth = load.close(d, index.catalog, Design::ROWS + 1);
     *levels = load.levels;
     growth
 }
@@ -45,21 +44,20 @@ pub fn load_value(
 // values, then a step for each row that is added and each constraint.
 pub fn load_range(
     d: Design,
-    catalog: &[u16; 16449],
-    keys: &[u64; 4096],
+    index: &Index,
     marks: &[u8],
     k: Column,
     q: Range,
     levels: &mut [u16; 512],
 ) -> Growth
     requires in_range { InRange d × (k.table < 8) × (k.place < 8) × (512 ≤ length marks.now) × (length levels.old ≡ 512) }
-    requires catalogued { (D : Database) × Catalogued (scheme_of d) D catalog.now keys.now }
-    ensures { (D : Database) → Catalogued (scheme_of d) D catalog.now keys.now
+    requires catalogued { (D : Database) × IsCatalogued (scheme_of d) D index.now }
+    ensures { (D : Database) → IsCatalogued (scheme_of d) D index.now
         → (levels.new ≡ Rounds.load (scheme_of d) D (marked marks.now) (has_range D (column_of k) (range_of q))) × (result.rows ≡ added_rows D levels.new) × (result.rounds ≡ later_rounds D levels.new) }
 {
     let mut load = Load::beside(marks);
-    load.add_range(catalog, keys, k, q);
-    let growth = load.close(d, catalog, Design::ROWS + 1);
+    load.add_range(index, k, q);
+    let growth = load.close(d, index.catalog, Design::ROWS + 1);
     *levels = load.levels;
     growth
 }
@@ -69,19 +67,18 @@ pub fn load_range(
 // reached and each constraint.
 pub fn load_held(
     d: Design,
-    catalog: &[u16; 16449],
-    keys: &[u64; 4096],
+    index: &Index,
     held: &[u32; 358],
     most: usize,
     levels: &mut [u16; 512],
 ) -> usize
     requires in_range { InRange d × Bounded (words_held held.now) }
-    requires catalogued { (D : Database) × Catalogued (scheme_of d) D catalog.now keys.now }
-    ensures { (D : Database) → Catalogued (scheme_of d) D catalog.now keys.now
+    requires catalogued { (D : Database) × IsCatalogued (scheme_of d) D index.now }
+    ensures { (D : Database) → IsCatalogued (scheme_of d) D index.now
         → Within (scheme_of d) D (wanted (scheme_of d) D (holding_of (words_held held.now))) most → Reaches levels.new (reload_levels (scheme_of d) D (holding_of (words_held held.now))) result }
 {
-    let mut load = Load::of_held(d, catalog, keys, held);
-    let growth = load.close(d, catalog, most);
+    let mut load = Load::of_held(d, index, held);
+    let growth = load.close(d, index.catalog, most);
     *levels = load.levels;
     growth.rows
 }

@@ -7,24 +7,19 @@ ghost use Rattle.state.specs.Design.{InRange};
 ghost use Rattle.state.specs.Held.{Bounded};
 ghost use Rattle.state.specs.HeldWords.{words_held};
 ghost use Rattle.state.specs.Meaning.{scheme_of, holding_of};
-ghost use Rattle.catalog.specs.Catalog.{Indexed};
+ghost use Rattle.catalog.specs.Index.{IsIndexed};
 
 use crate::reached::Load;
-use catalog::find;
+use catalog::Index;
 use state::{Design, value_at, value_count};
 
 impl Load {
     // Round 0 of a load of all that is held from nothing: the rows that have a held value, or one of a held range, in its filling's column. For each held value a
     // search of the directory and the walk of its rows, and the cost of each range.
-    pub(crate) fn of_held(
-        d: Design,
-        catalog: &[u16; 16449],
-        keys: &[u64; 4096],
-        held: &[u32; 358],
-    ) -> Self
+    pub(crate) fn of_held(d: Design, index: &Index, held: &[u32; 358]) -> Self
         requires in_range { InRange d × Bounded (words_held held.now) }
-        requires indexed { (D : Database) × Indexed D catalog.now keys.now }
-        ensures { (D : Database) → Indexed D catalog.now keys.now
+        requires indexed { (D : Database) × IsIndexed D index.now }
+        ensures { (D : Database) → IsIndexed D index.now
             → result.levels ≡ start D (λ _. false) (wanted (scheme_of d) D (holding_of (words_held held.now))) }
     {
         let mut load = Load::none();
@@ -34,10 +29,10 @@ impl Load {
             let v = value_at(held, i).pair;
             let f = filling[v.filling as usize];
             let k = f.column;
-            let r = find(catalog, keys, k, v.value);
-            load.walk(catalog, usize::from(k.place), r, 2);
+            let r = index.find(k, v.value);
+            load.walk(index.catalog, usize::from(k.place), r, 2);
         }
-        load.add_all_ranges(d, catalog, keys, held);
+        load.add_all_ranges(d, index, held);
         load
     }
 }

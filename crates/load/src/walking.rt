@@ -18,6 +18,7 @@ impl Load {
         ensures { (D : Database) → Links D catalog.now → Begins D place from → Grows to (along D place from) self.old self.new }
     {
         let mut r = from;
+        // along the links: each is the next row that has the value, as the catalog has it, or 512, which ends the walk
         while r < Design::ROWS {
             self.reach(r, to);
             r = next_row(catalog, r, place);

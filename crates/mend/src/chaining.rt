@@ -7,7 +7,7 @@ ghost use Rattle.model.specs.Scheme as Model;
 ghost use Rattle.state.specs.Meaning.{cell_of, column_of};
 ghost use Rattle.mend.specs.Changing.{Chained, Last, Linking, Place};
 
-use catalog::{find, wide};
+use catalog::{Index, wide};
 use state::{Cell, Column};
 
 // What stands as the next row of row r's cell c. Constant time.
@@ -44,7 +44,7 @@ pub(crate) fn link_in(catalog: &mut [u16; 16449], keys: &[u64; 4096], k: Column,
         → Linking E E F r (column_of k) (cell_of v) catalog.old keys.now → Chained F k.place catalog.new) }
 {
     let c = k.place as usize;
-    let h = find(catalog, keys, k, v);
+    let h = Index { catalog, keys }.find(k, v);
     if r <= h {
         catalog[8 * r + c] = h as u16;
         return;
@@ -62,7 +62,7 @@ pub(crate) fn link_out(catalog: &mut [u16; 16449], keys: &[u64; 4096], k: Column
         → Linking F E F r (column_of k) (cell_of v) catalog.old keys.now → Chained E k.place catalog.new) }
 {
     let c = k.place as usize;
-    let h = find(catalog, keys, k, v);
+    let h = Index { catalog, keys }.find(k, v);
     if r <= h {
         catalog[8 * r + c] = 512;
         return;

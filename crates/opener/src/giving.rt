@@ -6,45 +6,32 @@ ghost use Rattle.model.specs.Scheme.{same_column};
 ghost use Rattle.model.specs.Turned as Turned;
 ghost use Rattle.state.specs.Design.{InRange, constraint_at};
 ghost use Rattle.state.specs.Meaning.{cell_of, column_of, constraint_of, scheme_of};
-ghost use Rattle.catalog.specs.Catalog.{Indexed};
 ghost use Rattle.opener.specs.Marking.{Marked};
+ghost use Rattle.catalog.specs.Index.{IsIndexed};
 
-use catalog::{find, next_row};
+use catalog::{Index, next_row};
 use lawful::is_unique;
 use state::{Cell, Column, Design, same_column};
 
 // Marks the rows that have the value v in column k, beside those that are marked. A search of the directory, and a step for each of them.
-fn mark_having(
-    catalog: &[u16; 16449],
-    keys: &[u64; 4096],
-    k: Column,
-    v: Cell,
-    seed: &mut [bool; 512],
-)
-    requires { (k.table < 8) × (k.place < 8) × ((D : Database) × Indexed D catalog.now keys.now) }
-    ensures { (D : Database) → Indexed D catalog.now keys.now → length seed.old ≡ 512
+fn mark_having(index: &Index, k: Column, v: Cell, seed: &mut [bool; 512])
+    requires { (k.table < 8) × (k.place < 8) × ((D : Database) × IsIndexed D index.now) }
+    ensures { (D : Database) → IsIndexed D index.now → length seed.old ≡ 512
         → Marked (has D (column_of k) (cell_of v)) seed.old seed.new }
 {
     // Along the links, not by a count: `successors` asks for an Option at the end, which `find` and `next_row` say by 512.
-    let mut r = find(catalog, keys, k, v);
+    let mut r = index.find(k, v);
     while r < Design::ROWS {
         seed[r] = true;
-        r = next_row(catalog, r, k.place as usize);
+        r = next_row(index.catalog, r, k.place as usize);
     }
 }
 
 // The rows that would be ground 2, whatever stood in the array. A search of the directory for each constraint that ends at the column, and a step for each row
 // that has the value.
-fn source_rows(
-    d: Design,
-    catalog: &[u16; 16449],
-    keys: &[u64; 4096],
-    k: Column,
-    v: Cell,
-    seed: &mut [bool; 512],
-)
-    requires { InRange d × ((D : Database) × Indexed D catalog.now keys.now) }
-    ensures { (length seed.new ≡ 512) × ((D : Database) → Indexed D catalog.now keys.now
+fn source_rows(d: Design, index: &Index, k: Column, v: Cell, seed: &mut [bool; 512])
+    requires { InRange d × ((D : Database) × IsIndexed D index.now) }
+    ensures { (length seed.new ≡ 512) × ((D : Database) → IsIndexed D index.now
         → (r : ℕ) → r < 512 → get_or seed.new r false ≡ any d.constraints (λ i. same_column (constraint_of (constraint_at d i)).target (column_of k)
         && has D (constraint_of (constraint_at d i)).source (cell_of v) r)) }
 {
@@ -52,26 +39,19 @@ fn source_rows(
     for i in 0..d.constraints {
         let j = d.constraint[i];
         if same_column(j.target, k) {
-            mark_having(catalog, keys, j.source, v, seed);
+            mark_having(index, j.source, v, seed);
         }
     }
 }
 
 // The rows that would be ground 2 or 3, whatever stood in the array. The cost of `source_rows`.
-pub(crate) fn giving_rows(
-    d: Design,
-    catalog: &[u16; 16449],
-    keys: &[u64; 4096],
-    k: Column,
-    v: Cell,
-    seed: &mut [bool; 512],
-)
-    requires { InRange d × (k.table < 8) × (k.place < 8) × ((D : Database) × Indexed D catalog.now keys.now) }
-    ensures { (D : Database) → Indexed D catalog.now keys.now
+pub(crate) fn giving_rows(d: Design, index: &Index, k: Column, v: Cell, seed: &mut [bool; 512])
+    requires { InRange d × (k.table < 8) × (k.place < 8) × ((D : Database) × IsIndexed D index.now) }
+    ensures { (D : Database) → IsIndexed D index.now
         → seed.new ≡ tab 512 (Turned.gives (scheme_of d) D (column_of k) (cell_of v)) }
 {
-    source_rows(d, catalog, keys, k, v, seed);
+    source_rows(d, index, k, v, seed);
     if is_unique(d, k) {
-        mark_having(catalog, keys, k, v, seed);
+        mark_having(index, k, v, seed);
     }
 }

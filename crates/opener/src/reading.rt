@@ -2,13 +2,13 @@
 ghost use Rattle.std.specs.Prelude.{◌≡◌, ℕ, ◌≤◌, ◌<◌};
 ghost use Rattle.model.specs.Cell as Model·cell;
 ghost use Rattle.model.specs.Rounds.{reached};
-ghost use Rattle.state.specs.Cells.{cells_in};
-ghost use Rattle.state.specs.Design.{Backed, InRange, filling_at};
+ghost use Rattle.state.specs.Design.{InRange, filling_at};
 ghost use Rattle.state.specs.Meaning.{answer_of, cell_of, column_of, database_of, filling_of, scheme_of};
 ghost use Rattle.opener.specs.Reading as Reading;
+ghost use Rattle.state.specs.Rows.{database_in, cells_of, IsBacked};
 
 use lawful::is_candidate;
-use state::{Answer, Cell, Column, Design, Filling, cell_at, same_column};
+use state::{Answer, Cell, Column, Design, Filling, Rows, cell_at, same_column};
 
 // Whether a stands before b, by number, then issue. Constant time, as are the next three.
 fn is_before(a: Cell, b: Cell) -> bool
@@ -45,46 +45,31 @@ fn own_value(f: Filling, k: Column, v: Cell) -> Option<Cell>
 }
 
 // Row r's value in the filling's column, if the row has a level and the value is a candidate.
-fn value_in(
-    cells: &[u32],
-    issues: &[u8],
-    tables: &[u8],
-    levels: &[u16; 512],
-    f: Filling,
-    r: usize,
-) -> Option<Cell>
-    requires { (r < 512) × (f.column.place < 8) × Backed (cells_in cells.now issues.now) tables.now × (1 ≤ f.low) }
-    ensures { Reading.Reads result (Reading.value_in (database_of (cells_in cells.now issues.now) tables.now)
+fn value_in(rows: &Rows, levels: &[u16; 512], f: Filling, r: usize) -> Option<Cell>
+    requires { (r < 512) × (f.column.place < 8) × IsBacked rows.now × (1 ≤ f.low) }
+    ensures { Reading.Reads result (Reading.value_in (database_in rows.now)
         (reached levels.now) (filling_of f) r) }
 {
     if levels[r] == 0 {
         return None;
     }
     let k = f.column;
-    if tables[r] != k.table {
+    if rows.tables[r] != k.table {
         return None;
     }
-    let w = cell_at(cells, issues, r, k.place as usize);
+    let w = cell_at(rows.cells, rows.issues, r, k.place as usize);
     is_candidate(f, w).then_some(w)
 }
 
 // The lowest of the filling's values. One pass over the row numbers.
-fn lowest_value(
-    cells: &[u32],
-    issues: &[u8],
-    tables: &[u8],
-    levels: &[u16; 512],
-    f: Filling,
-    k: Column,
-    v: Cell,
-) -> Option<Cell>
-    requires { (f.column.place < 8) × Backed (cells_in cells.now issues.now) tables.now × (1 ≤ f.low) }
-    ensures { Reading.Reads result (Reading.lowest_value (database_of (cells_in cells.now issues.now)
-        tables.now) (reached levels.now) (column_of k) (cell_of v) (filling_of f)) }
+fn lowest_value(rows: &Rows, levels: &[u16; 512], f: Filling, k: Column, v: Cell) -> Option<Cell>
+    requires { (f.column.place < 8) × IsBacked rows.now × (1 ≤ f.low) }
+    ensures { Reading.Reads result (Reading.lowest_value (database_of (cells_of rows.now)
+        rows.now.tables.now) (reached levels.now) (column_of k) (cell_of v) (filling_of f)) }
 {
     let mut w = own_value(f, k, v);
     for r in 0..Design::ROWS {
-        let u = value_in(cells, issues, tables, levels, f, r);
+        let u = value_in(rows, levels, f, r);
         w = lower(w, u);
     }
     w
@@ -93,20 +78,18 @@ fn lowest_value(
 // The lowest filling that has a value, and its lowest. One pass over the row numbers for each filling.
 pub(crate) fn lowest_opener(
     d: Design,
-    cells: &[u32],
-    issues: &[u8],
-    tables: &[u8],
+    rows: &Rows,
     levels: &[u16; 512],
     k: Column,
     v: Cell,
 ) -> Answer
-    requires { InRange d × Backed (cells_in cells.now issues.now) tables.now × ((i : ℕ) → i < d.fillings → 1 ≤ (filling_at d i).low) }
-    ensures { answer_of result ≡ Reading.reading (scheme_of d) (database_of (cells_in cells.now issues.now)
-        tables.now) (reached levels.now) (column_of k) (cell_of v) }
+    requires { InRange d × IsBacked rows.now × ((i : ℕ) → i < d.fillings → 1 ≤ (filling_at d i).low) }
+    ensures { answer_of result ≡ Reading.reading (scheme_of d) (database_of (cells_of rows.now)
+        rows.now.tables.now) (reached levels.now) (column_of k) (cell_of v) }
 {
     for i in 0..d.fillings {
         let f = d.filling[i];
-        if let Some(w) = lowest_value(cells, issues, tables, levels, f, k, v) {
+        if let Some(w) = lowest_value(rows, levels, f, k, v) {
             return Answer::OpenedBy(i as u8, w.number, w.issue);
         }
     }

@@ -2,15 +2,16 @@
 ghost use Rattle.std.specs.Prelude.{◌≡◌, true, ℕ, ◌≤◌, ◌<◌, length};
 ghost use Rattle.model.specs.Query.{fitting, joins_of};
 ghost use Rattle.model.specs.Runs.{marked, output_fits};
-ghost use Rattle.state.specs.Cells.{cells_in};
-ghost use Rattle.state.specs.Design.{Backed, InRange};
+ghost use Rattle.state.specs.Design.{InRange};
 ghost use Rattle.state.specs.Lawful.{lawful_design};
-ghost use Rattle.state.specs.Meaning.{answer_of, cell_of, column_of, database_of, query_of, scheme_of};
-ghost use Rattle.catalog.specs.Catalog.{Catalogued};
+ghost use Rattle.state.specs.Meaning.{answer_of, cell_of, column_of, query_of, scheme_of};
 ghost use Rattle.operate.specs.Queries.{output_of, Drawn};
+ghost use Rattle.state.specs.Rows.{database_in, IsBacked};
+ghost use Rattle.catalog.specs.Index.{IsCatalogued};
 
+use catalog::Index;
 use query::{list_fitting, operands_fit, position_fits, total_fitting};
-use state::{Answer, Design, Query};
+use state::{Answer, Design, Query, Rows};
 
 // Its lists, or the total of a position and a column. (No Option: the lists are as much a choice as the total.)
 #[derive(Clone, Copy)]
@@ -34,11 +35,8 @@ pub(crate) fn output_fits(d: Design, q: Query, output: Output) -> bool
 // What the query draws from marked rows, whatever stands in the others: the cost of `list_fitting`, or of `total_fitting`.
 pub(crate) fn draw(
     d: Design,
-    cells: &[u32],
-    issues: &[u8],
-    tables: &[u8],
-    catalog: &[u16; 16449],
-    keys: &[u64; 4096],
+    rows: &Rows,
+    index: &Index,
     marks: &[u8],
     q: Query,
     output: Output,
@@ -46,20 +44,27 @@ pub(crate) fn draw(
     counts: &mut [u64; 5120],
     places: &mut [u16; 5120],
 ) -> Answer
-    requires in_range { InRange d × (q.column.place < 8) × Backed (cells_in cells.now issues.now) tables.now
-        × Catalogued (scheme_of d) (database_of (cells_in cells.now issues.now) tables.now) catalog.now keys.now × (512 ≤ length marks.now) }
+    requires in_range { InRange d × (q.column.place < 8) × IsBacked rows.now
+        × IsCatalogued (scheme_of d) (database_in rows.now) index.now × (512 ≤ length marks.now) }
     requires d_value { (lawful_design d ≡ true) × (output_fits (scheme_of d) (query_of q) (output_of output (length words.old)) ≡ true) }
-    ensures { Drawn (database_of (cells_in cells.now issues.now) tables.now)
-        (fitting (scheme_of d) (database_of (cells_in cells.now issues.now) tables.now) (marked marks.now)
+    ensures { Drawn (database_in rows.now)
+        (fitting (scheme_of d) (database_in rows.now) (marked marks.now)
         (column_of q.column) (cell_of q.value) (joins_of (query_of q)))
         (output_of output (length words.old)) words.old words.new (answer_of result) }
 {
     match output {
-        Output::Lists => list_fitting(
-            d, cells, issues, tables, catalog, keys, marks, q, words, counts, places,
-        ),
+        Output::Lists => list_fitting(d, rows, index, marks, q, words, counts, places),
         Output::Total(position, column) => total_fitting(
-            d, cells, issues, catalog, keys, marks, q, position, column, counts, places,
+            d,
+            rows.cells,
+            rows.issues,
+            index,
+            marks,
+            q,
+            position,
+            column,
+            counts,
+            places,
         ),
     }
 }

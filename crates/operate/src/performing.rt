@@ -1,11 +1,11 @@
 // Every operation: over a state known sound with the catalog of its rows, and for whatever is lent.
 ghost use Rattle.std.specs.Prelude.{◌≡◌, true, length};
-ghost use Rattle.state.specs.Cells.{cells_in};
 ghost use Rattle.state.specs.HeldWords.{words_held, Whole};
-ghost use Rattle.state.specs.Meaning.{answer_of, database_of, operation_of, scheme_of};
+ghost use Rattle.state.specs.Meaning.{answer_of, operation_of, scheme_of};
 ghost use Rattle.state.specs.Lent.{lent, sound, Performed};
-ghost use Rattle.catalog.specs.Catalog.{Catalogued};
 ghost use Rattle.operate.specs.Lending.{PerformedWords};
+ghost use Rattle.state.specs.Rows.{database_in, cells_of};
+ghost use Rattle.catalog.specs.Index.{IsCatalogued};
 
 use crate::inspecting::inspect_lawful;
 use crate::output::Output;
@@ -13,8 +13,9 @@ use crate::querying::query_lawful;
 use cache::{
     drop_lawful, drop_range_lawful, name_lawful, probe_lawful, refer_lawful, refer_range_lawful,
 };
+use catalog::Index;
 use guard::cause;
-use state::{Answer, Design, Operation, first_words, store_words};
+use state::{Answer, Design, Operation, Rows, first_words, store_words};
 
 // The operation on a state known sound, with the catalog of its rows: no test for causes 7 and 12. The last two arrays are working memory, whatever
 // stands in them. REFER and the holding of a range cost one load, DROP and the dropping of a range one reload unless no row has the value, PROBE a look
@@ -25,11 +26,8 @@ use state::{Answer, Design, Operation, first_words, store_words};
 pub fn perform_lawful(
     op: Operation,
     design: Design,
-    cells: &[u32],
-    issues: &[u8],
-    tables: &[u8],
-    catalog: &[u16; 16449],
-    keys: &[u64; 4096],
+    rows: &Rows,
+    index: &Index,
     marks: &mut [u8],
     held: &mut [u32; 358],
     words: &mut [u32],
@@ -37,27 +35,24 @@ pub fn perform_lawful(
     counts: &mut [u64; 5120],
     places: &mut [u16; 5120],
 ) -> Answer
-    requires { (sound (lent design (cells_in cells.now issues.now) tables.now marks.old (words_held held.old)) ≡ true)
-        × Catalogued (scheme_of design) (database_of (cells_in cells.now issues.now) tables.now) catalog.now keys.now × Whole held.old }
-    ensures { Performed (lent design (cells_in cells.now issues.now) tables.now marks.old (words_held held.old)) words.old
+    requires { (sound (lent design (cells_of rows.now) rows.now.tables.now marks.old (words_held held.old)) ≡ true)
+        × IsCatalogued (scheme_of design) (database_in rows.now) index.now × Whole held.old }
+    ensures { Performed (lent design (cells_of rows.now) rows.now.tables.now marks.old (words_held held.old)) words.old
         text.old (operation_of op (length words.old) (length text.old))
-        (answer_of result) (lent design (cells_in cells.now issues.now) tables.now marks.new (words_held held.new)) words.new
+        (answer_of result) (lent design (cells_of rows.now) rows.now.tables.now marks.new (words_held held.new)) words.new
         text.new × Whole held.new }
 {
     match op {
-        Operation::Refer(v) => refer_lawful(design, catalog, keys, marks, held, v),
-        Operation::Drop(v) => drop_lawful(design, catalog, keys, marks, held, v),
-        Operation::ReferRange(r) => refer_range_lawful(design, catalog, keys, marks, held, r),
-        Operation::DropRange(r) => drop_range_lawful(design, catalog, keys, marks, held, r),
+        Operation::Refer(v) => refer_lawful(design, index, marks, held, v),
+        Operation::Drop(v) => drop_lawful(design, index, marks, held, v),
+        Operation::ReferRange(r) => refer_range_lawful(design, index, marks, held, r),
+        Operation::DropRange(r) => drop_range_lawful(design, index, marks, held, r),
         Operation::Name(desk) => name_lawful(held, desk),
-        Operation::Probe(k, v) => probe_lawful(design, catalog, keys, marks, held, k, v),
+        Operation::Probe(k, v) => probe_lawful(design, index, marks, held, k, v),
         Operation::Query(q) => query_lawful(
             design,
-            cells,
-            issues,
-            tables,
-            catalog,
-            keys,
+            rows,
+            index,
             marks,
             held,
             q,
@@ -69,16 +64,13 @@ pub fn perform_lawful(
         Operation::Total(t) => {
             let output = Output::Total(t.position, t.column);
             query_lawful(
-                design, cells, issues, tables, catalog, keys, marks, held, t.query, output, words,
-                counts, places,
+                design, rows, index, marks, held, t.query, output, words, counts, places,
             )
         }
         Operation::Evenness
         | Operation::SmallestKnot
         | Operation::Opener(_, _)
-        | Operation::Reason(_) => inspect_lawful(
-            op, design, cells, issues, tables, catalog, keys, marks, held, text,
-        ),
+        | Operation::Reason(_) => inspect_lawful(op, design, rows, index, marks, held, text),
     }
 }
 
@@ -87,45 +79,35 @@ pub fn perform_lawful(
 pub fn perform(
     op: Operation,
     design: Design,
-    cells: &[u32],
-    issues: &[u8],
-    tables: &[u8],
+    rows: &Rows,
     marks: &mut [u8],
     held: &mut [u32],
     words: &mut [u32],
     text: &mut [u8],
 ) -> Answer
-    ensures { PerformedWords (lent design (cells_in cells.now issues.now) tables.now marks.old (words_held held.old)) held.old words.old
+    ensures { PerformedWords (lent design (cells_of rows.now) rows.now.tables.now marks.old (words_held held.old)) held.old words.old
         text.old (operation_of op (length words.old) (length text.old))
-        (answer_of result) (lent design (cells_in cells.now issues.now) tables.now marks.new (words_held held.new)) held.new words.new
+        (answer_of result) (lent design (cells_of rows.now) rows.now.tables.now marks.new (words_held held.new)) held.new words.new
         text.new }
 {
     let mut catalog = [0u16; 16449];
     let mut keys = [0u64; 4096];
-    let why = cause(
-        design,
-        cells,
-        issues,
-        tables,
-        &mut catalog,
-        &mut keys,
-        marks,
-        held,
-    );
+    let why = cause(design, rows, &mut catalog, &mut keys, marks, held);
     if why != 0 {
         return Answer::Refused(why);
     }
     let mut own = first_words(held);
     let mut counts = [0u64; 5120];
     let mut places = [0u16; 5120];
+    let index = Index {
+        catalog: &catalog,
+        keys: &keys,
+    };
     let answer = perform_lawful(
         op,
         design,
-        cells,
-        issues,
-        tables,
-        &catalog,
-        &keys,
+        rows,
+        &index,
         marks,
         &mut own,
         words,

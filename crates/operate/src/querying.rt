@@ -2,27 +2,25 @@
 // referred first, if a REFER would take it, and it is answered then (02, Req 02 and 03); else it is sent.
 ghost use Rattle.std.specs.Prelude.{◌≡◌, true, length};
 ghost use Rattle.model.specs.Runs as Runs;
-ghost use Rattle.state.specs.Cells.{cells_in};
 ghost use Rattle.state.specs.HeldWords.{words_held, Whole};
-ghost use Rattle.state.specs.Meaning.{answer_of, database_of, query_of, scheme_of};
+ghost use Rattle.state.specs.Meaning.{answer_of, query_of, scheme_of};
 ghost use Rattle.state.specs.Lent.{lent, sound, Worded};
-ghost use Rattle.catalog.specs.Catalog.{Catalogued};
 ghost use Rattle.operate.specs.Queries.{output_of, Referring};
+ghost use Rattle.state.specs.Rows.{database_in, cells_of};
+ghost use Rattle.catalog.specs.Index.{IsCatalogued};
 
 use crate::output::{Output, draw, output_fits};
 use cache::{filling_for, refer_lawful, takes};
+use catalog::Index;
 use probe::search;
-use state::{Answer, Design, HeldValue, Query, is_numberless, is_refusal};
+use state::{Answer, Design, HeldValue, Query, Rows, is_numberless, is_refusal};
 
 // Refers the query's pair v on a copy of the marks and of what is held, and draws the answer from the copy, so that causes 11 and 13 find nothing to undo; else the copies
 // take their place. Two copies of the marks and of what is held, one load, and the cost of the lists or the total.
 fn refer_and_draw(
     design: Design,
-    cells: &[u32],
-    issues: &[u8],
-    tables: &[u8],
-    catalog: &[u16; 16449],
-    keys: &[u64; 4096],
+    rows: &Rows,
+    index: &Index,
     marks: &mut [u8],
     held: &mut [u32; 358],
     q: Query,
@@ -32,20 +30,19 @@ fn refer_and_draw(
     counts: &mut [u64; 5120],
     places: &mut [u16; 5120],
 ) -> Answer
-    requires held_value { (sound (lent design (cells_in cells.now issues.now) tables.now marks.old (words_held held.old)) ≡ true)
-        × Catalogued (scheme_of design) (database_of (cells_in cells.now issues.now) tables.now) catalog.now keys.now × Whole held.old }
-    requires referring { Referring (lent design (cells_in cells.now issues.now) tables.now marks.old (words_held held.old)) q (output_of output (length words.old)) v }
-    ensures { Worded (lent design (cells_in cells.now issues.now) tables.now marks.old (words_held held.old)) words.old
+    requires held_value { (sound (lent design (cells_of rows.now) rows.now.tables.now marks.old (words_held held.old)) ≡ true)
+        × IsCatalogued (scheme_of design) (database_in rows.now) index.now × Whole held.old }
+    requires referring { Referring (lent design (cells_of rows.now) rows.now.tables.now marks.old (words_held held.old)) q (output_of output (length words.old)) v }
+    ensures { Worded (lent design (cells_of rows.now) rows.now.tables.now marks.old (words_held held.old)) words.old
         (Runs.query (query_of q) (output_of output (length words.old))) (answer_of result)
-        (lent design (cells_in cells.now issues.now) tables.now marks.new (words_held held.new)) words.new × Whole held.new }
+        (lent design (cells_of rows.now) rows.now.tables.now marks.new (words_held held.new)) words.new × Whole held.new }
 {
+    rows.note_types();
     let mut copy = [0u8; 512];
     copy.copy_from_slice(&marks[..Design::ROWS]);
     let mut more = *held;
-    refer_lawful(design, catalog, keys, &mut copy, &mut more, v);
-    let answer = draw(
-        design, cells, issues, tables, catalog, keys, &copy, q, output, words, counts, places,
-    );
+    refer_lawful(design, index, &mut copy, &mut more, v);
+    let answer = draw(design, rows, index, &copy, q, output, words, counts, places);
     if is_refusal(answer) {
         return answer;
     }
@@ -59,11 +56,8 @@ fn refer_and_draw(
 // and writing their words, or of the total.
 pub(crate) fn query_lawful(
     design: Design,
-    cells: &[u32],
-    issues: &[u8],
-    tables: &[u8],
-    catalog: &[u16; 16449],
-    keys: &[u64; 4096],
+    rows: &Rows,
+    index: &Index,
     marks: &mut [u8],
     held: &mut [u32; 358],
     q: Query,
@@ -72,12 +66,13 @@ pub(crate) fn query_lawful(
     counts: &mut [u64; 5120],
     places: &mut [u16; 5120],
 ) -> Answer
-    requires { (sound (lent design (cells_in cells.now issues.now) tables.now marks.old (words_held held.old)) ≡ true)
-        × Catalogued (scheme_of design) (database_of (cells_in cells.now issues.now) tables.now) catalog.now keys.now × Whole held.old }
-    ensures { Worded (lent design (cells_in cells.now issues.now) tables.now marks.old (words_held held.old)) words.old
+    requires { (sound (lent design (cells_of rows.now) rows.now.tables.now marks.old (words_held held.old)) ≡ true)
+        × IsCatalogued (scheme_of design) (database_in rows.now) index.now × Whole held.old }
+    ensures { Worded (lent design (cells_of rows.now) rows.now.tables.now marks.old (words_held held.old)) words.old
         (Runs.query (query_of q) (output_of output (length words.old))) (answer_of result)
-        (lent design (cells_in cells.now issues.now) tables.now marks.new (words_held held.new)) words.new × Whole held.new }
+        (lent design (cells_of rows.now) rows.now.tables.now marks.new (words_held held.new)) words.new × Whole held.new }
 {
+    rows.note_types();
     if !output_fits(design, q, output) {
         return Answer::Refused(5);
     }
@@ -85,12 +80,10 @@ pub(crate) fn query_lawful(
         return Answer::Refused(9);
     }
     let k = q.column;
-    let found = search(design, catalog, keys, marks, held, k, q.value);
+    let found = search(design, index, marks, held, k, q.value);
     let g = found.ground;
     if g != 0 {
-        return draw(
-            design, cells, issues, tables, catalog, keys, marks, q, output, words, counts, places,
-        );
+        return draw(design, rows, index, marks, q, output, words, counts, places);
     }
     let v = HeldValue {
         filling: filling_for(design, k) as u8,
@@ -100,7 +93,6 @@ pub(crate) fn query_lawful(
         return Answer::Sent;
     }
     refer_and_draw(
-        design, cells, issues, tables, catalog, keys, marks, held, q, output, v, words, counts,
-        places,
+        design, rows, index, marks, held, q, output, v, words, counts, places,
     )
 }

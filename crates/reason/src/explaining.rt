@@ -9,20 +9,22 @@ ghost use Rattle.model.specs.Runs as Runs;
 ghost use Rattle.model.specs.Runs.{cached_for};
 ghost use Rattle.model.specs.Sentence.{reason_text};
 ghost use Rattle.state.specs.Cells.{cells_in};
-ghost use Rattle.state.specs.Design.{Backed, InRange};
+ghost use Rattle.state.specs.Design.{InRange};
 ghost use Rattle.state.specs.Held.{Bounded};
 ghost use Rattle.state.specs.HeldWords.{words_held};
 ghost use Rattle.state.specs.Lent.{answer_at, lent, sound, text_at};
 ghost use Rattle.state.specs.Meaning.{answer_of, database_of, holding_of, scheme_of};
-ghost use Rattle.catalog.specs.Catalog.{Catalogued};
 ghost use Rattle.reason.specs.Links.{Graded, Traceable, links_text, root_by};
+ghost use Rattle.state.specs.Rows.{database_in, cells_of, IsBacked};
+ghost use Rattle.catalog.specs.Index.{IsCatalogued};
 
 use crate::linking::find_links;
 use crate::lowest::lowest_held;
 use crate::nearing::{levels_below, list_levels};
 use crate::wording::{put_link, put_origin};
+use catalog::Index;
 use load::load_held;
-use state::{Answer, Design, is_live};
+use state::{Answer, Design, Rows, is_live};
 use text::{put_bytes, put_spaced};
 
 // The row that the links lead back to, and where the text ends.
@@ -59,20 +61,18 @@ fn put_links(
 // for each row that is nearer to what is held, and the links.
 fn put_chain(
     d: Design,
-    cells: &[u32],
-    issues: &[u8],
-    tables: &[u8],
+    rows: &Rows,
     levels: &[u16; 512],
     r: usize,
     n: u16,
     out: &mut [u8],
     at: usize,
 ) -> Traced
-    requires in_range { InRange d × (r < 512) × (n < 512) × Backed (cells_in cells.now issues.now) tables.now × (at + 30 * n + 47 ≤ length out.old) }
-    requires graded { Graded (scheme_of d) (database_of (cells_in cells.now issues.now) tables.now) levels.now × (level levels.now r ≡ n + 2) }
-    ensures { (result.row ≡ root_by (scheme_of d) (database_of (cells_in cells.now issues.now) tables.now) levels.now n r)
+    requires in_range { InRange d × (r < 512) × (n < 512) × IsBacked rows.now × (at + 30 * n + 47 ≤ length out.old) }
+    requires graded { Graded (scheme_of d) (database_in rows.now) levels.now × (level levels.now r ≡ n + 2) }
+    ensures { (result.row ≡ root_by (scheme_of d) (database_in rows.now) levels.now n r)
         × (result.at ≤ at + 30 * n) × Wrote out.old out.new at result.at
-        (links_text (scheme_of d) (database_of (cells_in cells.now issues.now) tables.now) levels.now n r) }
+        (links_text (scheme_of d) (database_in rows.now) levels.now n r) }
 {
     if n == 0 {
         return Traced { row: r, at };
@@ -84,39 +84,34 @@ fn put_chain(
     let mut by = [0u16; 512];
     let mut from = [0u16; 512];
     let k = n as usize;
-    find_links(
-        d, cells, issues, tables, levels, &heads, &next, r, k, &mut by, &mut from,
-    );
+    find_links(d, rows, levels, &heads, &next, r, k, &mut by, &mut from);
     put_links(&by, &from, r, k, out, at)
 }
 
 // Writes the reason for row r, which is cached; how long it is. One reload, the search of the links, and one look at each held value and range.
 fn put_reason(
     d: Design,
-    cells: &[u32],
-    issues: &[u8],
-    tables: &[u8],
-    catalog: &[u16; 16449],
-    keys: &[u64; 4096],
+    rows: &Rows,
+    index: &Index,
     held: &[u32; 358],
     r: usize,
     out: &mut [u8],
 ) -> usize
-    requires r_bound { (r < 512) × InRange d × Backed (cells_in cells.now issues.now) tables.now × Bounded (words_held held.now)
+    requires r_bound { (r < 512) × InRange d × IsBacked rows.now × Bounded (words_held held.now)
         × (length out.old ≡ 16384) }
-    requires catalogued { Catalogued (scheme_of d) (database_of (cells_in cells.now issues.now) tables.now) catalog.now keys.now
-        × (cached_for (scheme_of d) (database_of (cells_in cells.now issues.now) tables.now) (holding_of (words_held held.now)) r ≡ true) }
+    requires catalogued { IsCatalogued (scheme_of d) (database_in rows.now) index.now
+        × (cached_for (scheme_of d) (database_in rows.now) (holding_of (words_held held.now)) r ≡ true) }
     ensures { (result ≤ 16384)
-        × Wrote out.old out.new 0 result (reason_text (scheme_of d) (database_of (cells_in cells.now
-        issues.now) tables.now) (holding_of (words_held held.now)) r) }
+        × Wrote out.old out.new 0 result (reason_text (scheme_of d) (database_of (cells_in rows.now.cells.now
+        rows.now.issues.now) rows.now.tables.now) (holding_of (words_held held.now)) r) }
 {
     let mut levels = [0u16; 512];
-    load_held(d, catalog, keys, held, Design::ROWS, &mut levels);
+    load_held(d, index, held, Design::ROWS, &mut levels);
     let z = put_bytes(out, 0, b"row", 3);
     let y = put_spaced(out, z, r as u64);
     let n = levels[r] - 2;
-    let t = put_chain(d, cells, issues, tables, &levels, r, n, out, y);
-    let o = lowest_held(d, cells, issues, tables, held, t.row);
+    let t = put_chain(d, rows, &levels, r, n, out, y);
+    let o = lowest_held(d, rows, held, t.row);
     put_origin(out, t.at, o)
 }
 
@@ -126,37 +121,32 @@ fn put_reason(
 // what is held, one look at each held value and range, and two steps for each byte of the sentence.
 pub fn reason_lawful(
     design: Design,
-    cells: &[u32],
-    issues: &[u8],
-    tables: &[u8],
-    catalog: &[u16; 16449],
-    keys: &[u64; 4096],
+    rows: &Rows,
+    index: &Index,
     marks: &[u8],
     held: &[u32; 358],
     row: u16,
     text: &mut [u8],
 ) -> Answer
-    requires { (sound (lent design (cells_in cells.now issues.now) tables.now marks.now (words_held held.now)) ≡ true)
-        × Catalogued (scheme_of design) (database_of (cells_in cells.now issues.now) tables.now) catalog.now keys.now }
-    ensures { (answer_of result ≡ answer_at (lent design (cells_in cells.now issues.now) tables.now marks.now (words_held held.now))
+    requires { (sound (lent design (cells_of rows.now) rows.now.tables.now marks.now (words_held held.now)) ≡ true)
+        × IsCatalogued (scheme_of design) (database_in rows.now) index.now }
+    ensures { (answer_of result ≡ answer_at (lent design (cells_of rows.now) rows.now.tables.now marks.now (words_held held.now))
         (Runs.ask (Runs.reason row (length text.old))))
-        × (text.new ≡ sets text.old 0 (text_at (lent design (cells_in cells.now issues.now) tables.now
+        × (text.new ≡ sets text.old 0 (text_at (lent design (cells_of rows.now) rows.now.tables.now
         marks.now (words_held held.now)) (Runs.ask (Runs.reason row (length text.old))))) }
 {
     let r = row as usize;
     if Design::ROWS <= r {
         return Answer::Refused(5);
     }
-    if !is_live(tables, r) {
+    if !is_live(rows.tables, r) {
         return Answer::Refused(5);
     }
     if marks[r] != 1 {
         return Answer::Absent;
     }
     let mut out = [0u8; 16384];
-    let n = put_reason(
-        design, cells, issues, tables, catalog, keys, held, r, &mut out,
-    );
+    let n = put_reason(design, rows, index, held, r, &mut out);
     if text.len() < n {
         return Answer::Refused(11);
     }

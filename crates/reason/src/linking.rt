@@ -3,12 +3,12 @@ ghost use Rattle.std.specs.Prelude.{◌≡◌, ℕ, ◌+◌, ◌≤◌, ◌<◌,
 ghost use Rattle.finite.specs.Finite.{first};
 ghost use Rattle.model.specs.Rounds.{leads, level};
 ghost use Rattle.model.specs.Reason.{last_constraint, last_row};
-ghost use Rattle.state.specs.Cells.{cells_in};
-ghost use Rattle.state.specs.Design.{Backed, InRange, no_constraint};
-ghost use Rattle.state.specs.Meaning.{constraint_of, database_of, scheme_of};
+ghost use Rattle.state.specs.Design.{InRange, no_constraint};
+ghost use Rattle.state.specs.Meaning.{constraint_of, scheme_of};
 ghost use Rattle.reason.specs.Links.{Chained, Graded, Ranked, lower_link};
+ghost use Rattle.state.specs.Rows.{database_in, IsBacked};
 
-use state::{Constraint, Design, cell_at, is_live, row_has};
+use state::{Constraint, Design, Rows, cell_at, is_live};
 
 // A constraint's number, and the row that it demands another of.
 #[derive(Clone, Copy)]
@@ -18,48 +18,39 @@ pub(crate) struct Link {
 }
 
 // Whether the constraint demands row r of row s. Most often the numbers of the two cells tell that it doesn't. Constant time.
-fn demands_row(
-    cells: &[u32],
-    issues: &[u8],
-    tables: &[u8],
-    j: Constraint,
-    s: usize,
-    r: usize,
-) -> bool
-    requires { (s < 512) × (r < 512) × (j.source.place < 8) × (j.target.place < 8) × Backed (cells_in cells.now issues.now) tables.now }
-    ensures { result ≡ leads (database_of (cells_in cells.now issues.now) tables.now) (constraint_of j) s r }
+fn demands_row(rows: &Rows, j: Constraint, s: usize, r: usize) -> bool
+    requires { (s < 512) × (r < 512) × (j.source.place < 8) × (j.target.place < 8) × IsBacked rows.now }
+    ensures { result ≡ leads (database_in rows.now) (constraint_of j) s r }
 {
-    let a = cell_at(cells, issues, s, j.source.place as usize);
-    let b = cell_at(cells, issues, r, j.target.place as usize);
+    let a = cell_at(rows.cells, rows.issues, s, j.source.place as usize);
+    let b = cell_at(rows.cells, rows.issues, r, j.target.place as usize);
     if a.number != b.number {
         return false;
     }
-    if !is_live(tables, s) {
+    if !is_live(rows.tables, s) {
         return false;
     }
-    if tables[s] != j.source.table {
+    if rows.tables[s] != j.source.table {
         return false;
     }
-    row_has(cells, issues, tables, j.target, a, r)
+    rows.has(j.target, a, r)
 }
 
 // The lowest of the first `most` constraints that demands row r of row s; `most` if none does. A look at each of them, up to the one that is found.
 fn first_constraint(
     constraint: [Constraint; 16],
     most: usize,
-    cells: &[u32],
-    issues: &[u8],
-    tables: &[u8],
+    rows: &Rows,
     s: usize,
     r: usize,
 ) -> usize
-    requires most_bound { (most ≤ 16) × (s < 512) × (r < 512) × Backed (cells_in cells.now issues.now) tables.now }
+    requires most_bound { (most ≤ 16) × (s < 512) × (r < 512) × IsBacked rows.now }
     requires by_index { (i : ℕ) → ((get_or constraint i no_constraint).source.place < 8) × ((get_or constraint i no_constraint).target.place < 8) }
-    ensures { result ≡ first most (λ x. leads (database_of (cells_in cells.now issues.now) tables.now)
+    ensures { result ≡ first most (λ x. leads (database_in rows.now)
         (constraint_of (get_or constraint x no_constraint)) s r) }
 {
     (0..most)
-        .find(|&i| demands_row(cells, issues, tables, constraint[i], s, r))
+        .find(|&i| demands_row(rows, constraint[i], s, r))
         .unwrap_or(most)
 }
 
@@ -83,20 +74,18 @@ fn lower_link(best: Link, i: usize, s: usize) -> Link
 fn last_link(
     d: Design,
     constraint: [Constraint; 16],
-    cells: &[u32],
-    issues: &[u8],
-    tables: &[u8],
+    rows: &Rows,
     levels: &[u16; 512],
     heads: &[u16; 514],
     next: &[u16; 512],
     r: usize,
     n: usize,
 ) -> Link
-    requires in_range { InRange d × (constraint ≡ d.constraint) × (r < 512) × (n < 511) × Backed (cells_in cells.now issues.now) tables.now }
+    requires in_range { InRange d × (constraint ≡ d.constraint) × (r < 512) × (n < 511) × IsBacked rows.now }
     requires ranked { Ranked levels.now (n + 3) heads.now next.now
-        × Graded (scheme_of d) (database_of (cells_in cells.now issues.now) tables.now) levels.now × (level levels.now r ≡ n + 3) }
-    ensures { (result.constraint ≡ last_constraint (scheme_of d) (database_of (cells_in cells.now issues.now) tables.now) levels.now n r)
-        × (result.row ≡ last_row (scheme_of d) (database_of (cells_in cells.now issues.now) tables.now) levels.now n r) }
+        × Graded (scheme_of d) (database_in rows.now) levels.now × (level levels.now r ≡ n + 3) }
+    ensures { (result.constraint ≡ last_constraint (scheme_of d) (database_in rows.now) levels.now n r)
+        × (result.row ≡ last_row (scheme_of d) (database_in rows.now) levels.now n r) }
 {
     let mut best = Link {
         constraint: d.constraints,
@@ -105,7 +94,7 @@ fn last_link(
     let mut s = usize::from(heads[n + 2]);
     // each row's entry names the next row of its level
     while s < Design::ROWS {
-        let i = first_constraint(constraint, best.constraint, cells, issues, tables, s, r);
+        let i = first_constraint(constraint, best.constraint, rows, s, r);
         best = lower_link(best, i, s);
         s = usize::from(next[s]);
     }
@@ -116,9 +105,7 @@ fn last_link(
 // there. A look at each constraint for each row that is nearer to what is held than row r.
 pub(crate) fn find_links(
     d: Design,
-    cells: &[u32],
-    issues: &[u8],
-    tables: &[u8],
+    rows: &Rows,
     levels: &[u16; 512],
     heads: &[u16; 514],
     next: &[u16; 512],
@@ -127,10 +114,10 @@ pub(crate) fn find_links(
     by: &mut [u16; 512],
     from: &mut [u16; 512],
 )
-    requires in_range { InRange d × (r < 512) × (n < 512) × Backed (cells_in cells.now issues.now) tables.now }
+    requires in_range { InRange d × (r < 512) × (n < 512) × IsBacked rows.now }
     requires ranked { Ranked levels.now (n + 2) heads.now next.now
-        × Graded (scheme_of d) (database_of (cells_in cells.now issues.now) tables.now) levels.now × (level levels.now r ≡ n + 2) }
-    ensures { Chained (scheme_of d) (database_of (cells_in cells.now issues.now) tables.now) levels.now
+        × Graded (scheme_of d) (database_in rows.now) levels.now × (level levels.now r ≡ n + 2) }
+    ensures { Chained (scheme_of d) (database_in rows.now) levels.now
         by.new from.new n r }
 {
     *by = [0u16; 512];
@@ -138,18 +125,7 @@ pub(crate) fn find_links(
     let constraint = d.constraint;
     let mut s = r;
     for k in (1..=n).rev() {
-        let link = last_link(
-            d,
-            constraint,
-            cells,
-            issues,
-            tables,
-            levels,
-            heads,
-            next,
-            s,
-            k - 1,
-        );
+        let link = last_link(d, constraint, rows, levels, heads, next, s, k - 1);
         by[k] = link.constraint as u16;
         from[k] = link.row as u16;
         s = link.row;

@@ -2,16 +2,15 @@
 ghost use Rattle.std.specs.Prelude.{true, ◌≡◌, ℕ, ◌≤◌, ◌<◌};
 ghost use Rattle.finite.specs.Finite.{any};
 ghost use Rattle.model.specs.Reason.{by_range, by_value, has_origin, lower_origin, lowest_held, origin_at, origin_count};
-ghost use Rattle.state.specs.Cells.{cells_in};
-ghost use Rattle.state.specs.Design.{Backed, InRange};
+ghost use Rattle.state.specs.Design.{InRange};
 ghost use Rattle.state.specs.Held.{Bounded, held_at, range_at};
 ghost use Rattle.state.specs.HeldWords.{words_held};
-ghost use Rattle.state.specs.Meaning.{database_of, holding_of, pair_of, range_of, scheme_of};
+ghost use Rattle.state.specs.Meaning.{holding_of, pair_of, range_of, scheme_of};
 ghost use Rattle.reason.specs.Lowest.{lower_of, lowest_of_desks, lowest_of_ranges, lowest_of_values, none_found, origin_of};
+ghost use Rattle.state.specs.Rows.{database_in, IsBacked};
 
 use state::{
-    Cell, Design, DeskRanges, HeldValue, Range, lower_cell, ranges_at, row_has, row_has_range,
-    value_at, value_count,
+    Cell, Design, DeskRanges, HeldValue, Range, Rows, lower_cell, ranges_at, value_at, value_count,
 };
 
 // What a chain ends with.
@@ -101,17 +100,10 @@ fn lower_of(low: Lowest, o: Origin, has: bool) -> Lowest
 }
 
 // The lowest value that row r has. One look at each held value.
-fn lowest_value(
-    d: Design,
-    cells: &[u32],
-    issues: &[u8],
-    tables: &[u8],
-    held: &[u32; 358],
-    r: usize,
-) -> Lowest
-    requires { (r < 512) × InRange d × Backed (cells_in cells.now issues.now) tables.now × ((words_held held.now).count ≤ 64)
+fn lowest_value(d: Design, rows: &Rows, held: &[u32; 358], r: usize) -> Lowest
+    requires { (r < 512) × InRange d × IsBacked rows.now × ((words_held held.now).count ≤ 64)
         × ((i : ℕ) → (held_at (words_held held.now) i).pair.filling < 8) }
-    ensures { result ≡ lowest_of_values (scheme_of d) (database_of (cells_in cells.now issues.now) tables.now) r (words_held held.now)
+    ensures { result ≡ lowest_of_values (scheme_of d) (database_in rows.now) r (words_held held.now)
         none_found }
 {
     let filling = d.filling;
@@ -131,25 +123,17 @@ fn lowest_value(
         let v = o.pair;
         let f = filling[v.filling as usize];
         let k = f.column;
-        let has = row_has(cells, issues, tables, k, v.value, r);
+        let has = rows.has(k, v.value, r);
         low = lower_of(low, Origin::Value(v), has);
     }
     low
 }
 
 // The lowest so far, with a desk's ranges. One look at each.
-fn lowest_range(
-    d: Design,
-    cells: &[u32],
-    issues: &[u8],
-    tables: &[u8],
-    ranges: DeskRanges,
-    r: usize,
-    start: Lowest,
-) -> Lowest
-    requires { (r < 512) × InRange d × Backed (cells_in cells.now issues.now) tables.now × (ranges.count ≤ 8)
+fn lowest_range(d: Design, rows: &Rows, ranges: DeskRanges, r: usize, start: Lowest) -> Lowest
+    requires { (r < 512) × InRange d × IsBacked rows.now × (ranges.count ≤ 8)
         × ((i : ℕ) → (range_at ranges i).filling < 8) }
-    ensures { result ≡ lowest_of_ranges (scheme_of d) (database_of (cells_in cells.now issues.now) tables.now) r ranges
+    ensures { result ≡ lowest_of_ranges (scheme_of d) (database_in rows.now) r ranges
         start }
 {
     let list = ranges.list;
@@ -159,50 +143,35 @@ fn lowest_range(
         let q = list[i];
         let f = filling[q.filling as usize];
         let k = f.column;
-        let has = row_has_range(cells, issues, tables, k, q, r);
+        let has = rows.has_range(k, q, r);
         low = lower_of(low, Origin::Range(q), has);
     }
     low
 }
 
 // The lowest so far, with the ranges of all desks. One look at each.
-fn lowest_ranges(
-    d: Design,
-    cells: &[u32],
-    issues: &[u8],
-    tables: &[u8],
-    held: &[u32; 358],
-    r: usize,
-    start: Lowest,
-) -> Lowest
-    requires { (r < 512) × InRange d × Backed (cells_in cells.now issues.now) tables.now × Bounded (words_held held.now) }
-    ensures { result ≡ lowest_of_desks (scheme_of d) (database_of (cells_in cells.now issues.now) tables.now) r
+fn lowest_ranges(d: Design, rows: &Rows, held: &[u32; 358], r: usize, start: Lowest) -> Lowest
+    requires { (r < 512) × InRange d × IsBacked rows.now × Bounded (words_held held.now) }
+    ensures { result ≡ lowest_of_desks (scheme_of d) (database_in rows.now) r
         (words_held held.now).ranges 4 start }
 {
     let mut low = start;
     for e in 0..4usize {
         let ranges = ranges_at(held, e);
-        low = lowest_range(d, cells, issues, tables, ranges, r, low);
+        low = lowest_range(d, rows, ranges, r, low);
     }
     low
 }
 
 // The lowest that row r has and some desk holds; there is one. One look at each held value and range.
-pub(crate) fn lowest_held(
-    d: Design,
-    cells: &[u32],
-    issues: &[u8],
-    tables: &[u8],
-    held: &[u32; 358],
-    r: usize,
-) -> Origin
-    requires r_bound { (r < 512) × InRange d × Backed (cells_in cells.now issues.now) tables.now × Bounded (words_held held.now) }
-    requires i_value { any (origin_count (holding_of (words_held held.now))) (λ i. has_origin (scheme_of d) (database_of (cells_in cells.now issues.now) tables.now) r
+pub(crate) fn lowest_held(d: Design, rows: &Rows, held: &[u32; 358], r: usize) -> Origin
+    requires r_bound { (r < 512) × InRange d × IsBacked rows.now × Bounded (words_held held.now) }
+    requires i_value { any (origin_count (holding_of (words_held held.now))) (λ i. has_origin (scheme_of d) (database_in rows.now) r
         (origin_at (holding_of (words_held held.now)) i)) ≡ true }
-    ensures { origin_of result ≡ lowest_held (scheme_of d) (database_of (cells_in cells.now issues.now) tables.now)
+    ensures { origin_of result ≡ lowest_held (scheme_of d) (database_in rows.now)
         (holding_of (words_held held.now)) r }
 {
-    let value = lowest_value(d, cells, issues, tables, held, r);
-    let low = lowest_ranges(d, cells, issues, tables, held, r, value);
+    let value = lowest_value(d, rows, held, r);
+    let low = lowest_ranges(d, rows, held, r, value);
     low.origin
 }

@@ -1,3 +1,2 @@
--- MakingLaws: what `from_fn` makes. RecordWords: a record stored as words, and read from them.
-pub mod MakingLaws
+-- RecordWords: a record stored as words, and read from them.
 pub mod RecordWords

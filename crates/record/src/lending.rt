@@ -7,23 +7,23 @@ ghost use Rattle.state.specs.Lent.{lent, Answered};
 ghost use Rattle.cache.specs.Ready.{Ready};
 
 use crate::records::{drop_record, refer_record};
+use catalog::Index;
 use state::{Answer, Design, Held, HeldValue};
 
 // REFER with the held values lent. The cost of `refer_record`.
 pub fn refer(
     design: Design,
-    catalog: &[u16; 16449],
-    keys: &[u64; 4096],
+    index: &Index,
     marks: &mut [u8],
     held: &mut Held,
     v: HeldValue,
 ) -> Answer
-    requires { (cells : Cells) × (tables : List ℕ) × Ready design cells tables marks.old held.old catalog.now keys.now }
-    ensures { (cells : Cells) (tables : List ℕ) → Ready design cells tables marks.old held.old catalog.now keys.now
+    requires { (cells : Cells) × (tables : List ℕ) × Ready design cells tables marks.old held.old index.now.catalog.now index.now.keys.now }
+    ensures { (cells : Cells) (tables : List ℕ) → Ready design cells tables marks.old held.old index.now.catalog.now index.now.keys.now
         → Answered (lent design cells tables marks.old held.old) (Runs.refer (pair_of v)) (answer_of result)
         (lent design cells tables marks.new held.new) }
 {
-    let o = refer_record(design, catalog, keys, marks, *held, v);
+    let o = refer_record(design, index, marks, *held, v);
     *held = o.held;
     o.answer
 }
@@ -31,18 +31,17 @@ pub fn refer(
 // DROP with the held values lent. The cost of `drop_record`.
 pub fn drop(
     design: Design,
-    catalog: &[u16; 16449],
-    keys: &[u64; 4096],
+    index: &Index,
     marks: &mut [u8],
     held: &mut Held,
     v: HeldValue,
 ) -> Answer
-    requires { (cells : Cells) × (tables : List ℕ) × Ready design cells tables marks.old held.old catalog.now keys.now }
-    ensures { (cells : Cells) (tables : List ℕ) → Ready design cells tables marks.old held.old catalog.now keys.now
+    requires { (cells : Cells) × (tables : List ℕ) × Ready design cells tables marks.old held.old index.now.catalog.now index.now.keys.now }
+    ensures { (cells : Cells) (tables : List ℕ) → Ready design cells tables marks.old held.old index.now.catalog.now index.now.keys.now
         → Answered (lent design cells tables marks.old held.old) (Runs.drop (pair_of v)) (answer_of result)
         (lent design cells tables marks.new held.new) }
 {
-    let o = drop_record(design, catalog, keys, marks, *held, v);
+    let o = drop_record(design, index, marks, *held, v);
     *held = o.held;
     o.answer
 }

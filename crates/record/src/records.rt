@@ -11,6 +11,7 @@ ghost use Rattle.cache.specs.Ready.{Ready};
 
 use crate::outcome::Outcome;
 use cache::{drop_lawful, refer_lawful};
+use catalog::Index;
 use state::{
     Design, DeskRanges, Held, HeldValue, OwnedValue, named_desk, ranges_at, set_count, set_desk,
     set_ranges, set_value, value_at, value_count,
@@ -72,20 +73,19 @@ fn put_record(h: Held, held: &mut [u32; 358])
 // REFER with a record by value. The cost of `refer_lawful`, and two copies of the record.
 pub(crate) fn refer_record(
     design: Design,
-    catalog: &[u16; 16449],
-    keys: &[u64; 4096],
+    index: &Index,
     marks: &mut [u8],
     held: Held,
     v: HeldValue,
 ) -> Outcome
-    requires { (cells : Cells) × (tables : List ℕ) × Ready design cells tables marks.old held catalog.now keys.now }
-    ensures { (cells : Cells) (tables : List ℕ) → Ready design cells tables marks.old held catalog.now keys.now
+    requires { (cells : Cells) × (tables : List ℕ) × Ready design cells tables marks.old held index.now.catalog.now index.now.keys.now }
+    ensures { (cells : Cells) (tables : List ℕ) → Ready design cells tables marks.old held index.now.catalog.now index.now.keys.now
         → Answered (lent design cells tables marks.old held) (Runs.refer (pair_of v)) (answer_of result.answer)
         (lent design cells tables marks.new result.held) }
 {
     let mut words = [0u32; 358];
     put_record(held, &mut words);
-    let answer = refer_lawful(design, catalog, keys, marks, &mut words, v);
+    let answer = refer_lawful(design, index, marks, &mut words, v);
     Outcome {
         held: record_in(&words),
         answer,
@@ -96,20 +96,19 @@ pub(crate) fn refer_record(
 // Beside `refer_record`, and not one function of a closure for the step: its clauses would speak of the references passed, in more lines than the two share.
 pub(crate) fn drop_record(
     design: Design,
-    catalog: &[u16; 16449],
-    keys: &[u64; 4096],
+    index: &Index,
     marks: &mut [u8],
     held: Held,
     v: HeldValue,
 ) -> Outcome
-    requires { (cells : Cells) × (tables : List ℕ) × Ready design cells tables marks.old held catalog.now keys.now }
-    ensures { (cells : Cells) (tables : List ℕ) → Ready design cells tables marks.old held catalog.now keys.now
+    requires { (cells : Cells) × (tables : List ℕ) × Ready design cells tables marks.old held index.now.catalog.now index.now.keys.now }
+    ensures { (cells : Cells) (tables : List ℕ) → Ready design cells tables marks.old held index.now.catalog.now index.now.keys.now
         → Answered (lent design cells tables marks.old held) (Runs.drop (pair_of v)) (answer_of result.answer)
         (lent design cells tables marks.new result.held) }
 {
     let mut words = [0u32; 358];
     put_record(held, &mut words);
-    let answer = drop_lawful(design, catalog, keys, marks, &mut words, v);
+    let answer = drop_lawful(design, index, marks, &mut words, v);
     Outcome {
         held: record_in(&words),
         answer,

@@ -12,6 +12,7 @@ ghost use Rattle.script.specs.JustRead.{buffers};
 
 use crate::outcome::{ProbedRun, Run};
 use cache::probe_lawful;
+use catalog::Index;
 use format::{Verdict, read_catalogued};
 use script::step_lawful;
 use state::{Answer, Cell, Column, Design};
@@ -181,6 +182,10 @@ pub fn probe_after(
             answer: Answer::Refused(cause),
         };
     }
-    let answer = probe_lawful(design, &catalog, &keys, marks, held, k, v);
+    let index = Index {
+        catalog: &catalog,
+        keys: &keys,
+    };
+    let answer = probe_lawful(design, &index, marks, held, k, v);
     ProbedRun { run: left, answer }
 }

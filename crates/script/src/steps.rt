@@ -12,12 +12,13 @@ ghost use Rattle.command.specs.Commands.{width_of, put_row_at, command_at};
 ghost use Rattle.script.specs.Step.{Outputs, place_of, outputs, changing, carried, step_at, Does, DoesWords};
 
 use crate::outcome::Step;
+use catalog::Index;
 use change::{put_lawful, remove_lawful};
 use command::{Command, command_at, row_at, width_of};
 use format::MOST_BYTES;
 use guard::cause;
 use operate::perform_lawful;
-use state::{Answer, Design, Operation, first_words, is_refusal, store_words};
+use state::{Answer, Design, Operation, Rows, first_words, is_refusal, store_words};
 
 // A refusal, with nothing changed. Constant time.
 fn refusing(cause: u8, place: usize, after: usize, more: bool) -> Step
@@ -148,8 +149,21 @@ fn carry_out(
     let command = command_at(script, at);
     match command {
         Command::Operate(op) => {
+            let rows = Rows {
+                cells,
+                issues,
+                tables,
+            };
             let a = perform_lawful(
-                op, design, cells, issues, tables, catalog, keys, marks, held, words, text, counts,
+                op,
+                design,
+                &rows,
+                &Index { catalog, keys },
+                marks,
+                held,
+                words,
+                text,
+                counts,
                 places,
             );
             answering(a, at, after)
@@ -228,16 +242,12 @@ pub fn step(
 {
     let mut catalog = [0u16; 16449];
     let mut keys = [0u64; 4096];
-    let why = cause(
-        design,
+    let rows = Rows {
         cells,
         issues,
         tables,
-        &mut catalog,
-        &mut keys,
-        marks,
-        held,
-    );
+    };
+    let why = cause(design, &rows, &mut catalog, &mut keys, marks, held);
     if why != 0 {
         return refusing(why, 0, at, false);
     }

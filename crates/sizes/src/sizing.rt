@@ -5,20 +5,21 @@ ghost use Rattle.model.specs.Database.{Database};
 ghost use Rattle.model.specs.Query.{fitting, full_lists, joins_of, operands_fit, words_of};
 ghost use Rattle.model.specs.Runs as Runs;
 ghost use Rattle.model.specs.Runs.{marked};
-ghost use Rattle.state.specs.Cells.{cells_in};
 ghost use Rattle.state.specs.Design.{InRange};
-ghost use Rattle.state.specs.Meaning.{answer_of, cell_of, column_of, database_of, query_of, scheme_of};
+ghost use Rattle.state.specs.Meaning.{answer_of, cell_of, column_of, query_of, scheme_of};
 ghost use Rattle.state.specs.HeldWords.{words_held, Whole};
 ghost use Rattle.state.specs.Lent.{lent, sound, text_at, words_at};
-ghost use Rattle.catalog.specs.Catalog.{Catalogued};
 ghost use Rattle.operate.specs.Queries.{Referring};
 ghost use Rattle.sizes.specs.Sizes.{ample, bytes_in, text_taken, words_taken};
+ghost use Rattle.state.specs.Rows.{database_in, cells_of};
+ghost use Rattle.catalog.specs.Index.{IsCatalogued};
 
 use cache::{filling_for, refer_lawful, takes};
+use catalog::Index;
 use probe::search;
 use query::{count_fitting, operands_fit};
 use reason::reason_lawful;
-use state::{Answer, Design, HeldValue, Operation, Query, is_numberless};
+use state::{Answer, Design, HeldValue, Operation, Query, Rows, is_numberless};
 
 // The answer words and the bytes of text that an operation takes.
 #[derive(Clone, Copy)]
@@ -30,19 +31,18 @@ pub struct Sizes {
 // The words of the lists of marked rows, whatever stands in the others: one for each position of each list. The cost of `count_fitting`.
 fn listed_words(
     d: Design,
-    catalog: &[u16; 16449],
-    keys: &[u64; 4096],
+    index: &Index,
     marks: &[u8],
     q: Query,
     counts: &mut [u64; 5120],
     places: &mut [u16; 5120],
 ) -> u64
     requires { InRange d × (q.column.place < 8) × (operands_fit (scheme_of d) (query_of q) ≡ true) × (512 ≤ length marks.now)
-        × ((D : Database) × Catalogued (scheme_of d) D catalog.now keys.now) }
-    ensures { (D : Database) → Catalogued (scheme_of d) D catalog.now keys.now
+        × ((D : Database) × IsCatalogued (scheme_of d) D index.now) }
+    ensures { (D : Database) → IsCatalogued (scheme_of d) D index.now
         → result ≡ length (words_of (fitting (scheme_of d) D (marked marks.now) (column_of q.column) (cell_of q.value) (joins_of (query_of q)))) }
 {
-    let lists = count_fitting(d, catalog, keys, marks, q, counts, places);
+    let lists = count_fitting(d, index, marks, q, counts, places);
     lists * (u64::from(q.joins) + 1)
 }
 
@@ -50,11 +50,8 @@ fn listed_words(
 // one load, and the cost of `listed_words`.
 fn referred_words(
     design: Design,
-    cells: &[u32],
-    issues: &[u8],
-    tables: &[u8],
-    catalog: &[u16; 16449],
-    keys: &[u64; 4096],
+    rows: &Rows,
+    index: &Index,
     marks: &[u8],
     held: &[u32; 358],
     q: Query,
@@ -62,17 +59,18 @@ fn referred_words(
     counts: &mut [u64; 5120],
     places: &mut [u16; 5120],
 ) -> u64
-    requires held_value { (sound (lent design (cells_in cells.now issues.now) tables.now marks.now (words_held held.now)) ≡ true)
-        × Catalogued (scheme_of design) (database_of (cells_in cells.now issues.now) tables.now) catalog.now keys.now × Whole held.now }
-    requires referring { Referring (lent design (cells_in cells.now issues.now) tables.now marks.now (words_held held.now)) q (Runs.as_lists ample) v }
-    ensures { result ≡ length (words_of (full_lists (scheme_of design) (database_of (cells_in cells.now issues.now) tables.now)
+    requires held_value { (sound (lent design (cells_of rows.now) rows.now.tables.now marks.now (words_held held.now)) ≡ true)
+        × IsCatalogued (scheme_of design) (database_in rows.now) index.now × Whole held.now }
+    requires referring { Referring (lent design (cells_of rows.now) rows.now.tables.now marks.now (words_held held.now)) q (Runs.as_lists ample) v }
+    ensures { result ≡ length (words_of (full_lists (scheme_of design) (database_in rows.now)
         (query_of q))) }
 {
+    rows.note_types();
     let mut copy = [0u8; 512];
     copy.copy_from_slice(&marks[..Design::ROWS]);
     let mut more = *held;
-    refer_lawful(design, catalog, keys, &mut copy, &mut more, v);
-    listed_words(design, catalog, keys, &copy, q, counts, places)
+    refer_lawful(design, index, &mut copy, &mut more, v);
+    listed_words(design, index, &copy, q, counts, places)
 }
 
 // The words that a QUERY takes: none where causes 5 and 9 refuse it or it is sent; else those of its lists, on the cache after the reference. The last
@@ -80,30 +78,28 @@ fn referred_words(
 // cost of `count_fitting`.
 fn query_words(
     design: Design,
-    cells: &[u32],
-    issues: &[u8],
-    tables: &[u8],
-    catalog: &[u16; 16449],
-    keys: &[u64; 4096],
+    rows: &Rows,
+    index: &Index,
     marks: &[u8],
     held: &[u32; 358],
     q: Query,
     counts: &mut [u64; 5120],
     places: &mut [u16; 5120],
 ) -> u64
-    requires { (sound (lent design (cells_in cells.now issues.now) tables.now marks.now (words_held held.now)) ≡ true)
-        × Catalogued (scheme_of design) (database_of (cells_in cells.now issues.now) tables.now) catalog.now keys.now × Whole held.now }
-    ensures { result ≡ length (words_at (lent design (cells_in cells.now issues.now) tables.now marks.now (words_held held.now))
+    requires { (sound (lent design (cells_of rows.now) rows.now.tables.now marks.now (words_held held.now)) ≡ true)
+        × IsCatalogued (scheme_of design) (database_in rows.now) index.now × Whole held.now }
+    ensures { result ≡ length (words_at (lent design (cells_of rows.now) rows.now.tables.now marks.now (words_held held.now))
         (Runs.query (query_of q) (Runs.as_lists ample))) }
 {
+    rows.note_types();
     if !operands_fit(design, q) || is_numberless(q.value) {
         return 0;
     }
     let k = q.column;
-    let found = search(design, catalog, keys, marks, held, k, q.value);
+    let found = search(design, index, marks, held, k, q.value);
     let g = found.ground;
     if g != 0 {
-        return listed_words(design, catalog, keys, marks, q, counts, places);
+        return listed_words(design, index, marks, q, counts, places);
     }
     let v = HeldValue {
         filling: filling_for(design, k) as u8,
@@ -112,9 +108,7 @@ fn query_words(
     if !takes(design, held, v) {
         return 0;
     }
-    referred_words(
-        design, cells, issues, tables, catalog, keys, marks, held, q, v, counts, places,
-    )
+    referred_words(design, rows, index, marks, held, q, v, counts, places)
 }
 
 // The length of the text that an answer tells of: 0 with any but a reason. Constant time.
@@ -131,24 +125,19 @@ fn told_bytes(answer: Answer) -> usize
 // has room for any, and its length is read from the answer: the cost of `reason_lawful`.
 fn reason_bytes(
     design: Design,
-    cells: &[u32],
-    issues: &[u8],
-    tables: &[u8],
-    catalog: &[u16; 16449],
-    keys: &[u64; 4096],
+    rows: &Rows,
+    index: &Index,
     marks: &[u8],
     held: &[u32; 358],
     row: u16,
 ) -> usize
-    requires { (sound (lent design (cells_in cells.now issues.now) tables.now marks.now (words_held held.now)) ≡ true)
-        × Catalogued (scheme_of design) (database_of (cells_in cells.now issues.now) tables.now) catalog.now keys.now }
-    ensures { result ≡ length (text_at (lent design (cells_in cells.now issues.now) tables.now marks.now (words_held held.now))
+    requires { (sound (lent design (cells_of rows.now) rows.now.tables.now marks.now (words_held held.now)) ≡ true)
+        × IsCatalogued (scheme_of design) (database_in rows.now) index.now }
+    ensures { result ≡ length (text_at (lent design (cells_of rows.now) rows.now.tables.now marks.now (words_held held.now))
         (Runs.ask (Runs.reason row ample))) }
 {
     let mut text = [0u8; 16384];
-    let answer = reason_lawful(
-        design, cells, issues, tables, catalog, keys, marks, held, row, &mut text,
-    );
+    let answer = reason_lawful(design, rows, index, marks, held, row, &mut text);
     told_bytes(answer)
 }
 
@@ -158,32 +147,25 @@ fn reason_bytes(
 pub fn sizes_lawful(
     op: Operation,
     design: Design,
-    cells: &[u32],
-    issues: &[u8],
-    tables: &[u8],
-    catalog: &[u16; 16449],
-    keys: &[u64; 4096],
+    rows: &Rows,
+    index: &Index,
     marks: &[u8],
     held: &[u32; 358],
     counts: &mut [u64; 5120],
     places: &mut [u16; 5120],
 ) -> Sizes
-    requires { (sound (lent design (cells_in cells.now issues.now) tables.now marks.now (words_held held.now)) ≡ true)
-        × Catalogued (scheme_of design) (database_of (cells_in cells.now issues.now) tables.now) catalog.now keys.now × Whole held.now }
-    ensures { (result.words ≡ words_taken (lent design (cells_in cells.now issues.now) tables.now marks.now (words_held held.now)) op)
-        × (result.text ≡ text_taken (lent design (cells_in cells.now issues.now) tables.now marks.now (words_held held.now)) op) }
+    requires { (sound (lent design (cells_of rows.now) rows.now.tables.now marks.now (words_held held.now)) ≡ true)
+        × IsCatalogued (scheme_of design) (database_in rows.now) index.now × Whole held.now }
+    ensures { (result.words ≡ words_taken (lent design (cells_of rows.now) rows.now.tables.now marks.now (words_held held.now)) op)
+        × (result.text ≡ text_taken (lent design (cells_of rows.now) rows.now.tables.now marks.now (words_held held.now)) op) }
 {
     match op {
         Operation::Query(q) => {
-            let words = query_words(
-                design, cells, issues, tables, catalog, keys, marks, held, q, counts, places,
-            );
+            let words = query_words(design, rows, index, marks, held, q, counts, places);
             Sizes { words, text: 0 }
         }
         Operation::Reason(row) => {
-            let text = reason_bytes(
-                design, cells, issues, tables, catalog, keys, marks, held, row,
-            );
+            let text = reason_bytes(design, rows, index, marks, held, row);
             Sizes { words: 0, text }
         }
         _ => Sizes { words: 0, text: 0 },

@@ -7,33 +7,26 @@ ghost use Rattle.state.specs.Design.{InRange};
 ghost use Rattle.state.specs.Held.{Bounded, range_at, ranges_at};
 ghost use Rattle.state.specs.HeldWords.{words_held};
 ghost use Rattle.state.specs.Meaning.{column_of, range_of, scheme_of, list_of, lists_of};
-ghost use Rattle.catalog.specs.Catalog.{Indexed};
 ghost use Rattle.slice.specs.Fetches.{fetches_in, as_lack, FirstOpen, Ordered, Shut};
+ghost use Rattle.catalog.specs.Index.{IsIndexed};
 
 use crate::fetch::{Fetch, span_fetch};
 use crate::gaps::{gap_end, next_span};
 use crate::lack::is_open;
+use catalog::Index;
 use state::{Cell, Column, Design, filling_at, range_at, range_count};
 
 // The number behind the numbers from x on that are known not to lack: behind the span that has x, or behind x; none if x itself lacks.
-fn shut_past(
-    d: Design,
-    catalog: &[u16; 16449],
-    keys: &[u64; 4096],
-    words: &[u32],
-    n: usize,
-    k: Column,
-    x: u32,
-) -> Option<u64>
+fn shut_past(d: Design, index: &Index, words: &[u32], n: usize, k: Column, x: u32) -> Option<u64>
     requires { (k.table < 8) × (k.place < 8) × Ordered words.now n }
-    ensures { IfSome result (λ y. x < y) × ((D : Database) → Indexed D catalog.now keys.now
+    ensures { IfSome result (λ y. x < y) × ((D : Database) → IsIndexed D index.now
         → Shut (scheme_of d) D (fetches_in words.now n) (column_of k) x result) }
 {
     let v = Cell {
         number: x,
         issue: 0,
     };
-    if is_open(d, catalog, keys, words, n, k, v) {
+    if is_open(d, index, words, n, k, v) {
         return None;
     }
     let Some(f) = next_span(words, n, k, x) else {
@@ -49,8 +42,7 @@ fn shut_past(
 // has one of the numbers in a unique column.
 fn first_open(
     d: Design,
-    catalog: &[u16; 16449],
-    keys: &[u64; 4096],
+    index: &Index,
     words: &[u32],
     n: usize,
     k: Column,
@@ -58,13 +50,14 @@ fn first_open(
     high: u32,
 ) -> Option<u32>
     requires { (k.table < 8) × (k.place < 8) × Ordered words.now n }
-    ensures { (D : Database) → Indexed D catalog.now keys.now
+    ensures { (D : Database) → IsIndexed D index.now
         → FirstOpen (scheme_of d) D (fetches_in words.now n) (column_of k) high low result }
 {
     let mut x = low as u64;
+    // no count: a span that was fetched is passed in one step
     while x <= high as u64 {
         let y = x as u32;
-        let Some(z) = shut_past(d, catalog, keys, words, n, k, y) else {
+        let Some(z) = shut_past(d, index, words, n, k, y) else {
             return Some(y);
         };
         x = z;
@@ -75,8 +68,7 @@ fn first_open(
 // The first gap of desk e's range i: all of its numbers are held, and the first lacks.
 fn range_lack(
     d: Design,
-    catalog: &[u16; 16449],
-    keys: &[u64; 4096],
+    index: &Index,
     held: &[u32; 358],
     words: &[u32],
     n: usize,
@@ -84,44 +76,42 @@ fn range_lack(
     i: usize,
 ) -> Option<Fetch>
     requires { InRange d × (e < 4) × (i < 8) × Ordered words.now n }
-    ensures { (D : Database) → Indexed D catalog.now keys.now
+    ensures { (D : Database) → IsIndexed D index.now
         → as_lack result ≡ Model.range_lack (scheme_of d) D (fetches_in words.now n) (range_of (range_at (ranges_at (words_held held.now) e) i)) }
 {
     let q = range_at(held, e, i);
     let k = filling_at(d, q.filling as usize).column;
-    let x = first_open(d, catalog, keys, words, n, k, q.low, q.high)?;
+    let x = first_open(d, index, words, n, k, q.low, q.high)?;
     Some(span_fetch(k, x, gap_end(words, n, k, x, q.high)))
 }
 
 // Of desk e's ranges.
 fn desk_lack(
     d: Design,
-    catalog: &[u16; 16449],
-    keys: &[u64; 4096],
+    index: &Index,
     held: &[u32; 358],
     words: &[u32],
     n: usize,
     e: usize,
 ) -> Option<Fetch>
     requires { InRange d × Bounded (words_held held.now) × Ordered words.now n × (e < 4) }
-    ensures { (D : Database) → Indexed D catalog.now keys.now
+    ensures { (D : Database) → IsIndexed D index.now
         → as_lack result ≡ Model.lack_in (Model.range_lack (scheme_of d) D (fetches_in words.now n)) (list_of (ranges_at (words_held held.now) e)) }
 {
-    (0..range_count(held, e)).find_map(|i| range_lack(d, catalog, keys, held, words, n, e, i))
+    (0..range_count(held, e)).find_map(|i| range_lack(d, index, held, words, n, e, i))
 }
 
 // Of all desks' ranges.
 pub(crate) fn ranges_lack(
     d: Design,
-    catalog: &[u16; 16449],
-    keys: &[u64; 4096],
+    index: &Index,
     held: &[u32; 358],
     words: &[u32],
     n: usize,
 ) -> Option<Fetch>
     requires { InRange d × Bounded (words_held held.now) × Ordered words.now n }
-    ensures { (D : Database) → Indexed D catalog.now keys.now
+    ensures { (D : Database) → IsIndexed D index.now
         → as_lack result ≡ Model.lack_in (Model.range_lack (scheme_of d) D (fetches_in words.now n)) (all_ranges (lists_of (words_held held.now))) }
 {
-    (0..4).find_map(|e| desk_lack(d, catalog, keys, held, words, n, e))
+    (0..4).find_map(|e| desk_lack(d, index, held, words, n, e))
 }

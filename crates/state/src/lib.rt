@@ -6,7 +6,6 @@
 
 mod answer;
 mod cell;
-mod copying;
 mod design;
 mod equality;
 mod held;
@@ -19,7 +18,6 @@ mod rows;
 
 pub use answer::{Answer, Shown, has_lists, is_refusal, show};
 pub use cell::{Cell, amount_of, cell_at, is_blank, is_numberless, lower_cell, same_cell};
-pub use copying::copy_bytes;
 pub use design::{Column, Constraint, Design, Filling, Table};
 pub use equality::{same_column, same_owned, same_pair};
 pub use held::{DeskRanges, Held, HeldValue, OwnedValue, Range};
@@ -30,5 +28,5 @@ pub use held_words::{
 pub use lookup::{filling_at, table_at};
 pub use narrow::{held_narrow, is_byte, two_narrow};
 pub use operation::{Join, Operation, Query, Total};
-pub use ranges::{in_range, row_has_range, same_range, stands_before};
-pub use rows::{Row, is_live, row_has};
+pub use ranges::{in_range, same_range, stands_before};
+pub use rows::{Row, Rows, is_live};

@@ -2,14 +2,13 @@
 // Constant time.
 ghost use Rattle.std.specs.Prelude.{◌<◌, ◌≡◌};
 ghost use Rattle.model.specs.Ranges.{has_range, in_range, same_range, stands_before};
-ghost use Rattle.state.specs.Cells.{cells_in};
-ghost use Rattle.state.specs.Design.{Backed};
-ghost use Rattle.state.specs.Meaning.{cell_of, column_of, database_of, range_of};
+ghost use Rattle.state.specs.Meaning.{cell_of, column_of, range_of};
+ghost use Rattle.state.specs.Rows.{database_in, IsBacked};
 
 use crate::cell::{Cell, cell_at, is_blank};
 use crate::design::Column;
 use crate::held::Range;
-use crate::rows::is_row_of;
+use crate::rows::{Rows, is_row_of};
 
 // Whether the two are one range.
 #[tactic(auto, unfolding(model::specs::Ranges::same_range))]
@@ -36,17 +35,13 @@ pub fn stands_before(a: Range, b: Range) -> bool
     (a.filling, u64::from(a.high) + 1) < (b.filling, u64::from(b.low))
 }
 
-// Whether row r is a row of the column's table and has one of the range's values there.
-pub fn row_has_range(
-    cells: &[u32],
-    issues: &[u8],
-    tables: &[u8],
-    k: Column,
-    q: Range,
-    r: usize,
-) -> bool
-    requires { (r < 512) × (k.place < 8) × Backed (cells_in cells.now issues.now) tables.now }
-    ensures { result ≡ has_range (database_of (cells_in cells.now issues.now) tables.now) (column_of k) (range_of q) r }
-{
-    is_row_of(tables, k.table, r) && in_range(q, cell_at(cells, issues, r, usize::from(k.place)))
+impl Rows<'_> {
+    // Whether row r is a row of the column's table and has one of the range's values there.
+    pub fn has_range(&self, k: Column, q: Range, r: usize) -> bool
+        requires { (r < 512) × (k.place < 8) × IsBacked self.now }
+        ensures { result ≡ has_range (database_in self.now) (column_of k) (range_of q) r }
+    {
+        is_row_of(self.tables, k.table, r)
+            && in_range(q, cell_at(self.cells, self.issues, r, usize::from(k.place)))
+    }
 }

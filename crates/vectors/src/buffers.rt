@@ -1,5 +1,5 @@
 // Lent buffers of several lengths, each filled with 9: one place too short, just long enough, and longer.
-use crate::lent::{HELD_3, Lengths, Room, Rows, State};
+use crate::lent::{Buffers, HELD_3, Lengths, Room, State};
 use format::Verdict;
 use state::{Design, Operation};
 use std::alloc::{AllocError, Global};
@@ -45,7 +45,7 @@ pub(crate) fn reading(alloc: Global, script: &[u8], kind: usize) -> Result<(u8, 
         3 => LONGER,
         _ => shortened(kind).unwrap_or(Lengths::WHOLE),
     };
-    let mut rows = Rows::filled(alloc, lengths, 9)?;
+    let mut rows = Buffers::filled(alloc, lengths, 9)?;
     match rows.read(script).verdict {
         Verdict::Accepted(_) => Ok((0, rows.are_left(Lengths::WHOLE))),
         Verdict::Refused(cause, _) => Ok((cause, rows.are_left(Lengths::NONE))),
@@ -58,7 +58,7 @@ fn try_short(
     design: Design,
     lengths: Lengths,
 ) -> Result<([u8; 7], bool), AllocError> {
-    let rows = Rows::filled(alloc, lengths, 9)?;
+    let rows = Buffers::filled(alloc, lengths, 9)?;
     let mut state = State { design, rows };
     let mut room = Room::nines(alloc)?;
     let causes = state.causes(alloc, &mut room)?;
@@ -68,7 +68,7 @@ fn try_short(
 
 // The script's design in longer buffers, with REFER 0 3.
 fn load_3(alloc: Global, script: &[u8]) -> Result<State, AllocError> {
-    let mut rows = Rows::filled(alloc, LONGER, 9)?;
+    let mut rows = Buffers::filled(alloc, LONGER, 9)?;
     for word in rows.held.iter_mut().take(Lengths::WHOLE.held) {
         *word = 0;
     }

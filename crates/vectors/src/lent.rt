@@ -3,7 +3,8 @@ use format::{DesignReading, Verdict, read_design};
 use operate::perform;
 use script::{Step, step};
 use state::{
-    Answer, Cell, Column, Constraint, Design, Filling, HeldValue, Join, Operation, Query, Table,
+    Answer, Cell, Column, Constraint, Design, Filling, HeldValue, Join, Operation, Query, Rows,
+    Table,
 };
 use std::alloc::{AllocError, Global};
 use writing::{Written, write};
@@ -39,7 +40,7 @@ impl Lengths {
 
 // The buffers of a state.
 #[derive(Clone, PartialEq, Drop)]
-pub struct Rows {
+pub struct Buffers {
     pub cells: Vec<u32>,
     pub issues: Vec<u8>,
     pub tables: Vec<u8>,
@@ -47,15 +48,19 @@ pub struct Rows {
     pub held: Vec<u32>,
 }
 
-impl Rows {
+impl Buffers {
     // Of these lengths, with one number everywhere. One step for each place.
-    pub(crate) fn filled(alloc: Global, lengths: Lengths, value: u8) -> Result<Rows, AllocError> {
+    pub(crate) fn filled(
+        alloc: Global,
+        lengths: Lengths,
+        value: u8,
+    ) -> Result<Buffers, AllocError> {
         let cells = vec![in alloc; u32::from(value); lengths.cells]?;
         let issues = vec![in alloc; value; lengths.issues]?;
         let tables = vec![in alloc; value; lengths.tables]?;
         let marks = vec![in alloc; value; lengths.marks]?;
         let held = vec![in alloc; u32::from(value); lengths.held]?;
-        Ok(Rows {
+        Ok(Buffers {
             cells,
             issues,
             tables,
@@ -122,7 +127,7 @@ impl Room {
 #[derive(Drop)]
 pub struct State {
     pub design: Design,
-    pub rows: Rows,
+    pub rows: Buffers,
 }
 
 // Row 0's own value in column 1 of table 0, which filling 0 has.
@@ -161,13 +166,40 @@ fn plain_query() -> Query {
 // A run has no more steps than this: more than a script can have commands.
 const MOST_COMMANDS: usize = 65537;
 
+// An operation on buffers that are lent apart, since some of them are changed. The cost of `perform`.
+fn carry_out(
+    op: Operation,
+    design: Design,
+    cells: &[u32],
+    issues: &[u8],
+    tables: &[u8],
+    marks: &mut [u8],
+    held: &mut [u32],
+    room: &mut Room,
+) -> Answer {
+    let lent = Rows {
+        cells,
+        issues,
+        tables,
+    };
+    perform(
+        op,
+        design,
+        &lent,
+        marks,
+        held,
+        &mut room.words,
+        &mut room.text,
+    )
+}
+
 // ---- operations, which a lawful state allows. Each has the cost of the library's function, and of the test for cause 12.
 
 impl State {
     // The cause with which an operation is refused, 0 for none.
     pub(crate) fn cause(&mut self, op: Operation, room: &mut Room) -> u8 {
         let rows = &mut self.rows;
-        let answer = perform(
+        let answer = carry_out(
             op,
             self.design,
             &rows.cells,
@@ -175,8 +207,7 @@ impl State {
             &rows.tables,
             &mut rows.marks,
             &mut rows.held,
-            &mut room.words,
-            &mut room.text,
+            room,
         );
         match answer {
             Answer::Refused(cause) => cause,
@@ -228,15 +259,12 @@ impl State {
     // The same of writing the design out.
     fn write_cause(&self, room: &mut Room) -> u8 {
         let rows = &self.rows;
-        let written = write(
-            self.design,
-            &rows.cells,
-            &rows.issues,
-            &rows.tables,
-            &rows.marks,
-            &rows.held,
-            &mut room.out,
-        );
+        let lent = Rows {
+            cells: &rows.cells,
+            issues: &rows.issues,
+            tables: &rows.tables,
+        };
+        let written = write(self.design, &lent, &rows.marks, &rows.held, &mut room.out);
         match written {
             Written::Refused(cause) => cause,
             Written::Bytes(_) => 0,
@@ -263,7 +291,7 @@ pub(crate) fn state_after(
     script: &[u8],
     number: usize,
 ) -> Result<State, AllocError> {
-    let mut rows = Rows::filled(alloc, Lengths::WHOLE, 0)?;
+    let mut rows = Buffers::filled(alloc, Lengths::WHOLE, 0)?;
     let reading = rows.read(script);
     let mut state = State {
         design: reading.design,
@@ -349,7 +377,7 @@ impl Change {
         }
     }
 
-    fn rows(self, rows: &mut Rows) {
+    fn rows(self, rows: &mut Buffers) {
         let (i, v) = (self.at, self.to);
         match self.kind {
             0 => put(&mut rows.cells, i, low_word(v)),

@@ -1,6 +1,6 @@
 // One vector: what it gives, beside what was expected.
 use crate::buffers::{operations, reading};
-use crate::lent::{Change, Lengths, Room, Rows, State, state_after};
+use crate::lent::{Buffers, Change, Lengths, Room, State, state_after};
 use crate::list::{Fields, number, numbers};
 use format::Verdict;
 use report::{put_command_line, put_refusal_line};
@@ -55,7 +55,7 @@ fn line_at(
     number: usize,
     room: &mut Room,
 ) -> Result<Vec<u8>, AllocError> {
-    let mut rows = Rows::filled(alloc, Lengths::WHOLE, 0)?;
+    let mut rows = Buffers::filled(alloc, Lengths::WHOLE, 0)?;
     let reading = rows.read(script);
     let mut state = State {
         design: reading.design,

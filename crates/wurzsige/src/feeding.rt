@@ -7,8 +7,9 @@ ghost use Rattle.wurzsige.specs.Calls.{memory, arrays, Ready};
 ghost use Rattle.wurzsige.specs.Feeding.{missing_in, ReplyTold, VerdictsTold};
 
 use crate::causes::memory_cause;
+use catalog::Index;
 use slice::{Next, missing_catalogued};
-use state::first_words;
+use state::{Rows, first_words};
 use verdict::verdicts;
 use words::{DESIGN_WORDS, design_from, design_narrow, lawful_design_from};
 
@@ -57,8 +58,19 @@ pub fn wurzsige_parts_missing_trusted(
         result fetch.old fetch.new }
 {
     let d = lawful_design_from(design);
+    let rows = Rows {
+        cells,
+        issues,
+        tables,
+    };
     let next = missing_catalogued(
-        d, cells, issues, tables, catalog, keys, marks, held, fetches, count,
+        d,
+        &rows,
+        &Index { catalog, keys },
+        marks,
+        held,
+        fetches,
+        count,
     );
     tell_next(next, fetch)
 }
@@ -82,7 +94,12 @@ pub fn wurzsige_parts_missing(
 {
     let mut c = [0u16; 16449];
     let mut k = [0u64; 4096];
-    let why = memory_cause(cells, issues, tables, &mut c, &mut k, marks, design, held);
+    let rows = Rows {
+        cells,
+        issues,
+        tables,
+    };
+    let why = memory_cause(&rows, &mut c, &mut k, marks, design, held);
     if why != 0 {
         return why;
     }

@@ -3,8 +3,9 @@ ghost use Rattle.state.specs.Cells.{cells_in};
 ghost use Rattle.wurzsige.specs.Calls.{memory, SizesTold};
 
 use crate::causes::memory_cause;
+use catalog::Index;
 use sizes::step_sizes_lawful;
-use state::first_words;
+use state::{Rows, first_words};
 use words::design_from;
 use writing::design_length;
 
@@ -27,7 +28,12 @@ pub fn wurzsige_parts_sizes(
 {
     let mut c = [0u16; 16449];
     let mut k = [0u64; 4096];
-    let why = memory_cause(cells, issues, tables, &mut c, &mut k, marks, design, held);
+    let rows = Rows {
+        cells,
+        issues,
+        tables,
+    };
+    let why = memory_cause(&rows, &mut c, &mut k, marks, design, held);
     if why != 0 {
         return why;
     }
@@ -36,15 +42,21 @@ pub fn wurzsige_parts_sizes(
     let bytes = design_length(d, issues, tables);
     let mut counts = [0u64; 5120];
     let mut places = [0u16; 5120];
+    let rows = Rows {
+        cells,
+        issues,
+        tables,
+    };
+    let index = Index {
+        catalog: &c,
+        keys: &k,
+    };
     let z = step_sizes_lawful(
         script,
         at,
         d,
-        cells,
-        issues,
-        tables,
-        &c,
-        &k,
+        &rows,
+        &index,
         marks,
         &own,
         &mut counts,

@@ -7,7 +7,7 @@ use crate::REFUSED;
 use crate::causes::memory_cause;
 use crate::telling::{tell, tell_places};
 use script::step_lawful;
-use state::{Answer, first_words, store_words};
+use state::{Answer, Rows, first_words, store_words};
 use words::lawful_design_from;
 
 // The step at place `at` of a script on memory that is ready: the number of the answer's word, with what is told beside it; the arrays behind `text` are
@@ -85,7 +85,12 @@ pub fn wurzsige_parts_step(
 {
     let mut c = [0u16; 16449];
     let mut k = [0u64; 4096];
-    let why = memory_cause(cells, issues, tables, &mut c, &mut k, marks, design, held);
+    let rows = Rows {
+        cells,
+        issues,
+        tables,
+    };
+    let why = memory_cause(&rows, &mut c, &mut k, marks, design, held);
     if why != 0 {
         tell_places(0, at, false, place, after, more);
         return tell(Answer::Refused(why), numbers, count);

@@ -3,6 +3,7 @@ ghost use Rattle.state.specs.Cells.{cells_in};
 ghost use Rattle.wurzsige.specs.Calls.{memory, DesignWritten};
 
 use crate::causes::memory_cause;
+use state::Rows;
 use words::design_from;
 use writing::{design_length, write_design};
 
@@ -24,7 +25,12 @@ pub fn wurzsige_parts_write(
 {
     let mut c = [0u16; 16449];
     let mut k = [0u64; 4096];
-    let why = memory_cause(cells, issues, tables, &mut c, &mut k, marks, design, held);
+    let rows = Rows {
+        cells,
+        issues,
+        tables,
+    };
+    let why = memory_cause(&rows, &mut c, &mut k, marks, design, held);
     if why != 0 {
         return why;
     }
@@ -33,7 +39,12 @@ pub fn wurzsige_parts_write(
     if out.len() < n {
         return 7;
     }
-    write_design(d, cells, issues, tables, out);
+    let rows = Rows {
+        cells,
+        issues,
+        tables,
+    };
+    write_design(d, &rows, out);
     *written = n;
     0
 }

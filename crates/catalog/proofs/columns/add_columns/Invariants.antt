@@ -6,4 +6,4 @@ use Rattle.catalog.specs.Columns.{Columns}
 use Rattle.catalog.proofs.columns.add_columns.Given as goal
 
 abbrev pub invariant-loop-n : goal.invariant-loop-n
-invariant-loop-n l = (l.n ≤ 64) × Columns (database_of (cells_in l.cells l.issues) l.tables) l.n l.m l.keys l.heads l.starts l.next
+invariant-loop-n l = (l.n ≤ 64) × Columns (database_of (cells_in l.rows.cells.now l.rows.issues.now) l.rows.tables.now) l.n l.m l.keys l.heads l.starts l.next

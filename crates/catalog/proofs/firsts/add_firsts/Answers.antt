@@ -6,7 +6,7 @@ use Prim.Native.Nat.{◌*◌}
 use lib.Seq.{sets}
 use Rattle.std.proofs.Common.{rules}
 use borrow.Author.Tests.{tests}
-use Rattle.catalog.proofs.MadeLaws.{tab_from-fn}
+use Rattle.finite.proofs.Made.{tab_from-fn}
 use Rattle.catalog.proofs.PartLaws.{put-sets}
 use Rattle.catalog.proofs.firsts.add_firsts.Goals as goal
 

@@ -8,4 +8,4 @@ use Rattle.catalog.proofs.firsts.make_firsts.Given as goal
 
 abbrev pub invariant-loop-i : goal.invariant-loop-i
 invariant-loop-i l = (l.i ≤ l.d.constraints)
-    × Upto 0 8192 (512 * l.i) (λ y. demanded_first (scheme_of l.d) (database_of (cells_in l.cells l.issues) l.tables) (y / 512) (y % 512)) (λ _. 512) l.first
+    × Upto 0 8192 (512 * l.i) (λ y. demanded_first (scheme_of l.d) (database_of (cells_in l.rows.cells.now l.rows.issues.now) l.rows.tables.now) (y / 512) (y % 512)) (λ _. 512) l.first

@@ -8,4 +8,4 @@ use Rattle.catalog.specs.Catalog.{next_of}
 use Rattle.catalog.proofs.linking.settle.Given as goal
 
 abbrev pub invariant-loop-x : goal.invariant-loop-x
-invariant-loop-x l = (l.x ≤ 4096) × Upto 0 4096 l.x (λ y. next_of (database_of (cells_in l.cells l.issues) l.tables) (y / 8) (y % 8)) (λ y. get_or l.initial.next y 0) l.next
+invariant-loop-x l = (l.x ≤ 4096) × Upto 0 4096 l.x (λ y. next_of (database_of (cells_in l.rows.cells.now l.rows.issues.now) l.rows.tables.now) (y / 8) (y % 8)) (λ y. get_or l.initial.next y 0) l.next

@@ -15,6 +15,6 @@ use Rattle.catalog.proofs.scanning.scan.Goals as goal
 pub returns : goal.returns
 returns c = let a = c.args in
     let i = a.from in
-    let p = has (database_of (cells_in a.cells.now a.issues.now) a.tables.now) (column_of a.k) (cell_of a.v) in
+    let p = has (database_of (cells_in a.rows.now.cells.now a.rows.now.issues.now) a.rows.now.tables.now) (column_of a.k) (cell_of a.v) in
     let e = c.unwrap_or.ensures ∙ first_in-range 512 p i _ _ c.find.result c.find.ensures.ran (YieldsList-from_range i 512 (512 - i) (cc) refl) (λ x b q k. search (rules, tests)) in
     (e, omega (arith, e, (first-from 512 p i c.requires.0).bound))

@@ -7,5 +7,5 @@ use Rattle.lawful.proofs.RowTests.{row-fits}
 use Rattle.lawful.proofs.rows.row_fits.Goals as goal
 
 pub returns : goal.returns
-returns c = let a = c.args in let cells = cells_in a.cells.now a.issues.now in
-    c.fits_table.ensures (λ i. cell_of (cell_at cells a.r i)) (λ i x k. search (rules, tests)) ∙ row-fits a.d cells a.tables.now a.r
+returns c = let a = c.args in let cells = cells_in a.rows.now.cells.now a.rows.now.issues.now in
+    c.fits_table.ensures (λ i. cell_of (cell_at cells a.r i)) (λ i x k. search (rules, tests)) ∙ row-fits a.d cells a.rows.now.tables.now a.r

@@ -1,7 +1,7 @@
 -- `load::expanding::target_places` meets its contract. Assumes nothing.
 use Rattle.std.proofs.Common.{rules}
 use borrow.Author.Tests.{tests}
-use Rattle.catalog.proofs.MadeLaws.{tab_from-fn}
+use Rattle.finite.proofs.Made.{tab_from-fn}
 use Rattle.load.proofs.expanding.target_places.Goals as goal
 
 pub returns : goal.returns

@@ -5,7 +5,7 @@ use lib.ListN.{drop}
 use Rattle.std.proofs.Common.{rules}
 use borrow.Author.Tests.{tests}
 use Rattle.model.specs.Rounds.{reached}
-use Rattle.catalog.proofs.MadeLaws.{tab_from-fn}
+use Rattle.finite.proofs.Made.{tab_from-fn}
 use Rattle.load.proofs.outcome.settle.Goals as goal
 
 pub copy_from_slice-requires : goal.copy_from_slice-requires

@@ -2,7 +2,7 @@
 use Rattle.std.proofs.Common.{rules}
 use borrow.Author.Tests.{tests}
 use Rattle.model.specs.Runs.{marked}
-use Rattle.catalog.proofs.MadeLaws.{tab_from-fn}
+use Rattle.finite.proofs.Made.{tab_from-fn}
 use Rattle.load.proofs.queue.cached_levels.Goals as goal
 
 pub returns : goal.returns

@@ -10,5 +10,5 @@ use Rattle.mend.proofs.relinking.add_links.Given as goal
 
 abbrev pub invariant-loop-c : goal.invariant-loop-c
 invariant-loop-c l = (l.c ≤ 8) × Kept l.initial.catalog l.catalog
-    × ((E : Database) → Without E (database_of (cells_in l.cells l.issues) l.tables) l.r → Directory E l.keys (heads_in l.initial.catalog) (starts_in l.initial.catalog) → Links E l.initial.catalog
-    → Passing E (database_of (cells_in l.cells l.issues) l.tables) l.c l.initial.catalog l.catalog)
+    × ((E : Database) → Without E (database_of (cells_in l.rows.cells.now l.rows.issues.now) l.rows.tables.now) l.r → Directory E l.keys (heads_in l.initial.catalog) (starts_in l.initial.catalog) → Links E l.initial.catalog
+    → Passing E (database_of (cells_in l.rows.cells.now l.rows.issues.now) l.rows.tables.now) l.c l.initial.catalog l.catalog)

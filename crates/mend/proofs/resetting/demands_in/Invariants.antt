@@ -11,4 +11,4 @@ use Rattle.mend.proofs.resetting.demands_in.Given as goal
 
 abbrev pub invariant-loop-i : goal.invariant-loop-i
 invariant-loop-i l = (l.i ≤ l.d.constraints) × Beside l.initial.catalog l.catalog
-    × ((E : Database) → Without E (database_of (cells_in l.cells l.issues) l.tables) l.r → first_in l.initial.catalog ≡ firsts (scheme_of l.d) E → Turning (scheme_of l.d) E (database_of (cells_in l.cells l.issues) l.tables) l.i l.catalog)
+    × ((E : Database) → Without E (database_of (cells_in l.rows.cells.now l.rows.issues.now) l.rows.tables.now) l.r → first_in l.initial.catalog ≡ firsts (scheme_of l.d) E → Turning (scheme_of l.d) E (database_of (cells_in l.rows.cells.now l.rows.issues.now) l.rows.tables.now) l.i l.catalog)

@@ -11,4 +11,4 @@ use Rattle.mend.proofs.resetting.demands_out.Given as goal
 
 abbrev pub invariant-loop-i : goal.invariant-loop-i
 invariant-loop-i l = (l.i ≤ l.d.constraints) × Beside l.initial.catalog l.catalog
-    × ((E : Database) → Without E (database_of (cells_in l.cells l.issues) l.tables) l.r → Indexed E l.initial.catalog l.keys → first_in l.initial.catalog ≡ firsts (scheme_of l.d) (database_of (cells_in l.cells l.issues) l.tables) → Turning (scheme_of l.d) (database_of (cells_in l.cells l.issues) l.tables) E l.i l.catalog)
+    × ((E : Database) → Without E (database_of (cells_in l.rows.cells.now l.rows.issues.now) l.rows.tables.now) l.r → Indexed E l.initial.catalog l.keys → first_in l.initial.catalog ≡ firsts (scheme_of l.d) (database_of (cells_in l.rows.cells.now l.rows.issues.now) l.rows.tables.now) → Turning (scheme_of l.d) (database_of (cells_in l.rows.cells.now l.rows.issues.now) l.rows.tables.now) E l.i l.catalog)

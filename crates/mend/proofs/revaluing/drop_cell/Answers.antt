@@ -12,4 +12,4 @@ pub drop_value-requires : goal.drop_value-requires
 drop_value-requires c = (omega arith, c.requires.r_bound.0, seats _ _ _ _ _ _ c.requires.without.2 (omega arith), drop-stands _ _ _ _ c.requires.r_bound.0 c.requires.r_bound.1 c.requires.r_bound.3 _ c.cell_at-v.ensures c.requires.without.0 c.requires.without.1 _ _ _ (sym c.is_blank.ensures ∙ c.if-is_blank.false) _ c.key_of.ensures c.requires.without.2)
 
 pub returns : goal.returns
-returns c = λ E w x. drop-out _ _ _ _ c.requires.r_bound.0 c.requires.r_bound.1 c.requires.r_bound.3 _ c.cell_at-v.ensures E w _ _ _ (sym c.is_blank.ensures ∙ c.if-is_blank.false) _ c.key_of.ensures _ _ _ _ (λ i. omega (arith, c.shared_slice_known-2-1.given i)) c.requires.links x c.drop_value.ensures
+returns c = λ E w x. drop-out _ _ _ _ c.requires.r_bound.0 c.requires.r_bound.1 c.requires.r_bound.3 _ c.cell_at-v.ensures E w _ _ _ (sym c.is_blank.ensures ∙ c.if-is_blank.false) _ c.key_of.ensures _ _ _ _ c.note_types.ensures.issues c.requires.links x c.drop_value.ensures

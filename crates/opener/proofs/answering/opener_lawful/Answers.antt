@@ -1,5 +1,4 @@
 -- `opener::answering::opener_lawful` meets its contract: the causes in their order, then the ground, then what is read off. Assumes nothing.
-use native.Mathlib.Omega.{arith}
 use mathlib.Core.Path.{sym, ◌∙◌}
 use borrow.Author.Tests.{not-true, not-false}
 use Rattle.state.proofs.Arrays.{sized}
@@ -45,5 +44,5 @@ pub returns : goal.returns
 returns c = let s = c in
     let k = sym c.is_column.ensures ∙ not-false _ c.if-not-is_column.false-raw in
     opener-read _ s.requires.held_value _ _ k (sym c.is_numberless.ensures ∙ c.if-is_numberless.false) _ (c.search-found.ensures _ s.requires.catalogued.index).0 c.if-found-ne0.false
-    (record { number = λ i. omega (arith, c.shared_slice_known-1.given i); issue = λ i. omega (arith, c.shared_slice_known-2-1.given i) })
-    (cell-small s.args.v _ s.well_formed.1.1.1.1.1.1.1.1.1.0) _ (c.leading_rows.ensures _ s.requires.catalogued) _ c.lowest_opener.ensures
+    (record { number = c.note_types.ensures.numbers; issue = c.note_types.ensures.issues })
+    (cell-small s.args.v _ s.well_formed.1.1.1.1.1.1.0) _ (c.leading_rows.ensures _ s.requires.catalogued) _ c.lowest_opener.ensures

@@ -11,7 +11,7 @@ use Prim.Native.Nat.{◌-◌}
 use Rattle.opener.proofs.giving.mark_having.Given as goal
 
 abbrev pub invariant-loop-r : goal.invariant-loop-r
-invariant-loop-r l = (D : Database) → Indexed D l.catalog l.keys → (v : Cell) → l.initial.r ≡ first_from 512 (has D (column_of l.k) v) 0 → length l.initial.seed ≡ 512 → Marking (has D (column_of l.k) v) l.initial.seed l.r l.seed
+invariant-loop-r l = (D : Database) → Indexed D l.index.catalog.now l.index.keys.now → (v : Cell) → l.initial.r ≡ first_from 512 (has D (column_of l.k) v) 0 → length l.initial.seed ≡ 512 → Marking (has D (column_of l.k) v) l.initial.seed l.r l.seed
 
 abbrev pub decreases-loop-r : goal.decreases-loop-r
 decreases-loop-r l = 512 - l.r

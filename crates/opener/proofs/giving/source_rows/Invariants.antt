@@ -13,5 +13,5 @@ use Rattle.opener.proofs.giving.source_rows.Given as goal
 
 abbrev pub invariant-loop-i : goal.invariant-loop-i
 invariant-loop-i l = (l.i ≤ l.i-end) × (l.i-end ≡ l.d.constraints) × (length l.seed ≡ 512) ×
-    ((D : Database) → Indexed D l.catalog l.keys → (r : ℕ) → r < 512 → get_or l.seed r false ≡
+    ((D : Database) → Indexed D l.index.catalog.now l.index.keys.now → (r : ℕ) → r < 512 → get_or l.seed r false ≡
     any l.i (λ a. same_column (constraint_of (constraint_at l.d a)).target (column_of l.k) && has D (constraint_of (constraint_at l.d a)).source (cell_of l.v) r))

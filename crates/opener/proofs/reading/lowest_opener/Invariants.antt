@@ -10,5 +10,5 @@ use Rattle.opener.proofs.reading.lowest_opener.Given as goal
 
 abbrev pub invariant-loop-i : goal.invariant-loop-i
 invariant-loop-i l = (l.i ≤ l.d.fillings) ×
-    (let p = passes l.d.filling (database_of (cells_in l.cells l.issues) l.tables) (reached l.levels) (column_of l.k) (cell_of l.v) in
+    (let p = passes l.d.filling (database_of (cells_in l.rows.cells.now l.rows.issues.now) l.rows.tables.now) (reached l.levels) (column_of l.k) (cell_of l.v) in
     first_from l.d.fillings p 0 ≡ first_from l.d.fillings p l.i)

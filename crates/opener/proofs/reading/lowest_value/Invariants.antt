@@ -8,4 +8,4 @@ use Rattle.opener.specs.Reading.{Reads, lowest_of, value_in}
 use Rattle.opener.proofs.reading.lowest_value.Given as goal
 
 abbrev pub invariant-loop-r : goal.invariant-loop-r
-invariant-loop-r l = (l.r ≤ 512) × ((a : Cell) → Reads l.initial.w a → Reads l.w (lowest_of a l.r (value_in (database_of (cells_in l.cells l.issues) l.tables) (reached l.levels) (filling_of l.f))))
+invariant-loop-r l = (l.r ≤ 512) × ((a : Cell) → Reads l.initial.w a → Reads l.w (lowest_of a l.r (value_in (database_of (cells_in l.rows.cells.now l.rows.issues.now) l.rows.tables.now) (reached l.levels) (filling_of l.f))))

@@ -54,7 +54,7 @@ draw-requires c = let s = c in
 pub returns-then-g-ne0 : goal.returns-then-g-ne0
 returns-then-g-ne0 c = let s = c in (
   step-drawn _ s.requires.0 _ s.args.q _ (sym (c.output_fits.ensures _) ∙ c.if-not-output_fits.false) (sym c.is_numberless.ensures ∙ c.if-is_numberless.false) _
-      (c.search-found.ensures _ s.requires.1.index).0 (words-sized s.args.held.now) (record { number = λ i. omega (arith, c.type_inv.cells i); issue = λ i. omega (arith, c.type_inv.issues i) }) c.if-g-ne0.true _ _ c.draw.ensures,
+      (c.search-found.ensures _ s.requires.1.index).0 (words-sized s.args.held.now) (record { number = c.note_types.ensures.numbers; issue = c.note_types.ensures.issues }) c.if-g-ne0.true _ _ c.draw.ensures,
   s.requires.2,
 )
 

@@ -36,7 +36,7 @@ draw-answer-requires c = let s = c in record {
     s.requires.held_value.1,
     omega (
       arith,
-      marks-long _ s.requires.held_value.0 _ c.copy_from_slice.ensures.after (record { number = λ i. omega (arith, c.type_inv.cells i); issue = λ i. omega (arith, c.type_inv.issues i) }) s.args.q s.args.v _ s.requires.referring _ _ _ (c.refer_lawful.ensures.1 _ _ (ready _ _ _ _ _ _ _ (copied-sound _ s.requires.held_value.0 _ c.copy_from_slice.ensures.after) s.requires.held_value.1)),
+      marks-long _ s.requires.held_value.0 _ c.copy_from_slice.ensures.after (record { number = c.note_types.ensures.numbers; issue = c.note_types.ensures.issues }) s.args.q s.args.v _ s.requires.referring _ _ _ (c.refer_lawful.ensures.1 _ _ (ready _ _ _ _ _ _ _ (copied-sound _ s.requires.held_value.0 _ c.copy_from_slice.ensures.after) s.requires.held_value.1)),
     ),
   );
   d_value = ((parts _ s.requires.held_value.0).design, s.requires.referring.fit);
@@ -44,7 +44,7 @@ draw-answer-requires c = let s = c in record {
 
 pub returns-then-is_refusal : goal.returns-then-is_refusal
 returns-then-is_refusal c = let s = c in (
-  left_alone _ s.requires.held_value.0 _ c.copy_from_slice.ensures.after (record { number = λ i. omega (arith, c.type_inv.cells i); issue = λ i. omega (arith, c.type_inv.issues i) }) s.args.q s.args.v _ s.requires.referring _ _ _ (c.refer_lawful.ensures.1 _ _ (ready _ _ _ _ _ _ _ (copied-sound _ s.requires.held_value.0 _ c.copy_from_slice.ensures.after) s.requires.held_value.1)) _ _ _
+  left_alone _ s.requires.held_value.0 _ c.copy_from_slice.ensures.after (record { number = c.note_types.ensures.numbers; issue = c.note_types.ensures.issues }) s.args.q s.args.v _ s.requires.referring _ _ _ (c.refer_lawful.ensures.1 _ _ (ready _ _ _ _ _ _ _ (copied-sound _ s.requires.held_value.0 _ c.copy_from_slice.ensures.after) s.requires.held_value.1)) _ _ _
       c.draw-answer.ensures (words-sized s.args.held.now) (sym c.is_refusal.ensures ∙ c.if-is_refusal.true),
   s.requires.held_value.2,
 )
@@ -54,7 +54,7 @@ slice_bounds-copy_from_slice-end-4 c = sound-marks _ c.requires.held_value.0
 
 pub returns : goal.returns
 returns c = let s = c in (
-  taken-over _ s.requires.held_value.0 _ c.copy_from_slice.ensures.after (record { number = λ i. omega (arith, c.type_inv.cells i); issue = λ i. omega (arith, c.type_inv.issues i) }) s.args.q s.args.v _ s.requires.referring _ _ _ (c.refer_lawful.ensures.1 _ _ (ready _ _ _ _ _ _ _ (copied-sound _ s.requires.held_value.0 _ c.copy_from_slice.ensures.after) s.requires.held_value.1)) _ _ _
+  taken-over _ s.requires.held_value.0 _ c.copy_from_slice.ensures.after (record { number = c.note_types.ensures.numbers; issue = c.note_types.ensures.issues }) s.args.q s.args.v _ s.requires.referring _ _ _ (c.refer_lawful.ensures.1 _ _ (ready _ _ _ _ _ _ _ (copied-sound _ s.requires.held_value.0 _ c.copy_from_slice.ensures.after) s.requires.held_value.1)) _ _ _
       c.draw-answer.ensures (words-sized s.args.held.now) (sym c.is_refusal.ensures ∙ c.if-is_refusal.false) _ (ap (λ (x : List ℕ). x ++ drop 512 c.args.marks.now) c.copy_from_slice-2.ensures.after),
   c.refer_lawful.ensures.0,
 )

@@ -11,7 +11,7 @@ use Rattle.probe.proofs.SeekLaws.{Seeking}
 use Rattle.probe.proofs.cached.seen.Given as goal
 
 abbrev pub invariant-loop-r : goal.invariant-loop-r
-invariant-loop-r l = (D : Database) → Links D l.catalog → (v : Cell) → l.initial.r ≡ first_from 512 (has D (column_of l.k) v) 0 → Seeking D (marked l.marks) (column_of l.k) v l.r
+invariant-loop-r l = (D : Database) → Links D l.index.catalog.now → (v : Cell) → l.initial.r ≡ first_from 512 (has D (column_of l.k) v) 0 → Seeking D (marked l.marks) (column_of l.k) v l.r
 
 abbrev pub decreases-loop-r : goal.decreases-loop-r
 decreases-loop-r l = 512 - l.r

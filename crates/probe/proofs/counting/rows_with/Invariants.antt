@@ -11,7 +11,7 @@ use Rattle.probe.proofs.CountLaws.{Counting}
 use Rattle.probe.proofs.counting.rows_with.Given as goal
 
 abbrev pub invariant-loop-r : goal.invariant-loop-r
-invariant-loop-r l = (D : Database) → Links D l.catalog → (v : Cell) → l.initial.r ≡ first_from 512 (has D (column_of l.k) v) 0 → Counting D (marked l.marks) (column_of l.k) v l.r l.n
+invariant-loop-r l = (D : Database) → Links D l.index.catalog.now → (v : Cell) → l.initial.r ≡ first_from 512 (has D (column_of l.k) v) 0 → Counting D (marked l.marks) (column_of l.k) v l.r l.n
 
 abbrev pub decreases-loop-r : goal.decreases-loop-r
 decreases-loop-r l = 512 - l.r

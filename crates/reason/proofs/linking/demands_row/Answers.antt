@@ -12,9 +12,9 @@ returns-then-a-b c = leads-apart _ _ _ _ _ c.requires.1 c.requires.2 c.requires.
 pub returns-then-not-is_live : goal.returns-then-not-is_live
 returns-then-not-is_live c = leads-absent _ _ _ _ _ c.requires.1 c.requires.2 c.requires.3 (sym (c.is_live.ensures _) ∙ not-true _ c.if-not-is_live.true-raw)
 
-pub returns-then-tables-s : goal.returns-then-tables-s
-returns-then-tables-s c = leads-elsewhere _ _ _ _ _ c.requires.1 c.requires.2 c.requires.3 (sym (c.is_live.ensures _) ∙ not-false _ c.if-not-is_live.false-raw) c.if-tables-s.true
+pub returns-then-rows-s : goal.returns-then-rows-s
+returns-then-rows-s c = leads-elsewhere _ _ _ _ _ c.requires.1 c.requires.2 c.requires.3 (sym (c.is_live.ensures _) ∙ not-false _ c.if-not-is_live.false-raw) c.if-rows-s.true
 
 pub returns : goal.returns
-returns c = c.row_has.ensures ∙
-    leads-value _ _ _ _ _ c.requires.1 c.requires.2 c.requires.3 (sym (c.is_live.ensures _) ∙ not-false _ c.if-not-is_live.false-raw) _ c.cell_at-a.ensures c.if-tables-s.false
+returns c = c.has.ensures ∙
+    leads-value _ _ _ _ _ c.requires.1 c.requires.2 c.requires.3 (sym (c.is_live.ensures _) ∙ not-false _ c.if-not-is_live.false-raw) _ c.cell_at-a.ensures c.if-rows-s.false

@@ -5,4 +5,4 @@ use Rattle.reason.proofs.LinkLaws.{Noted}
 use Rattle.reason.proofs.linking.find_links.Given as goal
 
 abbrev pub invariant-loop-k : goal.invariant-loop-k
-invariant-loop-k l = Noted (scheme_of l.d) (database_of (cells_in l.cells l.issues) l.tables) l.levels l.n l.r l.by l.from l.k l.s
+invariant-loop-k l = Noted (scheme_of l.d) (database_of (cells_in l.rows.cells.now l.rows.issues.now) l.rows.tables.now) l.levels l.n l.r l.by l.from l.k l.s

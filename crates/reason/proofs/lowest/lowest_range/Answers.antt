@@ -20,8 +20,8 @@ offset_bounds-filling-q c = omega (arith, c.requires.4 c.loop-i.i)
 pub bounds-filling-q : goal.bounds-filling-q
 bounds-filling-q c = omega (arith, c.requires.4 c.loop-i.i)
 
-pub row_has_range-has-requires : goal.row_has_range-has-requires
-row_has_range-has-requires c = (c.requires.0, c.requires.1.column _, c.requires.2)
+pub has_range-has-requires : goal.has_range-has-requires
+has_range-has-requires c = (c.requires.0, c.requires.1.column _, c.requires.2)
 
 pub overflow_step-i : goal.overflow_step-i
 overflow_step-i c = omega (arith, c.requires.3, c.loop-i-test.true)
@@ -32,7 +32,7 @@ loop-i-smaller c = omega (arith, c.loop-i-test.true)
 pub loop-i-preserved : goal.loop-i-preserved
 loop-i-preserved c = (
   omega (arith, c.loop-i-test.true),
-  λ d e. below-turn _ _ _ _ _ _ _ _ _ _ (c.loop-i.invariant.1 d e) c.lower_of-low.ensures refl (range-has _ _ d _ e _ _ c.row_has_range-has.ensures),
+  λ d e. below-turn _ _ _ _ _ _ _ _ _ _ (c.loop-i.invariant.1 d e) c.lower_of-low.ensures refl (range-has _ _ d _ e _ _ c.has_range-has.ensures),
 )
 
 pub returns : goal.returns

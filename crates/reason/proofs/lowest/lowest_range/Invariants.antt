@@ -11,4 +11,4 @@ use Rattle.reason.specs.Lowest.{lowest_below}
 use Rattle.reason.proofs.lowest.lowest_range.Given as goal
 
 abbrev pub invariant-loop-i : goal.invariant-loop-i
-invariant-loop-i l = (l.i ≤ l.i-end) × ((d : Design) → d.filling ≡ l.filling → l.low ≡ lowest_below (scheme_of d) (database_of (cells_in l.cells l.issues) l.tables) l.r (λ j. O.Range (get_or l.list j no_range)) l.i l.initial.low)
+invariant-loop-i l = (l.i ≤ l.i-end) × ((d : Design) → d.filling ≡ l.filling → l.low ≡ lowest_below (scheme_of d) (database_of (cells_in l.rows.cells.now l.rows.issues.now) l.rows.tables.now) l.r (λ j. O.Range (get_or l.list j no_range)) l.i l.initial.low)

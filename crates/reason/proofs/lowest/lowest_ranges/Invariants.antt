@@ -8,4 +8,4 @@ use Rattle.reason.specs.Lowest.{lowest_of_desks}
 use Rattle.reason.proofs.lowest.lowest_ranges.Given as goal
 
 abbrev pub invariant-loop-e : goal.invariant-loop-e
-invariant-loop-e l = (l.e ≤ 4) × (l.low ≡ lowest_of_desks (scheme_of l.d) (database_of (cells_in l.cells l.issues) l.tables) l.r (words_held l.held).ranges l.e l.initial.low)
+invariant-loop-e l = (l.e ≤ 4) × (l.low ≡ lowest_of_desks (scheme_of l.d) (database_of (cells_in l.rows.cells.now l.rows.issues.now) l.rows.tables.now) l.r (words_held l.held).ranges l.e l.initial.low)

@@ -22,8 +22,8 @@ offset_bounds-filling-v c = omega (arith, ap (λ (o : OwnedValue). o.pair.fillin
 pub bounds-filling-v : goal.bounds-filling-v
 bounds-filling-v c = omega (arith, ap (λ (o : OwnedValue). o.pair.filling) c.value_at-o.ensures, c.requires.4 c.loop-i.i)
 
-pub row_has-has-requires : goal.row_has-has-requires
-row_has-has-requires c = (c.requires.0, c.requires.1.column _, c.requires.2)
+pub has-has-requires : goal.has-has-requires
+has-has-requires c = (c.requires.0, c.requires.1.column _, c.requires.2)
 
 pub overflow_step-i : goal.overflow_step-i
 overflow_step-i c = omega (arith, c.requires.3, c.value_count-n.ensures, c.loop-i-test.true)
@@ -35,7 +35,7 @@ pub loop-i-preserved : goal.loop-i-preserved
 loop-i-preserved c = let a = c.args in (
   omega (arith, c.loop-i-test.true),
   λ d e. below-turn _ _ _ _ _ _ _ _ _ _ (c.loop-i.invariant.1 d e) c.lower_of-low.ensures (ap (λ (w : OwnedValue). O.Value w.pair) c.value_at-o.ensures)
-      (value-has _ _ d _ e _ _ c.row_has-has.ensures ∙ ap (λ (w : OwnedValue). has_origin (scheme_of d) (database_of (cells_in a.cells.now a.issues.now) a.tables.now) a.r (origin_of (O.Value w.pair))) c.value_at-o.ensures),
+      (value-has _ _ d _ e _ _ c.has-has.ensures ∙ ap (λ (w : OwnedValue). has_origin (scheme_of d) (database_of (cells_in a.rows.now.cells.now a.rows.now.issues.now) a.rows.now.tables.now) a.r (origin_of (O.Value w.pair))) c.value_at-o.ensures),
 )
 
 pub returns : goal.returns

@@ -53,7 +53,7 @@ listed_words-requires c = let s = c in
 pub returns-then-g-ne0 : goal.returns-then-g-ne0
 returns-then-g-ne0 c = let s = c in
     listed-taken _ s.requires.0 s.args.q (sym c.operands_fit.ensures ∙ c.if-not-operands_fit.false) (sym c.is_numberless.ensures ∙ c.if-is_numberless.false) _ (c.search-found.ensures _ s.requires.1.index).0
-    (record { number = λ i. omega (arith, c.type_inv.cells i); issue = λ i. omega (arith, c.type_inv.issues i) }) c.if-g-ne0.true _ (c.listed_words.ensures _ s.requires.1)
+    (record { number = c.note_types.ensures.numbers; issue = c.note_types.ensures.issues }) c.if-g-ne0.true _ (c.listed_words.ensures _ s.requires.1)
 
 pub filling_for-requires : goal.filling_for-requires
 filling_for-requires c = sound-fillings _ c.requires.0

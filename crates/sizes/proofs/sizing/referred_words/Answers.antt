@@ -32,7 +32,7 @@ listed_words-requires c = let s = c in
       omega (
         arith,
         marks-long _ s.requires.held_value.0 _ c.copy_from_slice.ensures.after
-            (record { number = λ i. omega (arith, c.type_inv.cells i); issue = λ i. omega (arith, c.type_inv.issues i) })
+            (record { number = c.note_types.ensures.numbers; issue = c.note_types.ensures.issues })
             s.args.q s.args.v _ s.requires.referring _ _ _ (c.refer_lawful.ensures.1 _ _ (ready _ _ _ _ _ _ _ (copied-sound _ s.requires.held_value.0 _ c.copy_from_slice.ensures.after) s.requires.held_value.1)),
       ),
       (_, s.requires.held_value.1),
@@ -43,5 +43,5 @@ returns c = let s = c in
     c.listed_words.ensures _ s.requires.held_value.1 ∙
     ap (λ (ls : List (List ℕ)). length (words_of ls))
     (lists-full _ s.requires.held_value.0 _ c.copy_from_slice.ensures.after
-    (record { number = λ i. omega (arith, c.type_inv.cells i); issue = λ i. omega (arith, c.type_inv.issues i) })
+    (record { number = c.note_types.ensures.numbers; issue = c.note_types.ensures.issues })
     s.args.q s.args.v _ s.requires.referring _ _ _ (c.refer_lawful.ensures.1 _ _ (ready _ _ _ _ _ _ _ (copied-sound _ s.requires.held_value.0 _ c.copy_from_slice.ensures.after) s.requires.held_value.1)))

@@ -10,5 +10,5 @@ use Rattle.slice.proofs.rows.links_lack.Given as goal
 
 abbrev pub invariant-loop-i : goal.invariant-loop-i
 invariant-loop-i l = (l.i ≤ l.m) ×
-    (Demands (scheme_of l.d) (database_of (cells_in l.cells l.issues) l.tables) l.catalog →
-    Model.lack_below l.i (Model.link_lack (scheme_of l.d) (database_of (cells_in l.cells l.issues) l.tables) (fetches_in l.words l.n) l.r) ≡ Model.nothing)
+    (Demands (scheme_of l.d) (database_of (cells_in l.rows.cells.now l.rows.issues.now) l.rows.tables.now) l.catalog →
+    Model.lack_below l.i (Model.link_lack (scheme_of l.d) (database_of (cells_in l.rows.cells.now l.rows.issues.now) l.rows.tables.now) (fetches_in l.words l.n) l.r) ≡ Model.nothing)

@@ -12,5 +12,5 @@ use Rattle.slice.proofs.rows.rows_lack.Given as goal
 
 abbrev pub invariant-loop-r : goal.invariant-loop-r
 invariant-loop-r l = (l.r ≤ 512) ×
-    (Demands (scheme_of l.d) (database_of (cells_in l.cells l.issues) l.tables) l.catalog →
-    Model.lack_below l.r (Model.row_lack (scheme_of l.d) (database_of (cells_in l.cells l.issues) l.tables) (fetches_in l.words l.n) (marked (take 512 l.marks))) ≡ Model.nothing)
+    (Demands (scheme_of l.d) (database_of (cells_in l.rows.cells.now l.rows.issues.now) l.rows.tables.now) l.catalog →
+    Model.lack_below l.r (Model.row_lack (scheme_of l.d) (database_of (cells_in l.rows.cells.now l.rows.issues.now) l.rows.tables.now) (fetches_in l.words l.n) (marked (take 512 l.marks))) ≡ Model.nothing)

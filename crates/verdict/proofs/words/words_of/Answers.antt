@@ -2,9 +2,9 @@
 use Rattle.std.proofs.Common.{rules}
 use borrow.Author.Tests.{tests}
 use Rattle.verdict.specs.Words.{verdict_words}
-use Rattle.verdict.proofs.MakingLaws.{tab_from-fn}
+use Rattle.finite.proofs.Made.{tab_from-fn}
 use Rattle.verdict.proofs.words.words_of.Goals as goal
 
 pub returns : goal.returns
 unfolding verdict_words
-returns c = tab_from-fn 0 _ c.from_fn.ensures.items (λ i y q k. search (rules, tests))
+returns c = tab_from-fn 0 _ c.from_fn.ensures.items (λ i y q l k. search (rules, tests))

@@ -40,8 +40,8 @@ bounds-out-e c = let l = room-first _ _ _ _ (room_next _ _ _ _ (room_next _ _ _ 
 
 pub overflow_add-result : goal.overflow_add-result
 overflow_add-result c = let d = c.args.d in
-    let cells = cells_in c.args.cells.now c.args.issues.now in
-    let tables = c.args.tables.now in
+    let cells = cells_in c.args.rows.now.cells.now c.args.rows.now.issues.now in
+    let tables = c.args.rows.now.tables.now in
     let w = wrote-design d cells tables _ _ _ (behind c.put_kind-a.ensures (behind c.put_kind-b.ensures (behind c.put_kind-c.ensures (behind c.put_kind-e.ensures (wrote_one _ _ 5))))) in
     let h = c.requires.0 in
     omega (arith, w.0, length_most d cells tables h.tables h.constraints h.fillings)

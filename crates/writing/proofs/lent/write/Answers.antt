@@ -18,19 +18,19 @@ design_length-n-requires c = let s = c in
 pub returns-then-out-n : goal.returns-then-out-n
 returns-then-out-n c = let s = c in
     let x = cause-clear _ _ (sym c.cause-why.ensures.0 ∙ c.if-why-ne0.false) in
-    writes-words _ _ _ x.words _ _ (cramped-writes _ _ x.sound (omega (arith, c.design_length-n.ensures s.args.cells.now)))
+    writes-words _ _ _ x.words _ _ (cramped-writes _ _ x.sound (omega (arith, c.design_length-n.ensures s.args.rows.now.cells.now)))
 
 pub write_design-requires : goal.write_design-requires
 write_design-requires c = let s = c in
     let e = (cause-clear _ _ (sym c.cause-why.ensures.0 ∙ c.if-why-ne0.false)).sound in (
       sound-range _ e (sized s.args.design _ s.well_formed.0),
       sound-backed _ e,
-      omega (arith, c.design_length-n.ensures s.args.cells.now),
+      omega (arith, c.design_length-n.ensures s.args.rows.now.cells.now),
     )
 
 pub returns : goal.returns
 returns c = let s = c in
     let x = cause-clear _ _ (sym c.cause-why.ensures.0 ∙ c.if-why-ne0.false) in
     writes-words _ _ _ x.words _ _
-    (stored-writes _ _ x.sound (omega (arith, c.design_length-n.ensures s.args.cells.now)) _ _
+    (stored-writes _ _ x.sound (omega (arith, c.design_length-n.ensures s.args.rows.now.cells.now)) _ _
     (c.design_length-n.ensures _) c.write_design.ensures.1)

@@ -12,4 +12,4 @@ use Rattle.load.proofs.reached.Load.add_all_ranges.Given as goal
 
 abbrev pub invariant-loop-desk : goal.invariant-loop-desk
 invariant-loop-desk l = (l.desk ≤ 4) ×
-    ((D : Database) → Indexed D l.catalog l.keys → Grows 2 (λ r. any l.desk (λ x. desk_wants (scheme_of l.d) D (ranges_at (words_held l.held) x) r)) l.initial.self l.self)
+    ((D : Database) → Indexed D l.index.catalog.now l.index.keys.now → Grows 2 (λ r. any l.desk (λ x. desk_wants (scheme_of l.d) D (ranges_at (words_held l.held) x) r)) l.initial.self l.self)

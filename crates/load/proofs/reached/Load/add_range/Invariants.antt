@@ -11,4 +11,4 @@ use Rattle.load.proofs.reached.Load.add_range.Given as goal
 
 abbrev pub invariant-loop-j : goal.invariant-loop-j
 invariant-loop-j l = (l.j ≤ l.j-end) ×
-    ((D : Database) → Indexed D l.catalog l.keys → Grows 2 (λ r. any l.j (λ x. has D (column_of l.k) (plain_value (get_or l.keys (l.from + x) 0)) r)) l.initial.self l.self)
+    ((D : Database) → Indexed D l.index.catalog.now l.index.keys.now → Grows 2 (λ r. any l.j (λ x. has D (column_of l.k) (plain_value (get_or l.index.keys.now (l.from + x) 0)) r)) l.initial.self l.self)

@@ -14,7 +14,7 @@ use Rattle.load.proofs.reached.Load.add_ranges.Given as goal
 
 abbrev pub invariant-loop-i : goal.invariant-loop-i
 invariant-loop-i l = (l.i ≤ l.i-end) ×
-    ((D : Database) → Indexed D l.catalog l.keys →
+    ((D : Database) → Indexed D l.index.catalog.now l.index.keys.now →
     Grows 2
     (λ r. any l.i (λ j. has_range D (column_of (get_or l.filling (range_at (ranges_at (words_held l.held) l.desk) j).filling no_filling).column) (range_of (range_at (ranges_at (words_held l.held) l.desk) j)) r))
     l.initial.self l.self)

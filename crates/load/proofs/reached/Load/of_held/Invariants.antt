@@ -12,6 +12,6 @@ use Rattle.load.proofs.reached.Load.of_held.Given as goal
 
 abbrev pub invariant-loop-i : goal.invariant-loop-i
 invariant-loop-i l = (l.i ≤ l.i-end) ×
-    ((D : Database) → Indexed D l.catalog l.keys →
+    ((D : Database) → Indexed D l.index.catalog.now l.index.keys.now →
     Grows 2
     (λ r. any l.i (λ j. has D (column_of (filling_at l.d (held_at (words_held l.held) j).pair.filling).column) (cell_of (held_at (words_held l.held) j).pair.value) r)) l.initial.load l.load)

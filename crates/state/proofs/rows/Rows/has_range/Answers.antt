@@ -1,7 +1,7 @@
 use native.Mathlib.Omega.{arith}
 use mathlib.Core.Path.{sym, ◌∙◌}
 use Rattle.state.proofs.RowLaws.{range-cell, range-none}
-use Rattle.state.proofs.ranges.row_has_range.Goals as goal
+use Rattle.state.proofs.rows.Rows.has_range.Goals as goal
 
 pub returns-then-is_row_of : goal.returns-then-is_row_of
 returns-then-is_row_of c = c.in_range.ensures

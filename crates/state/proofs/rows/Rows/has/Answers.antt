@@ -1,7 +1,7 @@
 use native.Mathlib.Omega.{arith}
 use mathlib.Core.Path.{sym, ◌∙◌}
 use Rattle.state.proofs.RowLaws.{has-cell, has-none}
-use Rattle.state.proofs.rows.row_has.Goals as goal
+use Rattle.state.proofs.rows.Rows.has.Goals as goal
 
 pub returns-then-is_row_of : goal.returns-then-is_row_of
 returns-then-is_row_of c = c.same_cell.ensures
