@@ -208,6 +208,24 @@ along-admitted s w p i a q e = go (seen s i)
 
 -- ---- one turn of the loop: the command c at place i, read into the draft p, with the answer r
 
+-- the cause, if the answer is a refusal
+abbrev pub cause_of : Result Progress ℕ → ℕ
+cause_of (Err n) = n
+cause_of (Ok On) = 0
+cause_of (Ok Complete) = 0
+
+-- no refusal
+pub no-cause : (o : Result Progress ℕ) → ((n : ℕ) → o ≡ Err n → ⊥) → 0 ≡ cause_of o
+no-cause (Ok On) h = refl
+no-cause (Ok Complete) h = refl
+no-cause (Err n) h = absurd (h n refl)
+
+-- neither complete nor going on
+pub is-cause : (o : Result Progress ℕ) → (o ≡ Ok Complete → ⊥) → (o ≡ Ok On → ⊥) → o ≡ Err (cause_of o)
+is-cause (Ok On) h g = absurd (g refl)
+is-cause (Ok Complete) h g = absurd (h refl)
+is-cause (Err n) h g = refl
+
 on-is : (t : Advanced) → outcome_of t ≡ Ok On → (q : Draft) × (t ≡ on q)
 on-is (on q) e = (q, refl)
 on-is complete e = absurd (let z : ◌≡◌ {A = ℕ} 0 1 = cc in omega arith)

@@ -26,6 +26,19 @@ use Rattle.model.specs.Answers.{shown, is_refusal, has_text, refused_word, expla
 use Rattle.finite.specs.Decimal.{space, spaced}
 use Rattle.report.specs.Report.{word_text, numbers_text, plain_text, shown_text, bytes_in, answer_text}
 
+-- a number that is not one of the words' lies past them
+least : (w : ℕ) → 0 ≤ w
+least w = omega arith
+
+next : (w n : ℕ) → (w ≡ n → ⊥) → n ≤ w → n + 1 ≤ w
+next w n m l = omega arith
+
+pub past_words : (w : ℕ) → (w ≡ 0 → ⊥) → (w ≡ 1 → ⊥) → (w ≡ 2 → ⊥) → (w ≡ 3 → ⊥) → (w ≡ 4 → ⊥) → (w ≡ 5 → ⊥) → (w ≡ 6 → ⊥) → (w ≡ 7 → ⊥) →
+    (w ≡ 8 → ⊥) → (w ≡ 9 → ⊥) → (w ≡ 10 → ⊥) → (w ≡ 11 → ⊥) → (w ≡ 12 → ⊥) → (w ≡ 13 → ⊥) → (w ≡ 14 → ⊥) → (w ≡ 15 → ⊥) → (w ≡ 16 → ⊥) → (w ≡ 17 → ⊥) → (w ≡ 18 → ⊥) → 19 ≤ w
+past_words w a b c d e f g h i j k l m n o p q r s =
+    next w 18 s (next w 17 r (next w 16 q (next w 15 p (next w 14 o (next w 13 n (next w 12 m (next w 11 l (next w 10 k (next w 9 j (next w 8 i (next w 7 h (next w 6 g (next w 5 f (next w 4 e
+    (next w 3 d (next w 2 c (next w 1 b (next w 0 a (least w)))))))))))))))))))
+
 -- the array of what is shown has its sixteen places
 pub shown-sized : (s : Shown) (vs : List Val) → Is (row the_type) s vs → length s.numbers ≡ 16
 shown-sized s vs g = g.1.1.1.1.0.1.0.1

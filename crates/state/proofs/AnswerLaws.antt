@@ -1,14 +1,16 @@
 -- An answer as the report shows it: from the code's answer to the model's. Assumes nothing.
 use Prim.Native.Nat.{ℕ, ◌+◌, ◌-◌, ◌≤◌, ◌<◌}
 use native.Mathlib.Omega.{arith}
-use mathlib.Core.Path.{◌≡◌, refl, sym, ap, ◌∙◌}
+use mathlib.Core.Path.{◌≡◌, refl, sym, ap, subst, ◌∙◌}
 use mathlib.Core.Logic.{◌⊎◌, ⊎_elim}
 use mathlib.Core.Bool.{Bool, true, false, cond}
 use mathlib.Core.List.{List, [], ◌∷◌, ◌++◌, append-nil}
+use borrow.Author.Tests.{eq-eqb, ne_eqb}
 use lib.Dec.{eqb}
 use lib.ListN.{length, get_or, set, drop, replicate, length-append, length-replicate, length-set, length-drop, get_or-append, get_or-eq_default}
 use lib.Seq.{get_or-set_same, get_or-set_other, get_or-append_right, get_or-drop}
 use Rattle.std.proofs.lemmas.List.{get_or-replicate}
+use types.Run.{OneOf}
 use denote.Enum.Declared.{tag_of}
 use Rattle.finite.specs.Finite.{collect}
 use Rattle.finite.proofs.Bools.{order}
@@ -21,6 +23,10 @@ use Rattle.state.specs.declared.answer.Answer.TheVariants as A
 use Rattle.state.specs.declared.answer.Shown.{Shown}
 use Rattle.state.specs.contracts.answer.Answer.{the_type}
 use Rattle.state.specs.Meaning.{bit, mask_members, answer_of, sixteen, shown_of}
+
+-- the answer is b, and what is shown of it is t
+pub shows-case : {s t : Shown} {a b : Answer} → s ≡ t → a ≡ b → t ≡ shown_of (Model.shown (answer_of b)) → s ≡ shown_of (Model.shown (answer_of a))
+shows-case p q h = p ∙ h ∙ sym (ap (λ (x : Answer). shown_of (Model.shown (answer_of x))) q)
 
 -- the numbers xs in an array of sixteen
 pub filled : (xs : List ℕ) → length xs ≤ 16 → xs ++ drop (length xs) (replicate 16 0) ≡ sixteen xs
@@ -128,3 +134,22 @@ word-tag A.NoOpener = refl
 word-tag A.Absent = refl
 word-tag (A.Explained n) = refl
 word-tag (A.Changed came went) = refl
+
+-- so a match on the cases is a test of the word: the case is n, or one of the others
+pub word-is : (a : Answer) (n : ℕ) → OneOf (n ∷ []) (tag_of the_type a) → true ≡ eqb (Model.shown (answer_of a)).word n
+word-is a n e = sym (ap (λ (k : ℕ). eqb k n) (word-tag a) ∙ eq-eqb _ _ e)
+
+pub word-other : (a : Answer) (n : ℕ) (others : List ℕ) → (OneOf others n → ⊥) → OneOf others (tag_of the_type a) → false ≡ eqb (Model.shown (answer_of a)).word n
+word-other a n others m e = sym (ap (λ (k : ℕ). eqb k n) (word-tag a) ∙ ne_eqb _ _ (λ (q : tag_of the_type a ≡ n). m (subst (OneOf others) q e)))
+
+-- ---- the tests of one case, on the others
+
+pub lists-else : (a : Answer) → ((n : ℕ) → a ≡ A.Lists n → ⊥) → Model.has_lists (answer_of a) ≡ false
+unfolding Model.has_lists Model.shown
+lists-else (A.Lists n) h = absurd (h n refl)
+lists-else a h = refl
+
+pub refused-else : (a : Answer) → ((n : ℕ) → a ≡ A.Refused n → ⊥) → Model.is_refusal (answer_of a) ≡ false
+unfolding Model.is_refusal Model.shown
+refused-else (A.Refused n) h = absurd (h n refl)
+refused-else a h = refl
