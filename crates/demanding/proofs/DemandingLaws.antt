@@ -782,3 +782,12 @@ ones-flat s l = ap (λ (xs : List ℕ). get_or xs s 0) (replicate-tab 512 1) ∙
 pub turned-scheme-firsts : (D : Database) (d : Design) (near : List ℕ) → Demanding (scheme_of d) D (replicate 512 1) d.constraints near → near ≡ firsts (turned (scheme_of d)) D
 unfolding scheme_of
 turned-scheme-firsts D d near x = turned-firsts D (scheme_of d) (replicate 512 1) near ones-flat x
+
+-- ---- rows counted
+
+module _ (m l : ℕ) where
+  pub count-flat : l ≡ 0 → m ≡ cond (eqb l 0) m (m + 1)
+  count-flat e = sym (cond-true (eqb l 0) m (m + 1) (eq-eqb l 0 e))
+
+  pub count-more : (l ≡ 0 → ⊥) → m + 1 ≡ cond (eqb l 0) m (m + 1)
+  count-more n = sym (cond-false (eqb l 0) m (m + 1) (ne_eqb l 0 n))

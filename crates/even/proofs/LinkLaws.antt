@@ -5,12 +5,12 @@ use mathlib.Core.Path.{◌≡◌, refl, sym, ap, ap₂, subst, ◌∙◌}
 use mathlib.Core.Logic.{⊎_elim}
 use mathlib.Core.Bool.{Bool, true, false, ◌&&◌, ◌||◌, and-eq-true_iff}
 use mathlib.Core.List.{List, []}
-use borrow.Author.Tests.{eq-eqb, ne_eqb, eqb-true, lt-ltb, ltb-true}
+use borrow.Author.Tests.{eq-eqb, ne_eqb, eqb-true, lt-ltb, le-ltb, ltb-true}
 use lib.Dec.{eqb, ltb}
 use lib.ListN.{get_or, set, length-set, replicate}
 use lib.Seq.{get_or-set_same, get_or-set_other}
 use Rattle.finite.specs.Finite.{any, tab}
-use Rattle.finite.proofs.Bools.{dec, both, clash, refute, same_number, cond-true, cond-false, or-none, or-second}
+use Rattle.finite.proofs.Bools.{dec, both, clash, refute, same_number, and_left, and_right, cond-true, cond-false, or-none, or-second}
 use Rattle.finite.proofs.Search.{any-start, any-suc}
 use Rattle.finite.proofs.Tables.{length-tab, tab-at, tab-of, tab-same, replicate-tab}
 use Rattle.model.specs.Scheme.{Scheme}
@@ -40,6 +40,19 @@ own_row t l =
     (same_number u t))
 
 -- ---- a link
+
+module _ (m : List (List Bool)) (s t : ℕ) where
+  pub link-from-none : 8 ≤ s → m ≡ with_link m s t
+  unfolding with_link
+  link-from-none l = sym (cond-false (ltb s 8 && ltb t 8) _ _ (and_left (ltb s 8) (ltb t 8) (le-ltb s 8 l)))
+
+  pub link-to-none : 8 ≤ t → m ≡ with_link m s t
+  unfolding with_link
+  link-to-none l = sym (cond-false (ltb s 8 && ltb t 8) _ _ (and_right (ltb s 8) (ltb t 8) (le-ltb t 8 l)))
+
+  pub link_here : s < 8 → t < 8 → set m s (set (get_or m s []) t true) ≡ with_link m s t
+  unfolding with_link
+  link_here a b = sym (cond-true (ltb s 8 && ltb t 8) _ _ (both (lt-ltb s 8 a) (lt-ltb t 8 b)))
 
 module _ (f g : ℕ → ℕ → Bool) (s t : ℕ) (grown : (x y : ℕ) → g x y ≡ f x y || (eqb s x && eqb t y)) where
   kept_at : (x y : ℕ) → ((s ≡ x) × (t ≡ y) → ⊥) → f x y ≡ g x y

@@ -26,6 +26,10 @@ module _ (n c : ℕ) (a : Cell) where
       ⊎_elim (λ (q : numberless a ≡ true). sym (cond-true (numberless a) _ _ q ∙ e))
       (λ (q : numberless a ≡ false). clash e (numbered-full a q)) (dec (numberless a))
 
+  pub fits-issue : is_blank a ≡ false → numberless a ≡ true → false ≡ cell_fits n c a
+  unfolding cell_fits
+  fits-issue e q = sym (cond-true (numberless a) _ _ q ∙ e)
+
   pub fits-number : numberless a ≡ false → ltb c n ≡ cell_fits n c a
   unfolding cell_fits
   fits-number q = sym (cond-false (numberless a) _ _ q)

@@ -13,6 +13,11 @@ use Rattle.catalog.specs.Catalog.{part, heads_in, starts_in, Stored, Directory}
 use Rattle.mend.specs.Values.{Redirected}
 use Rattle.catalog.proofs.PartLaws.{part-stored, part-before}
 
+pub fetched : (D : Database) (keys catalog heads starts : List ℕ) → heads ≡ heads_in catalog → starts ≡ starts_in catalog
+    → Directory D keys (heads_in catalog) (starts_in catalog) → Directory D keys heads starts
+fetched D keys catalog heads starts e f d =
+    subst (λ (h : List ℕ). Directory D keys h starts) (sym e) (subst (λ (s : List ℕ). Directory D keys (heads_in catalog) s) (sym f) d)
+
 -- a slice of the array is the part from place a on
 pub part-between : (a n : ℕ) (xs ys : List ℕ) → a + n ≤ length xs → ys ≡ between a (a + n) xs → ys ≡ part a n xs
 unfolding part
@@ -23,10 +28,8 @@ module _ (catalog heads starts : List ℕ) (long : length catalog ≡ 16449) (e 
   pub fetched-starts : starts ≡ starts_in catalog
   fetched-starts = part-between 16384 65 catalog starts (omega (arith, long)) f
 
-  pub fetched : (D : Database) (keys : List ℕ) → Directory D keys (heads_in catalog) (starts_in catalog) → Directory D keys heads starts
-  fetched D keys d =
-      subst (λ (h : List ℕ). Directory D keys h starts) (sym (part-between 12288 4096 catalog heads (omega (arith, long)) e))
-      (subst (λ (s : List ℕ). Directory D keys (heads_in catalog) s) (sym fetched-starts) d)
+  pub fetched-between : (D : Database) (keys : List ℕ) → Directory D keys (heads_in catalog) (starts_in catalog) → Directory D keys heads starts
+  fetched-between D keys d = fetched D keys catalog heads starts (part-between 12288 4096 catalog heads (omega (arith, long)) e) fetched-starts d
 
 module _ (c₀ c₁ c₂ heads starts : List ℕ) (long : length c₀ ≡ 16449) (s₁ : Stored 12288 heads c₀ c₁) (s₂ : Stored 16384 starts c₁ c₂) where
   pub redirected : (D : Database) (keys : List ℕ) → Directory D keys heads starts → Redirected D keys c₀ c₂

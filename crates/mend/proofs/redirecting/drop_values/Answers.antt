@@ -1,11 +1,11 @@
 -- `catalog::redirecting::drop_values` meets its contract. Assumes nothing.
 use native.Mathlib.Omega.{arith}
 use mathlib.Core.Path.{sym, ◌∙◌}
-use Rattle.mend.proofs.RedirectLaws.{fetched, redirected}
+use Rattle.mend.proofs.RedirectLaws.{fetched-between, redirected}
 use Rattle.mend.proofs.redirecting.drop_values.Goals as goal
 
 pub drop_cells-requires : goal.drop_cells-requires
-drop_cells-requires c = record { r_bound = c.requires.r_bound; links = c.requires.links.0; without = c.requires.without; directory = (fetched _ _ _ c.requires.links.0.long c.copy_from_slice.ensures.after c.copy_from_slice-2.ensures.after _ _ c.requires.links.1) }
+drop_cells-requires c = record { r_bound = c.requires.r_bound; links = c.requires.links.0; without = c.requires.without; directory = (fetched-between _ _ _ c.requires.links.0.long c.copy_from_slice.ensures.after c.copy_from_slice-2.ensures.after _ _ c.requires.links.1) }
 
 pub slice_bounds-store-end : goal.slice_bounds-store-end
 slice_bounds-store-end c = sym (c.drop_cells.ensures c.requires.without.0 c.requires.without.1).heads-long
