@@ -100,7 +100,7 @@ unfolding all
 all_same zero p q h = refl
 all_same (suc n) p q h = ap₂ ◌&&◌ (all_same n p q (λ i l. h i (omega arith))) (h n (omega arith))
 
--- a loop that leaves with false at the first number that fails: its start, a turn, its end
+-- all numbers below n, looked at one after the other, up to the first that fails: the start, one more number, the end
 pub all_start : (p : ℕ → Bool) → all 0 p ≡ true
 unfolding all
 all_start p = refl

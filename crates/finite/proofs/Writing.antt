@@ -49,7 +49,7 @@ reach o o' n z w b h r = omega (arith, r.next)
 pub wrote_as : {A : Type 0} (o o' : List A) (n z z' : ℕ) (w w' : List A) → z ≡ z' → w ≡ w' → Wrote o o' n z w → Wrote o o' n z' w'
 wrote_as o o' n z z' w w' e f h = subst (λ (k : ℕ). Wrote o o' n k w') e (subst (λ (xs : List _). Wrote o o' n z xs) f h)
 
--- ---- a loop that copies a list t: a turn, its end
+-- ---- a list t that is written element by element: one element more, the end
 
 pub copied_more : {A : Type 0} (e : A) (o o' : List A) (n i : ℕ) (t : List A) → i < length t → Wrote o o' n (n + i) (take i t) →
     Wrote o (set o' (n + i) (get_or t i e)) n (n + (i + 1)) (take (i + 1) t)

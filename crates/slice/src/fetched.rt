@@ -8,7 +8,7 @@ ghost use Rattle.slice.specs.Fetches.{fetch_of, fetch_at, fetches_in, Ordered, S
 use crate::fetch::{Fetch, fetch_at, fetch_before, span_fetch, value_fetch};
 use state::{Cell, Column, is_blank};
 
-// The first fetch that doesn't stand before q. A step for each halving: at most 1 + log2(n).
+// The first fetch that doesn't stand before q. A step for each halving: at most 2 + log2(n).
 pub(crate) fn seek(words: &[u32], n: usize, q: Fetch) -> usize
     requires { 5 * n ≤ length words.now }
     ensures { Ordered words.now n → Sought words.now n q result }

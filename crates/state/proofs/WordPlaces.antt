@@ -1,7 +1,6 @@
--- Arrays as words, over the type of a place, its words, how many of them it takes, and how many places there are: how long they are, the two loops over the places
--- (one makes each place of its words, the other stores each place's words behind those before), reading them back, narrowness, and that storing again what
--- they stand for changes nothing. A proof that cites the loops answers the needs in the order of the code: the start, what a turn calls and indexes, the turn, the
--- end. Assumes nothing.
+-- Arrays as words, over the type of a place, its words, how many of them it takes, and how many places there are: how long they are, reading them place by place,
+-- the loop that stores each place's words behind those before, reading them back, narrowness, and that storing again what they stand for changes nothing. A proof
+-- that cites the loop answers the needs in the order of the code: the start, what a turn calls and indexes, the turn, the end. Assumes nothing.
 use Prim.Native.Nat.{ℕ, zero, suc, ◌+◌, ◌*◌, ◌≤◌, ◌<◌}
 use native.Mathlib.Omega.{arith}
 use mathlib.Core.Path.{◌≡◌, refl, sym, ap, subst, ◌∙◌}
