@@ -154,9 +154,12 @@ module _ (S : Scheme) (D : Database) (fs : List Model.Fetch) (k : Column) (x : �
       first-none (suc high) _ x (λ z a b. s.shut z a (omega arith)) ∙ sym (first_past (suc high) _ y (omega arith)))
       (dec (leb y (suc high)))
 
-  pub walk_end : (high : ℕ) → high < x → high < Model.first_open S D fs k high x
+  pub walk_end : (high : ℕ) → high < x → high + 1 ≡ Model.first_open S D fs k high x
   unfolding Model.first_open
   walk_end high l = omega (arith, first_past (suc high) (λ y. Model.is_open S D fs k (numbered y)) x (omega arith))
+
+  pub walk-past : (high : ℕ) → high < x → high < Model.first_open S D fs k high x
+  walk-past high l = omega (arith, walk_end high l)
 
 -- where the gap ends in which x lies
 module _ (fs : List Model.Fetch) (k : Column) (x high : ℕ) where
