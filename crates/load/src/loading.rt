@@ -33,7 +33,8 @@ pub fn load_value(
     ensures { (D : Database) → IsCatalogued (scheme_of d) D index.now
         → (levels.new ≡ Rounds.load (scheme_of d) D (marked marks.now) (has D (column_of k) (cell_of v))) × (result.rows ≡ added_rows D levels.new) × (result.rounds ≡ later_rounds D levels.new) }
 {
-    let mut load = Load::beside(marks);
+    let mut load = Load::none();
+    load.begin_beside(marks);
     load.walk(index.catalog, usize::from(k.place), index.find(k, v), 2);
     let growth = load.close(d, index.catalog, Design::ROWS + 1);
     *levels = load.levels;
@@ -55,7 +56,8 @@ pub fn load_range(
     ensures { (D : Database) → IsCatalogued (scheme_of d) D index.now
         → (levels.new ≡ Rounds.load (scheme_of d) D (marked marks.now) (has_range D (column_of k) (range_of q))) × (result.rows ≡ added_rows D levels.new) × (result.rounds ≡ later_rounds D levels.new) }
 {
-    let mut load = Load::beside(marks);
+    let mut load = Load::none();
+    load.begin_beside(marks);
     load.add_range(index, k, q);
     let growth = load.close(d, index.catalog, Design::ROWS + 1);
     *levels = load.levels;
@@ -77,7 +79,8 @@ pub fn load_held(
     ensures { (D : Database) → IsCatalogued (scheme_of d) D index.now
         → Within (scheme_of d) D (wanted (scheme_of d) D (holding_of (words_held held.now))) most → Reaches levels.new (reload_levels (scheme_of d) D (holding_of (words_held held.now))) result }
 {
-    let mut load = Load::of_held(d, index, held);
+    let mut load = Load::none();
+    load.begin_held(d, index, held);
     let growth = load.close(d, index.catalog, most);
     *levels = load.levels;
     growth.rows

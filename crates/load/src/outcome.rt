@@ -4,8 +4,6 @@ ghost use Rattle.finite.specs.Finite.{count, all, tab};
 ghost use Rattle.model.specs.Rounds.{reached};
 ghost use Rattle.model.specs.Runs.{marked};
 
-use std::array;
-
 // How many rows a load added, and how many of its later rounds added one.
 #[derive(Clone, Copy)]
 pub struct Growth {
@@ -25,7 +23,9 @@ pub fn settle(marks: &mut [u8], levels: &[u16; 512])
     requires { (512 ≤ length marks.old) × (length levels.now ≡ 512) }
     ensures { marks.new ≡ tab 512 (λ r. cond (reached levels.now r) 1 0) ++ drop 512 marks.old }
 {
-    marks[..512].copy_from_slice(&array::from_fn::<u8, 512, _>(|r| settled_mark(levels[r])));
+    for (r, &level) in levels.iter().enumerate() {
+        marks[r] = settled_mark(level);
+    }
 }
 
 // How many rows are marked. One pass over the row numbers.
@@ -33,7 +33,14 @@ pub fn rows_marked(marks: &[u8]) -> usize
     requires { 512 ≤ length marks.now }
     ensures { result ≡ count 512 (marked marks.now) }
 {
-    (0..512usize).filter(|&r| marks[r] == 1).count()
+    let mut n: usize = 0;
+    // no filter and count: the compiler makes one loop of this that takes many marks at a time, and of those one that takes them one by one
+    for &mark in &marks[..512] {
+        if mark == 1 {
+            n += 1;
+        }
+    }
+    n
 }
 
 // Whether the marks are 1 on the reached rows and 0 on the others. One pass over the row numbers.

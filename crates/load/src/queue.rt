@@ -34,16 +34,12 @@ impl Load {
         }
     }
 
-    // The marked rows are cached, and none has been added. One pass over the marks.
-    pub(crate) fn beside(marks: &[u8]) -> Self
-        requires { 512 ≤ length marks.now }
-        ensures { (result.levels ≡ tab 512 (λ r. cond (marked marks.now r) 1 0)) × (result.end ≡ 0) }
+    // The marked rows are cached, in a load that has added none. It changes the load where it lies, so that nothing of it is copied. One pass over the marks.
+    pub(crate) fn begin_beside(&mut self, marks: &[u8])
+        requires { (512 ≤ length marks.now) × (self.old.end ≡ 0) }
+        ensures { (self.new.levels ≡ tab 512 (λ r. cond (marked marks.now r) 1 0)) × (self.new.end ≡ 0) }
     {
-        Load {
-            levels: cached_levels(marks),
-            queue: [0; 512],
-            end: 0,
-        }
+        self.levels = cached_levels(marks);
     }
 
     // Gives row r level `to` and the queue's next place, if it has no level. Constant time.

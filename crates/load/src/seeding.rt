@@ -1,5 +1,5 @@
 // Loads of given rows from nothing.
-ghost use Rattle.std.specs.Prelude.{◌≡◌, false, ◌&&◌, ◌<◌, eqb, get_or};
+ghost use Rattle.std.specs.Prelude.{◌≡◌, false, ◌&&◌, ◌<◌, eqb, get_or, replicate};
 ghost use Rattle.model.specs.Database.{Database};
 ghost use Rattle.model.specs.Rounds as Rounds;
 ghost use Rattle.model.specs.Rounds.{start};
@@ -24,14 +24,13 @@ impl Load {
     }
 
     // Round 0: the rows of the seed. One pass over the row numbers.
-    fn of_rows(seed: &[bool; 512]) -> Self
-        ensures { (D : Database) → D.size ≡ 512 → result.levels ≡ start D (λ _. false) (λ r. get_or seed.now r false) }
+    fn begin_rows(&mut self, seed: &[bool; 512])
+        requires { self.old.levels ≡ replicate 512 0 }
+        ensures { (D : Database) → D.size ≡ 512 → self.new.levels ≡ start D (λ _. false) (λ r. get_or seed.now r false) }
     {
-        let mut load = Load::none();
         for r in 0..Design::ROWS {
-            load.reach_if(seed[r], r);
+            self.reach_if(seed[r], r);
         }
-        load
     }
 }
 
@@ -42,7 +41,8 @@ pub fn load_rows(d: Design, catalog: &[u16; 16449], seed: &[bool; 512], levels: 
     ensures { (D : Database) → Demands (scheme_of d) D catalog.now
         → levels.new ≡ Rounds.load (scheme_of d) D (λ _. false) (λ r. get_or seed.now r false) }
 {
-    let mut load = Load::of_rows(seed);
+    let mut load = Load::none();
+    load.begin_rows(seed);
     load.close(d, catalog, Design::ROWS + 1);
     *levels = load.levels;
 }

@@ -1,5 +1,5 @@
 // Round 0 of all that is held.
-ghost use Rattle.std.specs.Prelude.{◌≡◌, false};
+ghost use Rattle.std.specs.Prelude.{◌≡◌, false, replicate};
 ghost use Rattle.model.specs.Database.{Database};
 ghost use Rattle.model.specs.Rounds.{start};
 ghost use Rattle.model.specs.Holding.{wanted};
@@ -14,15 +14,15 @@ use catalog::Index;
 use state::{Design, value_at, value_count};
 
 impl Load {
-    // Round 0 of a load of all that is held from nothing: the rows that have a held value, or one of a held range, in its filling's column. For each held value a
+    // Round 0 of a load of all that is held, from no row: the rows that have a held value, or one of a held range, in its filling's column. For each held value a
     // search of the directory and the walk of its rows, and the cost of each range.
-    pub(crate) fn of_held(d: Design, index: &Index, held: &[u32; 358]) -> Self
+    pub(crate) fn begin_held(&mut self, d: Design, index: &Index, held: &[u32; 358])
+        requires fresh { self.old.levels ≡ replicate 512 0 }
         requires in_range { InRange d × Bounded (words_held held.now) }
         requires indexed { (D : Database) × IsIndexed D index.now }
         ensures { (D : Database) → IsIndexed D index.now
-            → result.levels ≡ start D (λ _. false) (wanted (scheme_of d) D (holding_of (words_held held.now))) }
+            → self.new.levels ≡ start D (λ _. false) (wanted (scheme_of d) D (holding_of (words_held held.now))) }
     {
-        let mut load = Load::none();
         // read from here, so that the compiler copies a filling and not all of them
         let filling = d.filling;
         for i in 0..value_count(held) {
@@ -30,9 +30,8 @@ impl Load {
             let f = filling[v.filling as usize];
             let k = f.column;
             let r = index.find(k, v.value);
-            load.walk(index.catalog, usize::from(k.place), r, 2);
+            self.walk(index.catalog, usize::from(k.place), r, 2);
         }
-        load.add_all_ranges(d, index, held);
-        load
+        self.add_all_ranges(d, index, held);
     }
 }

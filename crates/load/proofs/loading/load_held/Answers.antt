@@ -6,9 +6,9 @@ use Rattle.load.proofs.loading.load_held.Goals as goal
 
 pub close-growth-requires : goal.close-growth-requires
 close-growth-requires c = let x = c.requires.catalogued.1 in
-    record { in_range = (c.requires.in_range.0, started-low _ x.demands.links.size_is _ _ _ (c.of_held-load.ensures _ x.index)); demands = (c.requires.catalogued.0, x.demands) }
+    record { in_range = (c.requires.in_range.0, started-low _ x.demands.links.size_is _ _ _ (c.begin_held.ensures _ x.index)); demands = (c.requires.catalogued.0, x.demands) }
 
 pub returns : goal.returns
 unfolding reload_levels
 returns c = λ D x w.
-    ended-within _ D x.demands.links.size_is _ _ _ _ _ _ (c.of_held-load.ensures D x.index) w (c.close-growth.ensures D x.demands)
+    ended-within _ D x.demands.links.size_is _ _ _ _ _ _ (c.begin_held.ensures D x.index) w (c.close-growth.ensures D x.demands)

@@ -14,7 +14,7 @@ close-growth-requires c = let x = c.requires.catalogued.1 in
     let f = c.find.ensures _ x.index.directory in
     let g = c.walk.ensures _ x.index.links (begins-has _ _ _ _ f _ c.from.ensures) in
     let z = x.demands.links.size_is in
-    record { in_range = (c.requires.in_range.0, started-low c.requires.catalogued.0 z _ _ _ (start-raised _ _ c.beside-load.ensures.0 c.requires.catalogued.0 z _ _ _ g.levels (along-has _ _ _ _ f _ c.from.ensures))); demands = (c.requires.catalogued.0, x.demands) }
+    record { in_range = (c.requires.in_range.0, started-low c.requires.catalogued.0 z _ _ _ (start-raised _ _ c.begin_beside.ensures.0 c.requires.catalogued.0 z _ _ _ g.levels (along-has _ _ _ _ f _ c.from.ensures))); demands = (c.requires.catalogued.0, x.demands) }
 
 pub returns : goal.returns
 returns c = λ D x.
@@ -22,4 +22,4 @@ returns c = λ D x.
     let f = s.find.ensures D x.index.directory in
     let g = s.walk.ensures D x.index.links (begins-has _ _ _ _ f _ s.from.ensures) in
     let z = x.demands.links.size_is in
-    ended-load _ D z _ _ _ _ _ _ (start-raised _ _ s.beside-load.ensures.0 D z _ _ _ g.levels (along-has _ _ _ _ f _ s.from.ensures)) (s.close-growth.ensures D x.demands)
+    ended-load _ D z _ _ _ _ _ _ (start-raised _ _ s.begin_beside.ensures.0 D z _ _ _ g.levels (along-has _ _ _ _ f _ s.from.ensures)) (s.close-growth.ensures D x.demands)

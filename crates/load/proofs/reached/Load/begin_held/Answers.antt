@@ -1,4 +1,4 @@
--- `load::reached::Load::of_held` meets its contract: a loop of steps to level 2, and those for the ranges. Assumes nothing.
+-- `load::reached::Load::begin_held` meets its contract: a loop of steps to level 2, and those for the ranges. Assumes nothing.
 use native.Mathlib.Omega.{arith}
 use mathlib.Core.Path.{ap, ◌∙◌}
 use Rattle.finite.proofs.Search.{any-start}
@@ -11,10 +11,10 @@ use Rattle.load.proofs.AlongLaws.{along-has, begins-has}
 use Rattle.load.proofs.QueueLaws.{grown-again, grown-end, grown-start, grown-turn}
 use Rattle.load.proofs.RaisedLaws.{raised_on}
 use Rattle.load.proofs.StartLaws.{start-all}
-use Rattle.load.proofs.reached.Load.of_held.Goals as goal
+use Rattle.load.proofs.reached.Load.begin_held.Goals as goal
 
 pub loop-i-init : goal.loop-i-init
-loop-i-init c = (omega arith, λ D x. grown-start _ _ _ _ _ 0 c.none-load.result.long c.none-load.result.listed (λ r l. any-start _))
+loop-i-init c = (omega arith, λ D x. grown-start _ _ _ _ _ 0 c.args.self.now.long c.args.self.now.listed (λ r l. any-start _))
 
 pub walk-requires : goal.walk-requires
 walk-requires c =
@@ -36,4 +36,4 @@ returns c = λ D x.
     let w = c.loop-i in
     let g = grown-end _ _ _ _ _ w.i (words_held c.args.held.now).count _ _ _ (omega (arith, w.invariant.0, c.value_count-i-end.ensures)) (omega (arith, c.loop-i-test.false, c.value_count-i-end.ensures)) (w.invariant.1 D x) in
     let h = grown-again _ _ _ _ _ _ _ _ _ _ _ _ (omega arith) g (c.add_all_ranges.ensures D x) in
-    start-all _ D x.links.size_is _ _ (raised_on _ _ _ _ _ c.none-load.ensures.0 h.levels)
+    start-all _ D x.links.size_is _ _ (raised_on _ _ _ _ _ c.requires.fresh h.levels)
