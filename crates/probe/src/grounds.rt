@@ -36,7 +36,9 @@ fn is_demanded(d: Design, index: &Index, marks: &[u8], k: Column, v: Cell) -> bo
     ensures { (D : Database) → IsIndexed D index.now
         → result ≡ Probe.demanded (scheme_of d) D (marked marks.now) (column_of k) (cell_of v) }
 {
-    (0..d.constraints).any(|i| is_demanded_by(index, marks, d.constraint[i], k, v))
+    // read from here, so that the compiler copies 64 bytes and not the whole design
+    let constraint = d.constraint;
+    (0..d.constraints).any(|i| is_demanded_by(index, marks, constraint[i], k, v))
 }
 
 // Ground 3: whether the column is unique and a cached row has the value there. The cost of looking for it, if the column is unique.

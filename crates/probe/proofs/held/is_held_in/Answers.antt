@@ -8,7 +8,7 @@ pub returns-then-in_range : goal.returns-then-in_range
 unfolding scheme_of
 returns-then-in_range c = let s = c.args in
     c.same_column.ensures ∙
-    range-column (scheme_of s.d) (range_of s.r) (column_of s.k) (cell_of s.v) (sym c.in_range.ensures ∙ c.if-in_range.true)
+    range-column (scheme_of s.d.now) (range_of s.r) (column_of s.k) (cell_of s.v) (sym c.in_range.ensures ∙ c.if-in_range.true)
 
 pub returns-else-in_range : goal.returns-else-in_range
 returns-else-in_range c = c.if-in_range.false ∙ range_other _ _ _ _ (sym c.in_range.ensures ∙ c.if-in_range.false)
