@@ -26,26 +26,35 @@ fn cell_fits<F: Fn(usize) -> Cell>(cell: &F, n: u8, c: usize) -> bool
     }
 }
 
-// Whether a row, lent or an operand, belongs to a table and its cells fit that table's columns. One look at each of its 8 cells.
-fn fits_table<F: Fn(usize) -> Cell>(d: Design, table: u8, cell: F) -> bool
+// Whether a row, lent or an operand, belongs to a table and its cells fit that table's columns. The design is lent: by value, its 200 bytes would be copied for
+// each row. One look at each of its 8 cells.
+fn fits_table<F: Fn(usize) -> Cell>(d: &Design, table: u8, cell: F) -> bool
     requires { (c : ℕ) → c < 8 → F.pre cell c }
-    ensures { (a : ℕ → Model.Cell) → ((c : ℕ) (x : _) → F.post cell c x → cell_of x ≡ a c) → result ≡ fits_table (scheme_of d) table a }
+    ensures { (a : ℕ → Model.Cell) → ((c : ℕ) (x : _) → F.post cell c x → cell_of x ≡ a c) → result ≡ fits_table (scheme_of d.now) table a }
 {
     let t = usize::from(table);
-    let n = table_at(d, t).columns;
+    let n = table_at(*d, t).columns;
     t < d.tables && (0..Design::COLUMNS).all(|c| cell_fits(&cell, n, c))
 }
 
 // Whether row r fits so.
-pub fn row_fits(d: Design, rows: &Rows, r: usize) -> bool
+fn fits_at(d: &Design, rows: &Rows, r: usize) -> bool
     requires { (r < 512) × IsBacked rows.now }
-    ensures { result ≡ row_fits (scheme_of d) (database_in rows.now) r }
+    ensures { result ≡ row_fits (scheme_of d.now) (database_in rows.now) r }
 {
     fits_table(
         d,
         rows.tables[r],
         |c| cell_at(rows.cells, rows.issues, r, c),
     )
+}
+
+// The same, for a design by value.
+pub fn row_fits(d: Design, rows: &Rows, r: usize) -> bool
+    requires { (r < 512) × IsBacked rows.now }
+    ensures { result ≡ row_fits (scheme_of d) (database_in rows.now) r }
+{
+    fits_at(&d, rows, r)
 }
 
 // Cell c of a row that is an operand. Constant time.
@@ -63,7 +72,7 @@ pub fn operand_cell(x: Row, c: usize) -> Cell
 pub fn operands_fit(d: Design, x: Row) -> bool
     ensures { result ≡ fits_table (scheme_of d) x.table (row_cell x) }
 {
-    fits_table(d, x.table, |c| operand_cell(x, c))
+    fits_table(&d, x.table, |c| operand_cell(x, c))
 }
 
 // Whether there is no cell at number r, as where there is no row. One look at each of its 8 cells.
@@ -75,12 +84,12 @@ fn blank_row(cells: &[u32], issues: &[u8], r: usize) -> bool
 }
 
 // Whether number r stands as a script would leave it, other rows apart: a row that fits, or none and no cell. One look at each of its 8 cells.
-fn row_stands(d: Design, rows: &Rows, r: usize) -> bool
+fn row_stands(d: &Design, rows: &Rows, r: usize) -> bool
     requires { (r < 512) × IsBacked rows.now }
-    ensures { result ≡ row_stands d (cells_of rows.now) rows.now.tables.now r }
+    ensures { result ≡ row_stands d.now (cells_of rows.now) rows.now.tables.now r }
 {
     if is_live(rows.tables, r) {
-        row_fits(d, rows, r)
+        fits_at(d, rows, r)
     } else {
         blank_row(rows.cells, rows.issues, r)
     }
@@ -92,5 +101,5 @@ pub fn rows_stand(d: Design, rows: &Rows) -> bool
     requires { IsBacked rows.now }
     ensures { result ≡ rows_stand d (cells_of rows.now) rows.now.tables.now }
 {
-    (0..Design::ROWS).all(|r| row_stands(d, rows, r))
+    (0..Design::ROWS).all(|r| row_stands(&d, rows, r))
 }
