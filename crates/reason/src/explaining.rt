@@ -1,5 +1,5 @@
 // The sentence of a row, link by link back to a held value or range, and the answer.
-ghost use Rattle.std.specs.Prelude.{true, List, ◌≡◌, ℕ, ◌+◌, ◌*◌, ◌≤◌, ◌<◌, length};
+ghost use Rattle.std.specs.Prelude.{true, List, ◌≡◌, ℕ, ◌+◌, ◌*◌, ◌≤◌, ◌<◌, get_or, length};
 ghost use Rattle.std.proofs.lemmas.List.Edits.{sets};
 ghost use Rattle.finite.specs.Writing.{Wrote};
 ghost use Rattle.model.specs.Database.{Database};
@@ -115,8 +115,38 @@ fn put_reason(
     put_origin(out, t.at, o)
 }
 
-// Why row number `row` is cached, in words: the lent text is written from its first byte on, if it is long enough for the whole sentence. The sentence is
-// composed in memory of its own, so that cause 11 leaves the text as it was. Constant time for a number that names nothing and for a row that isn't
+// The answer for a cached row: the lent text is written from its first byte on, if it is long enough for the whole sentence. The sentence is composed in memory of its
+// own, so that cause 11 leaves the text as it was. It stands apart, since that memory is laid down as zeros: a row that has no reason would pay for it too. The cost
+// of `put_reason`, and a step for each byte of the sentence.
+fn explained(
+    design: Design,
+    rows: &Rows,
+    index: &Index,
+    held: &[u32; 358],
+    r: usize,
+    text: &mut [u8],
+) -> Answer
+    requires r_bound { (r < 512) × InRange design × IsBacked rows.now × Bounded (words_held held.now) }
+    requires catalogued { IsCatalogued (scheme_of design) (database_in rows.now) index.now
+        × (cached_for (scheme_of design) (database_in rows.now) (holding_of (words_held held.now)) r ≡ true) }
+    ensures { (marks : List ℕ) → sound (lent design (cells_of rows.now) rows.now.tables.now marks (words_held held.now)) ≡ true
+        → (database_in rows.now).live r ≡ true → get_or marks r 0 ≡ 1
+        → (answer_of result ≡ answer_at (lent design (cells_of rows.now) rows.now.tables.now marks (words_held held.now))
+        (Runs.ask (Runs.reason r (length text.old))))
+        × (text.new ≡ sets text.old 0 (text_at (lent design (cells_of rows.now) rows.now.tables.now
+        marks (words_held held.now)) (Runs.ask (Runs.reason r (length text.old))))) }
+{
+    let mut out = [0u8; 16384];
+    let n = put_reason(design, rows, index, held, r, &mut out);
+    if text.len() < n {
+        return Answer::Refused(11);
+    }
+    put_bytes(text, 0, &out, n);
+    Answer::Explained(n)
+}
+
+// Why row number `row` is cached, in words: the lent text is written from its first byte on, if it is long enough for the whole sentence, and cause 11 leaves
+// the text as it was. Constant time for a number that names nothing and for a row that isn't
 // cached; else no more than a reload and the chain's own links: one reload, a few steps for each row number, a look at each constraint for each row that is nearer to
 // what is held, one look at each held value and range, and two steps for each byte of the sentence.
 pub fn reason_lawful(
@@ -145,11 +175,5 @@ pub fn reason_lawful(
     if marks[r] != 1 {
         return Answer::Absent;
     }
-    let mut out = [0u8; 16384];
-    let n = put_reason(design, rows, index, held, r, &mut out);
-    if text.len() < n {
-        return Answer::Refused(11);
-    }
-    put_bytes(text, 0, &out, n);
-    Answer::Explained(n)
+    explained(design, rows, index, held, r, text)
 }

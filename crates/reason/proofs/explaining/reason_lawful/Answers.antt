@@ -1,13 +1,11 @@
--- `reason::explaining::reason_lawful` meets its contract: the causes in their order, then the sentence, composed first and stored last. Assumes nothing.
-use Prim.Native.Nat.{ℕ}
+-- `reason::explaining::reason_lawful` meets its contract: the causes in their order, then the sentence. Assumes nothing.
 use native.Mathlib.Omega.{arith}
 use mathlib.Core.Path.{sym, ◌∙◌}
 use borrow.Author.Tests.{not-true, not-false}
-use lib.ListN.{length-replicate}
 use Rattle.state.proofs.Arrays.{sized}
 use Rattle.state.proofs.HeldWords.{words-sized}
 use Rattle.lawful.proofs.Asked.{sound-range, sound-backed, sound-marks, sound-bounded}
-use Rattle.reason.proofs.Replying.{marked-cached, reply-past, reply-unnamed, reply-absent, reply-long, reply-given}
+use Rattle.reason.proofs.Replying.{marked-cached, reply-past, reply-unnamed, reply-absent}
 use Rattle.reason.proofs.explaining.reason_lawful.Goals as goal
 
 pub returns-then-r-ge-ROWS : goal.returns-then-r-ge-ROWS
@@ -25,22 +23,12 @@ bounds-marks-r c = omega (arith, sound-marks _ c.requires.0, c.if-r-ge-ROWS.fals
 pub returns-then-marks-r-ne1 : goal.returns-then-marks-r-ne1
 returns-then-marks-r-ne1 c = reply-absent _ c.requires.0 _ _ c.if-r-ge-ROWS.false (sym (c.is_live.ensures _) ∙ not-false _ c.if-not-is_live.false-raw) c.if-marks-r-ne1.true
 
-pub put_reason-n-requires : goal.put_reason-n-requires
-put_reason-n-requires c = let s = c in
+pub explained-requires : goal.explained-requires
+explained-requires c = let s = c in
     let e = s.requires.0 in record {
-      r_bound = (
-        c.if-r-ge-ROWS.false,
-        sound-range _ e (sized s.args.design _ s.well_formed.0),
-        sound-backed _ e,
-        sound-bounded _ e (words-sized s.args.held.now),
-        length-replicate {A = ℕ} 16384 0,
-      );
+      r_bound = (c.if-r-ge-ROWS.false, sound-range _ e (sized s.args.design _ s.well_formed.0), sound-backed _ e, sound-bounded _ e (words-sized s.args.held.now));
       catalogued = (s.requires.1, marked-cached _ e _ c.if-r-ge-ROWS.false c.if-marks-r-ne1.false);
     }
 
-pub returns-then-text-n : goal.returns-then-text-n
-returns-then-text-n c = reply-long _ c.requires.0 _ _ c.if-r-ge-ROWS.false (sym (c.is_live.ensures _) ∙ not-false _ c.if-not-is_live.false-raw) c.if-marks-r-ne1.false _ _ _ c.put_reason-n.ensures.1 c.if-text-n.true
-
 pub returns : goal.returns
-returns c = reply-given _ c.requires.0 _ _ c.if-r-ge-ROWS.false (sym (c.is_live.ensures _) ∙ not-false _ c.if-not-is_live.false-raw) c.if-marks-r-ne1.false _ _ _ c.put_reason-n.ensures.1 c.if-text-n.false
-    (omega (arith, c.put_reason-n.ensures.0, length-replicate {A = ℕ} 16384 0)) _ c.put_bytes.ensures.text
+returns c = c.explained.ensures _ c.requires.0 (sym (c.is_live.ensures _) ∙ not-false _ c.if-not-is_live.false-raw) c.if-marks-r-ne1.false
