@@ -23,8 +23,9 @@ pub(crate) fn leading_rows(d: Design, index: &Index, k: Column, v: Cell, levels:
     ensures { (D : Database) → IsCatalogued (scheme_of d) D index.now
         → levels.new ≡ Rounds.load (Turned.turned (scheme_of d)) D (λ _. false) (Turned.gives (scheme_of d) D (column_of k) (cell_of v)) }
 {
-    let t = turned(d);
+    // copied before anything else is stored, so that the compiler needn't lay it down as zeros first
     let mut own = *index.catalog;
+    let t = turned(d);
     turn_firsts(d, &mut own);
     let mut seed = [false; 512];
     giving_rows(d, index, k, v, &mut seed);
