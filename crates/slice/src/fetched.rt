@@ -9,6 +9,8 @@ use crate::fetch::{Fetch, fetch_at, fetch_before, span_fetch, value_fetch};
 use state::{Cell, Column, is_blank};
 
 // The first fetch that doesn't stand before q. A step for each halving: at most 2 + log2(n).
+// It is made part of its callers, where the kind of q is known, and most of a comparison with it goes.
+#[inline(always)]
 pub(crate) fn seek(words: &[u32], n: usize, q: Fetch) -> usize
     requires { 5 * n ≤ length words.now }
     ensures { Ordered words.now n → Sought words.now n q result }
