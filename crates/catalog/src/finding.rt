@@ -7,6 +7,7 @@ ghost use Rattle.catalog.specs.Catalog.{key_of, Falls};
 ghost use Rattle.catalog.specs.Listing.{Searched};
 ghost use Rattle.catalog.specs.Index.{IsDirectory};
 
+use crate::halving::turning_point;
 use crate::index::Index;
 use crate::reading::{head_at, number_of, start_at};
 use state::{Cell, Column, Design};
@@ -25,10 +26,7 @@ pub fn seat(keys: &[u64; 4096], from: usize, to: usize, x: u64) -> usize
     requires { to ≤ 4096 }
     ensures { from ≤ to → Falls from to keys.now → Searched from to x result result keys.now }
 {
-    let Some(part) = keys.get(from..to) else {
-        return from;
-    };
-    from + part.partition_point(|&k| x < k)
+    turning_point(from, to, |k| x < keys[k])
 }
 
 // Whether x stands at place a, of the places before `to`. Constant time.

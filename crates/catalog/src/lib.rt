@@ -2,12 +2,13 @@
 // where a row comes or goes.
 // It is two arrays. `catalog` has four parts: for each cell the next row that has the same value in the same column, for each constraint and row the first
 // row that the constraint demands of it, and of the directory the first row of each value and where each column's values begin; `keys` has the keys of the
-// directory's values, falling in each column. They are read by `next_row` and `first_row`, and lent together (`Index`) by `find`, `find_range` and `first_of`, and by nothing else; the rest of what is public here is for `mend` and `demanding`.
+// directory's values, falling in each column. They are read by `next_row` and `first_row`, and lent together (`Index`) by `find`, `find_range` and `first_of`, and by nothing else; the rest of what is public here is for `mend`, `demanding` and, of `turning_point`, `slice`.
 #![tactic(auto)]
 
 mod columns;
 mod finding;
 mod firsts;
+mod halving;
 mod index;
 mod linking;
 mod listing;
@@ -19,6 +20,7 @@ mod storing;
 
 pub use finding::{key_of, seat, stands};
 pub use firsts::demanded;
+pub use halving::turning_point;
 pub use index::Index;
 pub use listing::make_room;
 pub use making::build;

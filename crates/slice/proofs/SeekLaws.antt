@@ -1,16 +1,12 @@
--- What a search by halves finds: a turn of it, whether a value is fetched, and the next span of a column. Assumes nothing.
-use Prim.Native.Nat.{ℕ, zero, suc, ◌+◌, ◌*◌, ◌/◌, ◌≤◌, ◌<◌}
+-- What a search by halves finds, whether a value is fetched, and the next span of a column. Assumes nothing.
+use Prim.Native.Nat.{ℕ, zero, suc, ◌+◌, ◌≤◌, ◌<◌}
 use native.Mathlib.Omega.{arith}
 use mathlib.Core.Path.{◌≡◌, refl, sym, ap, subst, ◌∙◌}
 use mathlib.Core.Logic.{◌⊎◌, inl, inr, ⊎_elim}
 use mathlib.Core.Bool.{Bool, true, false, ◌&&◌, ◌||◌, and-eq-true_iff}
-use mathlib.Core.List.{List, []}
+use mathlib.Core.List.{List}
 use borrow.Author.Tests.{ltb-true, ltb-false, lt-ltb, le-ltb}
 use lib.Dec.{ltb}
-use lib.ListN.{drop, get_or, length, take}
-use lib.Seq.{get_or-take, get_or-drop, length-take-le}
-use Rattle.std.specs.Simd.{first_chunks}
-use Rattle.std.specs.List.Sorted.{IsPartitionedBy, IsPartitionPoint}
 use Rattle.finite.specs.Finite.{any}
 use Rattle.finite.proofs.Bools.{bool-ext, both, clash, dec, or_cases, or-go, or_left, order, refute, same_number, or-second}
 use Rattle.finite.proofs.Order.{lower-self}
@@ -19,6 +15,7 @@ use Rattle.model.specs.Cell.{Cell}
 use Rattle.model.specs.Missing as Model
 use Rattle.model.specs.Scheme.{Column}
 use Rattle.model.proofs.MissingLoops.{some-tab}
+use Rattle.catalog.specs.Halving.{Falling, Halved}
 use Rattle.slice.specs.declared.fetch.Fetch.{Fetch}
 use Rattle.std.specs.Prelude.{None}
 use Rattle.std.specs.Bool.{then_some}
@@ -28,86 +25,21 @@ use Rattle.slice.proofs.CoverLaws.{Spans, value-says, span-covers, spans-say, sa
 
 -- ---- the search
 
--- the words in fives: each five is a fetch
-length-chunks : (k : ℕ) (ws : List ℕ) → length (first_chunks 5 k ws) ≡ k
-length-chunks zero ws = refl
-length-chunks (suc k) ws = ap suc (length-chunks k (drop 5 ws))
+module _ (ws : List ℕ) (n : ℕ) (q : Fetch) where
+  -- whether fetch number i stands before q
+  abbrev pub is_before : ℕ → Bool
+  is_before i = fetch_before (fetch_at ws i) q
 
-five-first : (ws : List ℕ) → fetch_at (take 5 ws) 0 ≡ fetch_at ws 0
-unfolding fetch_at
-five-first ws =
-    λ i. record {
-      kind = get_or-take 5 ws 0 0 (omega arith) i;
-      table = get_or-take 5 ws 1 0 (omega arith) i;
-      column = get_or-take 5 ws 2 0 (omega arith) i;
-      number = get_or-take 5 ws 3 0 (omega arith) i;
-      end = get_or-take 5 ws 4 0 (omega arith) i;
-    }
-
-next-word : (ws : List ℕ) (j m : ℕ) → 5 + j ≡ m → get_or (drop 5 ws) j 0 ≡ get_or ws m 0
-next-word ws j m e = get_or-drop 5 ws j 0 ∙ ap (λ (x : ℕ). get_or ws x 0) e
-
-five-next : (ws : List ℕ) (i : ℕ) → fetch_at (drop 5 ws) i ≡ fetch_at ws (suc i)
-unfolding fetch_at
-five-next ws i =
-    λ j. record {
-      kind = next-word ws (5 * i) (5 * suc i) (omega arith) j;
-      table = next-word ws (5 * i + 1) (5 * suc i + 1) (omega arith) j;
-      column = next-word ws (5 * i + 2) (5 * suc i + 2) (omega arith) j;
-      number = next-word ws (5 * i + 3) (5 * suc i + 3) (omega arith) j;
-      end = next-word ws (5 * i + 4) (5 * suc i + 4) (omega arith) j;
-    }
-
-chunk-at : (k i : ℕ) (ws : List ℕ) (d : List ℕ) → i < k → fetch_at (get_or (first_chunks 5 k ws) i d) 0 ≡ fetch_at ws i
-chunk-at zero i ws d l = absurd (omega arith)
-chunk-at (suc k) zero ws d l = five-first ws
-chunk-at (suc k) (suc i) ws d l = chunk-at k i (drop 5 ws) d (omega arith) ∙ five-next ws i
-
-module _ (ws : List ℕ) (n : ℕ) (q : Fetch) (o : Ordered ws n) where
-  abbrev chunks : List (List ℕ)
-  chunks = take n (first_chunks 5 (length ws / 5) ws)
-
-  abbrev is_before : List ℕ → Bool
-  is_before y = fetch_before (fetch_at y 0) q
-
-  number-of-chunks : length chunks ≡ n
-  number-of-chunks = length-take-le n (first_chunks 5 (length ws / 5) ws) (omega (arith, length-chunks (length ws / 5) ws, o.long))
-
-  before-at : (i : ℕ) (d : List ℕ) → i < n → is_before (get_or chunks i d) ≡ fetch_before (fetch_at ws i) q
-  before-at i d l =
-      ap is_before (get_or-take n (first_chunks 5 (length ws / 5) ws) i d l) ∙
-      ap (λ (f : Fetch). fetch_before f q) (chunk-at (length ws / 5) i ws d (omega (arith, o.long)))
-
-  chunks-part : IsPartitionedBy is_before chunks
-  chunks-part i j d a l e = go (order i j)
+  pub before-falling : Ordered ws n → Falling 0 n is_before
+  before-falling o i j a b l t = go (order i j)
     where
-      below : j < n
-      below = omega (arith, l, number-of-chunks)
-
-      t : fetch_before (fetch_at ws j) q ≡ true
-      t = sym (before-at j d below) ∙ e
-
-      go : (i < j) ⊎ ((i ≡ j) ⊎ (j < i)) → is_before (get_or chunks i d) ≡ true
-      go (inl x) = before-at i d (omega (arith, below)) ∙ before-trans (fetch_at ws i) (fetch_at ws j) q (o.full j below) (o.rising i j x below) t
-      go (inr (inl x)) = subst (λ (m : ℕ). is_before (get_or chunks m d) ≡ true) (sym x) e
+      go : (i < j) ⊎ ((i ≡ j) ⊎ (j < i)) → is_before i ≡ true
+      go (inl x) = before-trans (fetch_at ws i) (fetch_at ws j) q (o.full j l) (o.rising i j x l) t
+      go (inr (inl x)) = subst (λ (m : ℕ). is_before m ≡ true) (sym x) t
       go (inr (inr x)) = absurd (omega arith)
 
-  parted-sought : (r : ℕ) → r ≤ length chunks → IsPartitionPoint (λ y. is_before y ≡ true) (λ y. is_before y ≡ false) chunks r → Sought ws n q r
-  parted-sought r b p =
-      record {
-        bound = omega (arith, b, number-of-chunks);
-        before = λ i l. let h : i < n = omega (arith, b, number-of-chunks, l) in sym (before-at i [] h) ∙ p.0 i [] (omega arith) l;
-        behind = λ l. sym (before-at r [] l) ∙ p.1 r [] (omega arith) (omega (arith, number-of-chunks, l));
-      }
-
-  -- as the code makes them
-  pub chunks-sought : (cs : List (List ℕ)) → cs ≡ first_chunks 5 (length ws / 5) ws → (r : ℕ) → r ≤ length (take n cs) →
-      (IsPartitionedBy is_before (take n cs) → IsPartitionPoint (λ y. is_before y ≡ true) (λ y. is_before y ≡ false) (take n cs) r) → Sought ws n q r
-  chunks-sought cs e r b p =
-      let z : take n cs ≡ chunks = ap (take n) e in
-      parted-sought r (subst (λ (xs : List (List ℕ)). r ≤ length xs) z b)
-      (subst (λ (xs : List (List ℕ)). IsPartitionPoint (λ y. is_before y ≡ true) (λ y. is_before y ≡ false) xs r) z
-      (p (subst (IsPartitionedBy is_before) (sym z) chunks-part)))
+  pub halved-sought : (r : ℕ) → Halved 0 n is_before r r → Sought ws n q r
+  halved-sought r h = record { bound = h.end; before = λ i l. h.holds i (omega arith) l; behind = λ l. h.fails r (omega arith) l }
 
 -- the same fetch is sought
 pub sought-as : {ws : List ℕ} {n i : ℕ} {p q : Fetch} → p ≡ q → Sought ws n p i → Sought ws n q i

@@ -6,17 +6,17 @@ ghost use Rattle.state.specs.Meaning.{cell_of, column_of};
 ghost use Rattle.slice.specs.Fetches.{fetch_of, fetch_at, fetches_in, Ordered, Sought};
 
 use crate::fetch::{Fetch, fetch_at, fetch_before, span_fetch, value_fetch};
+use catalog::turning_point;
 use state::{Cell, Column, is_blank};
 
-// The first fetch that doesn't stand before q. A step for each halving: at most 2 + log2(n).
+// The first fetch that doesn't stand before q. A step for each halving: at most 1 + log2(n).
 // It is made part of its callers, where the kind of q is known, and most of a comparison with it goes.
 #[inline(always)]
 pub(crate) fn seek(words: &[u32], n: usize, q: Fetch) -> usize
     requires { 5 * n ≤ length words.now }
     ensures { Ordered words.now n → Sought words.now n q result }
 {
-    let (fetches, _) = words.as_chunks::<5>();
-    fetches[..n].partition_point(|f| fetch_before(fetch_at(f, 0), q))
+    turning_point(0, n, |i| fetch_before(fetch_at(words, i), q))
 }
 
 // Whether the value of number a and issue b is v: the two are equal, and not blank. Constant time.

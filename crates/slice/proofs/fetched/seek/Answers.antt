@@ -1,10 +1,10 @@
--- `slice::fetched::seek` meets its contract. Assumes nothing.
+-- `slice::fetched::seek` meets its contract: the fetches that stand before q come first. Assumes nothing.
+use borrow.Author.Tests.{tests}
+use native.Mathlib.Omega.{arith}
 use Rattle.std.proofs.Common.{rules}
-use Rattle.std.proofs.lemmas.List.Sorted.{IsPartitionPoint-from_clause}
-use Rattle.slice.specs.Fetches.{fetch_at, fetch_before}
-use Rattle.slice.proofs.SeekLaws.{chunks-sought}
+use Rattle.slice.proofs.SeekLaws.{is_before, before-falling, halved-sought}
 use Rattle.slice.proofs.fetched.seek.Goals as goal
 
 pub returns : goal.returns
-returns c = λ o. chunks-sought _ _ _ o _ c.as_chunks.ensures.front _ c.partition_point.ensures.bound
-    (λ h. IsPartitionPoint-from_clause (λ y. fetch_before (fetch_at y 0) c.args.q) _ _ c.partition_point.ensures.partitioned h (λ a r f k. search rules))
+returns c = λ o. let s = c.args in
+    halved-sought _ _ _ _ (c.turning_point.ensures (is_before s.words.now s.n s.q) (λ k b h. search (rules, tests, h)) (omega arith) (before-falling _ _ _ o))
