@@ -5,7 +5,6 @@ ghost use Rattle.model.specs.Runs.{marked};
 ghost use Rattle.load.specs.Grows.{Grows};
 
 use crate::reached::Load;
-use std::array;
 
 // The level of a row with this mark before a load: 1 if it is cached. Constant time.
 fn cached_level(mark: u8) -> u16
@@ -14,12 +13,15 @@ fn cached_level(mark: u8) -> u16
     u16::from(mark == 1)
 }
 
-// The levels of the rows with these marks before a load. One pass over the marks.
-fn cached_levels(marks: &[u8]) -> [u16; 512]
-    requires { 512 ≤ length marks.now }
-    ensures { result ≡ tab 512 (λ r. cond (marked marks.now r) 1 0) }
+// Stores the levels of the rows with these marks before a load, where they lie. One pass over the marks.
+fn cached_levels(marks: &[u8], levels: &mut [u16; 512])
+    requires { (512 ≤ length marks.now) × (length levels.old ≡ 512) }
+    ensures { levels.new ≡ tab 512 (λ r. cond (marked marks.now r) 1 0) }
 {
-    array::from_fn(|r| cached_level(marks[r]))
+    // no array from `from_fn`: that is made apart, and copied
+    for (r, &mark) in marks[..512].iter().enumerate() {
+        levels[r] = cached_level(mark);
+    }
 }
 
 impl Load {
@@ -39,7 +41,7 @@ impl Load {
         requires { (512 ≤ length marks.now) × (self.old.end ≡ 0) }
         ensures { (self.new.levels ≡ tab 512 (λ r. cond (marked marks.now r) 1 0)) × (self.new.end ≡ 0) }
     {
-        self.levels = cached_levels(marks);
+        cached_levels(marks, &mut self.levels);
     }
 
     // Gives row r level `to` and the queue's next place, if it has no level. Constant time.
