@@ -1,23 +1,25 @@
 -- What iterators over the numbers below n answer, in the words of `specs/Finite.antt`: `(0..n).all(..)` is `all n`, `.any(..)` is `any n`, `.filter(..).count()` is
--- `count n`, and `(i..n).find(..)`, with n where there is none, is `first_from n` at i. The first two and the last take n, the test, `_` three times, the call's
--- clause `ran`, where the numbers come from, and what the closure answers. Assumes nothing.
-use Prim.Native.Nat.{ℕ, zero, suc, ◌+◌, ◌-◌}
+-- `count n`, as is the sum of a 1 for each that passes, and `(i..n).find(..)`, with n where there is none, is `first_from n` at i. The first two and the last take n,
+-- the test, `_` three times, the call's clause `ran`, where the numbers come from, and what the closure answers. Assumes nothing.
+use Prim.Native.Nat.{ℕ, zero, suc, ◌+◌, ◌-◌, ◌<◌}
 use native.Mathlib.Omega.{arith}
 use mathlib.Core.Path.{◌≡◌, refl, sym, ap, ◌∙◌}
 use mathlib.Core.Bool.{Bool, true, false, cond, ◌&&◌, ◌||◌, or-false, or_assoc, and_assoc, and-true}
-use mathlib.Core.List.{List, [], ◌∷◌}
-use Rattle.std.specs.Prelude.{Option, None, Some}
+use mathlib.Core.List.{List, [], ◌∷◌, map}
+use Rattle.std.specs.Prelude.{Option, None, Some, ⊤}
 use Rattle.std.specs.Option.{MatchOption, option_map, unwrap_or}
 use Rattle.std.proofs.lemmas.Iterator.{YieldsList}
 use Rattle.std.proofs.lemmas.Iterator.Search.{all_from_yields_List, any_from_yields_List, find_from_yields_List}
-use Rattle.std.proofs.lemmas.Iterator.Consumers.{count_from_yields_List}
+use Rattle.std.proofs.lemmas.Iterator.Consumers.{count_from_yields_List, sum_by_from_yields_List, fits_by_from_yields_list}
 use Rattle.std.specs.Fn.{Called, CalledAt}
 use Rattle.std.specs.Iterator.{YieldsThen, Drains}
-use Rattle.std.specs.List.{FoldsTo, list_all, list_any, range_with_len, find, filter}
+use Rattle.std.specs.Iterator.Runs.{EachRunFrom}
+use Rattle.std.specs.List.{FoldsTo, list_all, list_any, range_with_len, find, filter, fold, sum_by}
 use denote.Param.Members.{Mut}
 use denote.Ref.{Bor}
 use lib.ListN.{length}
 use Rattle.finite.specs.Finite.{all, any, count, first_of, first_from}
+use Rattle.finite.proofs.Counting.{count-le}
 
 list_all-last : (p : ℕ → Bool) (a n : ℕ) → list_all p (range_with_len a (suc n)) ≡ list_all p (range_with_len a n) && p (a + n)
 list_all-last p a zero = and-true (p a) ∙ ap p (omega arith)
@@ -62,6 +64,16 @@ unfolding count
 filter-range zero p = refl
 filter-range (suc n) p = filter-last p 0 n ∙ ap (λ (k : ℕ). length (filter p (range_with_len 0 n)) + cond (p k) 1 0) (omega arith)
     ∙ ap (λ (k : ℕ). k + cond (p n) 1 0) (filter-range n p)
+
+fold-last : (h : ℕ → ℕ) (c a n : ℕ) → fold (λ s x. s + h x) c (range_with_len a (suc n)) ≡ fold (λ s x. s + h x) c (range_with_len a n) + h (a + n)
+fold-last h c a zero = ap (λ (k : ℕ). c + h k) (omega arith)
+fold-last h c a (suc n) = fold-last h (c + h a) (a + 1) n ∙ ap (λ (k : ℕ). fold (λ s x. s + h x) (c + h a) (range_with_len (a + 1) n) + h k) (omega arith)
+
+sum-range : (n : ℕ) (p : ℕ → Bool) → sum_by (λ i. cond (p i) 1 0) (range_with_len 0 n) ≡ count n p
+unfolding count
+sum-range zero p = refl
+sum-range (suc n) p = fold-last (λ i. cond (p i) 1 0) 0 0 n ∙ ap (λ (k : ℕ). sum_by (λ i. cond (p i) 1 0) (range_with_len 0 n) + cond (p k) 1 0) (omega arith)
+    ∙ ap (λ (k : ℕ). k + cond (p n) 1 0) (sum-range n p)
 
 find-range : (p : ℕ → Bool) (m n a : ℕ) → unwrap_or (find p (range_with_len a n)) m ≡ first_of m n p a
 unfolding first_of
@@ -108,3 +120,11 @@ first_in-range n p i u f r ran y h = sym (map-same (λ x. x) r n n refl)
 pub count_in-range : {S A : Type 0} {steps : S → Option A → S → Type 0} {v : A → ℕ} (n : ℕ) (p : ℕ → Bool) (s : S) (r : ℕ)
     → (xs : List A) × Drains steps s xs × (r ≡ length xs) → YieldsList steps v s (filter p (range_with_len 0 n)) → r ≡ count n p
 count_in-range n p s r ran y = count_from_yields_List s r ran y ∙ filter-range n p
+
+-- what `sum` answers of a 1 for each number that passes, where `YieldsList-from_map` says so, and that it may be asked
+module _ {S : Type 0} {steps : S → Option ℕ → S → Type 0} (n : ℕ) (p : ℕ → Bool) (s : S) (y : YieldsList steps (λ x. x) s (map (λ i. cond (p i) 1 0) (range_with_len 0 n))) where
+  pub sum_in-range : (r : ℕ) → (xs : List ℕ) × (⊤ → Drains steps s xs) × (r ≡ fold (λ a x. a + x) 0 xs) → r ≡ count n p
+  sum_in-range r ran = sum_by_from_yields_List _ _ s r ran y ∙ sum-range n p
+
+  pub sum_fits-range : (top : ℕ) → n < top → EachRunFrom steps s (λ q. fold (λ a x. a + x) 0 q.items < top)
+  sum_fits-range top l = fits_by_from_yields_list _ _ s top y (omega (arith, sum-range n p, count-le n p, l))
